@@ -1,0 +1,15 @@
+pub mod Lists
+pub mod Limits
+pub mod Sheet
+pub mod Amount
+pub mod Tableau
+pub mod Leaf
+pub mod Potential
+pub mod Round
+pub mod Plan
+pub mod Calls
+pub mod Text
+pub mod SheetText
+pub mod PlanText
+pub mod Open
+pub mod Samples

@@ -1,0 +1,103 @@
+-- Rounds (paper 01, "Prices and rounds", second paragraph): the entering lane, the loop's signs, the step, the pivot; and runs of rounds.
+use mathlib.Core.Bool.{Bool, true, false, not, cond}
+use mathlib.Core.List.{List, [], _∷_, map}
+use Prim.Native.Nat.{ℕ, zero, suc, _+_}
+use lib.Dec.{eqb, ltb}
+use lib.IntN.{ℤ, pos, negsuc, _-ℤ_}
+use lib.Signed.{ltZ}
+use Rattle.transport.specs.Lists.{keep, firstLeast}
+use Rattle.transport.specs.Sheet.{Sheet, sources, sinks, Lane, lanes, place}
+use Rattle.transport.specs.Amount.{Pair, add, subtract, less}
+use Rattle.transport.specs.Tableau.{Cell, laneOf, withAmount, basisOf, sameLane, noCell}
+use Rattle.transport.specs.Leaf.{Strike, strikes}
+use Rattle.transport.specs.Potential.{sourcePrices, sinkPrices, reducedCost, isFinished}
+
+-- The entering lane has the least reduced cost, the first in sheet order among equals.
+unfoldable pub entering : Sheet → List Cell → Lane
+entering S T =
+    firstLeast (λ k l. ltZ (reducedCost S T k) (reducedCost S T l)) (laneOf noCell) (lanes (sources S) (sinks S))
+
+-- ---- the loop's signs
+
+-- The weights with y taken from node k.
+unfoldable pub takeFrom : (ℕ → ℤ) → ℕ → ℤ → ℕ → ℤ
+takeFrom weight k y = λ j. elim (eqb j k) [
+  | true ↦ weight j -ℤ y
+  | false ↦ weight j
+]
+
+-- What each lane carries so that every node gets its weight, forwards through the strikes: a leaf's lane carries the leaf's whole weight, which is taken from
+-- both ends of the lane.
+unfoldable pub flow : (ℕ → ℤ) → List Strike → Lane → ℤ
+flow weight [] l = pos 0
+flow weight (s ∷ ss) l =
+    let y = weight (s .leaf) in
+    elim (sameLane l (s .lane)) [
+      | true ↦ y
+      | false ↦ flow (takeFrom (takeFrom weight (s .leaf) y) (s .other) y) ss l
+    ]
+
+-- The sign of each basic cell on the loop that the entering lane closes, 0 off the loop: a plus at the entering lane takes 1 from both its nodes, and the basic
+-- cells make up for it.
+unfoldable pub sign : ℕ → List Strike → Lane → Lane → ℤ
+sign m ss enter = flow (takeFrom (takeFrom (λ k. pos 0) (enter .row) (pos 1)) (m + enter .col) (pos 1)) ss
+
+-- ---- the step and the pivot
+
+-- The cell that leaves: of the minus cells, the one with the smallest pair.
+unfoldable pub leaving : (Lane → ℤ) → List Cell → Cell
+leaving signOf T = firstLeast (λ a b. less (a .amount) (b .amount)) noCell (keep (λ c. ltZ (signOf (laneOf c)) (pos 0)) T)
+
+-- Plus cells gain the step, minus cells lose it.
+unfoldable pub gain : ℤ → Pair → Pair → Pair
+gain (pos zero) step a = a
+gain (pos (suc k)) step a = add a step
+gain (negsuc k) step a = subtract a step
+
+unfoldable pub shift : (Lane → ℤ) → Pair → Cell → Cell
+shift signOf step c = withAmount (laneOf c) (gain (signOf (laneOf c)) step (c .amount))
+
+-- A cell put into its place in sheet order.
+unfoldable pub insert : ℕ → Cell → List Cell → List Cell
+insert n c [] = c ∷ []
+insert n c (d ∷ ds) =
+    let rest = d ∷ insert n c ds in
+    cond (ltb (place n (c .row) (c .col)) (place n (d .row) (d .col))) (c ∷ d ∷ ds) rest
+
+-- The tableau after the lane has entered: the entering cell holds the step, and the cell that held the step is gone.
+unfoldable pub pivot : ℕ → ℕ → List Cell → Lane → List Cell
+pivot m n T enter =
+    let signOf = sign m (strikes m n (basisOf T)) enter in
+    let out = leaving signOf T in
+    insert n (withAmount enter (out .amount)) (map (shift signOf (out .amount)) (keep (λ c. not (sameLane (laneOf c) (laneOf out))) T))
+
+-- ---- the round
+
+unfoldable pub next : Sheet → List Cell → List Cell
+next S T = pivot (sources S) (sinks S) T (entering S T)
+
+-- A round gives the next tableau, or `finished` with the prices u and v.
+pub data Round : Type 0 where
+  finished : List ℤ → List ℤ → Round
+  moved : List Cell → Round
+
+unfoldable pub round : Sheet → List Cell → Round
+round S T = elim (isFinished S T) [
+  | true ↦ finished (sourcePrices S T) (sinkPrices S T)
+  | false ↦ moved (next S T)
+]
+
+-- A run of rounds: whether it finished within its allowance (else it is spent), the last tableau and the rounds made.
+pub record Run : Type 0 where
+  pub done : Bool
+  pub tableau : List Cell
+  pub rounds : ℕ
+
+unfoldable pub run : Sheet → ℕ → List Cell → Run
+run S zero T = record { done = isFinished S T; tableau = T; rounds = 0 }
+run S (suc allowance) T = elim (isFinished S T) [
+  | true ↦ record { done = true; tableau = T; rounds = 0 }
+  | false ↦
+      let r = run S allowance (next S T) in
+      record { done = r .done; tableau = r .tableau; rounds = suc (r .rounds) }
+]

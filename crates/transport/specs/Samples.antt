@@ -1,0 +1,112 @@
+-- The paper's samples P1 to P9, its text samples and its worked text, as one theorem over the definitions; and a sample for each trap that these leave open.
+use mathlib.Core.Path.{_≡_, refl}
+use mathlib.Core.Bool.{Bool, true, false}
+use mathlib.Core.List.{List, [], _∷_, _++_}
+use mathlib.Core.Option.{none, some}
+use Prim.Native.Nat.{ℕ, _+_, _-_}
+use lib.IntN.{ℤ, pos, negsuc}
+use Rattle.transport.specs.Sheet.{Sheet, Lane}
+use Rattle.transport.specs.Amount.{Pair}
+use Rattle.transport.specs.Tableau.{Cell, Tableau, tableauOf, start}
+use Rattle.transport.specs.Potential.{reducedCost}
+use Rattle.transport.specs.Round.{Round, finished, moved, Run, entering, next}
+use Rattle.transport.specs.Calls.{Answer, refused, given, refusedBy, startCall, roundCall, runCall, settleCall, Solution, solveCall}
+use Rattle.transport.specs.Text.{bytes}
+use Rattle.transport.specs.SheetText.{readSheetCall, writeSheetCall}
+use Rattle.transport.specs.PlanText.{writePlanCall, printed}
+use Rattle.transport.specs.Open.{opened}
+
+-- ---- a list of samples: what the definitions give, and what the paper says
+
+infix 20 _is_
+pub data Sample : Type 1 where
+  _is_ : {A : Type 0} → A → A → Sample
+
+abbrev pub Hold : List Sample → Type 0
+Hold [] = Unit {0}
+Hold ((got is expected) ∷ more) = (got ≡ expected) × Hold more
+
+-- Lane and cell of source i and sink j, counted from 1 as in the paper; the cell holds q bags and e marks.
+abbrev lane : ℕ → ℕ → Lane
+lane i j = record { row = i - 1; col = j - 1 }
+
+abbrev cell : ℕ → ℕ → ℤ → ℤ → Cell
+cell i j q e = record { row = i - 1; col = j - 1; amount = record { q = q; e = e } }
+
+-- The sheet of one source and one sink.
+abbrev oneLane : ℕ → ℕ → ℕ → Sheet
+oneLane s d c = record { supply = s ∷ []; demand = d ∷ []; cost = c ∷ [] }
+
+abbrev sheet1 : Sheet
+sheet1 = record { supply = 3 ∷ 4 ∷ []; demand = 5 ∷ 2 ∷ []; cost = 4 ∷ 1 ∷ 2 ∷ 6 ∷ [] }
+
+abbrev start1 : List Cell
+start1 = cell 1 1 (pos 3) (pos 1) ∷ cell 2 1 (pos 2) (negsuc 0) ∷ cell 2 2 (pos 2) (pos 2) ∷ []
+
+abbrev next1 : List Cell
+next1 = cell 1 1 (pos 1) (negsuc 0) ∷ cell 1 2 (pos 2) (pos 2) ∷ cell 2 1 (pos 4) (pos 1) ∷ []
+
+abbrev sheet3 : Sheet
+sheet3 = record { supply = 5 ∷ 5 ∷ []; demand = 5 ∷ 5 ∷ []; cost = 1 ∷ 1 ∷ 1 ∷ 1 ∷ [] }
+
+abbrev sheet4 : Sheet
+sheet4 = record { supply = 1 ∷ 3 ∷ []; demand = 2 ∷ 1 ∷ 1 ∷ []; cost = 9 ∷ 0 ∷ 0 ∷ 0 ∷ 0 ∷ 0 ∷ [] }
+
+abbrev tableau5 : List Cell
+tableau5 = cell 1 3 (pos 1) (pos 1) ∷ cell 2 1 (pos 2) (pos 0) ∷ cell 2 2 (pos 1) (pos 0) ∷ cell 2 3 (pos 0) (pos 1) ∷ []
+
+abbrev text1 : List ℕ
+text1 = bytes "supply 2\n3\n4\ndemand 2\n5\n2\ncost 2\n4 1\n2 6\n"
+
+-- At its start both (1,2), at −1, and (1,3), at −5, could enter.
+abbrev sheet10 : Sheet
+sheet10 = record { supply = 1 ∷ 3 ∷ []; demand = 2 ∷ 1 ∷ 1 ∷ []; cost = 9 ∷ 8 ∷ 4 ∷ 0 ∷ 0 ∷ 0 ∷ [] }
+
+abbrev samples : List Sample
+samples =
+    -- P1
+    (startCall sheet1 is given start1)
+    ∷ (entering sheet1 start1 is lane 1 2)
+    ∷ (reducedCost sheet1 start1 (lane 1 2) is negsuc 6)
+    ∷ (roundCall sheet1 (tableauOf start1) is given (moved next1))
+    ∷ (solveCall sheet1 2 2 4 is given (record { cost = 14; rounds = 1; u = pos 0 ∷ negsuc 1 ∷ []; v = pos 4 ∷ pos 1 ∷ []; plan = 1 ∷ 2 ∷ 4 ∷ 0 ∷ [] }))
+    -- P2
+    ∷ (runCall sheet1 (tableauOf start1) 0 is given (record { done = false; tableau = start1; rounds = 0 }))
+    ∷ (runCall sheet1 (tableauOf start1) 1 is given (record { done = true; tableau = next1; rounds = 1 }))
+    -- P3
+    ∷ (startCall sheet3 is given (cell 1 1 (pos 5) (pos 0) ∷ cell 1 2 (pos 0) (pos 1) ∷ cell 2 2 (pos 5) (pos 1) ∷ []))
+    ∷ (solveCall sheet3 2 2 4 is given (record { cost = 10; rounds = 0; u = pos 0 ∷ pos 0 ∷ []; v = pos 1 ∷ pos 1 ∷ []; plan = 5 ∷ 0 ∷ 0 ∷ 5 ∷ [] }))
+    -- P4: the lane that enters second, (1,3), holds the step (0, 1) afterwards
+    ∷ (next sheet4 (next sheet4 (start sheet4)) is (cell 1 2 (pos 1) (pos 0) ∷ cell 1 3 (pos 0) (pos 1) ∷ cell 2 1 (pos 2) (pos 0) ∷ cell 2 3 (pos 1) (pos 1) ∷ []))
+    ∷ (solveCall sheet4 2 3 6 is given (record { cost = 0; rounds = 2; u = pos 0 ∷ pos 0 ∷ []; v = pos 0 ∷ pos 0 ∷ pos 0 ∷ []; plan = 0 ∷ 1 ∷ 0 ∷ 2 ∷ 0 ∷ 1 ∷ [] }))
+    -- P5
+    ∷ (roundCall sheet4 (tableauOf tableau5) is given (finished (pos 0 ∷ pos 0 ∷ []) (pos 0 ∷ pos 0 ∷ pos 0 ∷ [])))
+    ∷ (settleCall sheet4 (tableauOf tableau5) 6 is given (0 ∷ 1 ∷ 0 ∷ 2 ∷ 0 ∷ 1 ∷ []))
+    -- P6
+    ∷ (solveCall (oneLane 1 1 0) 1 1 1 is given (record { cost = 0; rounds = 0; u = pos 0 ∷ []; v = pos 0 ∷ []; plan = 1 ∷ [] }))
+    -- P7
+    ∷ (solveCall (oneLane 1_000_000 1_000_000 1_000_000) 1 1 1 is given (record { cost = 1_000_000_000_000; rounds = 0; u = pos 0 ∷ []; v = pos 1_000_000 ∷ []; plan = 1_000_000 ∷ [] }))
+    ∷ (solveCall (oneLane 1_000_000 1_000_000 1_000_001) 1 1 1 is refusedBy 4)
+    -- P8
+    ∷ (solveCall (oneLane 3 2 0) 1 1 1 is refusedBy 5)
+    ∷ (solveCall (oneLane 0 2 0) 1 1 1 is refusedBy 3)
+    -- P9
+    ∷ (roundCall sheet3 (tableauOf (cell 1 1 (pos 5) (pos 0) ∷ cell 1 2 (pos 0) (pos 0) ∷ cell 2 2 (pos 5) (pos 1) ∷ [])) is refusedBy 6)
+    ∷ (settleCall sheet1 (tableauOf start1) 4 is refusedBy 7)
+    -- the texts with 9, and the worked text
+    ∷ (readSheetCall [] 32 32 1024 is refused (record { number = 9; position = some 0 }))
+    ∷ (readSheetCall (bytes "supply 33") 32 32 1024 is refused (record { number = 9; position = some 8 }))
+    ∷ (readSheetCall (bytes "supply 01") 32 32 1024 is refused (record { number = 9; position = some 7 }))
+    ∷ (readSheetCall text1 2 2 4 is given sheet1)
+    ∷ (writeSheetCall sheet1 42 is given text1)
+    ∷ (printed text1 is bytes "total 1\n14\nrounds 1\n1\nroasteries 2\n0\n-2\ncafes 2\n4\n1\nlanes 3\n1 1 1\n1 2 2\n2 1 4\n")
+    ∷ (printed (bytes "supply 33") is bytes "refused 9 8\n")
+    ∷ (printed (bytes "supply 1\n3\ndemand 1\n2\ncost 1\n0\n") is bytes "refused 5\n")
+    -- traps: the least reduced cost enters, and not the first negative one; a count beyond the array does not belong
+    ∷ (entering sheet10 (start sheet10) is lane 1 3)
+    ∷ (roundCall sheet1 (record { cells = tableauOf start1 .cells; count = 64 }) is refusedBy 6)
+    ∷ []
+
+pub samples-hold : Hold samples
+unfolding opened
+samples-hold = (refl, (refl, (refl, (refl, (refl, (refl, (refl, (refl, (refl, (refl, (refl, (refl, (refl, (refl, (refl, (refl, (refl, (refl, (refl, (refl, (refl, (refl, (refl, (refl, (refl, (refl, (refl, (refl, (refl, (refl, tt))))))))))))))))))))))))))))))

@@ -1,0 +1,172 @@
+-- The sheet text, and the calls that write and read it (paper 01, "Texts" and "Calls and their refusals").
+use mathlib.Core.Bool.{Bool, true, false, _&&_, _||_, cond}
+use mathlib.Core.List.{List, [], _∷_, _++_, flatMap, flatten}
+use mathlib.Core.Option.{none, some}
+use Prim.Native.Nat.{ℕ, zero, suc, _+_, _*_, _-_}
+use lib.Dec.{eqb}
+use lib.ListN.{length, take, drop}
+use Rattle.transport.specs.Lists.{within}
+use Rattle.transport.specs.Limits.{maxSide, maxDigits}
+use Rattle.transport.specs.Sheet.{Sheet, sources, sinks, sheetTests, numberTests}
+use Rattle.transport.specs.Calls.{Answer, refused, given, unless, tooShort}
+use Rattle.transport.specs.Text.{bytes, ByteKind, Digit, Space, LineEnd, Letter, Other, kindOf, headLine, numberLine, rowLine}
+
+-- ---- writing
+
+-- The first k rows of n numbers.
+unfoldable pub rowsOf : ℕ → ℕ → List ℕ → List (List ℕ)
+rowsOf zero n xs = []
+rowsOf (suc k) n xs = take n xs ∷ rowsOf k n (drop n xs)
+
+-- `supply m` and m lines of one number; `demand n` and n lines of one number; `cost m` and m lines of n numbers.
+unfoldable pub sheetText : Sheet → List ℕ
+sheetText S =
+    headLine "supply" (sources S)
+    ++ flatMap numberLine (S .supply)
+    ++ headLine "demand" (sinks S)
+    ++ flatMap numberLine (S .demand)
+    ++ headLine "cost" (sources S)
+    ++ flatMap rowLine (rowsOf (sources S) (sinks S) (S .cost))
+
+-- The text, whose length is the call's answer. `room` is the length of the output.
+unfoldable pub writeSheetCall : Sheet → ℕ → Answer (List ℕ)
+writeSheetCall S room = unless (sheetTests S ++ ((tooShort room (length (sheetText S)), 8) ∷ [])) (sheetText S)
+
+-- ---- reading: a reader takes its part from the front of a text, or is stuck before the first byte that cannot come there
+
+pub data Reading (A : Type 0) : Type 0 where
+  stuck : List ℕ → Reading A
+  got : A → List ℕ → Reading A
+
+abbrev pub Reader : Type 0 → Type 0
+Reader A = List ℕ → Reading A
+
+infixl 10 _>>=_ _>>_
+module _ {A B : Type 0} where
+  -- One reader, and then another on the rest.
+  unfoldable pub _>>=_ : Reader A → (A → Reader B) → Reader B
+  _>>=_ r f t = elim (r t) [
+    | stuck rest ↦ stuck rest
+    | got a rest ↦ f a rest
+  ]
+
+  unfoldable pub _>>_ : Reader A → Reader B → Reader B
+  _>>_ r s t = elim (r t) [
+    | stuck rest ↦ stuck rest
+    | got a rest ↦ s rest
+  ]
+
+module _ {A : Type 0} where
+  unfoldable pub pure : A → Reader A
+  pure a t = got a t
+
+module _ {A : Type 0} where
+  -- k times the same.
+  unfoldable pub times : ℕ → Reader A → Reader (List A)
+  times zero r = pure []
+  times (suc k) r = do
+    x ← r
+    xs ← times k r
+    pure (x ∷ xs)
+
+-- One byte that passes the test.
+unfoldable pub byteThat : (ℕ → Bool) → Reader ℕ
+byteThat test [] = stuck []
+byteThat test (b ∷ t) = cond (test b) (got b t) (stuck (b ∷ t))
+
+-- These bytes.
+unfoldable pub word : List ℕ → Reader (Unit {0})
+word [] = pure tt
+word (c ∷ cs) = do
+  byteThat (eqb c)
+  word cs
+
+-- The end of the text.
+unfoldable pub end : Reader (Unit {0})
+end [] = got tt []
+end (b ∷ t) = stuck (b ∷ t)
+
+unfoldable pub isDigit : ℕ → Bool
+isDigit b = elim (kindOf b) [
+  | Digit ↦ true
+  | Space ↦ false
+  | LineEnd ↦ false
+  | Letter ↦ false
+  | Other ↦ false
+]
+
+unfoldable pub digitValue : ℕ → ℕ
+digitValue b = b - 48
+
+-- At most k digits more of a number that begins with x, as long as the number passes the test.
+unfoldable pub moreDigits : (ℕ → Bool) → ℕ → ℕ → Reader ℕ
+moreDigits test zero x t = got x t
+moreDigits test (suc k) x [] = got x []
+moreDigits test (suc k) x (b ∷ t) = elim (isDigit b && test (x * 10 + digitValue b)) [
+  | true ↦ moreDigits test k (x * 10 + digitValue b) t
+  | false ↦ got x (b ∷ t)
+]
+
+-- One to seven digits, with no leading 0 except 0 itself.
+unfoldable pub number : Reader ℕ
+number = do
+  b ← byteThat isDigit
+  moreDigits (λ x. true) (cond (eqb (digitValue b) 0) 0 (maxDigits - 1)) (digitValue b)
+
+-- m or n: 1 to 32, of one or two digits.
+unfoldable pub side : Reader ℕ
+side = do
+  b ← byteThat (λ b. isDigit b && within 1 maxSide (digitValue b))
+  moreDigits (within 1 maxSide) 1 (digitValue b)
+
+-- One number, and LF.
+unfoldable pub line : Reader ℕ → Reader ℕ
+line r = do
+  x ← r
+  word (bytes "\n")
+  pure x
+
+-- n numbers with one space between, and LF.
+unfoldable pub row : ℕ → Reader (List ℕ)
+row zero = do
+  word (bytes "\n")
+  pure []
+row (suc zero) = do
+  x ← line number
+  pure (x ∷ [])
+row (suc (suc n)) = do
+  x ← number
+  word (bytes " ")
+  xs ← row (suc n)
+  pure (x ∷ xs)
+
+-- Sections in their order, each after its count. Both row counts must be the same m.
+unfoldable pub sheetReader : Reader Sheet
+sheetReader = do
+  word (bytes "supply ")
+  m ← line side
+  supply ← times m (line number)
+  word (bytes "demand ")
+  n ← line side
+  demand ← times n (line number)
+  word (headLine "cost" m)
+  rows ← times m (row n)
+  end
+  pure (record { supply = supply; demand = demand; cost = flatten rows })
+
+-- 9 with its place if the text is not a sheet text; else what the tests say of the sheet that was read.
+unfoldable pub readWith : (Sheet → List (Bool × ℕ)) → List ℕ → Answer Sheet
+readWith tests text = elim (sheetReader text) [
+  | stuck rest ↦ refused (record { number = 9; position = some (length text - length rest) })
+  | got S rest ↦ unless (tests S) S
+]
+
+-- The rooms are the lengths of the lent lists for supplies, demands and costs.
+unfoldable pub readTests : ℕ → ℕ → ℕ → Sheet → List (Bool × ℕ)
+readTests supplyRoom demandRoom costRoom S =
+    numberTests S
+    ++ ((tooShort supplyRoom (sources S) || tooShort demandRoom (sinks S) || tooShort costRoom (sources S * sinks S), 8)
+    ∷ [])
+
+unfoldable pub readSheetCall : List ℕ → ℕ → ℕ → ℕ → Answer Sheet
+readSheetCall text supplyRoom demandRoom costRoom = readWith (readTests supplyRoom demandRoom costRoom) text

@@ -1,0 +1,55 @@
+-- Bytes, numbers and lines of texts (paper 01, "Texts"). A text is a list of bytes.
+use mathlib.Core.Bool.{Bool, true, false, cond}
+use mathlib.Core.List.{List, [], _∷_, _++_}
+use Prim.Native.Nat.{ℕ, zero, suc, _+_, _/_, _%_}
+use Prim.Native.String.{String, [] as ε, _∷_ as _◃_}
+use Prim.Native.Char.{code}
+use lib.Dec.{ltb, eqb}
+use lib.IntN.{ℤ, pos, negsuc}
+pub use Rattle.transport.specs.declared.ByteKind.{ByteKind}
+pub use Rattle.transport.specs.declared.ByteKind.the-variants.{Digit, Space, LineEnd, Letter, Other}
+use Rattle.transport.specs.Lists.{within}
+
+-- The bytes of a word.
+unfoldable pub bytes : String → List ℕ
+bytes ε = []
+bytes (c ◃ s) = code c ∷ bytes s
+
+-- Each byte is a digit, a space, a line end (LF), a small letter or none of these.
+unfoldable pub kindOf : ℕ → ByteKind
+kindOf b =
+    cond (within 48 57 b) Digit
+    (cond (eqb b 32) Space
+    (cond (eqb b 10) LineEnd
+    (cond (within 97 122 b) Letter
+    Other)))
+
+-- The digits of n, with at most `most` of them.
+unfoldable pub digitsUpTo : ℕ → ℕ → List ℕ
+digitsUpTo zero n = []
+digitsUpTo (suc most) n = elim (ltb n 10) [
+  | true ↦ (48 + n) ∷ []
+  | false ↦ digitsUpTo most (n / 10) ++ ((48 + n % 10) ∷ [])
+]
+
+-- Numbers are decimal, with no leading 0 except 0 itself, and as many digits as they need.
+unfoldable pub digits : ℕ → List ℕ
+digits n = digitsUpTo (suc n) n
+
+-- Minus is `-`.
+unfoldable pub wholeDigits : ℤ → List ℕ
+wholeDigits (pos n) = digits n
+wholeDigits (negsuc n) = bytes "-" ++ digits (suc n)
+
+-- The head of a section: its name and its count.
+unfoldable pub headLine : String → ℕ → List ℕ
+headLine name count = bytes name ++ bytes " " ++ digits count ++ bytes "\n"
+
+unfoldable pub numberLine : ℕ → List ℕ
+numberLine x = digits x ++ bytes "\n"
+
+-- Numbers with one space between, and LF.
+unfoldable pub rowLine : List ℕ → List ℕ
+rowLine [] = bytes "\n"
+rowLine (x ∷ []) = numberLine x
+rowLine (x ∷ y ∷ ys) = digits x ++ bytes " " ++ rowLine (y ∷ ys)

@@ -1,0 +1,105 @@
+// The types that every crate of the panel shares, and, in specs/, the definitions that every contract cites.
+
+// The most sources, and the most sinks, that a sheet may have.
+pub const MAX_SIDE: usize = 32;
+
+// The most basic cells that a tableau may have: one fewer than the nodes of the largest sheet.
+pub const MAX_CELLS: usize = 2 * MAX_SIDE - 1;
+
+// The greatest supply or demand, in bags.
+pub const MAX_AMOUNT: u64 = 1_000_000;
+
+// The greatest cost of a lane, in cents a bag.
+pub const MAX_COST: u64 = 1_000_000;
+
+// A paired amount: `q` bags and `e` marks.
+pub struct Pair {
+    pub q: i64,
+    pub e: i64,
+}
+
+// A basic cell with its amount. Rows (sources) and columns (sinks) count from 0.
+pub struct Cell {
+    pub row: usize,
+    pub col: usize,
+    pub amount: Pair,
+}
+
+// A tableau: its first `count` cells, in sheet order. A tableau that a call gives holds zeros in the rest.
+pub struct Tableau {
+    pub cells: [Cell; MAX_CELLS],
+    pub count: usize,
+}
+
+// In every answer `Refused` holds the number of the refusal. What a field holds where it has no meaning is zero.
+
+// The answer of start: the first tableau.
+pub struct StartAnswer {
+    pub outcome: StartOutcome,
+    pub tableau: Tableau,
+}
+
+pub enum StartOutcome {
+    Started,
+    Refused(u8),
+}
+
+// The answer of round: the next tableau, or the potentials (prices) of a finished one.
+pub struct RoundAnswer {
+    pub outcome: RoundOutcome,
+    pub tableau: Tableau,
+    pub u: [i64; MAX_SIDE],
+    pub v: [i64; MAX_SIDE],
+}
+
+pub enum RoundOutcome {
+    Moved,
+    Finished,
+    Refused(u8),
+}
+
+// The answer of run: the last tableau, with the rounds made.
+pub struct RunAnswer {
+    pub outcome: RunOutcome,
+    pub tableau: Tableau,
+}
+
+pub enum RunOutcome {
+    Finished(u64),
+    Spent(u64),
+    Refused(u8),
+}
+
+// The answer of settle; the plan stands in the lent list.
+pub enum SettleAnswer {
+    Settled,
+    Refused(u8),
+}
+
+// The answer of solve; the potentials and the plan stand in the lent lists.
+pub enum SolveAnswer {
+    Solved { cost: u64, rounds: u64 },
+    Refused(u8),
+}
+
+// The answer of read sheet: how many sources and sinks the lent lists now hold; `NotSheetText` is refusal 9 with its place.
+pub enum ReadAnswer {
+    Sheet { sources: usize, sinks: usize },
+    NotSheetText(usize),
+    Refused(u8),
+}
+
+// The answer of write sheet and of write plan: the length of the text in the lent output.
+pub enum WriteAnswer {
+    Written(usize),
+    Refused(u8),
+}
+
+// The kind of a byte of a text.
+pub enum ByteKind {
+    Digit,
+    Space,
+    LineEnd,
+    Letter,
+    Other,
+}
