@@ -13,3 +13,4 @@ pub mod SheetText
 pub mod PlanText
 pub mod Open
 pub mod Samples
+pub mod Statements
