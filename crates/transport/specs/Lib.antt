@@ -11,6 +11,7 @@ pub mod Calls
 pub mod Text
 pub mod SheetText
 pub mod PlanText
+pub mod Answers
+pub mod Statements
 pub mod Open
 pub mod Samples
-pub mod Statements

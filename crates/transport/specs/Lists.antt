@@ -3,7 +3,7 @@ use mathlib.Core.Bool.{Bool, true, false, _&&_, cond}
 use mathlib.Core.List.{List, [], _∷_, _++_}
 use Prim.Native.Nat.{ℕ, zero, suc, _+_, _-_}
 use lib.Dec.{leb}
-use lib.ListN.{length, getD}
+use lib.ListN.{length, getD, replicate}
 
 module _ {A : Type 0} where
   -- Every element passes the test.
@@ -30,6 +30,10 @@ module _ {A : Type 0} where
   unfoldable pub table : ℕ → (ℕ → A) → List A
   table zero f = []
   table (suc n) f = table n f ++ (f n ∷ [])
+
+  -- The list with `filler` after it, up to the length n.
+  unfoldable pub padded : ℕ → A → List A → List A
+  padded n filler xs = xs ++ replicate (n - length xs) filler
 
 -- 0, 1, .., n − 1.
 unfoldable pub below : ℕ → List ℕ

@@ -4,10 +4,10 @@ use mathlib.Core.List.{List, [], _∷_, _++_, map}
 use Prim.Native.Nat.{ℕ, zero, suc, _+_, _-_}
 use lib.Dec.{eqb, ltb}
 use lib.IntN.{pos}
-use lib.ListN.{length, take, replicate}
+use lib.ListN.{length, take}
 pub use Rattle.transport.specs.declared.Cell.{Cell}
 pub use Rattle.transport.specs.declared.Tableau.{Tableau}
-use Rattle.transport.specs.Lists.{all, keep, below}
+use Rattle.transport.specs.Lists.{all, keep, below, padded}
 use Rattle.transport.specs.Limits.{maxCells}
 use Rattle.transport.specs.Sheet.{Sheet, sources, sinks, Lane, place}
 use Rattle.transport.specs.Amount.{Pair, nothing, subtract, less, same, smaller, addUp, pairedSupply, pairedDemand}
@@ -39,7 +39,7 @@ unfoldable pub cellsOf : Tableau → List Cell
 cellsOf t = take (t .count) (t .cells)
 
 unfoldable pub tableauOf : List Cell → Tableau
-tableauOf T = record { cells = T ++ replicate (maxCells - length T) noCell; count = length T }
+tableauOf T = record { cells = padded maxCells noCell T; count = length T }
 
 -- The tableau of an answer that gives none.
 unfoldable pub noTableau : Tableau
