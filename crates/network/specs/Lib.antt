@@ -1,2 +1,4 @@
 pub mod Flow
 pub mod Duality
+pub mod Joined
+pub mod Cut
