@@ -1,6 +1,6 @@
 -- The laws of finite sums. A function argument is to be written out by the caller: `sum-add n (λ i. ..) (λ i. ..)`.
-use mathlib.Core.Path.{_≡_}
-use mathlib.Core.Logic.{_≢_}
+use mathlib.Core.Path.{_≡_, refl}
+use mathlib.Core.Logic.{_≢_, if-pos, if-neg}
 use mathlib.Core.List.{List, [], _∷_}
 use Prim.Native.Nat.{ℕ, zero, suc, _+_, _*_, _≤_, _<_}
 use native.Mathlib.Omega.{arith}
@@ -8,7 +8,7 @@ use native.Mathlib.Decide.{ℕ-discrete}
 use lib.ListN.{length, getD}
 use Rattle.integers.specs.Integer.{Z, _≈_, _≼_, _⊕_, _⊖_, _⊗_, neg, nat}
 use Rattle.integers.specs.IntegerLaws.{⊗-cong}
-use Rattle.integers.specs.Sum.{sum, sum₂, sumN, total}
+use Rattle.integers.specs.Sum.{sum, sum₂, sumN, total, point}
 
 -- ---- term by term
 pub sum-cong : (n : ℕ) (f g : ℕ → Z) → ((i : ℕ) → i < n → f i ≈ g i) → sum n f ≈ sum n g
@@ -70,6 +70,18 @@ sum-change n f g k l h = omega (arith, sum-one n (λ i. g i ⊕ neg (f i)) k l (
 pub sum-first : (n : ℕ) (f : ℕ → Z) → sum (suc n) f ≈ f 0 ⊕ sum n (λ i. f (suc i))
 sum-first zero f = omega arith
 sum-first (suc n) f = omega (arith, sum-first n f)
+
+pub point-at : (p : ℕ) (k : Z) → point p k p ≡ k
+point-at p k = if-pos (ℕ-discrete p p) refl k (nat 0)
+
+pub point-off : (p : ℕ) (k : Z) (i : ℕ) → i ≢ p → point p k i ≡ nat 0
+point-off p k i e = if-neg (ℕ-discrete i p) e k (nat 0)
+
+pub sum-point : (n : ℕ) (f : ℕ → Z) (p : ℕ) (k : Z) → p < n → sum n (λ i. f i ⊗ point p k i) ≈ f p ⊗ k
+sum-point n f p k l = omega (arith, sum-one n (λ i. f i ⊗ point p k i) p l (λ i h e. rw (point-off p k i e) (omega arith)), here)
+  where
+    here : f p ⊗ point p k p ≈ f p ⊗ k
+    here = rw (point-at p k) (omega arith)
 
 -- ---- double sums
 module _ (m n : ℕ) where

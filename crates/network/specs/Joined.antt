@@ -1,7 +1,8 @@
 -- Cells that join all rows and columns, said by cuts instead of paths; the exchange of one cell.
 use mathlib.Core.Path.{_≡_, refl, ap, sym, _∙_}
 use mathlib.Core.Logic.{_⊎_, inl, inr, ⊎-elim, by-cases, Dec·and}
-use mathlib.Core.Bool.{Bool, true, false, cond, Bool-discrete, true≢false, false≢true}
+use mathlib.Core.Bool.{Bool, true, false, cond, Bool-discrete, decide, decide-iff}
+use mathlib.Mathlib.Data.Bool.Basic.{decide-congr}
 use Prim.Native.Nat.{ℕ, _+_, _*_, _≤_, _<_}
 use native.Mathlib.Omega.{arith}
 use native.Mathlib.Decide.{ℕ-discrete}
@@ -9,7 +10,7 @@ use Rattle.integers.specs.Integer.{Z, _≈_, _≼_, ≈-dec, _⊕_, _⊖_, _⊗
 use Rattle.integers.specs.IntegerLaws.{⊗-cong}
 use Rattle.integers.specs.Sum.{sum, sum₂}
 use Rattle.integers.specs.SumLaws.{sum-cong, sum-zero, sum-neg, sum₂-cong, sum₂-add, sum₂-one, sum₂-rows, sum₂-cols}
-use Rattle.network.specs.Flow.{Flow, Circulation}
+use Rattle.network.specs.Flow.{Flow, Circulation, Tight}
 
 -- a cut (A of the rows, B of the columns) that no cell of T crosses
 abbrev pub Closed : ℕ → ℕ → (ℕ → ℕ → Type 0) → (ℕ → Bool) → (ℕ → Bool) → Type 0
@@ -92,3 +93,31 @@ exchange {m} {n} {T} {T′} {δ} {p} {q} hp hq f leaves keeps w = record {
 
     back : (A B : ℕ → Bool) → Closed m n T′ A B → Closed m n T A B
     back A B h i j k l t = ⊎-elim (λ d. ap A (d .0) ∙ no-cut A B h ∙ ap B (sym (d .1))) (λ e. e) (inside A B h i j k l t)
+
+-- Potentials are determined by their value at row 0. Two systems that are tight on T agree at both ends of a cell of T or at neither, so the parties
+-- where they agree are a cut that no cell crosses.
+pub potentials-unique : {m n : ℕ} {T : ℕ → ℕ → Type 0} → Joined m n T → (c : ℕ → ℕ → Z) (u v u′ v′ : ℕ → Z)
+    → ((i j : ℕ) → i < m → j < n → T i j → Tight c u v i j) → ((i j : ℕ) → i < m → j < n → T i j → Tight c u′ v′ i j) → u 0 ≈ u′ 0
+    → ((i : ℕ) → i < m → u i ≈ u′ i) × ((j : ℕ) → j < n → v j ≈ v′ j)
+potentials-unique {m} {n} {T} w c u v u′ v′ h h′ z = (
+  (λ i l. decide-iff (row i) .0 (w .rows A B first closed i l)),
+  (λ j l. decide-iff (col j) .0 (w .cols A B first closed j l)),
+)
+  where
+    row : (i : ℕ) → Dec (u i ≈ u′ i)
+    row i = ≈-dec (u i) (u′ i)
+
+    col : (j : ℕ) → Dec (v j ≈ v′ j)
+    col j = ≈-dec (v j) (v′ j)
+
+    A : ℕ → Bool
+    A i = decide (row i)
+
+    B : ℕ → Bool
+    B j = decide (col j)
+
+    first : A 0 ≡ true
+    first = decide-iff (row 0) .1 z
+
+    closed : Closed m n T A B
+    closed i j k l t = decide-congr (row i) (col j) (omega (arith, h i j k l t, h′ i j k l t))
