@@ -11,7 +11,7 @@ use Rattle.integers.specs.Sum.{sumN}
 abbrev pub cnt : ℕ → (ℕ → Bool) → ℕ
 cnt n P = sumN n (λ k. cond (P k) 1 0)
 
-bit-le : (p : Bool) → cond {A = ℕ} p 1 0 ≤ 1
+pub bit-le : (p : Bool) → cond {A = ℕ} p 1 0 ≤ 1
 bit-le true = omega arith
 bit-le false = omega arith
 

@@ -11,6 +11,7 @@ use Rattle.integers.specs.IntegerLaws.{⊗-cong}
 use Rattle.integers.specs.Sum.{sum, sum₂}
 use Rattle.integers.specs.SumLaws.{sum-cong, sum-zero, sum-neg, sum₂-cong, sum₂-add, sum₂-one, sum₂-rows, sum₂-cols}
 use Rattle.network.specs.Flow.{Flow, Circulation, Tight}
+use Rattle.network.specs.FlowLaws.{flow-on}
 
 -- a cut (A of the rows, B of the columns) that no cell of T crosses
 abbrev pub Closed : ℕ → ℕ → (ℕ → ℕ → Type 0) → (ℕ → Bool) → (ℕ → Bool) → Type 0
@@ -84,11 +85,7 @@ exchange {m} {n} {T} {T′} {δ} {p} {q} hp hq f leaves keeps w = record {
     no-cut A B h = by-cases (Bool-discrete (A p) (B q)) (λ e. e) (λ e. absurd (leaves (crossing (A p) (B q) (δ p q) e (omega (
       arith,
       bal-zero m n A B,
-      balance {A = A} {B = B} hp hq (record {
-        on = λ i j k l d. ⊎-elim (inside A B h i j k l) (λ t. inr (h i j k l t)) (f .on i j k l d);
-        rows = f .rows;
-        cols = f .cols;
-      }),
+      balance {A = A} {B = B} hp hq (flow-on (λ i j k l. ⊎-elim (inside A B h i j k l) (λ t. inr (h i j k l t))) f),
     )))))
 
     back : (A B : ℕ → Bool) → Closed m n T′ A B → Closed m n T A B

@@ -1,4 +1,6 @@
 pub mod Flow
+pub mod FlowLaws
 pub mod Duality
 pub mod Joined
 pub mod Cut
+pub mod Basis
