@@ -5,7 +5,7 @@ use mathlib.Core.Bool.{Bool, true, false, false≢true}
 use Prim.Native.Nat.{ℕ, zero, suc, _+_, _*_, _-_, _≤_, _<_}
 use native.Mathlib.Omega.{arith}
 use native.Mathlib.Decide.{ℕ-discrete, decLt}
-use Rattle.integers.specs.Integer.{Z, _≈_, _≼_, ≈-dec, _⊕_, _⊖_, _⊗_, neg, nat}
+use Rattle.integers.specs.Integer.{Z, _≈_, _≼_, ≈-dec, _⊕_, _⊖_, _⊗_, neg, nat, Within}
 use Rattle.integers.specs.Sum.{sum, point}
 use Rattle.integers.specs.SumLaws.{sum-zero, sum-point}
 use Rattle.network.specs.Flow.{Flow, Circulation}
@@ -43,11 +43,11 @@ skip-all P ℓ K hl h k l ne = by-cases (decLt k ℓ) (λ q. rw (if-pos (decLt k
     up zero l q = absurd (omega arith)
     up (suc k) l q = rw (if-neg (decLt k ℓ) (omega arith) k (suc k)) at (h k (omega arith))
 
-within : (s t : Bool) (d v : Z) (H : ℕ) → ¬ (s ≡ t) → d ⊗ side s t ≈ v → neg (nat H) ≼ v → v ≼ nat H → (neg (nat H) ≼ d) × (d ≼ nat H)
-within true true d v H e h lo hi = absurd (e refl)
-within false false d v H e h lo hi = absurd (e refl)
-within true false d v H e h lo hi = omega arith
-within false true d v H e h lo hi = omega arith
+within : (s t : Bool) (d v : Z) (H : ℕ) → ¬ (s ≡ t) → d ⊗ side s t ≈ v → Within H v → Within H d
+within true true d v H e h w = absurd (e refl)
+within false false d v H e h w = absurd (e refl)
+within true false d v H e h w = omega arith
+within false true d v H e h w = omega arith
 
 module _ {m n K : ℕ} {r c : ℕ → ℕ} (t : Basis m n K r c) where
   -- Without cell ℓ only m + n − 2 cells are left: too few to join everything, so some cut is crossed by none of them.
@@ -91,7 +91,7 @@ module _ {m n K : ℕ} {r c : ℕ → ℕ} (t : Basis m n K r c) where
         cell (k, l, p, q) = by-cases (ℕ-discrete k ℓ) (λ s. inl (sym p ∙ ap r s, sym q ∙ ap c s)) (λ s. inr (ap (g .A) (sym p) ∙ g .others k l s ∙ ap (g .B) q))
 
     -- a bound on the balance of the cut is one on the flow
-    pub flow-within : {ℓ : ℕ} → ℓ < suc K → (g : Cut K r c ℓ) (H : ℕ) → neg (nat H) ≼ bal m n (g .A) (g .B) a b → bal m n (g .A) (g .B) a b ≼ nat H → (neg (nat H) ≼ x (r ℓ) (c ℓ)) × (x (r ℓ) (c ℓ) ≼ nat H)
+    pub flow-within : {ℓ : ℕ} → ℓ < suc K → (g : Cut K r c ℓ) (H : ℕ) → Within H (bal m n (g .A) (g .B) a b) → Within H (x (r ℓ) (c ℓ))
     flow-within {ℓ} hl g H = within (g .A (r ℓ)) (g .B (c ℓ)) (x (r ℓ) (c ℓ)) (bal m n (g .A) (g .B) a b) H (g .crosses) (flow-at hl g)
 
   -- Two flows on a basis with the same margins agree at every cell: both are the balance of the same cut there.
@@ -117,9 +117,8 @@ module _ {m n K : ℕ} {r c : ℕ → ℕ} (t : Basis m n K r c) where
 
   -- The loop signs of an entering lane (p, q) are the flow of −1 at row p and −1 at column q. A cut's balance of these is −1, 0 or 1, so they are.
   pub unit : {σ : ℕ → ℕ → Z} {p q : ℕ} → p < m → q < n → Flow m n (In r c (suc K)) σ (point p (neg (nat 1))) (point q (neg (nat 1)))
-      → (ℓ : ℕ) → ℓ < suc K → (neg (nat 1) ≼ σ (r ℓ) (c ℓ)) × (σ (r ℓ) (c ℓ) ≼ nat 1)
+      → (ℓ : ℕ) → ℓ < suc K → Within 1 (σ (r ℓ) (c ℓ))
   unit {σ} {p} {q} hp hq f ℓ hl = let g : Cut K r c ℓ = cut-at ℓ hl in flow-within f hl g 1
-      (omega (arith, sum-point m (λ i. ind (g .A i)) p (neg (nat 1)) hp, sum-point n (λ j. ind (g .B j)) q (neg (nat 1)) hq, bit-le (g .A p), bit-le (g .B q)))
       (omega (arith, sum-point m (λ i. ind (g .A i)) p (neg (nat 1)) hp, sum-point n (λ j. ind (g .B j)) q (neg (nat 1)) hq, bit-le (g .A p), bit-le (g .B q)))
 
   -- Cell ℓ is replaced by the entering cell (r′ ℓ, c′ ℓ): a basis again, if a circulation through the two is not 0 at the old cell.

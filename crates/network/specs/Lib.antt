@@ -4,3 +4,5 @@ pub mod Duality
 pub mod Joined
 pub mod Cut
 pub mod Basis
+pub mod Marks
+pub mod Pivot
