@@ -1,0 +1,5 @@
+pub mod Integer
+pub mod IntegerLaws
+pub mod Bridge
+pub mod Sum
+pub mod SumLaws

@@ -1,0 +1,137 @@
+-- Bases: m + n − 1 cells that join all rows and columns. Each cell alone crosses some cut; so flows on a basis are determined by their margins.
+use mathlib.Core.Path.{_≡_, refl, ap, sym, _∙_}
+use mathlib.Core.Logic.{_≢_, _⊎_, inl, inr, ⊎-elim, by-cases, ite, if-pos, if-neg}
+use mathlib.Core.Bool.{Bool, true, false, false≢true}
+use Prim.Native.Nat.{ℕ, zero, suc, _+_, _*_, _-_, _≤_, _<_}
+use native.Mathlib.Omega.{arith}
+use native.Mathlib.Decide.{ℕ-discrete, decLt}
+use Rattle.integers.specs.Integer.{Z, _≈_, _≼_, ≈-dec, _⊕_, _⊖_, _⊗_, neg, nat, Within}
+use Rattle.integers.specs.Sum.{sum, point}
+use Rattle.integers.specs.SumLaws.{sum-zero, sum-point}
+use Rattle.network.specs.Flow.{Flow, Circulation}
+use Rattle.network.specs.FlowLaws.{flow-on}
+use Rattle.network.specs.Joined.{Joined, Closed, ind, side, bal, balance, crossing, exchange}
+use Rattle.network.specs.Cut.{cut, bit-le}
+
+-- the first K cells of a list given by rows r and columns c
+abbrev pub In : (ℕ → ℕ) → (ℕ → ℕ) → ℕ → ℕ → ℕ → Type 0
+In r c K i j = (k : ℕ) × (k < K) × (r k ≡ i) × (c k ≡ j)
+
+-- the cells (r 0, c 0) .. (r K, c K) are a basis
+pub record Basis (m n K : ℕ) (r c : ℕ → ℕ) : Type 1 where
+  pub size : K + 2 ≡ m + n
+  pub rows : (k : ℕ) → k < suc K → r k < m
+  pub cols : (k : ℕ) → k < suc K → c k < n
+  pub joined : Joined m n (In r c (suc K))
+
+-- a cut with row 0 in it that cell ℓ crosses and no other cell does
+pub record Cut (K : ℕ) (r c : ℕ → ℕ) (ℓ : ℕ) : Type 0 where
+  pub A : ℕ → Bool
+  pub B : ℕ → Bool
+  pub first : A 0 ≡ true
+  pub others : (k : ℕ) → k < suc K → k ≢ ℓ → A (r k) ≡ B (c k)
+  pub crosses : ¬ (A (r ℓ) ≡ B (c ℓ))
+
+-- the numbers without ℓ
+abbrev skip : ℕ → ℕ → ℕ
+skip ℓ k = ite (decLt k ℓ) k (suc k)
+
+skip-all : (P : ℕ → Type 0) (ℓ K : ℕ) → ℓ < suc K → ((k : ℕ) → k < K → P (skip ℓ k)) → (k : ℕ) → k < suc K → k ≢ ℓ → P k
+skip-all P ℓ K hl h k l ne = by-cases (decLt k ℓ) (λ q. rw (if-pos (decLt k ℓ) q k (suc k)) at (h k (omega arith))) (λ q. up k l (omega arith))
+  where
+    up : (k : ℕ) → k < suc K → ¬ (k < suc ℓ) → P k
+    up zero l q = absurd (omega arith)
+    up (suc k) l q = rw (if-neg (decLt k ℓ) (omega arith) k (suc k)) at (h k (omega arith))
+
+within : (s t : Bool) (d v : Z) (H : ℕ) → ¬ (s ≡ t) → d ⊗ side s t ≈ v → Within H v → Within H d
+within true true d v H e h w = absurd (e refl)
+within false false d v H e h w = absurd (e refl)
+within true false d v H e h w = omega arith
+within false true d v H e h w = omega arith
+
+module _ {m n K : ℕ} {r c : ℕ → ℕ} (t : Basis m n K r c) where
+  -- Without cell ℓ only m + n − 2 cells are left: too few to join everything, so some cut is crossed by none of them.
+  -- Cell ℓ crosses it, for all cells together do join everything.
+  pub cut-at : (ℓ : ℕ) → ℓ < suc K → Cut K r c ℓ
+  cut-at ℓ hl = go (cut (λ k. r (skip ℓ k)) (λ k. m + c (skip ℓ k)) (m + n) K (omega arith))
+    where
+      go : (A : ℕ → Bool) × (A 0 ≡ true) × ((k : ℕ) → k < K → A (r (skip ℓ k)) ≡ A (m + c (skip ℓ k))) × ((w : ℕ) × (w < m + n) × (A w ≡ false)) → Cut K r c ℓ
+      go g = record { A = A; B = B; first = g .1; others = others; crosses = crosses }
+        where
+          A : ℕ → Bool
+          A = g .0
+
+          B : ℕ → Bool
+          B j = g .0 (m + j)
+
+          others : (k : ℕ) → k < suc K → k ≢ ℓ → A (r k) ≡ B (c k)
+          others = skip-all (λ k. A (r k) ≡ B (c k)) ℓ K hl (g .2)
+
+          crosses : ¬ (A (r ℓ) ≡ B (c ℓ))
+          crosses e = outside (g .3 .0) (g .3 .1) (g .3 .2)
+            where
+              closed : Closed m n (In r c (suc K)) A B
+              closed i j hi hj s = ap A (sym (s .2)) ∙ by-cases (ℕ-discrete (s .0) ℓ) (λ q. rw q e) (others (s .0) (s .1)) ∙ ap B (s .3)
+
+              outside : (x : ℕ) → x < m + n → ¬ (g .0 x ≡ false)
+              outside x l f = by-cases (decLt x m)
+                  (λ q. false≢true (sym f ∙ t .joined .rows A B (g .1) closed x q))
+                  (λ q. false≢true (sym f ∙ ap (g .0) (omega arith) ∙ t .joined .cols A B (g .1) closed (x - m) (omega arith)))
+
+  -- the cells are distinct
+  pub distinct : (k l : ℕ) → k < suc K → l < suc K → r k ≡ r l → c k ≡ c l → k ≡ l
+  distinct k l hk hl e f = by-cases (ℕ-discrete k l) (λ q. q) (λ q. absurd (cut-at l hl .crosses (ap (cut-at l hl .A) (sym e) ∙ cut-at l hl .others k hk q ∙ ap (cut-at l hl .B) f)))
+
+  module _ {x : ℕ → ℕ → Z} {a b : ℕ → Z} (f : Flow m n (In r c (suc K)) x a b) where
+    -- a flow on the basis is, at each cell, the balance of that cell's cut, up to sign
+    pub flow-at : {ℓ : ℕ} → ℓ < suc K → (g : Cut K r c ℓ) → x (r ℓ) (c ℓ) ⊗ side (g .A (r ℓ)) (g .B (c ℓ)) ≈ bal m n (g .A) (g .B) a b
+    flow-at {ℓ} hl g = balance (t .rows ℓ hl) (t .cols ℓ hl) (flow-on (λ i j hi hj. cell) f)
+      where
+        cell : {i j : ℕ} → In r c (suc K) i j → ((i ≡ r ℓ) × (j ≡ c ℓ)) ⊎ (g .A i ≡ g .B j)
+        cell (k, l, p, q) = by-cases (ℕ-discrete k ℓ) (λ s. inl (sym p ∙ ap r s, sym q ∙ ap c s)) (λ s. inr (ap (g .A) (sym p) ∙ g .others k l s ∙ ap (g .B) q))
+
+    -- a bound on the balance of the cut is one on the flow
+    pub flow-within : {ℓ : ℕ} → ℓ < suc K → (g : Cut K r c ℓ) (H : ℕ) → Within H (bal m n (g .A) (g .B) a b) → Within H (x (r ℓ) (c ℓ))
+    flow-within {ℓ} hl g H = within (g .A (r ℓ)) (g .B (c ℓ)) (x (r ℓ) (c ℓ)) (bal m n (g .A) (g .B) a b) H (g .crosses) (flow-at hl g)
+
+  -- Two flows on a basis with the same margins agree at every cell: both are the balance of the same cut there.
+  pub flow-unique : {x y : ℕ → ℕ → Z} {a b : ℕ → Z} → Flow m n (In r c (suc K)) x a b → Flow m n (In r c (suc K)) y a b → (i j : ℕ) → i < m → j < n → x i j ≈ y i j
+  flow-unique {x} {y} f g i j hi hj = by-cases (≈-dec (x i j) (nat 0))
+      (λ e. by-cases (≈-dec (y i j) (nat 0)) (λ e′. omega arith) (λ e′. cell (g .on i j hi hj e′)))
+      (λ e. cell (f .on i j hi hj e))
+    where
+      agree : (k : ℕ) → k < suc K → x (r k) (c k) ≈ y (r k) (c k)
+      agree k l = let w : Cut K r c k = cut-at k l in
+          omega (arith, crossing (w .A (r k)) (w .B (c k)) (x (r k) (c k) ⊖ y (r k) (c k)) (w .crosses) (omega (arith, flow-at f l w, flow-at g l w)))
+
+      cell : {i j : ℕ} → In r c (suc K) i j → x i j ≈ y i j
+      cell {i} {j} (k, l, p, q) = rw (← p, ← q) (agree k l)
+
+  -- so a circulation on a basis is 0: there is no loop in it
+  pub no-circulation : {δ : ℕ → ℕ → Z} → Circulation m n (In r c (suc K)) δ → (i j : ℕ) → i < m → j < n → δ i j ≈ nat 0
+  no-circulation f = flow-unique f (record {
+    on = λ i j hi hj e. absurd (e (omega arith));
+    rows = λ i l. sum-zero n (λ j. nat 0) (λ j l. omega arith);
+    cols = λ j l. sum-zero m (λ i. nat 0) (λ i l. omega arith);
+  })
+
+  -- The loop signs of an entering lane (p, q) are the flow of −1 at row p and −1 at column q. A cut's balance of these is −1, 0 or 1, so they are.
+  pub unit : {σ : ℕ → ℕ → Z} {p q : ℕ} → p < m → q < n → Flow m n (In r c (suc K)) σ (point p (neg (nat 1))) (point q (neg (nat 1)))
+      → (ℓ : ℕ) → ℓ < suc K → Within 1 (σ (r ℓ) (c ℓ))
+  unit {σ} {p} {q} hp hq f ℓ hl = let g : Cut K r c ℓ = cut-at ℓ hl in flow-within f hl g 1
+      (omega (arith, sum-point m (λ i. ind (g .A i)) p (neg (nat 1)) hp, sum-point n (λ j. ind (g .B j)) q (neg (nat 1)) hq, bit-le (g .A p), bit-le (g .B q)))
+
+  -- Cell ℓ is replaced by the entering cell (r′ ℓ, c′ ℓ): a basis again, if a circulation through the two is not 0 at the old cell.
+  pub replaced : {r′ c′ : ℕ → ℕ} {ℓ : ℕ} {δ : ℕ → ℕ → Z} → ℓ < suc K → r′ ℓ < m → c′ ℓ < n
+      → ((k : ℕ) → k < suc K → k ≢ ℓ → (r′ k ≡ r k) × (c′ k ≡ c k))
+      → Circulation m n (λ i j. In r c (suc K) i j ⊎ ((i ≡ r′ ℓ) × (j ≡ c′ ℓ))) δ → ¬ (δ (r ℓ) (c ℓ) ≈ nat 0)
+      → Basis m n K r′ c′
+  replaced {r′} {c′} {ℓ} {δ} hl hr hc rest f leaves = record {
+    size = t .size;
+    rows = λ k l. by-cases (ℕ-discrete k ℓ) (λ e. rw e hr) (λ e. rw (rest k l e .0) (t .rows k l));
+    cols = λ k l. by-cases (ℕ-discrete k ℓ) (λ e. rw e hc) (λ e. rw (rest k l e .1) (t .cols k l));
+    joined = exchange (t .rows ℓ hl) (t .cols ℓ hl) (flow-on (λ i j hi hj. ⊎-elim inl (λ d. inr (ℓ, hl, sym (d .0), sym (d .1)))) f) leaves (λ i j hi hj. keep) (t .joined);
+  }
+    where
+      keep : {i j : ℕ} → In r c (suc K) i j → ¬ ((i ≡ r ℓ) × (j ≡ c ℓ)) → In r′ c′ (suc K) i j
+      keep (k, l, p, q) d = by-cases (ℕ-discrete k ℓ) (λ s. absurd (d (sym p ∙ ap r s, sym q ∙ ap c s))) (λ s. (k, l, rest k l s .0 ∙ p, rest k l s .1 ∙ q))
