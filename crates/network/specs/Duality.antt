@@ -7,7 +7,8 @@ use Rattle.integers.specs.Integer.{Z, _≈_, _≼_, ≈-dec, _⊕_, _⊖_, _⊗
 use Rattle.integers.specs.IntegerLaws.{⊗-cong, ⊗-nonneg, ⊗-zero}
 use Rattle.integers.specs.Sum.{sum, sum₂}
 use Rattle.integers.specs.SumLaws.{sum-cong, sum-scale, sum₂-cong, sum₂-zero, sum₂-nonneg, sum₂-add, sum₂-each, sum₂-rows, sum₂-cols}
-use Rattle.network.specs.Flow.{On, Flow, Plan, cost, Feasible, Tight, worth}
+use Rattle.network.specs.Flow.{On, Flow, Nonneg, Plan, cost, Feasible, Tight, worth}
+use Rattle.network.specs.FlowLaws.{flow-restrict}
 
 worth-scale : (m n : ℕ) (u v : ℕ → Z) (k : ℕ) (a b : ℕ → Z) → worth m n u v (λ i. nat k ⊗ a i) (λ j. nat k ⊗ b j) ≈ nat k ⊗ worth m n u v a b
 worth-scale m n u v k a b = omega (
@@ -41,7 +42,7 @@ module _ {m n : ℕ} (c : ℕ → ℕ → Z) (u v : ℕ → Z) where
         (λ e. omega (arith, ⊗-cong (x i j) (c i j) (u i ⊕ v j) (omega (arith, f .on i j k l e))))),
   )
 
-  module _ {y : ℕ → ℕ → Z} {a b : ℕ → Z} (pos : (i j : ℕ) → i < m → j < n → nat 0 ≼ y i j) (f : Flow m n (Feasible c u v) y a b) where
+  module _ {y : ℕ → ℕ → Z} {a b : ℕ → Z} (pos : Nonneg m n y) (f : Flow m n (Feasible c u v) y a b) where
     gap : (i j : ℕ) → i < m → j < n → nat 0 ≼ y i j ⊗ (c i j ⊖ u i ⊖ v j)
     gap i j k l = by-cases (≈-dec (y i j) (nat 0))
         (λ e. omega (arith, ⊗-cong (c i j ⊖ u i ⊖ v j) (y i j) (nat 0) e))
@@ -68,5 +69,5 @@ module _ {m n : ℕ} (c : ℕ → ℕ → Z) (u v : ℕ → Z) where
     pub least-tight : (cost m n c y ≈ nat k ⊗ cost m n c x) ↔ On m n (Tight c u v) y
     least-tight = (
       (λ e. slack (g .nonneg) (g .flow) (omega (arith, dual))),
-      (λ t. omega (arith, dual, tight-cost (record { on = t; rows = g .flow .rows; cols = g .flow .cols }))),
+      (λ t. omega (arith, dual, tight-cost (flow-restrict t (g .flow)))),
     )
