@@ -1,5 +1,5 @@
 -- The laws of flows.
-use Prim.Native.Nat.{ℕ, _+_, _*_, _≤_, _<_}
+use Prim.Native.Nat.{ℕ, _<_}
 use native.Mathlib.Omega.{arith}
 use Rattle.integers.specs.Integer.{Z, _≈_, _⊗_, nat}
 use Rattle.integers.specs.Sum.{sum}

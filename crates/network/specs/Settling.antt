@@ -1,14 +1,14 @@
 -- Settling: lanes are decided one after another, and what is left is the plan that carries more on the first lane where it differs from any other.
 -- Lane (i, j) has the number i * n + j.
-use mathlib.Core.Path.{_≡_, refl, ap, sym, _∙_}
+use mathlib.Core.Path.{_≡_, ap}
 use mathlib.Core.Logic.{_↔_, _⊎_, inl, inr, ⊎-elim, by-cases}
 use Prim.Native.Nat.{ℕ, suc, _+_, _*_, _≤_, _<_}
 use native.Mathlib.Nat.{mul-le-mul-right}
 use native.Mathlib.Omega.{arith}
 use native.Mathlib.Decide.{ℕ-discrete, decLt}
-use Rattle.integers.specs.Integer.{Z, _≈_, _≼_, _≺_, ≈-dec, _⊕_, _⊖_, _⊗_, neg, nat}
+use Rattle.integers.specs.Integer.{Z, _≈_, _≼_, _≺_, ≈-dec, _⊗_, neg, nat}
 use Rattle.integers.specs.IntegerLaws.{⊗-cong}
-use Rattle.integers.specs.Sum.{sum, sum₂, point}
+use Rattle.integers.specs.Sum.{point}
 use Rattle.integers.specs.SumLaws.{sum₂-one, point-at, point-off}
 use Rattle.network.specs.Flow.{On, Flow, Nonneg, Plan, cost, Feasible, Tight}
 use Rattle.network.specs.FlowLaws.{flow-on, flow-scale, plan-whole, plan-on, plan-restrict}
