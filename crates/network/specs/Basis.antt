@@ -2,11 +2,11 @@
 use mathlib.Core.Path.{_≡_, refl, ap, sym, _∙_}
 use mathlib.Core.Logic.{_≢_, _⊎_, inl, inr, ⊎-elim, by-cases, ite, if-pos, if-neg}
 use mathlib.Core.Bool.{Bool, true, false, false≢true}
-use Prim.Native.Nat.{ℕ, zero, suc, _+_, _*_, _-_, _≤_, _<_}
+use Prim.Native.Nat.{ℕ, zero, suc, _+_, _-_, _<_}
 use native.Mathlib.Omega.{arith}
 use native.Mathlib.Decide.{ℕ-discrete, decLt}
-use Rattle.integers.specs.Integer.{Z, _≈_, _≼_, ≈-dec, _⊕_, _⊖_, _⊗_, neg, nat, Within}
-use Rattle.integers.specs.Sum.{sum, point}
+use Rattle.integers.specs.Integer.{Z, _≈_, ≈-dec, _⊖_, _⊗_, neg, nat, Within}
+use Rattle.integers.specs.Sum.{point}
 use Rattle.integers.specs.SumLaws.{sum-zero, sum-point}
 use Rattle.network.specs.Flow.{Flow, Circulation}
 use Rattle.network.specs.FlowLaws.{flow-on}

@@ -18,10 +18,13 @@ pub record Flow (m n : ℕ) (T : ℕ → ℕ → Type 0) (x : ℕ → ℕ → Z)
 abbrev pub Circulation : ℕ → ℕ → (ℕ → ℕ → Type 0) → (ℕ → ℕ → Z) → Type 0
 Circulation m n T δ = Flow m n T δ (λ i. nat 0) (λ j. nat 0)
 
+abbrev pub Nonneg : ℕ → ℕ → (ℕ → ℕ → Z) → Type 0
+Nonneg m n x = (i j : ℕ) → i < m → j < n → nat 0 ≼ x i j
+
 -- y is a plan in k-ths on T, for supplies a and demands b
 pub record Plan (m n : ℕ) (T : ℕ → ℕ → Type 0) (k : ℕ) (y : ℕ → ℕ → Z) (a b : ℕ → Z) : Type 0 where
   pub flow : Flow m n T y (λ i. nat k ⊗ a i) (λ j. nat k ⊗ b j)
-  pub nonneg : (i j : ℕ) → i < m → j < n → nat 0 ≼ y i j
+  pub nonneg : Nonneg m n y
 
 -- the cost of x at c for each cell
 abbrev pub cost : ℕ → ℕ → (ℕ → ℕ → Z) → (ℕ → ℕ → Z) → Z

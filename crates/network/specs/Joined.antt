@@ -3,12 +3,12 @@ use mathlib.Core.Path.{_≡_, refl, ap, sym, _∙_}
 use mathlib.Core.Logic.{_⊎_, inl, inr, ⊎-elim, by-cases, Dec·and}
 use mathlib.Core.Bool.{Bool, true, false, cond, Bool-discrete, decide, decide-iff}
 use mathlib.Mathlib.Data.Bool.Basic.{decide-congr}
-use Prim.Native.Nat.{ℕ, _+_, _*_, _≤_, _<_}
+use Prim.Native.Nat.{ℕ, _<_}
 use native.Mathlib.Omega.{arith}
 use native.Mathlib.Decide.{ℕ-discrete}
-use Rattle.integers.specs.Integer.{Z, _≈_, _≼_, ≈-dec, _⊕_, _⊖_, _⊗_, neg, nat}
+use Rattle.integers.specs.Integer.{Z, _≈_, ≈-dec, _⊕_, _⊖_, _⊗_, neg, nat}
 use Rattle.integers.specs.IntegerLaws.{⊗-cong}
-use Rattle.integers.specs.Sum.{sum, sum₂}
+use Rattle.integers.specs.Sum.{sum}
 use Rattle.integers.specs.SumLaws.{sum-cong, sum-zero, sum-neg, sum₂-cong, sum₂-add, sum₂-one, sum₂-rows, sum₂-cols}
 use Rattle.network.specs.Flow.{Flow, Circulation, Tight}
 use Rattle.network.specs.FlowLaws.{flow-on}

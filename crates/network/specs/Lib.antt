@@ -6,3 +6,5 @@ pub mod Cut
 pub mod Basis
 pub mod Marks
 pub mod Pivot
+pub mod Staircase
+pub mod Settling

@@ -1,12 +1,12 @@
 -- Pivots: a step θ along a circulation δ through the entering cell (p, q); and the value of a pair of bags and marks.
-use mathlib.Core.Path.{_≡_, refl, ap, sym, _∙_}
+use mathlib.Core.Path.{_≡_, sym, _∙_}
 use mathlib.Core.Logic.{_↔_, Iff·trans, _≢_, _⊎_, inl, inr, ⊎-elim, by-cases, Dec·and}
-use Prim.Native.Nat.{ℕ, suc, _+_, _*_, _≤_, _<_}
+use Prim.Native.Nat.{ℕ, _+_, _*_, _<_}
 use native.Mathlib.Omega.{arith}
 use native.Mathlib.Decide.{ℕ-discrete}
 use Rattle.integers.specs.Integer.{Z, _≈_, _≼_, _≺_, ≈-dec, ≼-dec, _⊕_, _⊖_, _⊗_, neg, nat, Within}
 use Rattle.integers.specs.IntegerLaws.{⊗-cong, ⊗-nonneg, ⊗-mono, ⊗-pos}
-use Rattle.integers.specs.Sum.{sum, sum₂, point}
+use Rattle.integers.specs.Sum.{sum, point}
 use Rattle.integers.specs.SumLaws.{sum-zero, sum-cong, sum-add, sum-scale, sum-point, point-at, point-off, sum₂-cong, sum₂-add, sum₂-scale, sum₂-one}
 use Rattle.network.specs.Flow.{On, Flow, Circulation, cost, Tight}
 use Rattle.network.specs.Duality.{cost-splits}
