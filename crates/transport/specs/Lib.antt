@@ -14,3 +14,4 @@ pub mod PlanText
 pub mod Open
 pub mod Samples
 pub mod Statements
+pub mod ListLaws
