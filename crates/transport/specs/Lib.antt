@@ -15,3 +15,5 @@ pub mod Open
 pub mod Samples
 pub mod Statements
 pub mod ListLaws
+pub mod AmountLaws
+pub mod SheetLaws

@@ -1,5 +1,5 @@
 -- The laws of Lists: tables, tests of all elements, kept elements, sums, and the first least element.
-use Prim.Native.Nat.{ℕ, zero, suc, _+_, _-_, _*_, _≤_, _<_}
+use Prim.Native.Nat.{ℕ, zero, suc, _+_, _*_, _≤_, _<_}
 use native.Mathlib.Omega.{arith}
 use native.Mathlib.Numerals.{add-one}
 use native.Mathlib.Nat.{eq-or-lt-of-le, mul-add, add-suc, add-zero, suc-mul, zero-mul}
@@ -8,11 +8,11 @@ use mathlib.Core.Path.{_≡_, refl, sym, ap, _∙_}
 use mathlib.Core.Logic.{⊎-elim, _⊎_, inl, inr}
 use mathlib.Core.Bool.{Bool, true, false, _&&_, cond, true≢false, false≢true, and-true, and-assoc}
 use mathlib.Core.List.{List, [], _∷_, _++_, map, flatMap, append-assoc, append-nil, List·Memᴰ, List·Memᴰ·head, List·Memᴰ·tail, List·Memᴰ·not-nil, List·Memᴰ·cases-cons, List·Memᴰ·append-cases, Memᴰ·append-left, Memᴰ·append-right}
-use lib.ListN.{length, take, drop, getD, set, length-append, length-map, List·getD-append}
+use lib.ListN.{length, take, drop, getD, set, length-append, List·getD-append}
 use lib.Seq.{drop-cons, set-at, getD-at, getD-append-add, ext-getD, take-suc}
 use lib.Dec.{ltb}
 use borrow.Author.Tests.{ltb-true, ltb-false, lt-ltb, le-ltb}
-use Rattle.transport.specs.Lists.{all, keep, leastFrom, firstLeast, table, below, downTo, sumTo, at, total}
+use Rattle.transport.specs.Lists.{all, keep, leastFrom, firstLeast, table, below, sumTo, at, total}
 
 -- ---- table
 
@@ -123,6 +123,16 @@ module _ {A : Type 0} where
       go rest (inl k) = (x, List·Memᴰ·head refl, k)
       go rest (inr k) = let (z, l, e) = rest k in (z, List·Memᴰ·tail l, e)
 
+-- ---- append and flatMap
+
+pub getD-append-at : {A : Type 0} (xs ys : List A) (n k : ℕ) (d : A) → length xs ≡ n → getD (xs ++ ys) (n + k) d ≡ getD ys k d
+getD-append-at xs ys n k d e = rw (← e) (getD-append-add xs ys k d)
+
+pub flatMap-append : {A B : Type 0} (f : A → List B) (xs ys : List A) → flatMap f (xs ++ ys) ≡ flatMap f xs ++ flatMap f ys
+unfolding flatMap
+flatMap-append f [] ys = refl
+flatMap-append f (x ∷ xs) ys = rw (flatMap-append f xs ys, append-assoc)
+
 -- ---- all
 
 is-false : (b : Bool) → (b ≡ true → ⊥) → b ≡ false
@@ -133,11 +143,11 @@ is-true : (b : Bool) → (b ≡ false → ⊥) → b ≡ true
 is-true true h = refl
 is-true false h = absurd (h refl)
 
-and-left : (a b : Bool) → a && b ≡ true → a ≡ true
+pub and-left : (a b : Bool) → a && b ≡ true → a ≡ true
 and-left true b e = refl
 and-left false b e = e
 
-and-right : (a b : Bool) → a && b ≡ true → b ≡ true
+pub and-right : (a b : Bool) → a && b ≡ true → b ≡ true
 and-right true b e = e
 and-right false b e = absurd (false≢true e)
 
