@@ -15,3 +15,6 @@ pub mod Answers
 pub mod Statements
 pub mod Open
 pub mod Samples
+pub mod ListLaws
+pub mod AmountLaws
+pub mod SheetLaws
