@@ -10,7 +10,8 @@ use Rattle.integers.specs.Sum.{point}
 use Rattle.integers.specs.SumLaws.{sum-zero, sum-point}
 use Rattle.network.specs.Flow.{Flow, Circulation}
 use Rattle.network.specs.FlowLaws.{flow-on}
-use Rattle.network.specs.Joined.{Joined, Closed, ind, side, bal, balance, crossing, exchange}
+use Rattle.transport.specs.Statements.{Joined, Closed}
+use Rattle.network.specs.Joined.{ind, side, bal, balance, crossing, exchange}
 use Rattle.network.specs.Cut.{cut, bit-le}
 
 -- the first K cells of a list given by rows r and columns c

@@ -10,17 +10,9 @@ use Rattle.integers.specs.Integer.{Z, _≈_, ≈-dec, _⊕_, _⊖_, _⊗_, neg,
 use Rattle.integers.specs.IntegerLaws.{⊗-cong}
 use Rattle.integers.specs.Sum.{sum}
 use Rattle.integers.specs.SumLaws.{sum-cong, sum-zero, sum-neg, sum₂-cong, sum₂-add, sum₂-one, sum₂-rows, sum₂-cols}
+use Rattle.transport.specs.Statements.{Closed, Joined}
 use Rattle.network.specs.Flow.{Flow, Circulation, Tight}
 use Rattle.network.specs.FlowLaws.{flow-on}
-
--- a cut (A of the rows, B of the columns) that no cell of T crosses
-abbrev pub Closed : ℕ → ℕ → (ℕ → ℕ → Type 0) → (ℕ → Bool) → (ℕ → Bool) → Type 0
-Closed m n T A B = (i j : ℕ) → i < m → j < n → T i j → A i ≡ B j
-
--- T joins all rows and columns: a cut that no cell crosses, and that has row 0, has everything
-pub record Joined (m n : ℕ) (T : ℕ → ℕ → Type 0) : Type 1 where
-  pub rows : (A B : ℕ → Bool) → A 0 ≡ true → Closed m n T A B → (i : ℕ) → i < m → A i ≡ true
-  pub cols : (A B : ℕ → Bool) → A 0 ≡ true → Closed m n T A B → (j : ℕ) → j < n → B j ≡ true
 
 -- ---- the balance of a cut
 -- 1 in a set, 0 outside

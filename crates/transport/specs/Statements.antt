@@ -58,14 +58,14 @@ pub record Best (S : Sheet) (plan : List ℕ) (cost : ℕ) : Type 0 where
 
 -- ---- belonging (01, "Tableau and start")
 
--- No cell lies across the split of the nodes into two sides: A says which rows, and B which columns, are on the side of source 1.
-abbrev pub Uncut : ℕ → ℕ → (ℕ → ℕ → Type 0) → (ℕ → Bool) → (ℕ → Bool) → Type 0
-Uncut m n T A B = (i j : ℕ) → i < m → j < n → T i j → A i ≡ B j
+-- No cell lies across the split of the nodes into two sides: A says which rows, and B which columns, are on the one side.
+abbrev pub Closed : ℕ → ℕ → (ℕ → ℕ → Type 0) → (ℕ → Bool) → (ℕ → Bool) → Type 0
+Closed m n T A B = (i j : ℕ) → i < m → j < n → T i j → A i ≡ B j
 
 -- The cells, as links between rows and columns, join them all: a split with no cell across leaves one side empty.
 pub record Joined (m n : ℕ) (T : ℕ → ℕ → Type 0) : Type 1 where
-  pub rows : (A B : ℕ → Bool) → A 0 ≡ true → Uncut m n T A B → (i : ℕ) → i < m → A i ≡ true
-  pub columns : (A B : ℕ → Bool) → A 0 ≡ true → Uncut m n T A B → (j : ℕ) → j < n → B j ≡ true
+  pub rows : (A B : ℕ → Bool) → A 0 ≡ true → Closed m n T A B → (i : ℕ) → i < m → A i ≡ true
+  pub cols : (A B : ℕ → Bool) → A 0 ≡ true → Closed m n T A B → (j : ℕ) → j < n → B j ≡ true
 
 -- Some cell of the list stands at row i and column j.
 pub record Basic (cells : List Cell) (i j : ℕ) : Type 0 where
