@@ -1,7 +1,7 @@
 -- The declared answers of the calls: which one stands for the paper's answer (`..Answer`), and what one says in the paper's terms, given what the lent lists then
 -- hold (`..Says`). Fields without a meaning hold zeros.
-use mathlib.Core.Bool.{Bool, true, false}
-use mathlib.Core.List.{List, [], _∷_}
+use mathlib.Core.Bool.{true, false}
+use mathlib.Core.List.{List, []}
 use mathlib.Core.Option.{none, some}
 use Prim.Native.Nat.{ℕ, _*_}
 use lib.IntN.{ℤ, pos}

@@ -1,6 +1,6 @@
 -- Striking leaves (002: a row or column with a single basic cell, and again after striking it off), and belonging (paper 01, "Tableau and start").
 -- The cells of a tableau are links between nodes: row i is node i, column j is node m + j.
-use mathlib.Core.Bool.{Bool, true, false, not, _&&_, _||_, cond}
+use mathlib.Core.Bool.{Bool, not, _&&_, _||_, cond}
 use mathlib.Core.List.{List, [], _∷_}
 use mathlib.Core.Option.{Option, none, some}
 use Prim.Native.Nat.{ℕ, zero, suc, _+_}

@@ -1,5 +1,5 @@
 -- The limits of the paper, each number once. (src/lib.rt has them again as constants of the code: where the two differed, the sheet check could not be proved.)
-use Prim.Native.Nat.{ℕ, _+_, _*_, _-_}
+use Prim.Native.Nat.{ℕ, _*_, _-_}
 
 -- Sources and sinks: 1 to 32 of each.
 unfoldable pub maxSide : ℕ

@@ -1,7 +1,7 @@
 -- Plans in whole bags, their cost, and the settled plan (paper 01, "The sheet" and "Settling"). A plan is the list of its quantities in sheet order.
-use mathlib.Core.Bool.{Bool, cond}
+use mathlib.Core.Bool.{cond}
 use mathlib.Core.List.{List, [], _∷_, _++_, map, flatMap, zipWith}
-use Prim.Native.Nat.{ℕ, zero, suc, _+_, _*_, _-_, min}
+use Prim.Native.Nat.{ℕ, _+_, _*_, _-_, min}
 use lib.Dec.{eqb, ltb}
 use lib.ListN.{length}
 use Rattle.transport.specs.Lists.{all, firstLeast, downTo, sumTo, at, total}

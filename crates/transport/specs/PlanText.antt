@@ -2,15 +2,15 @@
 use mathlib.Core.Bool.{not}
 use mathlib.Core.List.{List, [], _∷_, _++_, flatMap}
 use mathlib.Core.Option.{none, some}
-use Prim.Native.Nat.{ℕ, zero, suc, _+_}
+use Prim.Native.Nat.{ℕ, suc, _+_}
 use lib.Dec.{eqb}
-use lib.IntN.{ℤ, pos}
+use lib.IntN.{ℤ}
 use lib.ListN.{length, take}
-use Rattle.transport.specs.Lists.{keep, at, table}
+use Rattle.transport.specs.Lists.{keep, at}
 use Rattle.transport.specs.Limits.{maxText}
 use Rattle.transport.specs.Sheet.{Sheet, sources, sinks, Lane, lanes, place, sheetTests, numberTests}
-use Rattle.transport.specs.Calls.{Refusal, Answer, refused, given, unless, tooShort, Solution, solution}
-use Rattle.transport.specs.Text.{bytes, digits, wholeDigits, headLine, numberLine, rowLine}
+use Rattle.transport.specs.Calls.{Refusal, Answer, refused, given, unless, tooShort, solution}
+use Rattle.transport.specs.Text.{bytes, wholeDigits, headLine, numberLine, rowLine}
 use Rattle.transport.specs.SheetText.{readWith}
 
 unfoldable pub wholeLine : ℤ → List ℕ

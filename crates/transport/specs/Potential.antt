@@ -1,7 +1,7 @@
 -- Potentials and reduced costs (paper 01, "Prices and rounds": a price is the potential of its node; 000, 002).
 use mathlib.Core.Bool.{Bool, true, false}
 use mathlib.Core.List.{List, [], _∷_}
-use Prim.Native.Nat.{ℕ, zero, suc, _+_}
+use Prim.Native.Nat.{ℕ, _+_}
 use lib.Dec.{eqb}
 use lib.IntN.{ℤ, pos, _-ℤ_}
 use lib.Signed.{nonNeg}

@@ -1,16 +1,15 @@
 -- The paper's samples P1 to P9, its text samples and its worked text, as one theorem over the definitions; and a sample for each trap that these leave open.
 use mathlib.Core.Path.{_≡_, refl}
-use mathlib.Core.Bool.{Bool, true, false}
-use mathlib.Core.List.{List, [], _∷_, _++_}
-use mathlib.Core.Option.{none, some}
-use Prim.Native.Nat.{ℕ, _+_, _-_}
+use mathlib.Core.Bool.{true, false}
+use mathlib.Core.List.{List, [], _∷_}
+use mathlib.Core.Option.{some}
+use Prim.Native.Nat.{ℕ, _-_}
 use lib.IntN.{ℤ, pos, negsuc}
 use Rattle.transport.specs.Sheet.{Sheet, Lane}
-use Rattle.transport.specs.Amount.{Pair}
-use Rattle.transport.specs.Tableau.{Cell, Tableau, tableauOf, start}
+use Rattle.transport.specs.Tableau.{Cell, tableauOf, start}
 use Rattle.transport.specs.Potential.{reducedCost}
-use Rattle.transport.specs.Round.{Round, finished, moved, Run, entering, next}
-use Rattle.transport.specs.Calls.{Answer, refused, given, refusedBy, startCall, roundCall, runCall, settleCall, Solution, solveCall}
+use Rattle.transport.specs.Round.{finished, moved, entering, next}
+use Rattle.transport.specs.Calls.{refused, given, refusedBy, startCall, roundCall, runCall, settleCall, solveCall}
 use Rattle.transport.specs.Text.{bytes}
 use Rattle.transport.specs.SheetText.{readSheetCall, writeSheetCall}
 use Rattle.transport.specs.PlanText.{writePlanCall, printed}
@@ -102,6 +101,9 @@ samples =
     ∷ (printed text1 is bytes "total 1\n14\nrounds 1\n1\nroasteries 2\n0\n-2\ncafes 2\n4\n1\nlanes 3\n1 1 1\n1 2 2\n2 1 4\n")
     ∷ (printed (bytes "supply 33") is bytes "refused 9 8\n")
     ∷ (printed (bytes "supply 1\n3\ndemand 1\n2\ncost 1\n0\n") is bytes "refused 5\n")
+    -- too short a list or output: 8
+    ∷ (solveCall sheet1 2 2 3 is refusedBy 8)
+    ∷ (writePlanCall sheet1 70 is refusedBy 8)
     -- traps: the least reduced cost enters, and not the first negative one; a count beyond the array does not belong
     ∷ (entering sheet10 (start sheet10) is lane 1 3)
     ∷ (roundCall sheet1 (record { cells = tableauOf start1 .cells; count = 64 }) is refusedBy 6)
@@ -109,4 +111,4 @@ samples =
 
 pub samples-hold : Hold samples
 unfolding opened
-samples-hold = (refl, (refl, (refl, (refl, (refl, (refl, (refl, (refl, (refl, (refl, (refl, (refl, (refl, (refl, (refl, (refl, (refl, (refl, (refl, (refl, (refl, (refl, (refl, (refl, (refl, (refl, (refl, (refl, (refl, (refl, tt))))))))))))))))))))))))))))))
+samples-hold = (refl, (refl, (refl, (refl, (refl, (refl, (refl, (refl, (refl, (refl, (refl, (refl, (refl, (refl, (refl, (refl, (refl, (refl, (refl, (refl, (refl, (refl, (refl, (refl, (refl, (refl, (refl, (refl, (refl, (refl, (refl, (refl, tt))))))))))))))))))))))))))))))))

@@ -1,15 +1,15 @@
 -- The sheet text, and the calls that write and read it (paper 01, "Texts" and "Calls and their refusals").
 use mathlib.Core.Bool.{Bool, true, false, _&&_, _||_, cond}
 use mathlib.Core.List.{List, [], _∷_, _++_, flatMap, flatten}
-use mathlib.Core.Option.{none, some}
+use mathlib.Core.Option.{some}
 use Prim.Native.Nat.{ℕ, zero, suc, _+_, _*_, _-_}
 use lib.Dec.{eqb}
 use lib.ListN.{length, take, drop}
 use Rattle.transport.specs.Lists.{within}
 use Rattle.transport.specs.Limits.{maxSide, maxDigits}
 use Rattle.transport.specs.Sheet.{Sheet, sources, sinks, sheetTests, numberTests}
-use Rattle.transport.specs.Calls.{Answer, refused, given, unless, tooShort}
-use Rattle.transport.specs.Text.{bytes, ByteKind, Digit, Space, LineEnd, Letter, Other, kindOf, headLine, numberLine, rowLine}
+use Rattle.transport.specs.Calls.{Answer, refused, unless, tooShort}
+use Rattle.transport.specs.Text.{bytes, Digit, Space, LineEnd, Letter, Other, kindOf, headLine, numberLine, rowLine}
 
 -- ---- writing
 

@@ -1,19 +1,17 @@
 -- What the demands say, in their own words and without the algorithm: the types that the theorems and contracts inhabit.
 use mathlib.Core.Path.{_≡_}
-use mathlib.Core.Logic.{_↔_}
 use mathlib.Core.Bool.{Bool, true, false}
-use mathlib.Core.List.{List, [], _∷_, _++_, map}
-use mathlib.Core.Option.{Option, none, some}
-use Prim.Native.Nat.{ℕ, zero, suc, _+_, _*_, _-_, _^_, _≤_, _<_}
-use lib.Dec.{T, ltb}
+use mathlib.Core.List.{List, map}
+use mathlib.Core.Option.{none, some}
+use Prim.Native.Nat.{ℕ, suc, _+_, _*_, _-_, _^_, _≤_, _<_}
 use lib.ListN.{length, take, getD}
 use Rattle.transport.specs.Lists.{all, sumTo, at, within}
 use Rattle.transport.specs.Limits.{maxSide, maxDigits}
 use Rattle.transport.specs.Sheet.{Sheet, sources, sinks, place, sheetTests, refusal, badSides, badLength, badAmount, badCost}
-use Rattle.transport.specs.Amount.{Pair, less, nothing, pairedSupply, pairedDemand}
+use Rattle.transport.specs.Amount.{less, nothing, pairedSupply, pairedDemand}
 use Rattle.transport.specs.Tableau.{Cell, noCell, basisSize, rowTotal, columnTotal}
 use Rattle.transport.specs.Plan.{planCost}
-use Rattle.transport.specs.Calls.{Answer, refused, given}
+use Rattle.transport.specs.Calls.{Answer, given}
 use Rattle.transport.specs.SheetText.{sheetText}
 
 -- ---- sheets

@@ -1,9 +1,8 @@
 -- Tableaux and the start (paper 01, "Tableau and start"). Inside a call a tableau is the list of its basic cells.
-use mathlib.Core.Bool.{Bool, true, false, not, _&&_, _||_, cond}
-use mathlib.Core.List.{List, [], _∷_, _++_, map}
+use mathlib.Core.Bool.{Bool, true, false, _&&_}
+use mathlib.Core.List.{List, [], _∷_, map}
 use Prim.Native.Nat.{ℕ, zero, suc, _+_, _-_}
 use lib.Dec.{eqb, ltb}
-use lib.IntN.{pos}
 use lib.ListN.{length, take}
 pub use Rattle.transport.specs.declared.Cell.{Cell}
 pub use Rattle.transport.specs.declared.Tableau.{Tableau}

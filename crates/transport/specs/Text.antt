@@ -1,5 +1,5 @@
 -- Bytes, numbers and lines of texts (paper 01, "Texts"). A text is a list of bytes.
-use mathlib.Core.Bool.{Bool, true, false, cond}
+use mathlib.Core.Bool.{true, false, cond}
 use mathlib.Core.List.{List, [], _∷_, _++_}
 use Prim.Native.Nat.{ℕ, zero, suc, _+_, _/_, _%_}
 use Prim.Native.String.{String, [] as ε, _∷_ as _◃_}
