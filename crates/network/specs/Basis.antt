@@ -24,14 +24,6 @@ pub record Basis (m n K : ℕ) (r c : ℕ → ℕ) : Type 1 where
   pub cols : (k : ℕ) → k < suc K → c k < n
   pub joined : Joined m n (In r c (suc K))
 
--- cell ℓ of K gives way to another, (r′ ℓ, c′ ℓ)
-abbrev pub Replaces : ℕ → (ℕ → ℕ) → (ℕ → ℕ) → (ℕ → ℕ) → (ℕ → ℕ) → ℕ → Type 0
-Replaces K r c r′ c′ ℓ = (k : ℕ) → k < K → k ≢ ℓ → (r′ k ≡ r k) × (c′ k ≡ c k)
-
--- so every cell but that one stays
-pub stays : {K ℓ i j : ℕ} {r c : ℕ → ℕ} (r′ c′ : ℕ → ℕ) → Replaces K r c r′ c′ ℓ → In r c K i j → ¬ ((i ≡ r ℓ) × (j ≡ c ℓ)) → In r′ c′ K i j
-stays {K} {ℓ} {i} {j} {r} {c} r′ c′ rest (k, l, p, q) d = by-cases (ℕ-discrete k ℓ) (λ s. absurd (d (sym p ∙ ap r s, sym q ∙ ap c s))) (λ s. (k, l, rest k l s .0 ∙ p, rest k l s .1 ∙ q))
-
 -- a cut with row 0 in it that cell ℓ crosses and no other cell does
 pub record Cut (K : ℕ) (r c : ℕ → ℕ) (ℓ : ℕ) : Type 0 where
   pub A : ℕ → Bool
@@ -56,6 +48,19 @@ within true true d v H e h w = absurd (e refl)
 within false false d v H e h w = absurd (e refl)
 within true false d v H e h w = omega arith
 within false true d v H e h w = omega arith
+
+-- in T′ the cell (h, l) of T gives way to (p, q)
+pub record Replaces (m n : ℕ) (T : ℕ → ℕ → Type 0) (h l : ℕ) (T′ : ℕ → ℕ → Type 0) (p q : ℕ) : Type 0 where
+  pub keeps : (i j : ℕ) → i < m → j < n → T i j → ¬ ((i ≡ h) × (j ≡ l)) → T′ i j
+  pub enters : T′ p q
+
+-- as when cell ℓ of a list is overwritten
+pub overwritten : (m n : ℕ) {K ℓ : ℕ} {r c r′ c′ : ℕ → ℕ} → ℓ < K → ((k : ℕ) → k < K → k ≢ ℓ → (r′ k ≡ r k) × (c′ k ≡ c k))
+    → Replaces m n (In r c K) (r ℓ) (c ℓ) (In r′ c′ K) (r′ ℓ) (c′ ℓ)
+overwritten m n {K} {ℓ} {r} {c} {r′} {c′} hl rest = record { keeps = λ i j hi hj. stays; enters = (ℓ, hl, refl, refl) }
+  where
+    stays : {i j : ℕ} → In r c K i j → ¬ ((i ≡ r ℓ) × (j ≡ c ℓ)) → In r′ c′ K i j
+    stays (k, l, p, q) d = by-cases (ℕ-discrete k ℓ) (λ s. absurd (d (sym p ∙ ap r s, sym q ∙ ap c s))) (λ s. (k, l, rest k l s .0 ∙ p, rest k l s .1 ∙ q))
 
 module _ {m n K : ℕ} {r c : ℕ → ℕ} (t : Basis m n K r c) where
   -- Without cell ℓ only m + n − 2 cells are left: too few to join everything, so some cut is crossed by none of them.
@@ -132,13 +137,28 @@ module _ {m n K : ℕ} {r c : ℕ → ℕ} (t : Basis m n K r c) where
   unit {σ} {p} {q} hp hq f ℓ hl = let g : Cut K r c ℓ = cut-at ℓ hl in flow-within f hl g 1
       (omega (arith, sum-point m (λ i. ind (g .A i)) p (neg (nat 1)) hp, sum-point n (λ j. ind (g .B j)) q (neg (nat 1)) hq, bit-le (g .A p), bit-le (g .B q)))
 
-  -- The leaving cell ℓ gives way to the entering one: a basis again, if a circulation on the basis and the entering cell is not 0 at the leaving one.
-  pub replaced : {r′ c′ : ℕ → ℕ} {ℓ : ℕ} {δ : ℕ → ℕ → Z} → ℓ < suc K → r′ ℓ < m → c′ ℓ < n
-      → Replaces (suc K) r c r′ c′ ℓ → Circulation m n (λ i j. In r c (suc K) i j ⊎ ((i ≡ r′ ℓ) × (j ≡ c′ ℓ))) δ → ¬ (δ (r ℓ) (c ℓ) ≈ nat 0)
-      → Basis m n K r′ c′
-  replaced {r′} {c′} {ℓ} {δ} hl hr hc rest f leaves = record {
+  -- the order of the cells does not matter
+  pub reordered : {r′ c′ : ℕ → ℕ} → ((k : ℕ) → k < suc K → r′ k < m) → ((k : ℕ) → k < suc K → c′ k < n)
+      → ((i j : ℕ) → i < m → j < n → In r c (suc K) i j → In r′ c′ (suc K) i j) → Basis m n K r′ c′
+  reordered hr hc h = record {
     size = t .size;
-    rows = λ k l. by-cases (ℕ-discrete k ℓ) (λ e. rw e hr) (λ e. rw (rest k l e .0) (t .rows k l));
-    cols = λ k l. by-cases (ℕ-discrete k ℓ) (λ e. rw e hc) (λ e. rw (rest k l e .1) (t .cols k l));
-    joined = exchange (t .rows ℓ hl) (t .cols ℓ hl) (flow-on (λ i j hi hj. ⊎-elim inl (λ d. inr (ℓ, hl, sym (d .0), sym (d .1)))) f) leaves (λ i j hi hj. stays r′ c′ rest) (t .joined);
+    rows = hr;
+    cols = hc;
+    joined = record {
+      rows = λ A B z w. t .joined .rows A B z (λ i j hi hj s. w i j hi hj (h i j hi hj s));
+      cols = λ A B z w. t .joined .cols A B z (λ i j hi hj s. w i j hi hj (h i j hi hj s));
+    };
+  }
+
+  -- The leaving cell ℓ gives way to the entering cell (p, q): a basis again, if a circulation on the basis and the entering cell is not 0 at the
+  -- leaving one.
+  pub replaced : {r′ c′ : ℕ → ℕ} {ℓ p q : ℕ} {δ : ℕ → ℕ → Z} → ℓ < suc K → ((k : ℕ) → k < suc K → r′ k < m) → ((k : ℕ) → k < suc K → c′ k < n)
+      → Replaces m n (In r c (suc K)) (r ℓ) (c ℓ) (In r′ c′ (suc K)) p q
+      → Circulation m n (λ i j. In r c (suc K) i j ⊎ ((i ≡ p) × (j ≡ q))) δ → ¬ (δ (r ℓ) (c ℓ) ≈ nat 0)
+      → Basis m n K r′ c′
+  replaced {r′} {c′} {ℓ} hl hr hc w f leaves = record {
+    size = t .size;
+    rows = hr;
+    cols = hc;
+    joined = exchange (t .rows ℓ hl) (t .cols ℓ hl) (flow-on (λ i j hi hj. ⊎-elim inl (λ d. inr (rw (d .0, d .1) (w .enters)))) f) leaves (w .keeps) (t .joined);
   }

@@ -11,7 +11,7 @@ use Rattle.integers.specs.IntegerLaws.{⊗-cong}
 use Rattle.integers.specs.Sum.{point}
 use Rattle.integers.specs.SumLaws.{sum₂-one, point-at, point-off}
 use Rattle.network.specs.Flow.{On, Flow, Nonneg, Plan, cost, Feasible, Tight}
-use Rattle.network.specs.FlowLaws.{flow-on, flow-scale, plan-whole, plan-on, plan-restrict}
+use Rattle.network.specs.FlowLaws.{on-zero, flow-on, flow-scale, plan-whole, plan-on, plan-restrict}
 use Rattle.network.specs.Duality.{least, least-tight}
 use Rattle.network.specs.Basis.{Basis, In, flow-unique}
 
@@ -171,11 +171,8 @@ module _ {m n : ℕ} {a b : ℕ → Z} {P₀ : ℕ → ℕ → Type 0} where
       rest = λ k y g. ⊎-elim inl (λ w. inr (later (omega arith) w)) (d .rest k y g);
     }
       where
-        empty : (y : ℕ → ℕ → Z) → On m n P y → y p q ≈ nat 0
-        empty y on = by-cases (≈-dec (y p q) (nat 0)) (λ z. z) (λ z. absurd (shut (on p q hp hq z)))
-
         here : (k : ℕ) (y : ℕ → ℕ → Z) → Plan m n P k y a b → (i j : ℕ) → (i ≡ p) × (j ≡ q) → y i j ≈ nat k ⊗ x i j
-        here k y g i j s = rw (s .0, s .1) (omega (arith, empty y (g .flow .on), ⊗-cong (nat k) (x p q) (nat 0) (empty x (d .flow .on))))
+        here k y g i j s = rw (s .0, s .1) (omega (arith, on-zero y (g .flow .on) p q hp hq shut, ⊗-cong (nat k) (x p q) (nat 0) (on-zero x (d .flow .on) p q hp hq shut)))
 
     -- Where only cells of one basis are still allowed all lanes are decided: a flow on a basis is determined by its margins.
     pub decided-rest : {K : ℕ} {r c : ℕ → ℕ} → t ≤ m * n → Basis m n K r c → ((i j : ℕ) → i < m → j < n → P i j → In r c (suc K) i j) → Decided m n a b P₀ (m * n) P x
