@@ -50,6 +50,19 @@ within false false d v H e h w = absurd (e refl)
 within true false d v H e h w = omega arith
 within false true d v H e h w = omega arith
 
+-- in T′ the cell (h, l) of T gives way to (p, q)
+pub record Replaces (m n : ℕ) (T : ℕ → ℕ → Type 0) (h l : ℕ) (T′ : ℕ → ℕ → Type 0) (p q : ℕ) : Type 0 where
+  pub keeps : (i j : ℕ) → i < m → j < n → T i j → ¬ ((i ≡ h) × (j ≡ l)) → T′ i j
+  pub enters : T′ p q
+
+-- as when cell ℓ of a list is overwritten
+pub overwritten : (m n : ℕ) {K ℓ : ℕ} {r c r′ c′ : ℕ → ℕ} → ℓ < K → ((k : ℕ) → k < K → k ≢ ℓ → (r′ k ≡ r k) × (c′ k ≡ c k))
+    → Replaces m n (In r c K) (r ℓ) (c ℓ) (In r′ c′ K) (r′ ℓ) (c′ ℓ)
+overwritten m n {K} {ℓ} {r} {c} {r′} {c′} hl rest = record { keeps = λ i j hi hj. stays; enters = (ℓ, hl, refl, refl) }
+  where
+    stays : {i j : ℕ} → In r c K i j → ¬ ((i ≡ r ℓ) × (j ≡ c ℓ)) → In r′ c′ K i j
+    stays (k, l, p, q) d = by-cases (ℕ-discrete k ℓ) (λ s. absurd (d (sym p ∙ ap r s, sym q ∙ ap c s))) (λ s. (k, l, rest k l s .0 ∙ p, rest k l s .1 ∙ q))
+
 module _ {m n K : ℕ} {r c : ℕ → ℕ} (t : Basis m n K r c) where
   -- Without cell ℓ only m + n − 2 cells are left: too few to join everything, so some cut is crossed by none of them.
   -- Cell ℓ crosses it, for all cells together do join everything.
@@ -79,9 +92,9 @@ module _ {m n K : ℕ} {r c : ℕ → ℕ} (t : Basis m n K r c) where
                   (λ q. false≢true (sym f ∙ t .joined .rows A B (g .1) closed x q))
                   (λ q. false≢true (sym f ∙ ap (g .0) (omega arith) ∙ t .joined .cols A B (g .1) closed (x - m) (omega arith)))
 
-  -- the cells are distinct
+  -- the cells are distinct: of two equal ones, neither could cross a cut alone
   pub distinct : (k l : ℕ) → k < suc K → l < suc K → r k ≡ r l → c k ≡ c l → k ≡ l
-  distinct k l hk hl e f = by-cases (ℕ-discrete k l) (λ q. q) (λ q. absurd (cut-at l hl .crosses (ap (cut-at l hl .A) (sym e) ∙ cut-at l hl .others k hk q ∙ ap (cut-at l hl .B) f)))
+  distinct k l hk hl e f = let w : Cut K r c l = cut-at l hl in by-cases (ℕ-discrete k l) (λ q. q) (λ q. absurd (w .crosses (ap (w .A) (sym e) ∙ w .others k hk q ∙ ap (w .B) f)))
 
   module _ {x : ℕ → ℕ → Z} {a b : ℕ → Z} (f : Flow m n (In r c (suc K)) x a b) where
     -- a flow on the basis is, at each cell, the balance of that cell's cut, up to sign
@@ -97,9 +110,7 @@ module _ {m n K : ℕ} {r c : ℕ → ℕ} (t : Basis m n K r c) where
 
   -- Two flows on a basis with the same margins agree at every cell: both are the balance of the same cut there.
   pub flow-unique : {x y : ℕ → ℕ → Z} {a b : ℕ → Z} → Flow m n (In r c (suc K)) x a b → Flow m n (In r c (suc K)) y a b → (i j : ℕ) → i < m → j < n → x i j ≈ y i j
-  flow-unique {x} {y} f g i j hi hj = by-cases (≈-dec (x i j) (nat 0))
-      (λ e. by-cases (≈-dec (y i j) (nat 0)) (λ e′. omega arith) (λ e′. cell (g .on i j hi hj e′)))
-      (λ e. cell (f .on i j hi hj e))
+  flow-unique {x} {y} f g i j hi hj = go (≈-dec (x i j) (nat 0)) (≈-dec (y i j) (nat 0))
     where
       agree : (k : ℕ) → k < suc K → x (r k) (c k) ≈ y (r k) (c k)
       agree k l = let w : Cut K r c k = cut-at k l in
@@ -107,6 +118,11 @@ module _ {m n K : ℕ} {r c : ℕ → ℕ} (t : Basis m n K r c) where
 
       cell : {i j : ℕ} → In r c (suc K) i j → x i j ≈ y i j
       cell {i} {j} (k, l, p, q) = rw (← p, ← q) (agree k l)
+
+      go : Dec (x i j ≈ nat 0) → Dec (y i j ≈ nat 0) → x i j ≈ y i j
+      go (yes e) (yes e′) = omega arith
+      go (yes e) (no e′) = cell (g .on i j hi hj e′)
+      go (no e) e′ = cell (f .on i j hi hj e)
 
   -- so a circulation on a basis is 0: there is no loop in it
   pub no-circulation : {δ : ℕ → ℕ → Z} → Circulation m n (In r c (suc K)) δ → (i j : ℕ) → i < m → j < n → δ i j ≈ nat 0
@@ -116,23 +132,34 @@ module _ {m n K : ℕ} {r c : ℕ → ℕ} (t : Basis m n K r c) where
     cols = λ j l. sum-zero m (λ i. nat 0) (λ i l. omega arith);
   })
 
-  -- The loop signs of an entering lane (p, q) are the flow of −1 at row p and −1 at column q. A cut's balance of these is −1, 0 or 1, so they are.
+  -- The loop signs of an entering cell (p, q) are the flow of −1 at row p and −1 at column q. A cut's balance of these is −1, 0 or 1, so they are.
   pub unit : {σ : ℕ → ℕ → Z} {p q : ℕ} → p < m → q < n → Flow m n (In r c (suc K)) σ (point p (neg (nat 1))) (point q (neg (nat 1)))
       → (ℓ : ℕ) → ℓ < suc K → Within 1 (σ (r ℓ) (c ℓ))
   unit {σ} {p} {q} hp hq f ℓ hl = let g : Cut K r c ℓ = cut-at ℓ hl in flow-within f hl g 1
       (omega (arith, sum-point m (λ i. ind (g .A i)) p (neg (nat 1)) hp, sum-point n (λ j. ind (g .B j)) q (neg (nat 1)) hq, bit-le (g .A p), bit-le (g .B q)))
 
-  -- Cell ℓ is replaced by the entering cell (r′ ℓ, c′ ℓ): a basis again, if a circulation through the two is not 0 at the old cell.
-  pub replaced : {r′ c′ : ℕ → ℕ} {ℓ : ℕ} {δ : ℕ → ℕ → Z} → ℓ < suc K → r′ ℓ < m → c′ ℓ < n
-      → ((k : ℕ) → k < suc K → k ≢ ℓ → (r′ k ≡ r k) × (c′ k ≡ c k))
-      → Circulation m n (λ i j. In r c (suc K) i j ⊎ ((i ≡ r′ ℓ) × (j ≡ c′ ℓ))) δ → ¬ (δ (r ℓ) (c ℓ) ≈ nat 0)
-      → Basis m n K r′ c′
-  replaced {r′} {c′} {ℓ} {δ} hl hr hc rest f leaves = record {
+  -- the order of the cells does not matter
+  pub reordered : {r′ c′ : ℕ → ℕ} → ((k : ℕ) → k < suc K → r′ k < m) → ((k : ℕ) → k < suc K → c′ k < n)
+      → ((i j : ℕ) → i < m → j < n → In r c (suc K) i j → In r′ c′ (suc K) i j) → Basis m n K r′ c′
+  reordered hr hc h = record {
     size = t .size;
-    rows = λ k l. by-cases (ℕ-discrete k ℓ) (λ e. rw e hr) (λ e. rw (rest k l e .0) (t .rows k l));
-    cols = λ k l. by-cases (ℕ-discrete k ℓ) (λ e. rw e hc) (λ e. rw (rest k l e .1) (t .cols k l));
-    joined = exchange (t .rows ℓ hl) (t .cols ℓ hl) (flow-on (λ i j hi hj. ⊎-elim inl (λ d. inr (ℓ, hl, sym (d .0), sym (d .1)))) f) leaves (λ i j hi hj. keep) (t .joined);
+    rows = hr;
+    cols = hc;
+    joined = record {
+      rows = λ A B z w. t .joined .rows A B z (λ i j hi hj s. w i j hi hj (h i j hi hj s));
+      cols = λ A B z w. t .joined .cols A B z (λ i j hi hj s. w i j hi hj (h i j hi hj s));
+    };
   }
-    where
-      keep : {i j : ℕ} → In r c (suc K) i j → ¬ ((i ≡ r ℓ) × (j ≡ c ℓ)) → In r′ c′ (suc K) i j
-      keep (k, l, p, q) d = by-cases (ℕ-discrete k ℓ) (λ s. absurd (d (sym p ∙ ap r s, sym q ∙ ap c s))) (λ s. (k, l, rest k l s .0 ∙ p, rest k l s .1 ∙ q))
+
+  -- The leaving cell ℓ gives way to the entering cell (p, q): a basis again, if a circulation on the basis and the entering cell is not 0 at the
+  -- leaving one.
+  pub replaced : {r′ c′ : ℕ → ℕ} {ℓ p q : ℕ} {δ : ℕ → ℕ → Z} → ℓ < suc K → ((k : ℕ) → k < suc K → r′ k < m) → ((k : ℕ) → k < suc K → c′ k < n)
+      → Replaces m n (In r c (suc K)) (r ℓ) (c ℓ) (In r′ c′ (suc K)) p q
+      → Circulation m n (λ i j. In r c (suc K) i j ⊎ ((i ≡ p) × (j ≡ q))) δ → ¬ (δ (r ℓ) (c ℓ) ≈ nat 0)
+      → Basis m n K r′ c′
+  replaced {r′} {c′} {ℓ} hl hr hc w f leaves = record {
+    size = t .size;
+    rows = hr;
+    cols = hc;
+    joined = exchange (t .rows ℓ hl) (t .cols ℓ hl) (flow-on (λ i j hi hj. ⊎-elim inl (λ d. inr (rw (d .0, d .1) (w .enters)))) f) leaves (w .keeps) (t .joined);
+  }

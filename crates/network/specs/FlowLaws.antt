@@ -1,11 +1,16 @@
 -- The laws of flows.
+use mathlib.Core.Logic.{by-cases}
 use Prim.Native.Nat.{ℕ, _<_}
 use native.Mathlib.Omega.{arith}
-use Rattle.integers.specs.Integer.{Z, _≈_, _⊗_, nat}
+use Rattle.integers.specs.Integer.{Z, _≈_, ≈-dec, _⊗_, nat}
 use Rattle.integers.specs.Sum.{sum}
 use Rattle.integers.specs.IntegerLaws.{⊗-cong}
 use Rattle.integers.specs.SumLaws.{sum-cong, sum-scale, sum-swap}
 use Rattle.network.specs.Flow.{On, Flow, Nonneg, Plan}
+
+-- nothing is carried elsewhere
+pub on-zero : {m n : ℕ} {T : ℕ → ℕ → Type 0} (x : ℕ → ℕ → Z) → On m n T x → (i j : ℕ) → i < m → j < n → ¬ T i j → x i j ≈ nat 0
+on-zero x on i j hi hj no-cell = by-cases (≈-dec (x i j) (nat 0)) (λ z. z) (λ z. absurd (no-cell (on i j hi hj z)))
 
 module _ {m n : ℕ} {T : ℕ → ℕ → Type 0} {x : ℕ → ℕ → Z} {a b : ℕ → Z} where
   -- other cells carry it

@@ -53,7 +53,7 @@ balance {m} {n} {A} {B} {p} {q} {x} {a} {b} hp hq f = omega (
   sum-neg n (λ j. ind (B j) ⊗ b j),
 )
 
-pub bal-zero : (m n : ℕ) (A B : ℕ → Bool) → bal m n A B (λ i. nat 0) (λ j. nat 0) ≈ nat 0
+bal-zero : (m n : ℕ) (A B : ℕ → Bool) → bal m n A B (λ i. nat 0) (λ j. nat 0) ≈ nat 0
 bal-zero m n A B = omega (arith, sum-zero m (λ i. ind (A i) ⊗ nat 0) (λ i l. omega arith), sum-zero n (λ j. ind (B j) ⊗ nat 0) (λ j l. omega arith))
 
 -- Exchange. δ runs round in the cells of T and T′, and T′ has all cells of T but (p, q), where δ is not 0. Then T′ joins all if T does.

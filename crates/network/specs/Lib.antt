@@ -6,5 +6,6 @@ pub mod Cut
 pub mod Basis
 pub mod Marks
 pub mod Pivot
+pub mod Round
 pub mod Staircase
 pub mod Settling

@@ -10,7 +10,7 @@ use Rattle.integers.specs.Sum.{sum, point}
 use Rattle.integers.specs.SumLaws.{sum-zero, sum-cong, sum-add, sum-scale, sum-point, point-at, point-off, sum₂-cong, sum₂-add, sum₂-scale, sum₂-one}
 use Rattle.network.specs.Flow.{On, Flow, Circulation, cost, Tight}
 use Rattle.network.specs.Duality.{cost-splits}
-use Rattle.network.specs.Basis.{In}
+use Rattle.network.specs.Basis.{Replaces}
 
 -- ---- the loop
 -- the loop signs σ on the basis, and 1 at the entering cell
@@ -22,11 +22,19 @@ cancels p i = by-cases (ℕ-discrete i p)
     (λ e. rw (e, point-at p (neg (nat 1)), point-at p (nat 1)) (omega arith))
     (λ e. rw (point-off p (neg (nat 1)) i e, point-off p (nat 1) i e) (omega arith))
 
--- the loop runs round
+pub loop-at : (σ : ℕ → ℕ → Z) (p q : ℕ) → σ p q ≈ nat 0 → loop σ p q p q ≈ nat 1
+loop-at σ p q e = rw (point-at p (nat 1), point-at q (nat 1)) (omega arith)
+
+pub loop-off : (σ : ℕ → ℕ → Z) (p q i j : ℕ) → ¬ ((i ≡ p) × (j ≡ q)) → loop σ p q i j ≈ σ i j
+loop-off σ p q i j d = by-cases (ℕ-discrete i p)
+    (λ e. rw (point-off q (nat 1) j (λ e′. d (e, e′))) (omega arith))
+    (λ e. rw (point-off p (nat 1) i e) (omega arith))
+
+-- With the signs as `unit` of Basis has them, all rows and columns of the loop add up to 0.
 pub loop-circulation : {m n : ℕ} {T : ℕ → ℕ → Type 0} {σ : ℕ → ℕ → Z} {p q : ℕ} → p < m → q < n
     → Flow m n T σ (point p (neg (nat 1))) (point q (neg (nat 1))) → Circulation m n (λ i j. T i j ⊎ ((i ≡ p) × (j ≡ q))) (loop σ p q)
 loop-circulation {m} {n} {T} {σ} {p} {q} hp hq f = record {
-  on = λ i j k l e. by-cases (Dec·and (ℕ-discrete i p) (ℕ-discrete j q)) inr (λ d. inl (f .on i j k l (λ z. e (omega (arith, elsewhere i j d)))));
+  on = λ i j k l e. by-cases (Dec·and (ℕ-discrete i p) (ℕ-discrete j q)) inr (λ d. inl (f .on i j k l (λ z. e (omega (arith, loop-off σ p q i j d)))));
   rows = λ i k. omega (
     arith,
     sum-add n (σ i) (λ j. point p (nat 1) i ⊗ point q (nat 1) j),
@@ -43,16 +51,14 @@ loop-circulation {m} {n} {T} {σ} {p} {q} hp hq f = record {
     cancels q j,
   );
 }
-  where
-    elsewhere : (i j : ℕ) → ¬ ((i ≡ p) × (j ≡ q)) → point p (nat 1) i ⊗ point q (nat 1) j ≈ nat 0
-    elsewhere i j d = by-cases (ℕ-discrete i p)
-        (λ e. rw (point-off q (nat 1) j (λ e′. d (e, e′))) (omega arith))
-        (λ e. rw (point-off p (nat 1) i e) (omega arith))
 
 -- ---- the step
+abbrev pub step : (ℕ → ℕ → Z) → Z → (ℕ → ℕ → Z) → ℕ → ℕ → Z
+step x θ δ i j = x i j ⊕ θ ⊗ δ i j
+
 module _ {m n : ℕ} {S : ℕ → ℕ → Type 0} {δ : ℕ → ℕ → Z} (g : Circulation m n S δ) (θ : Z) where
-  -- it keeps the margins
-  pub step-flow : {T T′ : ℕ → ℕ → Type 0} {x : ℕ → ℕ → Z} {a b : ℕ → Z} → Flow m n T x a b → On m n T′ (λ i j. x i j ⊕ θ ⊗ δ i j) → Flow m n T′ (λ i j. x i j ⊕ θ ⊗ δ i j) a b
+  -- the margins are kept
+  pub step-flow : {T T′ : ℕ → ℕ → Type 0} {x : ℕ → ℕ → Z} {a b : ℕ → Z} → Flow m n T x a b → On m n T′ (step x θ δ) → Flow m n T′ (step x θ δ) a b
   step-flow {T} {T′} {x} f h = record {
     on = h;
     rows = λ i k. omega (arith, sum-add n (x i) (λ j. θ ⊗ δ i j), sum-scale n θ (δ i), ⊗-cong θ (sum n (δ i)) (nat 0) (g .rows i k), f .rows i k);
@@ -63,7 +69,7 @@ module _ {m n : ℕ} {S : ℕ → ℕ → Type 0} {δ : ℕ → ℕ → Z} (g : 
   -- and all of these but the entering one's are 0.
   pub step-cost : (c : ℕ → ℕ → Z) (u v : ℕ → Z) (x : ℕ → ℕ → Z) {p q : ℕ} → p < m → q < n
       → On m n (λ i j. ((i ≡ p) × (j ≡ q)) ⊎ Tight c u v i j) δ → δ p q ≈ nat 1
-      → cost m n c (λ i j. x i j ⊕ θ ⊗ δ i j) ≈ cost m n c x ⊕ θ ⊗ (c p q ⊖ u p ⊖ v q)
+      → cost m n c (step x θ δ) ≈ cost m n c x ⊕ θ ⊗ (c p q ⊖ u p ⊖ v q)
   step-cost c u v x {p} {q} hp hq h one = omega (
     arith,
     sum₂-cong m n (λ i j. (x i j ⊕ θ ⊗ δ i j) ⊗ c i j) (λ i j. x i j ⊗ c i j ⊕ θ ⊗ (δ i j ⊗ c i j)) (λ i j k l. omega arith),
@@ -84,20 +90,16 @@ module _ {m n : ℕ} {S : ℕ → ℕ → Type 0} {δ : ℕ → ℕ → Z} (g : 
         ⊗-cong (c p q ⊖ u p ⊖ v q) (δ p q) (nat 1) one,
       )
 
--- the flow after the step, on the cells where the leaving cell ℓ, now empty, is replaced by the entering cell (r′ ℓ, c′ ℓ)
-pub pivot-flow : {m n K ℓ : ℕ} {r c r′ c′ : ℕ → ℕ} {x δ : ℕ → ℕ → Z} {a b : ℕ → Z} (θ : Z) → ℓ < K
-    → ((k : ℕ) → k < K → k ≢ ℓ → (r′ k ≡ r k) × (c′ k ≡ c k))
-    → Flow m n (In r c K) x a b → Circulation m n (λ i j. In r c K i j ⊎ ((i ≡ r′ ℓ) × (j ≡ c′ ℓ))) δ
-    → x (r ℓ) (c ℓ) ⊕ θ ⊗ δ (r ℓ) (c ℓ) ≈ nat 0
-    → Flow m n (In r′ c′ K) (λ i j. x i j ⊕ θ ⊗ δ i j) a b
-pivot-flow {m} {n} {K} {ℓ} {r} {c} {r′} {c′} {x} {δ} θ hl rest f g empty = step-flow g θ f (λ i j k l e. by-cases (≈-dec (δ i j) (nat 0))
-    (λ z. kept i j e (f .on i j k l (λ y. e (omega (arith, ⊗-cong θ (δ i j) (nat 0) z)))))
-    (λ z. ⊎-elim (kept i j e) (λ d. (ℓ, hl, sym (d .0), sym (d .1))) (g .on i j k l z)))
+-- the flow after the step, if it empties the leaving cell (h, l)
+pub pivot-flow : {m n h l p q : ℕ} {T T′ : ℕ → ℕ → Type 0} {x δ : ℕ → ℕ → Z} {a b : ℕ → Z} (θ : Z) → Replaces m n T h l T′ p q
+    → Flow m n T x a b → Circulation m n (λ i j. T i j ⊎ ((i ≡ p) × (j ≡ q))) δ → x h l ⊕ θ ⊗ δ h l ≈ nat 0
+    → Flow m n T′ (step x θ δ) a b
+pivot-flow {m} {n} {h} {l} {p} {q} {T} {T′} {x} {δ} θ w f g empty = step-flow g θ f (λ i j hi hj e. by-cases (≈-dec (δ i j) (nat 0))
+    (λ z. old i j hi hj e (f .on i j hi hj (λ y. e (omega (arith, ⊗-cong θ (δ i j) (nat 0) z)))))
+    (λ z. ⊎-elim (old i j hi hj e) (λ d. rw (d .0, d .1) (w .enters)) (g .on i j hi hj z)))
   where
-    kept : (i j : ℕ) → ¬ (x i j ⊕ θ ⊗ δ i j ≈ nat 0) → In r c K i j → In r′ c′ K i j
-    kept i j e (k, l, p, q) = by-cases (ℕ-discrete k ℓ)
-        (λ s. absurd (e (rw (← p, ← q, s) empty)))
-        (λ s. (k, l, rest k l s .0 ∙ p, rest k l s .1 ∙ q))
+    old : (i j : ℕ) → i < m → j < n → ¬ (x i j ⊕ θ ⊗ δ i j ≈ nat 0) → T i j → T′ i j
+    old i j hi hj e t = w .keeps i j hi hj t (λ d. e (rw (d .0, d .1) empty))
 
 -- no amount becomes negative: δ is at least −1, and θ is no more than what stands where δ is negative
 pub keeps-sign : (x δ θ : Z) → nat 0 ≼ x → nat 0 ≼ θ → neg (nat 1) ≼ δ → (δ ≺ nat 0 → θ ≼ x) → nat 0 ≼ x ⊕ θ ⊗ δ
@@ -114,6 +116,12 @@ lowers old new θ d h t s = omega (arith, ⊗-pos θ (neg d) t (omega arith))
 abbrev pub value : ℕ → Z → Z → Z
 value m q e = nat (2 * m + 1) ⊗ q ⊕ e
 
+abbrev pub valued : ℕ → (ℕ → ℕ → Z) → (ℕ → ℕ → Z) → ℕ → ℕ → Z
+valued m q e i j = value m (q i j) (e i j)
+
+pub value-step : (m : ℕ) (q e θ η δ : Z) → value m (q ⊕ θ ⊗ δ) (e ⊕ η ⊗ δ) ≈ value m q e ⊕ value m θ η ⊗ δ
+value-step m q e θ η δ = omega arith
+
 -- by bags, then by marks
 abbrev pub PairLess : Z → Z → Z → Z → Type 0
 PairLess q e q′ e′ = (q ≺ q′) ⊎ ((q ≈ q′) × (e ≺ e′))
@@ -125,10 +133,21 @@ value-mono m q e q′ e′ h h′ s = omega (arith, ⊗-mono (nat (2 * m + 1)) (
 pub value-less : (m : ℕ) (q e q′ e′ : Z) → Within m e → Within m e′ → PairLess q e q′ e′ ↔ (value m q e ≺ value m q′ e′)
 value-less m q e q′ e′ h h′ = (
   ⊎-elim (value-mono m q e q′ e′ h h′) (λ s. omega (arith, ⊗-cong (nat (2 * m + 1)) q q′ (s .0))),
-  (λ s. by-cases (≈-dec q q′)
-      (λ z. inr (z, omega (arith, ⊗-cong (nat (2 * m + 1)) q q′ z)))
-      (λ z. by-cases (≼-dec q q′) (λ l. inl (omega arith)) (λ l. absurd (omega (arith, value-mono m q′ e′ q e h′ h (omega arith)))))),
+  (λ s. by-value s (≈-dec q q′) (≼-dec q q′)),
 )
+  where
+    by-value : value m q e ≺ value m q′ e′ → Dec (q ≈ q′) → Dec (q ≼ q′) → PairLess q e q′ e′
+    by-value s (yes z) l = inr (z, omega (arith, ⊗-cong (nat (2 * m + 1)) q q′ z))
+    by-value s (no z) (yes l) = inl (omega arith)
+    by-value s (no z) (no l) = absurd (omega (arith, value-mono m q′ e′ q e h′ h (omega arith)))
 
 pub value-positive : (m : ℕ) (q e : Z) → Within m e → PairLess (nat 0) (nat 0) q e ↔ (nat 0 ≺ value m q e)
 value-positive m q e h = Iff·trans (value-less m (nat 0) (nat 0) q e (omega arith) h) (omega arith)
+
+pub value-zero : (m : ℕ) (q e : Z) → Within m e → value m q e ≈ nat 0 → (q ≈ nat 0) × (e ≈ nat 0)
+value-zero m q e h z = go (≈-dec q (nat 0)) (≼-dec q (nat 0))
+  where
+    go : Dec (q ≈ nat 0) → Dec (q ≼ nat 0) → (q ≈ nat 0) × (e ≈ nat 0)
+    go (yes s) l = (s, omega (arith, ⊗-cong (nat (2 * m + 1)) q (nat 0) s))
+    go (no s) (yes l) = absurd (omega (arith, value-mono m q e (nat 0) (nat 0) h (omega arith) (omega arith)))
+    go (no s) (no l) = absurd (omega (arith, value-mono m (nat 0) (nat 0) q e (omega arith) h (omega arith)))

@@ -11,7 +11,7 @@ use Rattle.integers.specs.IntegerLaws.{⊗-cong}
 use Rattle.integers.specs.Sum.{point}
 use Rattle.integers.specs.SumLaws.{sum₂-one, point-at, point-off}
 use Rattle.network.specs.Flow.{On, Flow, Nonneg, Plan, cost, Feasible, Tight}
-use Rattle.network.specs.FlowLaws.{flow-on, flow-scale, plan-whole, plan-on, plan-restrict}
+use Rattle.network.specs.FlowLaws.{on-zero, flow-on, flow-scale, plan-whole, plan-on, plan-restrict}
 use Rattle.network.specs.Duality.{least, least-tight}
 use Rattle.network.specs.Basis.{Basis, In, flow-unique}
 
@@ -20,11 +20,12 @@ pub lane-below : (m n i j : ℕ) → i < m → j < n → i * n + j < m * n
 lane-below m n i j h k = omega (arith, mul-le-mul-right n h)
 
 pub lane-inj : (n i j p q : ℕ) → j < n → q < n → i * n + j ≡ p * n + q → (i ≡ p) × (j ≡ q)
-lane-inj n i j p q h k e = by-cases (decLt i p)
-    (λ l. absurd (omega (arith, mul-le-mul-right n l)))
-    (λ l. by-cases (decLt p i)
-    (λ r. absurd (omega (arith, mul-le-mul-right n r)))
-    (λ r. let s : i ≡ p = omega arith in (s, omega (arith, ap (λ (t : ℕ). t * n) s))))
+lane-inj n i j p q h k e = go (decLt i p) (decLt p i)
+  where
+    go : Dec (i < p) → Dec (p < i) → (i ≡ p) × (j ≡ q)
+    go (yes l) r = absurd (omega (arith, mul-le-mul-right n l))
+    go (no l) (yes r) = absurd (omega (arith, mul-le-mul-right n r))
+    go (no l) (no r) = let s : i ≡ p = omega arith in (s, omega (arith, ap (λ (t : ℕ). t * n) s))
 
 -- ---- one phase
 -- the cost that asks for as much as can be on lane (p, q): −1 there, 0 elsewhere
@@ -85,7 +86,7 @@ abbrev pub Agree : ℕ → ℕ → ℕ → ℕ → (ℕ → ℕ → Z) → (ℕ 
 Agree m n t k x y = (i j : ℕ) → i < m → j < n → i * n + j < t → y i j ≈ nat k ⊗ x i j
 
 -- before t there is a lane where they differ, and on the first such lane y carries less
-pub record Less (m n t k : ℕ) (x y : ℕ → ℕ → Z) : Type 0 where
+pub record FirstLess (m n t k : ℕ) (x y : ℕ → ℕ → Z) : Type 0 where
   pub i : ℕ
   pub j : ℕ
   pub row : i < m
@@ -94,7 +95,7 @@ pub record Less (m n t k : ℕ) (x y : ℕ → ℕ → Z) : Type 0 where
   pub less : y i j ≺ nat k ⊗ x i j
   pub agree : Agree m n (i * n + j) k x y
 
-later : {m n t t′ k : ℕ} {x y : ℕ → ℕ → Z} → t ≤ t′ → Less m n t k x y → Less m n t′ k x y
+later : {m n t t′ k : ℕ} {x y : ℕ → ℕ → Z} → t ≤ t′ → FirstLess m n t k x y → FirstLess m n t′ k x y
 later l w = record { i = w .i; j = w .j; row = w .row; col = w .col; before = omega arith; less = w .less; agree = w .agree }
 
 -- The lanes before t are decided: of all plans on the first allowed lanes P₀, those on the lanes P still allowed agree with x before t, and
@@ -103,7 +104,7 @@ pub record Decided (m n : ℕ) (a b : ℕ → Z) (P₀ : ℕ → ℕ → Type 0)
   pub inside : (i j : ℕ) → i < m → j < n → P i j → P₀ i j
   pub flow : Flow m n P x a b
   pub kept : (k : ℕ) (y : ℕ → ℕ → Z) → Plan m n P k y a b → Agree m n t k x y
-  pub rest : (k : ℕ) (y : ℕ → ℕ → Z) → Plan m n P₀ k y a b → On m n P y ⊎ Less m n t k x y
+  pub rest : (k : ℕ) (y : ℕ → ℕ → Z) → Plan m n P₀ k y a b → On m n P y ⊎ FirstLess m n t k x y
 
 module _ {m n : ℕ} {a b : ℕ → Z} {P₀ : ℕ → ℕ → Type 0} where
   pub decided-start : {x : ℕ → ℕ → Z} → Flow m n P₀ x a b → Decided m n a b P₀ 0 P₀ x
@@ -125,29 +126,7 @@ module _ {m n : ℕ} {a b : ℕ → Z} {P₀ : ℕ → ℕ → Type 0} where
       kept = λ k y g i j hi hj l. by-cases (decLt (i * n + j) t)
           (λ s. again k y t (omega arith) (d .kept k y (plan-on (λ i j hi hj s. s .0) g)) i j hi hj s)
           (λ s. here k y g i j (lane-inj n i j p q hj (ph .col) (omega arith)));
-      rest = λ k y g. ⊎-elim
-          (λ on. let g′ : Plan m n P k y a b = plan-restrict on g in
-          by-cases (≈-dec (y p q) (nat k ⊗ x′ p q))
-          (λ z. inl (phase-kept ph f g′ .0 z))
-          (λ z. inr (record {
-            i = p;
-            j = q;
-            row = ph .row;
-            col = ph .col;
-            before = omega arith;
-            less = omega (arith, phase-most ph f g′);
-            agree = again k y (p * n + q) (omega arith) (λ i j hi hj l. d .kept k y g′ i j hi hj (omega arith));
-          })))
-          (λ w. inr (record {
-            i = w .i;
-            j = w .j;
-            row = w .row;
-            col = w .col;
-            before = omega arith;
-            less = omega (arith, w .less, times k (w .i) (w .j) (w .row) (w .col) (w .before));
-            agree = again k y (w .i * n + w .j) (omega arith) (w .agree);
-          }))
-          (d .rest k y g);
+      rest = λ k y g. ⊎-elim (λ on. at-lane k y (plan-restrict on g)) (λ w. inr (before-lane k y w)) (d .rest k y g);
     }
       where
         times : (k i j : ℕ) → i < m → j < n → i * n + j < t → nat k ⊗ x′ i j ≈ nat k ⊗ x i j
@@ -158,6 +137,28 @@ module _ {m n : ℕ} {a b : ℕ → Z} {P₀ : ℕ → ℕ → Type 0} where
 
         here : (k : ℕ) (y : ℕ → ℕ → Z) → Plan m n (Kept P p q u v) k y a b → (i j : ℕ) → (i ≡ p) × (j ≡ q) → y i j ≈ nat k ⊗ x′ i j
         here k y g i j s = rw (s .0, s .1) (phase-kept ph f (plan-on (λ i j hi hj s. s .0) g) .1 (g .flow .on))
+
+        at-lane : (k : ℕ) (y : ℕ → ℕ → Z) → Plan m n P k y a b → On m n (Kept P p q u v) y ⊎ FirstLess m n (suc t) k x′ y
+        at-lane k y g = by-cases (≈-dec (y p q) (nat k ⊗ x′ p q)) (λ z. inl (phase-kept ph f g .0 z)) (λ z. inr (record {
+          i = p;
+          j = q;
+          row = ph .row;
+          col = ph .col;
+          before = omega arith;
+          less = omega (arith, phase-most ph f g);
+          agree = again k y (p * n + q) (omega arith) (λ i j hi hj l. d .kept k y g i j hi hj (omega arith));
+        }))
+
+        before-lane : (k : ℕ) (y : ℕ → ℕ → Z) → FirstLess m n t k x y → FirstLess m n (suc t) k x′ y
+        before-lane k y w = record {
+          i = w .i;
+          j = w .j;
+          row = w .row;
+          col = w .col;
+          before = omega arith;
+          less = omega (arith, w .less, times k (w .i) (w .j) (w .row) (w .col) (w .before));
+          agree = again k y (w .i * n + w .j) (omega arith) (w .agree);
+        }
 
     -- A lane that is not allowed needs no phase: no plan left carries anything on it.
     pub decided-skip : {p q : ℕ} → p < m → q < n → p * n + q ≡ t → ¬ P p q → Decided m n a b P₀ (suc t) P x
@@ -170,11 +171,8 @@ module _ {m n : ℕ} {a b : ℕ → Z} {P₀ : ℕ → ℕ → Type 0} where
       rest = λ k y g. ⊎-elim inl (λ w. inr (later (omega arith) w)) (d .rest k y g);
     }
       where
-        empty : (y : ℕ → ℕ → Z) → On m n P y → y p q ≈ nat 0
-        empty y on = by-cases (≈-dec (y p q) (nat 0)) (λ z. z) (λ z. absurd (shut (on p q hp hq z)))
-
         here : (k : ℕ) (y : ℕ → ℕ → Z) → Plan m n P k y a b → (i j : ℕ) → (i ≡ p) × (j ≡ q) → y i j ≈ nat k ⊗ x i j
-        here k y g i j s = rw (s .0, s .1) (omega (arith, empty y (g .flow .on), ⊗-cong (nat k) (x p q) (nat 0) (empty x (d .flow .on))))
+        here k y g i j s = rw (s .0, s .1) (omega (arith, on-zero y (g .flow .on) p q hp hq shut, ⊗-cong (nat k) (x p q) (nat 0) (on-zero x (d .flow .on) p q hp hq shut)))
 
     -- Where only cells of one basis are still allowed all lanes are decided: a flow on a basis is determined by its margins.
     pub decided-rest : {K : ℕ} {r c : ℕ → ℕ} → t ≤ m * n → Basis m n K r c → ((i j : ℕ) → i < m → j < n → P i j → In r c (suc K) i j) → Decided m n a b P₀ (m * n) P x
@@ -191,15 +189,13 @@ module _ {m n : ℕ} {a b : ℕ → Z} {P₀ : ℕ → ℕ → Type 0} where
         → (i j : ℕ) → i < m → j < n → Agree m n (i * n + j) k x y → ¬ (y i j ≈ nat k ⊗ x i j) → y i j ≺ nat k ⊗ x i j
     settled {k} {y} g i j hi hj before differs = ⊎-elim
         (λ on. absurd (differs (d .kept k y (plan-restrict on g) i j hi hj (lane-below m n i j hi hj))))
-        (λ w. by-cases (decLt (w .i * n + w .j) (i * n + j))
-        (λ s. absurd (omega (arith, before (w .i) (w .j) (w .row) (w .col) s, w .less)))
-        (λ s. by-cases (decLt (i * n + j) (w .i * n + w .j))
-        (λ s′. absurd (differs (w .agree i j hi hj s′)))
-        (λ s′. here w (lane-inj n i j (w .i) (w .j) hj (w .col) (omega arith)))))
+        (λ w. first w (decLt (w .i * n + w .j) (i * n + j)) (decLt (i * n + j) (w .i * n + w .j)))
         (d .rest k y g)
       where
-        here : (w : Less m n (m * n) k x y) → (i ≡ w .i) × (j ≡ w .j) → y i j ≺ nat k ⊗ x i j
-        here w s = rw (s .0, s .1) (w .less)
+        first : (w : FirstLess m n (m * n) k x y) → Dec (w .i * n + w .j < i * n + j) → Dec (i * n + j < w .i * n + w .j) → y i j ≺ nat k ⊗ x i j
+        first w (yes s) s′ = absurd (omega (arith, before (w .i) (w .j) (w .row) (w .col) s, w .less))
+        first w (no s) (yes s′) = absurd (differs (w .agree i j hi hj s′))
+        first w (no s) (no s′) = let e : (i ≡ w .i) × (j ≡ w .j) = lane-inj n i j (w .i) (w .j) hj (w .col) (omega arith) in rw (e .0, e .1) (w .less)
 
 -- The settled plan. P₀ are the tight lanes of a finished tableau, whose reduced costs are nowhere negative. The plans of least cost are exactly those on
 -- tight lanes, so of all plans of least cost, in k-ths too, x carries more on the first lane where it differs from another.
