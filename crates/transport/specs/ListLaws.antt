@@ -8,7 +8,7 @@ use mathlib.Core.Path.{_≡_, refl, sym, ap, _∙_}
 use mathlib.Core.Logic.{⊎-elim, _⊎_, inl, inr}
 use mathlib.Core.Bool.{Bool, true, false, _&&_, cond, true≢false, false≢true, and-true, and-assoc}
 use mathlib.Core.List.{List, [], _∷_, _++_, map, flatMap, append-assoc, append-nil, List·Memᴰ, List·Memᴰ·head, List·Memᴰ·tail, List·Memᴰ·not-nil, List·Memᴰ·cases-cons, List·Memᴰ·append-cases, Memᴰ·append-left, Memᴰ·append-right}
-use lib.ListN.{length, take, drop, getD, set, length-append, List·getD-append}
+use lib.ListN.{length, take, drop, getD, set, length-append, List·getD-append, List·getD-eq-default}
 use lib.Seq.{drop-cons, set-at, getD-at, getD-append-add, ext-getD, take-suc}
 use lib.Dec.{ltb}
 use borrow.Author.Tests.{ltb-true, ltb-false, lt-ltb, le-ltb}
@@ -122,6 +122,15 @@ module _ {A : Type 0} where
           → (z : A) × List·Memᴰ z (x ∷ xs) × List·Memᴰ y (f z)
       go rest (inl k) = (x, List·Memᴰ·head refl, k)
       go rest (inr k) = let (z, l, e) = rest k in (z, List·Memᴰ·tail l, e)
+
+  pub member-table : (n : ℕ) (f : ℕ → A) (k : ℕ) → k < n → List·Memᴰ (f k) (table n f)
+  member-table n f k l = rw (← getD-table f n k (f 0) l) (member-at (table n f) (f 0) k (omega (arith, length-table f n)))
+
+  pub table-member : (n : ℕ) (f : ℕ → A) {x : A} → List·Memᴰ x (table n f) → (k : ℕ) × (k < n) × (x ≡ f k)
+  table-member n f m =
+      let (k, l, e) = member-place (f 0) m in
+      let l : k < n = omega (arith, length-table f n) in
+      (k, l, sym e ∙ getD-table f n k (f 0) l)
 
 -- ---- append and flatMap
 
@@ -356,6 +365,13 @@ pub sumTo-runs : (m n : ℕ) (f : ℕ → ℕ) → sumTo (m * n) f ≡ sumTo m (
 unfolding sumTo
 sumTo-runs zero n f = rw zero-mul
 sumTo-runs (suc m) n f = rw (suc-mul, sumTo-split (m * n) n f, sumTo-runs m n f)
+
+-- ---- at and total
+
+-- Past the end a number counts as 0.
+pub at-past : (xs : List ℕ) (k : ℕ) → length xs ≤ k → at xs k ≡ 0
+unfolding at
+at-past xs k l = List·getD-eq-default xs 0 l
 
 pub total-nil : total [] ≡ 0
 unfolding total sumTo
