@@ -6,10 +6,10 @@ use native.Mathlib.Nat.{eq-or-lt-of-le, mul-add, add-suc, add-zero, suc-mul, zer
 use native.Mathlib.Decide.{decLt}
 use mathlib.Core.Path.{_≡_, refl, sym, ap, _∙_}
 use mathlib.Core.Logic.{⊎-elim, _⊎_, inl, inr}
-use mathlib.Core.Bool.{Bool, true, false, _&&_, cond, true≢false, false≢true, and-true, and-assoc}
+use mathlib.Core.Bool.{Bool, true, false, not, _&&_, cond, true≢false, false≢true, and-true, and-assoc}
 use mathlib.Core.List.{List, [], _∷_, _++_, map, flatMap, append-assoc, append-nil, List·Memᴰ, List·Memᴰ·head, List·Memᴰ·tail, List·Memᴰ·not-nil, List·Memᴰ·cases-cons, List·Memᴰ·append-cases, Memᴰ·append-left, Memᴰ·append-right}
-use lib.ListN.{length, take, drop, getD, set, length-append, List·getD-append}
-use lib.Seq.{drop-cons, set-at, getD-at, getD-append-add, ext-getD, take-suc}
+use lib.ListN.{length, take, drop, getD, set, length-append, List·getD-append, List·getD-eq-default}
+use lib.Seq.{drop-cons, set-at, getD-at, getD-append-add, ext-getD, take-suc, length-take-le}
 use lib.Dec.{ltb}
 use borrow.Author.Tests.{ltb-true, ltb-false, lt-ltb, le-ltb}
 use Rattle.transport.specs.Lists.{all, keep, leastFrom, firstLeast, table, below, sumTo, at, total}
@@ -123,6 +123,15 @@ module _ {A : Type 0} where
       go rest (inl k) = (x, List·Memᴰ·head refl, k)
       go rest (inr k) = let (z, l, e) = rest k in (z, List·Memᴰ·tail l, e)
 
+  pub member-table : (n : ℕ) (f : ℕ → A) (k : ℕ) → k < n → List·Memᴰ (f k) (table n f)
+  member-table n f k l = rw (← getD-table f n k (f 0) l) (member-at (table n f) (f 0) k (omega (arith, length-table f n)))
+
+  pub table-member : (n : ℕ) (f : ℕ → A) {x : A} → List·Memᴰ x (table n f) → (k : ℕ) × (k < n) × (x ≡ f k)
+  table-member n f m =
+      let (k, l, e) = member-place (f 0) m in
+      let l : k < n = omega (arith, length-table f n) in
+      (k, l, sym e ∙ getD-table f n k (f 0) l)
+
 -- ---- append and flatMap
 
 pub getD-append-at : {A : Type 0} (xs ys : List A) (n k : ℕ) (d : A) → length xs ≡ n → getD (xs ++ ys) (n + k) d ≡ getD ys k d
@@ -133,7 +142,7 @@ unfolding flatMap
 flatMap-append f [] ys = refl
 flatMap-append f (x ∷ xs) ys = rw (flatMap-append f xs ys, append-assoc)
 
--- ---- all
+-- ---- tests
 
 is-false : (b : Bool) → (b ≡ true → ⊥) → b ≡ false
 is-false true h = absurd (h refl)
@@ -151,6 +160,8 @@ pub and-right : (a b : Bool) → a && b ≡ true → b ≡ true
 and-right true b e = e
 and-right false b e = absurd (false≢true e)
 
+-- ---- all
+
 module _ {A : Type 0} (p : A → Bool) where
   pub all-at : (xs : List A) (d : A) (k : ℕ) → all p xs ≡ true → k < length xs → p (getD xs k d) ≡ true
   unfolding all
@@ -165,6 +176,11 @@ module _ {A : Type 0} (p : A → Bool) where
 
   pub all-member : {x : A} {xs : List A} → all p xs ≡ true → List·Memᴰ x xs → p x ≡ true
   all-member {x} {xs} e m = let (k, l, q) = member-place x m in ap p (sym q) ∙ all-at xs x k e l
+
+  pub all-members : (xs : List A) → ((x : A) → List·Memᴰ x xs → p x ≡ true) → all p xs ≡ true
+  unfolding all
+  all-members [] h = refl
+  all-members (x ∷ xs) h = rw (h x (List·Memᴰ·head refl), all-members xs (λ y m. h y (List·Memᴰ·tail m)))
 
   pub all-append : (xs ys : List A) → all p (xs ++ ys) ≡ all p xs && all p ys
   unfolding all
@@ -187,6 +203,11 @@ module _ {A : Type 0} (p : A → Bool) where
   unfolding all flatMap
   all-flatMap f [] = refl
   all-flatMap f (x ∷ xs) = rw (all-append (f x) (flatMap f xs), all-flatMap f xs)
+
+pub all-map : {A B : Type 0} (p : B → Bool) (f : A → B) (xs : List A) → all p (map f xs) ≡ all (λ x. p (f x)) xs
+unfolding all
+all-map p f [] = refl
+all-map p f (x ∷ xs) = rw (all-map p f xs)
 
 pub all-below : (p : ℕ → Bool) (n : ℕ) → ((k : ℕ) → k < n → p k ≡ true) → all p (below n) ≡ true
 unfolding below
@@ -273,10 +294,35 @@ module _ {A : Type 0} (p : A → Bool) where
       go false q e = e
 
 module _ {A : Type 0} where
+  -- A test that all elements pass is passed by those that are kept.
+  pub all-kept : (p q : A → Bool) (xs : List A) → all q xs ≡ true → all q (keep p xs) ≡ true
+  all-kept p q xs e = all-members q (keep p xs) (λ x m. all-member q e (keep-member p xs m .0))
+
   pub keep-cong : (p q : A → Bool) (xs : List A) → ((x : A) → List·Memᴰ x xs → p x ≡ q x) → keep p xs ≡ keep q xs
   unfolding keep
   keep-cong p q [] h = refl
   keep-cong p q (x ∷ xs) h = rw (h x (List·Memᴰ·head refl), keep-cong p q xs (λ y m. h y (List·Memᴰ·tail m)))
+
+  pub keep-map : {B : Type 0} (p : B → Bool) (f : A → B) (xs : List A) → keep p (map f xs) ≡ map f (keep (λ x. p (f x)) xs)
+  unfolding keep
+  keep-map p f [] = refl
+  keep-map p f (x ∷ xs) = go (p (f x)) (keep-map p f xs)
+    where
+      go : (b : Bool) → keep p (map f xs) ≡ map f (keep (λ x. p (f x)) xs)
+          → cond b (f x ∷ keep p (map f xs)) (keep p (map f xs)) ≡ map f (cond b (x ∷ keep (λ x. p (f x)) xs) (keep (λ x. p (f x)) xs))
+      go true e = rw e
+      go false e = e
+
+  -- What is kept and what is struck make up the list.
+  pub keep-parts : (p : A → Bool) (xs : List A) → length (keep p xs) + length (keep (λ x. not (p x)) xs) ≡ length xs
+  unfolding keep
+  keep-parts p [] = refl
+  keep-parts p (x ∷ xs) = go (p x) (keep-parts p xs)
+    where
+      go : (b : Bool) → length (keep p xs) + length (keep (λ x. not (p x)) xs) ≡ length xs
+          → length (cond b (x ∷ keep p xs) (keep p xs)) + length (cond (not b) (x ∷ keep (λ x. not (p x)) xs) (keep (λ x. not (p x)) xs)) ≡ suc (length xs)
+      go true e = omega arith
+      go false e = omega arith
 
   pub keep-keep : (p q : A → Bool) (xs : List A) → keep p (keep q xs) ≡ keep (λ x. q x && p x) xs
   unfolding keep
@@ -357,6 +403,13 @@ unfolding sumTo
 sumTo-runs zero n f = rw zero-mul
 sumTo-runs (suc m) n f = rw (suc-mul, sumTo-split (m * n) n f, sumTo-runs m n f)
 
+-- ---- at and total
+
+-- Past the end a number counts as 0.
+pub at-past : (xs : List ℕ) (k : ℕ) → length xs ≤ k → at xs k ≡ 0
+unfolding at
+at-past xs k l = List·getD-eq-default xs 0 l
+
 pub total-nil : total [] ≡ 0
 unfolding total sumTo
 total-nil = refl
@@ -402,17 +455,28 @@ ltb-weak =
     }
 
 module _ {A : Type 0} (less : A → A → Bool) where
-  -- One element more is compared.
-  pub leastFrom-one : (x : A) (ys : List A) (z : A) → leastFrom less x (ys ++ (z ∷ [])) ≡ cond (less z (leastFrom less x ys)) z (leastFrom less x ys)
+  leastFrom-append : (x : A) (ys : List A) (z : A) → leastFrom less x (ys ++ (z ∷ [])) ≡ cond (less z (leastFrom less x ys)) z (leastFrom less x ys)
   unfolding leastFrom
-  leastFrom-one x [] z = refl
-  leastFrom-one x (y ∷ ys) z = leastFrom-one (cond (less y x) y x) ys z
+  leastFrom-append x [] z = refl
+  leastFrom-append x (y ∷ ys) z = leastFrom-append (cond (less y x) y x) ys z
 
-  pub firstLeast-one : (d : A) (xs : List A) (z : A) → 1 ≤ length xs
+  pub firstLeast-append : (d : A) (xs : List A) (z : A) → 1 ≤ length xs
       → firstLeast less d (xs ++ (z ∷ [])) ≡ cond (less z (firstLeast less d xs)) z (firstLeast less d xs)
   unfolding firstLeast
-  firstLeast-one d [] z l = absurd (omega arith)
-  firstLeast-one d (x ∷ xs) z l = leastFrom-one x xs z
+  firstLeast-append d [] z l = absurd (omega arith)
+  firstLeast-append d (x ∷ xs) z l = leastFrom-append x xs z
+
+  pub firstLeast-start : (d : A) (xs : List A) → 1 ≤ length xs → firstLeast less d (take 1 xs) ≡ getD xs 0 d
+  unfolding firstLeast leastFrom
+  firstLeast-start d [] l = refl
+  firstLeast-start d (x ∷ xs) l = refl
+
+  -- One element more is compared.
+  pub firstLeast-one : (d : A) (xs : List A) (k : ℕ) → 1 ≤ k → k < length xs
+      → firstLeast less d (take (k + 1) xs)
+      ≡ cond (less (getD xs k d) (firstLeast less d (take k xs))) (getD xs k d) (firstLeast less d (take k xs))
+  firstLeast-one d xs k p l =
+      rw (add-one, take-suc xs k d l) (firstLeast-append d (take k xs) (getD xs k d) (omega (arith, length-take-le k xs (omega arith))))
 
   later : (d : A) (xs : List A) (r s : A) (k h : ℕ) → FirstLeast less d xs r k → FirstLeast less d xs s h → k < h → ⊥
   later d xs r s k h f g l = true≢false (sym (g .first k l) ∙ (rw (f .stands, ← g .stands) (f .least h (g .inside))))

@@ -9,10 +9,10 @@ use mathlib.Core.Bool.{Bool, true, false, _&&_}
 use mathlib.Core.List.{List, [], _∷_, _++_, flatMap, append-nil}
 use mathlib.Core.Option.{Option, none, some}
 use lib.Dec.{leb}
-use lib.ListN.{length, getD, length-append, List·getD-append, List·getD-eq-default}
+use lib.ListN.{length, getD, length-append, List·getD-append}
 use borrow.Author.Tests.{leb-true, le-leb, eqb-true, eq-eqb, not-false}
 use Rattle.transport.specs.Lists.{all, at, total, within, table, below}
-use Rattle.transport.specs.ListLaws.{and-left, and-right, flatMap-append, getD-append-at, length-table, getD-table, all-at, all-of}
+use Rattle.transport.specs.ListLaws.{and-left, and-right, flatMap-append, getD-append-at, length-table, getD-table, all-at, all-of, at-past}
 use Rattle.transport.specs.Limits.{maxSide, maxAmount, maxCost}
 use Rattle.transport.specs.Sheet.{Sheet, sources, sinks, Lane, lanes, place, badSides, badLength, badAmount, badCost, unbalanced, numberTests, sheetTests, refusal}
 
@@ -155,14 +155,13 @@ pub all-within-low : (low high : ℕ) (xs : List ℕ) → all (within low high) 
 unfolding at
 all-within-low low high xs e k l = within-true low high _ (all-at (within low high) xs 0 k e l) .0
 
--- (Past the end it counts as 0.)
 pub all-within-high : (low high : ℕ) (xs : List ℕ) → all (within low high) xs ≡ true → (k : ℕ) → at xs k ≤ high
 unfolding at
 all-within-high low high xs e k = go (decLt k (length xs))
   where
     go : Dec (k < length xs) → getD xs k 0 ≤ high
     go (yes l) = within-true low high _ (all-at (within low high) xs 0 k e l) .1
-    go (no l) = rw (List·getD-eq-default xs 0 {n = k} (omega arith)) (omega arith)
+    go (no l) = omega (arith, at-past xs k (omega arith))
 
 pub all-within : (low high : ℕ) (xs : List ℕ) → ((k : ℕ) → k < length xs → low ≤ at xs k) → ((k : ℕ) → at xs k ≤ high) → all (within low high) xs ≡ true
 unfolding at

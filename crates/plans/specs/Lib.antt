@@ -1,0 +1,4 @@
+pub mod Sorted
+pub mod RowPlans
+pub mod Plans
+pub mod Settled

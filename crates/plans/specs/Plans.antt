@@ -1,0 +1,219 @@
+-- `plans` lists all plans that meet a sheet, and no others; of two, the one that carries more on the first lane where they differ comes first.
+use Prim.Native.Nat.{ℕ, zero, suc, _+_, _-_, _*_, _≤_, _<_}
+use native.Mathlib.Omega.{arith}
+use native.Mathlib.Nat.{zero-mul, suc-mul, zero-add}
+use native.Mathlib.Decide.{decLt}
+use mathlib.Core.Path.{_≡_, refl, sym, ap, _∙_}
+use mathlib.Core.Bool.{Bool, true, false, cond}
+use mathlib.Core.List.{List, [], _∷_, _++_, map, zipWith, List·Memᴰ, List·Memᴰ·head, List·Memᴰ·eq-of-singleton, List·Memᴰ·not-nil, Memᴰ·cast}
+use lib.Dec.{eqb}
+use lib.ListN.{length, getD, take, drop, length-append, take-append-drop, List·getD-append}
+use lib.Seq.{length-take-le}
+use borrow.Author.Tests.{eqb-true, eq-eqb}
+use Rattle.transport.specs.Lists.{all, sumTo, at, total}
+use Rattle.transport.specs.ListLaws.{all-at, all-of, member-at, member-place, member-map, map-member, member-flatMap, flatMap-member, getD-append-at, sumTo-cong, sumTo-first, at-past}
+use Rattle.transport.specs.Sheet.{Sheet, sources, sinks, place}
+use Rattle.transport.specs.Plan.{rowPlans, plansFor, plans}
+use Rattle.transport.specs.Statements.{Meets}
+use Rattle.plans.specs.Sorted.{Sorted, none, sorted-at, sorted-single, sorted-map, sorted-flatMap}
+use Rattle.plans.specs.RowPlans.{Row, rowPlans-sound, rowPlans-complete, Ahead, ahead-cons, rowPlans-sorted}
+
+-- ---- what the sinks still want when a row is taken off
+
+length-taken : (ds xs : List ℕ) → length xs ≡ length ds → length (zipWith (_-_) ds xs) ≡ length ds
+unfolding zipWith
+length-taken [] xs e = refl
+length-taken (d ∷ ds) [] e = absurd (omega arith)
+length-taken (d ∷ ds) (x ∷ xs) e = ap suc (length-taken ds xs (omega arith))
+
+at-taken : (ds xs : List ℕ) (j : ℕ) → length xs ≡ length ds → at (zipWith (_-_) ds xs) j ≡ at ds j - at xs j
+unfolding zipWith at
+at-taken [] xs j e = omega arith
+at-taken (d ∷ ds) [] j e = absurd (omega arith)
+at-taken (d ∷ ds) (x ∷ xs) zero e = refl
+at-taken (d ∷ ds) (x ∷ xs) (suc j) e = at-taken ds xs j (omega arith)
+
+-- ---- a plan for sources with supplies ss and n sinks that want ds
+
+record Fits (n : ℕ) (ss ds x : List ℕ) : Type 0 where
+  size : length x ≡ length ss * n
+  rows : (i : ℕ) → i < length ss → sumTo n (λ j. at x (place n i j)) ≡ at ss i
+  columns : (j : ℕ) → j < n → sumTo (length ss) (λ i. at x (place n i j)) ≡ at ds j
+
+-- Where no source is left, each sink has all that it wants.
+fits-nothing : (n : ℕ) (ds : List ℕ) → length ds ≡ n → all (eqb 0) ds ≡ true → Fits n [] ds []
+unfolding sumTo at
+fits-nothing n ds e f =
+    record { size = omega arith; rows = λ i l. absurd (omega arith); columns = λ j l. eqb-true 0 (getD ds j 0) (all-at (eqb 0) ds 0 j f (omega arith)) }
+
+nothing-wanted : (n : ℕ) (ds x : List ℕ) → length ds ≡ n → Fits n [] ds x → all (eqb 0) ds ≡ true
+unfolding sumTo at
+nothing-wanted n ds x e g = all-of (eqb 0) ds 0 (λ j l. eq-eqb 0 (getD ds j 0) (g .columns j (omega arith)))
+
+-- The first row xs, and the plan p for the other sources.
+module _ (n : ℕ) (xs p : List ℕ) (e : length xs ≡ n) where
+  at-first : (j : ℕ) → j < n → at (xs ++ p) (place n 0 j) ≡ at xs j
+  unfolding at place
+  at-first j l = rw (zero-mul, zero-add) (List·getD-append xs p 0 j (omega arith))
+
+  at-rest : (i j : ℕ) → at (xs ++ p) (place n (suc i) j) ≡ at p (place n i j)
+  unfolding at place
+  at-rest i j = ap (λ (l : ℕ). getD (xs ++ p) l 0) (omega (arith, suc-mul i n)) ∙ getD-append-at xs p n (i * n + j) 0 e
+
+  first-row : sumTo n (λ j. at (xs ++ p) (place n 0 j)) ≡ total xs
+  unfolding total
+  first-row = rw e (sumTo-cong n (λ j. at (xs ++ p) (place n 0 j)) (at xs) at-first)
+
+  other-row : (i : ℕ) → sumTo n (λ j. at (xs ++ p) (place n (suc i) j)) ≡ sumTo n (λ j. at p (place n i j))
+  other-row i = sumTo-cong n _ _ (λ j l. at-rest i j)
+
+  column : (m j : ℕ) → j < n → sumTo (suc m) (λ i. at (xs ++ p) (place n i j)) ≡ at xs j + sumTo m (λ i. at p (place n i j))
+  column m j l =
+      omega (arith, sumTo-first m (λ i. at (xs ++ p) (place n i j)), at-first j l, sumTo-cong m (λ i. at (xs ++ p) (place n (suc i) j)) (λ i. at p (place n i j)) (λ i q. at-rest i j))
+
+  module _ (s : ℕ) (ss ds : List ℕ) (f : length ds ≡ n) where
+    fits-cons : Row s ds xs → Fits n ss (zipWith (_-_) ds xs) p → Fits n (s ∷ ss) ds (xs ++ p)
+    unfolding at
+    fits-cons r g = record { size = omega (arith, length-append xs p, g .size, suc-mul (length ss) n); rows = rows; columns = columns }
+      where
+        rows : (i : ℕ) → i < suc (length ss) → sumTo n (λ j. at (xs ++ p) (place n i j)) ≡ at (s ∷ ss) i
+        rows zero l = first-row ∙ r .sum
+        rows (suc i) l = other-row i ∙ g .rows i (omega arith)
+
+        columns : (j : ℕ) → j < n → sumTo (suc (length ss)) (λ i. at (xs ++ p) (place n i j)) ≡ at ds j
+        columns j l = omega (arith, column (length ss) j l, g .columns j l, at-taken ds xs j (r .size), r .wanted j)
+
+    fits-row : Fits n (s ∷ ss) ds (xs ++ p) → Row s ds xs
+    unfolding at
+    fits-row g = record { size = e ∙ sym f; wanted = λ j. wanted j (decLt j n); sum = sym first-row ∙ g .rows 0 (omega arith) }
+      where
+        wanted : (j : ℕ) → Dec (j < n) → at xs j ≤ at ds j
+        wanted j (yes l) = omega (arith, column (length ss) j l, g .columns j l)
+        wanted j (no l) = omega (arith, at-past xs j (omega arith))
+
+    fits-rest : Fits n (s ∷ ss) ds (xs ++ p) → Fits n ss (zipWith (_-_) ds xs) p
+    unfolding at
+    fits-rest g =
+        record {
+          size = omega (arith, length-append xs p, g .size, suc-mul (length ss) n);
+          rows = λ i l. sym (other-row i) ∙ g .rows (suc i) (omega arith);
+          columns = λ j l. omega (arith, column (length ss) j l, g .columns j l, at-taken ds xs j (e ∙ sym f));
+        }
+
+-- Every list among them is such a plan: by the sources, a row first and then a plan for what is left.
+plansFor-sound : (n : ℕ) (ss ds : List ℕ) {x : List ℕ} → length ds ≡ n → List·Memᴰ x (plansFor ss ds) → Fits n ss ds x
+unfolding plansFor
+plansFor-sound n [] ds {x} e m = go (all (eqb 0) ds) refl m
+  where
+    go : (b : Bool) → all (eqb 0) ds ≡ b → List·Memᴰ x (cond b ([] ∷ []) []) → Fits n [] ds x
+    go true f m = rw (List·Memᴰ·eq-of-singleton m) (fits-nothing n ds e f)
+    go false f m = absurd (List·Memᴰ·not-nil m)
+plansFor-sound n (s ∷ ss) ds e m =
+    let (xs, l, m) = flatMap-member (λ xs. map (λ p. xs ++ p) (plansFor ss (zipWith (_-_) ds xs))) (rowPlans s ds) m in
+    let (p, k, f) = map-member (λ p. xs ++ p) (plansFor ss (zipWith (_-_) ds xs)) m in
+    let r = rowPlans-sound s ds l in
+    rw f (fits-cons n xs p (r .size ∙ e) s ss ds e r (plansFor-sound n ss (zipWith (_-_) ds xs) (length-taken ds xs (r .size) ∙ e) k))
+
+-- Every such plan is among them.
+plansFor-complete : (n : ℕ) (ss ds x : List ℕ) → length ds ≡ n → Fits n ss ds x → List·Memᴰ x (plansFor ss ds)
+unfolding plansFor
+plansFor-complete n [] ds [] e g = rw (nothing-wanted n ds [] e g) (List·Memᴰ·head refl)
+plansFor-complete n [] ds (q ∷ x) e g = absurd (omega (arith, g .size))
+plansFor-complete n (s ∷ ss) ds x e g =
+    let xs = take n x in
+    let p = drop n x in
+    let f : length xs ≡ n = length-take-le n x (omega (arith, g .size, suc-mul (length ss) n)) in
+    let g : Fits n (s ∷ ss) ds (xs ++ p) = rw (take-append-drop n x) g in
+    let r : Row s ds xs = fits-row n xs p f s ss ds e g in
+    Memᴰ·cast
+    (sym (take-append-drop n x))
+    (member-flatMap
+    (λ xs. map (λ p. xs ++ p) (plansFor ss (zipWith (_-_) ds xs)))
+    (rowPlans-complete s ds xs r)
+    (member-map
+    (λ p. xs ++ p)
+    (plansFor-complete n ss (zipWith (_-_) ds xs) p (length-taken ds xs (r .size) ∙ e) (fits-rest n xs p f s ss ds e g))))
+
+-- ---- order
+
+ahead-left : (xs ys p q : List ℕ) → length xs ≡ length ys → Ahead xs ys → Ahead (xs ++ p) (ys ++ q)
+unfolding at
+ahead-left xs ys p q e a =
+    let l = a .lane in
+    let inside : l < length xs = a .difference .lane in
+    let x : at (xs ++ p) l ≡ at xs l = List·getD-append xs p 0 l inside in
+    let y : at (ys ++ q) l ≡ at ys l = List·getD-append ys q 0 l (omega arith) in
+    record {
+      lane = l;
+      difference =
+          record {
+            lane = omega (arith, length-append xs p);
+            differ = λ f. a .difference .differ (sym x ∙ f ∙ y);
+            before = λ h k. List·getD-append xs p 0 h (omega arith) ∙ a .difference .before h k ∙ sym (List·getD-append ys q 0 h (omega arith));
+          };
+      more = omega (arith, a .more);
+    }
+
+ahead-right : (xs p q : List ℕ) → Ahead p q → Ahead (xs ++ p) (xs ++ q)
+ahead-right [] p q a = a
+ahead-right (x ∷ xs) p q a = ahead-cons x (xs ++ p) (xs ++ q) (ahead-right xs p q a)
+
+plansFor-sorted : (ss ds : List ℕ) → Sorted Ahead (plansFor ss ds)
+unfolding plansFor
+plansFor-sorted [] ds = go (all (eqb 0) ds)
+  where
+    go : (b : Bool) → Sorted Ahead (cond b ([] ∷ []) [])
+    go true = sorted-single []
+    go false = none
+plansFor-sorted (s ∷ ss) ds =
+    sorted-flatMap
+    rest
+    apart
+    (λ xs m. sorted-map (λ p. xs ++ p) (ahead-right xs) (plansFor-sorted ss (zipWith (_-_) ds xs)))
+    (rowPlans-sorted s ds)
+  where
+    rest : List ℕ → List (List ℕ)
+    rest xs = map (λ p. xs ++ p) (plansFor ss (zipWith (_-_) ds xs))
+
+    apart : (xs ys : List ℕ) → List·Memᴰ xs (rowPlans s ds) → List·Memᴰ ys (rowPlans s ds) → Ahead xs ys
+        → (x y : List ℕ) → List·Memᴰ x (rest xs) → List·Memᴰ y (rest ys) → Ahead x y
+    apart xs ys m n a x y k h =
+        let (p, k, e) = map-member (λ p. xs ++ p) (plansFor ss (zipWith (_-_) ds xs)) k in
+        let (q, h, f) = map-member (λ p. ys ++ p) (plansFor ss (zipWith (_-_) ds ys)) h in
+        rw (e, f) (ahead-left xs ys p q (rowPlans-sound s ds m .size ∙ sym (rowPlans-sound s ds n .size)) a)
+
+-- ---- the plans of a sheet
+
+-- Every plan in the list meets the sheet.
+pub plans-sound : (S : Sheet) (k : ℕ) → k < length (plans S) → Meets S 1 (getD (plans S) k [])
+unfolding plans sources sinks
+plans-sound S k l =
+    let g = plansFor-sound (sinks S) (S .supply) (S .demand) refl (member-at (plans S) [] k l) in
+    record {
+      quantities = g .size;
+      rows = λ i p. omega (arith, g .rows i p);
+      columns = λ j p. omega (arith, g .columns j p);
+    }
+
+-- Every plan that meets the sheet is in the list.
+pub plans-complete : (S : Sheet) (x : List ℕ) → Meets S 1 x → (k : ℕ) × (k < length (plans S)) × (getD (plans S) k [] ≡ x)
+unfolding plans sources sinks
+plans-complete S x g =
+    member-place
+    []
+    (plansFor-complete
+    (sinks S)
+    (S .supply)
+    (S .demand)
+    x
+    refl
+    (record {
+      size = g .quantities;
+      rows = λ i p. omega (arith, g .rows i p);
+      columns = λ j p. omega (arith, g .columns j p);
+    }))
+
+-- Of two plans in the list, the earlier carries more on the first lane where they differ, and they do differ.
+pub plans-descending : (S : Sheet) (h k : ℕ) → h < k → k < length (plans S) → Ahead (getD (plans S) h []) (getD (plans S) k [])
+unfolding plans
+plans-descending S h k p q = sorted-at (plansFor-sorted (S .supply) (S .demand)) [] h k p q

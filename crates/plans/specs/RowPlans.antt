@@ -1,0 +1,134 @@
+-- The ways to send what one source has: `rowPlans` lists them all, the one that carries more on the first lane where two differ first.
+use Prim.Native.Nat.{ℕ, zero, suc, _+_, _-_, _≤_, _<_, min}
+use native.Mathlib.Omega.{arith}
+use mathlib.Core.Path.{_≡_, refl, ap}
+use mathlib.Core.Bool.{Bool, true, false, cond}
+use mathlib.Core.List.{List, [], _∷_, map, List·Memᴰ, List·Memᴰ·head, List·Memᴰ·eq-of-singleton, List·Memᴰ·not-nil, Memᴰ·cast}
+use lib.Dec.{eqb}
+use lib.ListN.{length, getD}
+use borrow.Author.Tests.{eqb-true, eq-eqb}
+use Rattle.transport.specs.Lists.{downTo, at, total}
+use Rattle.transport.specs.ListLaws.{member-table, table-member, member-map, map-member, member-flatMap, flatMap-member, sumTo-le, total-nil, total-cons}
+use Rattle.transport.specs.Plan.{rowPlans}
+use Rattle.transport.specs.Statements.{FirstDifference}
+use Rattle.plans.specs.Sorted.{Sorted, none, sorted-single, sorted-table, sorted-map, sorted-flatMap}
+
+-- ---- downTo
+
+member-downTo : (low high x : ℕ) → low ≤ x → x ≤ high → List·Memᴰ x (downTo low high)
+unfolding downTo
+member-downTo low high x p q = Memᴰ·cast (omega arith) (member-table (suc high - low) (λ k. high - k) (high - x) (omega arith))
+
+downTo-member : (low high : ℕ) {x : ℕ} → List·Memᴰ x (downTo low high) → (low ≤ x) × (x ≤ high)
+unfolding downTo
+downTo-member low high m =
+    let (k, p, e) = table-member (suc high - low) (λ k. high - k) m in
+    (omega arith, omega arith)
+
+-- Of two elements the earlier is the greater.
+sorted-downTo : (low high : ℕ) → Sorted (λ (x y : ℕ). y < x) (downTo low high)
+unfolding downTo
+sorted-downTo low high = sorted-table (suc high - low) (λ k. high - k) (λ h k p q. omega arith)
+
+-- ---- a row: one quantity for each sink, no more than it wants, that add up to what the source has
+
+pub record Row (left : ℕ) (ds xs : List ℕ) : Type 0 where
+  pub size : length xs ≡ length ds
+  pub wanted : (j : ℕ) → at xs j ≤ at ds j
+  pub sum : total xs ≡ left
+
+total-le : (xs ds : List ℕ) → length xs ≡ length ds → ((j : ℕ) → at xs j ≤ at ds j) → total xs ≤ total ds
+unfolding total
+total-le xs ds e h = rw e (sumTo-le (length ds) (at xs) (at ds) (λ k l. h k))
+
+row-cons : (left d x : ℕ) (ds xs : List ℕ) → x ≤ d → x ≤ left → Row (left - x) ds xs → Row left (d ∷ ds) (x ∷ xs)
+unfolding at
+row-cons left d x ds xs p q r = record { size = ap suc (r .size); wanted = wanted; sum = omega (arith, total-cons x xs, r .sum) }
+  where
+    wanted : (j : ℕ) → getD (x ∷ xs) j 0 ≤ getD (d ∷ ds) j 0
+    wanted zero = p
+    wanted (suc j) = r .wanted j
+
+row-rest : (left d x : ℕ) (ds xs : List ℕ) → Row left (d ∷ ds) (x ∷ xs) → Row (left - x) ds xs
+unfolding at
+row-rest left d x ds xs r =
+    record {
+      size = omega (arith, r .size);
+      wanted = λ j. r .wanted (suc j);
+      sum = omega (arith, total-cons x xs, r .sum);
+    }
+
+pub rowPlans-sound : (left : ℕ) (ds : List ℕ) {xs : List ℕ} → List·Memᴰ xs (rowPlans left ds) → Row left ds xs
+unfolding rowPlans
+rowPlans-sound left [] {xs} m = go (eqb left 0) refl m
+  where
+    go : (b : Bool) → eqb left 0 ≡ b → List·Memᴰ xs (cond b ([] ∷ []) []) → Row left [] xs
+    go true e m =
+        rw (List·Memᴰ·eq-of-singleton m) (record { size = refl; wanted = λ j. omega arith; sum = omega (arith, total-nil, eqb-true left 0 e) })
+    go false e m = absurd (List·Memᴰ·not-nil m)
+rowPlans-sound left (d ∷ ds) m =
+    let (x, l, m) = flatMap-member (λ x. map (λ xs. x ∷ xs) (rowPlans (left - x) ds)) (downTo (left - total ds) (min left d)) m in
+    let (ys, k, e) = map-member (λ xs. x ∷ xs) (rowPlans (left - x) ds) m in
+    let (p, q) = downTo-member (left - total ds) (min left d) l in
+    rw e (row-cons left d x ds ys (omega arith) (omega arith) (rowPlans-sound (left - x) ds k))
+
+pub rowPlans-complete : (left : ℕ) (ds xs : List ℕ) → Row left ds xs → List·Memᴰ xs (rowPlans left ds)
+unfolding rowPlans at
+rowPlans-complete left [] [] r = rw (eq-eqb left 0 (omega (arith, r .sum, total-nil))) (List·Memᴰ·head refl)
+rowPlans-complete left [] (x ∷ xs) r = absurd (omega (arith, r .size))
+rowPlans-complete left (d ∷ ds) [] r = absurd (omega (arith, r .size))
+rowPlans-complete left (d ∷ ds) (x ∷ xs) r =
+    let rest = row-rest left d x ds xs r in
+    let fits : x ≤ d = r .wanted 0 in
+    let room : total xs ≤ total ds = total-le xs ds (rest .size) (rest .wanted) in
+    let sum : x + total xs ≡ left = omega (arith, total-cons x xs, r .sum) in
+    member-flatMap
+    (λ x. map (λ xs. x ∷ xs) (rowPlans (left - x) ds))
+    (member-downTo (left - total ds) (min left d) x (omega arith) (omega arith))
+    (member-map (λ xs. x ∷ xs) (rowPlans-complete (left - x) ds xs rest))
+
+-- ---- order
+
+-- x carries more than y on the first lane where they differ.
+pub record Ahead (x y : List ℕ) : Type 0 where
+  pub lane : ℕ
+  pub difference : FirstDifference x y lane
+  pub more : at y lane < at x lane
+
+ahead-first : (x y : ℕ) (xs ys : List ℕ) → y < x → Ahead (x ∷ xs) (y ∷ ys)
+unfolding at
+ahead-first x y xs ys l =
+    record { lane = 0; difference = record { lane = omega arith; differ = λ e. omega arith; before = λ h p. absurd (omega arith) }; more = l }
+
+pub ahead-cons : (x : ℕ) (xs ys : List ℕ) → Ahead xs ys → Ahead (x ∷ xs) (x ∷ ys)
+unfolding at
+ahead-cons x xs ys a =
+    record { lane = suc (a .lane); difference = record { lane = omega (arith, a .difference .lane); differ = a .difference .differ; before = before }; more = a .more }
+  where
+    before : (h : ℕ) → h < suc (a .lane) → getD (x ∷ xs) h 0 ≡ getD (x ∷ ys) h 0
+    before zero p = refl
+    before (suc h) p = a .difference .before h (omega arith)
+
+pub rowPlans-sorted : (left : ℕ) (ds : List ℕ) → Sorted Ahead (rowPlans left ds)
+unfolding rowPlans
+rowPlans-sorted left [] = go (eqb left 0)
+  where
+    go : (b : Bool) → Sorted Ahead (cond b ([] ∷ []) [])
+    go true = sorted-single []
+    go false = none
+rowPlans-sorted left (d ∷ ds) =
+    sorted-flatMap
+    rows
+    apart
+    (λ x m. sorted-map (λ xs. x ∷ xs) (ahead-cons x) (rowPlans-sorted (left - x) ds))
+    (sorted-downTo (left - total ds) (min left d))
+  where
+    rows : ℕ → List (List ℕ)
+    rows x = map (λ xs. x ∷ xs) (rowPlans (left - x) ds)
+
+    apart : (x y : ℕ) → List·Memᴰ x (downTo (left - total ds) (min left d)) → List·Memᴰ y (downTo (left - total ds) (min left d)) → y < x
+        → (a b : List ℕ) → List·Memᴰ a (rows x) → List·Memᴰ b (rows y) → Ahead a b
+    apart x y m n l a b k h =
+        let (xs, k, e) = map-member (λ xs. x ∷ xs) (rowPlans (left - x) ds) k in
+        let (ys, h, f) = map-member (λ xs. y ∷ xs) (rowPlans (left - y) ds) h in
+        rw (e, f) (ahead-first x y xs ys l)

@@ -1,0 +1,71 @@
+-- Lists in which every element stands in the relation R to each one after it.
+use Prim.Native.Nat.{ℕ, zero, suc, _<_}
+use native.Mathlib.Omega.{arith}
+use mathlib.Core.Path.{refl}
+use mathlib.Core.Logic.{_⊎_, inl, inr}
+use mathlib.Core.List.{List, [], _∷_, _++_, map, flatMap, List·Memᴰ, List·Memᴰ·head, List·Memᴰ·tail, List·Memᴰ·append-cases, List·Memᴰ·not-nil, List·Memᴰ·eq-of-singleton}
+use lib.ListN.{length, getD}
+use Rattle.transport.specs.Lists.{table}
+use Rattle.transport.specs.ListLaws.{member-at, table-member, map-member, flatMap-member}
+
+pub data Sorted {A : Type 0} (R : A → A → Type 0) : List A → Type 0 where
+  none : Sorted R []
+  one-more : {x : A} {xs : List A} → ((y : A) → List·Memᴰ y xs → R x y) → Sorted R xs → Sorted R (x ∷ xs)
+
+module _ {A : Type 0} {R : A → A → Type 0} where
+  pub sorted-at : {xs : List A} → Sorted R xs → (d : A) (h k : ℕ) → h < k → k < length xs → R (getD xs h d) (getD xs k d)
+  sorted-at none d h k p q = absurd (omega arith)
+  sorted-at (one-more {x} {xs} f s) d zero zero p q = absurd (omega arith)
+  sorted-at (one-more {x} {xs} f s) d zero (suc k) p q = f (getD xs k d) (member-at xs d k (omega arith))
+  sorted-at (one-more {x} {xs} f s) d (suc h) zero p q = absurd (omega arith)
+  sorted-at (one-more {x} {xs} f s) d (suc h) (suc k) p q = sorted-at s d h k (omega arith) (omega arith)
+
+  pub sorted-single : (x : A) → Sorted R (x ∷ [])
+  sorted-single x = one-more {xs = []} (λ y m. absurd (List·Memᴰ·not-nil m)) none
+
+  pub sorted-append : {xs ys : List A} → Sorted R xs → Sorted R ys → ((x y : A) → List·Memᴰ x xs → List·Memᴰ y ys → R x y) → Sorted R (xs ++ ys)
+  sorted-append none t f = t
+  sorted-append {ys} (one-more {x} {xs} g s) t f =
+      one-more (λ y m. go y (List·Memᴰ·append-cases xs m)) (sorted-append s t (λ a b m. f a b (List·Memᴰ·tail m)))
+    where
+      go : (y : A) → List·Memᴰ y xs ⊎ List·Memᴰ y ys → R x y
+      go y (inl m) = g y m
+      go y (inr m) = f x y (List·Memᴰ·head refl) m
+
+  pub sorted-table : (n : ℕ) (f : ℕ → A) → ((h k : ℕ) → h < k → k < n → R (f h) (f k)) → Sorted R (table n f)
+  unfolding table
+  sorted-table zero f g = none
+  sorted-table (suc n) f g =
+      sorted-append (sorted-table n f (λ h k p q. g h k p (omega arith))) (sorted-single (f n)) last
+    where
+      last : (x y : A) → List·Memᴰ x (table n f) → List·Memᴰ y (f n ∷ []) → R x y
+      last x y m l =
+          let (k, p, e) = table-member n f m in
+          rw (e, List·Memᴰ·eq-of-singleton l) (g k n p (omega arith))
+
+module _ {A B : Type 0} {R : A → A → Type 0} {Q : B → B → Type 0} where
+  pub sorted-map : (f : A → B) → ((x y : A) → R x y → Q (f x) (f y)) → {xs : List A} → Sorted R xs → Sorted Q (map f xs)
+  sorted-map f g none = none
+  sorted-map f g (one-more {x} {xs} h s) = one-more first (sorted-map f g s)
+    where
+      first : (y : B) → List·Memᴰ y (map f xs) → Q (f x) y
+      first y m =
+          let (z, l, e) = map-member f xs m in
+          rw e (g x z (h z l))
+
+  -- The lists of an earlier element stand before those of a later one.
+  pub sorted-flatMap : (f : A → List B) {xs : List A}
+      → ((x y : A) → List·Memᴰ x xs → List·Memᴰ y xs → R x y → (a b : B) → List·Memᴰ a (f x) → List·Memᴰ b (f y) → Q a b)
+      → ((x : A) → List·Memᴰ x xs → Sorted Q (f x)) → Sorted R xs → Sorted Q (flatMap f xs)
+  unfolding flatMap
+  sorted-flatMap f g h none = none
+  sorted-flatMap f g h (one-more {x} {xs} r s) =
+      sorted-append
+      (h x (List·Memᴰ·head refl))
+      (sorted-flatMap f (λ y z m l. g y z (List·Memᴰ·tail m) (List·Memᴰ·tail l)) (λ y m. h y (List·Memᴰ·tail m)) s)
+      first
+    where
+      first : (a b : B) → List·Memᴰ a (f x) → List·Memᴰ b (flatMap f xs) → Q a b
+      first a b m l =
+          let (y, n, k) = flatMap-member f xs l in
+          g x y (List·Memᴰ·head refl) (List·Memᴰ·tail n) (r y n) a b m k
