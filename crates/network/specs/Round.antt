@@ -1,5 +1,5 @@
 -- A round: a pivot at the least pair on a minus cell gives a tableau again, has no tie, and lowers the valued cost.
-use mathlib.Core.Path.{_≡_, refl, ap, sym, _∙_}
+use mathlib.Core.Path.{_≡_, refl}
 use mathlib.Core.Logic.{_⊎_, inl, inr, ⊎-elim, by-cases, Dec·and}
 use Prim.Native.Nat.{ℕ, suc, _+_, _*_, _<_}
 use native.Mathlib.Omega.{arith}
@@ -7,8 +7,8 @@ use native.Mathlib.Decide.{ℕ-discrete}
 use Rattle.integers.specs.Integer.{Z, _≈_, _≼_, _≺_, ≈-dec, _⊕_, _⊖_, _⊗_, neg, nat, Within}
 use Rattle.integers.specs.IntegerLaws.{⊗-cong}
 use Rattle.integers.specs.Sum.{point}
-use Rattle.integers.specs.SumLaws.{sum₂-cong}
-use Rattle.network.specs.Flow.{Flow, Circulation, cost, Tight}
+use Rattle.integers.specs.SumLaws.{sum-negative, point-at, sum₂-cong}
+use Rattle.network.specs.Flow.{Flow, Circulation, Nonneg, cost, Tight}
 use Rattle.network.specs.FlowLaws.{on-zero}
 use Rattle.network.specs.Basis.{Basis, In, Replaces, distinct, unit, replaced}
 use Rattle.network.specs.Marks.{marks-within, no-zero-pair}
@@ -20,6 +20,27 @@ pub record Tableau (m n K : ℕ) (r c : ℕ → ℕ) (q e : ℕ → ℕ → Z) (
   pub bags : Flow m n (In r c (suc K)) q a b
   pub marks : Flow m n (In r c (suc K)) e (λ i. nat 1) (point z (nat m))
   pub above : (k : ℕ) → k < suc K → PairLess (nat 0) (nat 0) (q (r k) (c k)) (e (r k) (c k))
+
+-- no bags are negative, so they are a plan
+pub bags-nonneg : {m n K z : ℕ} {r c : ℕ → ℕ} {q e : ℕ → ℕ → Z} {a b : ℕ → Z} → Tableau m n K r c q e a b z → Nonneg m n q
+bags-nonneg {m} {n} {K} {z} {r} {c} {q} t i j hi hj = by-cases (≈-dec (q i j) (nat 0)) (λ x. omega arith) (λ x. cell (t .bags .on i j hi hj x))
+  where
+    cell : {i j : ℕ} → In r c (suc K) i j → nat 0 ≼ q i j
+    cell {i} {j} (k, l, x, y) = rw (← x, ← y) (⊎-elim (λ h. omega arith) (λ h. omega arith) (t .above k l))
+
+-- The loop has a minus cell, so there is a least pair to step by: in the entering cell's row the signs on the basis add up to −1.
+pub some-minus : {m n K p : ℕ} {r c : ℕ → ℕ} {σ : ℕ → ℕ → Z} {b : ℕ → Z} → p < m → Flow m n (In r c (suc K)) σ (point p (neg (nat 1))) b
+    → (k : ℕ) × (k < suc K) × (σ (r k) (c k) ≺ nat 0)
+some-minus {m} {n} {K} {p} {r} {c} {σ} hp f = go (sum-negative n (σ p) (omega (arith, f .rows p hp, total)))
+  where
+    total : point p (neg (nat 1)) p ≈ neg (nat 1)
+    total = rw (point-at p (neg (nat 1))) (omega arith)
+
+    cell : {i j : ℕ} → In r c (suc K) i j → σ i j ≺ nat 0 → (k : ℕ) × (k < suc K) × (σ (r k) (c k) ≺ nat 0)
+    cell {i} {j} (k, l, x, y) = rw (← x, ← y) (λ h. (k, l, h))
+
+    go : (j : ℕ) × (j < n) × (σ p j ≺ nat 0) → (k : ℕ) × (k < suc K) × (σ (r k) (c k) ≺ nat 0)
+    go (j, l, h) = cell (f .on p j hp l (λ x. omega arith)) h
 
 -- what a round chooses: an entering cell (p, s) off the basis, its loop signs σ, and a leaving cell ℓ with the least pair of those with sign −1
 pub record Choice (m n K : ℕ) (r c : ℕ → ℕ) (q e : ℕ → ℕ → Z) (p s : ℕ) (σ : ℕ → ℕ → Z) (ℓ : ℕ) : Type 0 where
