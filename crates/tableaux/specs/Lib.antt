@@ -1,2 +1,4 @@
 pub mod View
 pub mod Striking
+pub mod Bases
+pub mod Flows
