@@ -2,3 +2,4 @@ pub mod View
 pub mod Striking
 pub mod Bases
 pub mod Flows
+pub mod Potentials

@@ -528,7 +528,7 @@ unfolding times
 times-total {m} {n} bare = sumTo-none (m + n)
 times-total {m} {n} (peel {s} {later} st rest) = omega (arith, sumTo-add (m + n) (one-at (s .leaf)) (times later), sum-one-at (m + n) (s .leaf) (leaf-below st), times-total rest)
 
-root-no-leaf : {m n : ℕ} {ss : List Strike} → Peeled m n ss → (s : Strike) → List·Memᴰ s ss → s .leaf ≢ 0
+pub root-no-leaf : {m n : ℕ} {ss : List Strike} → Peeled m n ss → (s : Strike) → List·Memᴰ s ss → s .leaf ≢ 0
 root-no-leaf bare s h = absurd (List·Memᴰ·not-nil h)
 root-no-leaf (peel {s} {later} st rest) t h = ⊎-elim (λ q. rw q (st .proper)) (root-no-leaf rest t) (List·Memᴰ·cases-cons h)
 
