@@ -17,4 +17,5 @@ pub mod Open
 pub mod Samples
 pub mod ListLaws
 pub mod AmountLaws
+pub mod RangeLaws
 pub mod SheetLaws
