@@ -59,6 +59,26 @@ module _ (w : Width) where
   pub lt-test : (a b : ℤ) (t : Bool) → mag a < 2 ^ hbits w → mag b < 2 ^ hbits w → ltZ (toZ w (ofZ w a)) (toZ w (ofZ w b)) ≡ t → ltZ a b ≡ t
   lt-test a b t p q e = rw (back a p, back b q) at e
 
+-- Two numbers read from memory, and their sum or difference written: in range, and the number itself.
+module _ (w : Width) (a b : ℤ) (p : natAbs a + natAbs b < 2 ^ hbits w) where
+  left : toZ w (ofZ w a) ≡ a
+  left = toZ-ofZ {w = w} (abs-fits w a (omega arith))
+
+  right : toZ w (ofZ w b) ≡ b
+  right = toZ-ofZ {w = w} (abs-fits w b (omega arith))
+
+  pub sum-in : SFits w (toZ w (ofZ w a) +ℤ toZ w (ofZ w b))
+  sum-in = rw (left, right) (sum-fits w a b p)
+
+  pub sum-back : toZ w (ofZ w (toZ w (ofZ w a) +ℤ toZ w (ofZ w b))) ≡ a +ℤ b
+  sum-back = toZ-ofZ {w = w} sum-in ∙ rw (left, right)
+
+  pub diff-in : SFits w (toZ w (ofZ w a) -ℤ toZ w (ofZ w b))
+  diff-in = rw (left, right) (diff-fits w a b p)
+
+  pub diff-back : toZ w (ofZ w (toZ w (ofZ w a) -ℤ toZ w (ofZ w b))) ≡ a -ℤ b
+  diff-back = toZ-ofZ {w = w} diff-in ∙ rw (left, right)
+
 -- ---- pairs
 
 -- Both parts of the sum and of the difference of a and b are in range.
