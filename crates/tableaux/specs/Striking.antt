@@ -45,7 +45,7 @@ has-basic T i j = (to, from)
 
 -- ---- the nodes that a lane touches
 
-touches-true : (m k : ℕ) (l : Lane) → touches m k l ≡ true → (l .row ≡ k) ⊎ (m + l .col ≡ k)
+pub touches-true : (m k : ℕ) (l : Lane) → touches m k l ≡ true → (l .row ≡ k) ⊎ (m + l .col ≡ k)
 unfolding touches
 touches-true m k l e = go (eqb (l .row) k) refl e
   where
@@ -53,7 +53,7 @@ touches-true m k l e = go (eqb (l .row) k) refl e
     go true p e = inl (eqb-true (l .row) k p)
     go false p e = inr (eqb-true (m + l .col) k e)
 
-touches-false : (m k : ℕ) (l : Lane) → touches m k l ≡ false → (l .row ≢ k) × (m + l .col ≢ k)
+pub touches-false : (m k : ℕ) (l : Lane) → touches m k l ≡ false → (l .row ≢ k) × (m + l .col ≢ k)
 unfolding touches
 touches-false m k l e = go (eqb (l .row) k) refl e
   where
@@ -64,23 +64,23 @@ touches-false m k l e = go (eqb (l .row) k) refl e
 -- ---- sums of ones
 
 -- 1 at p, 0 elsewhere.
-abbrev one-at : ℕ → ℕ → ℕ
+abbrev pub one-at : ℕ → ℕ → ℕ
 one-at p k = cond (eqb p k) 1 0
 
-one-here : (p : ℕ) → one-at p p ≡ 1
+pub one-here : (p : ℕ) → one-at p p ≡ 1
 one-here p = rw (eq-eqb p p refl)
 
-one-off : (p k : ℕ) → p ≢ k → one-at p k ≡ 0
+pub one-off : (p k : ℕ) → p ≢ k → one-at p k ≡ 0
 one-off p k e = rw (ne-eqb p k e)
 
-sum-one-at : (N p : ℕ) → p < N → sumTo N (one-at p) ≡ 1
+pub sum-one-at : (N p : ℕ) → p < N → sumTo N (one-at p) ≡ 1
 unfolding sumTo
 sum-one-at zero p l = absurd (omega arith)
 sum-one-at (suc N) p l = by-cases (ℕ-discrete p N)
     (λ e. omega (arith, sumTo-cong N (one-at p) (λ k. 0) (λ k q. one-off p k (omega arith)), sumTo-none N, one-here p, ap (one-at p) e))
     (λ e. omega (arith, sum-one-at N p (omega arith), one-off p N e))
 
-sum-ones : (N : ℕ) → sumTo N (λ k. 1) ≡ N
+pub sum-ones : (N : ℕ) → sumTo N (λ k. 1) ≡ N
 unfolding sumTo
 sum-ones zero = refl
 sum-ones (suc N) = omega (arith, sum-ones N)
@@ -163,7 +163,7 @@ missed m (j ∷ ks) B e k h = go (at-node m j B) refl (missed m ks B) (List·Mem
 
 -- ---- degrees: they add up to twice the lanes
 
-abbrev degree : ℕ → List Lane → ℕ → ℕ
+abbrev pub degree : ℕ → List Lane → ℕ → ℕ
 degree m B k = length (at-node m k B)
 
 touches-bits : (m k : ℕ) (l : Lane) → l .row < m → cond (touches m k l) 1 0 ≡ one-at (l .row) k + one-at (m + l .col) k
@@ -230,7 +230,7 @@ not-eqb a b e = eqb-false a b (not-true (eqb a b) e)
 -- A leaf exists. A node that is left, but the root, has a lane, for else the split of this node from all others would have no lane across; the root has
 -- one for the same reason. If no other node had a single lane, all of them had two or more, and the degrees would add up to more than twice the lanes.
 module _ {m n : ℕ} {left : ℕ → Bool} {B : List Lane} (w : Linked m n left B) where
-  has-lane : (k : ℕ) → k ≢ 0 → k < m + n → left k ≡ true → degree m B k ≢ 0
+  pub has-lane : (k : ℕ) → k ≢ 0 → k < m + n → left k ≡ true → degree m B k ≢ 0
   has-lane k z l e d = true≢false (sym (w .joined (λ j. not (eqb j k)) (rw (ne-eqb 0 k (λ q. z (sym q)))) closed k l e) ∙ rw (eq-eqb k k refl))
     where
       closed : (l : Lane) → List·Memᴰ l B → not (eqb (l .row) k) ≡ not (eqb (m + l .col) k)
@@ -285,22 +285,22 @@ keep-split p (x ∷ xs) = go (p x) refl (keep-split p xs)
     go false e h = rw e (omega arith)
 
 -- A lane is left exactly if it is there and does not touch the leaf.
-without-member : (m k : ℕ) (B : List Lane) (l : Lane) → List·Memᴰ l (without m k B) → List·Memᴰ l B × (touches m k l ≡ false)
+pub without-member : (m k : ℕ) (B : List Lane) (l : Lane) → List·Memᴰ l (without m k B) → List·Memᴰ l B × (touches m k l ≡ false)
 without-member m k B l h = let (p, q) = keep-member (λ l. not (touches m k l)) B h in (p, not-true (touches m k l) q)
 
-member-without : (m k : ℕ) (B : List Lane) (l : Lane) → List·Memᴰ l B → touches m k l ≡ false → List·Memᴰ l (without m k B)
+pub member-without : (m k : ℕ) (B : List Lane) (l : Lane) → List·Memᴰ l B → touches m k l ≡ false → List·Memᴰ l (without m k B)
 member-without m k B l h e = member-keep (λ l. not (touches m k l)) (rw e) h
 
 module _ {m : ℕ} {nodes : List ℕ} {B : List Lane} {s : Strike} (f : Leaf m nodes B s) where
-  leaf-member : List·Memᴰ (s .lane) B × (touches m (s .leaf) (s .lane) ≡ true)
+  pub leaf-member : List·Memᴰ (s .lane) B × (touches m (s .leaf) (s .lane) ≡ true)
   leaf-member = keep-member (touches m (s .leaf)) B (rw (f .only) (List·Memᴰ·head refl))
 
   -- The strike's lane is the only one that touches the leaf ..
-  leaf-lane : (l : Lane) → List·Memᴰ l B → touches m (s .leaf) l ≡ true → l ≡ s .lane
+  pub leaf-lane : (l : Lane) → List·Memᴰ l B → touches m (s .leaf) l ≡ true → l ≡ s .lane
   leaf-lane l h e = List·Memᴰ·eq-of-singleton (rw (f .only) at (member-keep (touches m (s .leaf)) e h))
 
   -- .. and is the only one struck off.
-  length-without : suc (length (without m (s .leaf) B)) ≡ length B
+  pub length-without : suc (length (without m (s .leaf) B)) ≡ length B
   length-without = omega (arith, keep-split (touches m (s .leaf)) B, ap length (f .only))
 
 pub ends-differ : {m : ℕ} {s : Strike} → Ends m s → s .lane .row < m → s .leaf ≢ s .other
@@ -311,7 +311,7 @@ ends-differ (column-struck p q) h = omega arith
 abbrev pub unless : ℕ → (ℕ → Bool) → ℕ → Bool
 unless k left j = left j && not (eqb k j)
 
-unless-bits : (k : ℕ) (left : ℕ → Bool) (j : ℕ) → left k ≡ true → cond (left j) 1 0 ≡ cond (unless k left j) 1 0 + one-at k j
+pub unless-bits : (k : ℕ) (left : ℕ → Bool) (j : ℕ) → left k ≡ true → cond (left j) 1 0 ≡ cond (unless k left j) 1 0 + one-at k j
 unless-bits k left j e = by-cases (ℕ-discrete k j)
     (λ p. rw (eq-eqb k j p, ← p, e) (omega arith))
     (λ p. go (left j) p)
@@ -385,7 +385,7 @@ module _ (m : ℕ) (nodes : List ℕ) (most : ℕ) (B : List Lane) where
   unfolding strikeOff
   strike-none e = rw (e, strikeOff)
 
-no-members : {A : Type 0} (xs : List A) → ((x : A) → List·Memᴰ x xs → ⊥) → length xs ≡ 0
+pub no-members : {A : Type 0} (xs : List A) → ((x : A) → List·Memᴰ x xs → ⊥) → length xs ≡ 0
 no-members [] h = refl
 no-members (x ∷ xs) h = absurd (h x (List·Memᴰ·head refl))
 
@@ -441,7 +441,7 @@ pub data Peeled (m n : ℕ) : List Strike → Type 0 where
   bare : Peeled m n []
   peel : {s : Strike} {later : List Strike} → Step m n s later → Peeled m n later → Peeled m n (s ∷ later)
 
-ends-clear : {m k : ℕ} {t : Strike} → Ends m t → touches m k (t .lane) ≡ false → (t .leaf ≢ k) × (t .other ≢ k)
+pub ends-clear : {m k : ℕ} {t : Strike} → Ends m t → touches m k (t .lane) ≡ false → (t .leaf ≢ k) × (t .other ≢ k)
 ends-clear {m} {k} {t} (row-struck p q) e = let (a, b) = touches-false m k (t .lane) e in (rw p a, rw q b)
 ends-clear {m} {k} {t} (column-struck p q) e = let (a, b) = touches-false m k (t .lane) e in (rw p b, rw q a)
 
@@ -533,7 +533,7 @@ root-no-leaf bare s h = absurd (List·Memᴰ·not-nil h)
 root-no-leaf (peel {s} {later} st rest) t h = ⊎-elim (λ q. rw q (st .proper)) (root-no-leaf rest t) (List·Memᴰ·cases-cons h)
 
 -- m + n − 1 distinct leaves, none of them the root, are all other nodes: with one missing there would be too few.
-every-leaf : {m n : ℕ} {ss : List Strike} → Peeled m n ss → suc (length ss) ≡ m + n → (k : ℕ) → k ≢ 0 → k < m + n → IsLeaf ss k
+pub every-leaf : {m n : ℕ} {ss : List Strike} → Peeled m n ss → suc (length ss) ≡ m + n → (k : ℕ) → k ≢ 0 → k < m + n → IsLeaf ss k
 every-leaf {m} {n} {ss} peels e k z l = go (leaf-or ss k)
   where
     each : ((s : Strike) → List·Memᴰ s ss → s .leaf ≢ k) → (j : ℕ) → j < m + n → times ss j + one-at 0 j + one-at k j ≤ 1
@@ -577,7 +577,7 @@ lane-once {m} {n} {s} {later} st t h ends e = go (st .ends) ends (st .clear t h)
     go (column-struck p q) (row-struck p′ q′) d = d .1 (q′ ∙ ap (λ (l : Lane). m + l .col) e ∙ sym p)
     go (column-struck p q) (column-struck p′ q′) d = d .0 (p′ ∙ ap (λ (l : Lane). m + l .col) e ∙ sym p)
 
-nodes-others : (m n : ℕ) → 1 ≤ m → Others m n (table (basisSize m n) suc)
+pub nodes-others : (m n : ℕ) → 1 ≤ m → Others m n (table (basisSize m n) suc)
 unfolding basisSize
 nodes-others m n p k = (to, from)
   where
@@ -643,7 +643,7 @@ pub step-of : {m n : ℕ} {ss : List Strike} → Peeled m n ss → (s : Strike) 
 step-of bare s h = absurd (List·Memᴰ·not-nil h)
 step-of {m} {n} (peel {s} {later} st rest) t h = ⊎-elim (λ e. (later, rw e st)) (step-of rest t) (List·Memᴰ·cases-cons h)
 
-struck-joined : {m n : ℕ} {B : List Lane} {ss : List Strike} → 1 ≤ m → Struck m n B ss → Joined m n (Has B)
+pub struck-joined : {m n : ℕ} {B : List Lane} {ss : List Strike} → 1 ≤ m → Struck m n B ss → Joined m n (Has B)
 struck-joined {m} {n} {B} {ss} p w = record {
   rows = λ A C z closed i l. sym (side-row A C i l) ∙ all A C z closed i (omega arith);
   cols = λ A C z closed j l. sym (side-col A C j) ∙ all A C z closed (m + j) (omega arith);
@@ -683,7 +683,7 @@ struck-joined {m} {n} {B} {ss} p w = record {
             ends st (row-struck a b) = ap (side A C) a ∙ same st ∙ ap (side A C) (sym b)
             ends st (column-struck a b) = ap (side A C) a ∙ sym (same st) ∙ ap (side A C) (sym b)
 
-joined-linked : {m n : ℕ} {B : List Lane} → 1 ≤ m → Fits m n B → length B ≡ basisSize m n → Joined m n (Has B) → Linked m n (λ k. true) B
+pub joined-linked : {m n : ℕ} {B : List Lane} → 1 ≤ m → Fits m n B → length B ≡ basisSize m n → Joined m n (Has B) → Linked m n (λ k. true) B
 unfolding basisSize
 joined-linked {m} {n} {B} p h e w = record {
   root = refl;
