@@ -1,7 +1,6 @@
 -- What the arrays hold while leaves are struck off: at the start, after one strike more, and at the end.
-use mathlib.Core.Path.{_≡_, refl, sym, ap, _∙_}
-use mathlib.Core.Logic.{_≢_}
-use mathlib.Core.Bool.{Bool, true, cond}
+use mathlib.Core.Path.{_≡_, ap, _∙_}
+use mathlib.Core.Bool.{true, cond}
 use mathlib.Core.List.{List, [], _∷_, _++_}
 use Prim.Native.Nat.{ℕ, _+_, _-_, _*_, _/_, _%_, _<_, _≤_}
 use native.Mathlib.Omega.{arith}
@@ -11,9 +10,8 @@ use Rattle.transport.specs.Lists.{table}
 use Rattle.transport.specs.ListLaws.{table-zero, table-one, table-cong}
 use Rattle.transport.specs.Sheet.{Lane}
 use Rattle.transport.specs.SheetLaws.{lane}
-use Rattle.transport.specs.Leaf.{Strike}
 use Rattle.basis.specs.Mask.{cut}
-use Rattle.basis.specs.Layout.{nodeRoom, laneAt, strikeOf, strikesOf, length-strikes}
+use Rattle.basis.specs.Layout.{stride, nodeRoom, laneAt, strikeOf, strikesOf, length-strikes}
 use Rattle.elimination.specs.Links.{Links, Masks, otherEnd, ownBit, laneTo, joins, tied, Seen, of-row, of-col, seen, without-lane, links-without, place-row, place-col}
 use Rattle.elimination.specs.Queue.{Queue, room, leaf-low, leaf-few, queue-struck}
 use Rattle.elimination.specs.Strip.{Strip, Stripped, nodeLane, strikeOff, lane-row, lane-col, strip-start, strip-next, stripped-empty, stripped-lost}
@@ -53,12 +51,12 @@ module _ {m n : ℕ} {adj live leaf other lane : List ℕ} {k tail : ℕ} (s : S
       where
         go : Seen (s .links) now b → laneAt place ≡ nodeLane m now b
         go (of-row p q) =
-            let u : (now * 32 + b) / 32 ≡ now = omega (arith, s .links .colsHigh) in
-            let v : (now * 32 + b) % 32 ≡ b = omega (arith, s .links .colsHigh) in
+            let u : (now * stride + b) / stride ≡ now = omega (arith, s .links .colsHigh) in
+            let v : (now * stride + b) % stride ≡ b = omega (arith, s .links .colsHigh) in
             rw (place-row m now b p, lane-row m now b p, u, v)
         go (of-col p q r h) =
-            let u : (b * 32 + (now - m)) / 32 ≡ b = omega (arith, s .links .colsHigh) in
-            let v : (b * 32 + (now - m)) % 32 ≡ now - m = omega (arith, s .links .colsHigh) in
+            let u : (b * stride + (now - m)) / stride ≡ b = omega (arith, s .links .colsHigh) in
+            let v : (b * stride + (now - m)) % stride ≡ now - m = omega (arith, s .links .colsHigh) in
             rw (place-col m now b p, lane-col m now b p, u, v)
 
     strikes-next : strikesOf (set leaf tail end) (set other k end) (set lane k place) (k + 1) ≡ strikesOf leaf other lane k ++ (strikeOff m now b ∷ [])

@@ -1,16 +1,15 @@
 -- The lanes B while leaves are struck off: what is struck, what is left, and that all is struck exactly if the lanes span.
 use mathlib.Core.Path.{_≡_, refl, sym, ap, _∙_}
-use mathlib.Core.Logic.{_↔_, _≢_, _⊎_, inl, inr, ⊎-elim, by-cases}
-use mathlib.Core.Bool.{Bool, true, false, not, _&&_, _||_, cond, true≢false, false≢true}
+use mathlib.Core.Logic.{_≢_, _⊎_, inl, inr, ⊎-elim, by-cases}
+use mathlib.Core.Bool.{Bool, true, false, not, _&&_, cond, true≢false}
 use mathlib.Core.List.{List, [], _∷_, _++_, List·Memᴰ, List·Memᴰ·head, List·Memᴰ·tail, List·Memᴰ·not-nil, List·Memᴰ·cases-cons, List·Memᴰ·append-cases, Memᴰ·append-left, Memᴰ·append-right, List·Memᴰ·eq-of-singleton, Memᴰ·cast}
-use Prim.Native.Nat.{ℕ, zero, suc, _+_, _-_, _*_, _<_, _≤_}
+use Prim.Native.Nat.{ℕ, suc, _+_, _-_, _<_, _≤_}
 use native.Mathlib.Omega.{arith}
-use native.Mathlib.Decide.{ℕ-discrete, decLt}
-use borrow.Author.Tests.{lt-ltb, le-ltb, eqb-true, eqb-false, eq-eqb, ne-eqb, not-true}
-use lib.Dec.{eqb, ltb}
-use lib.Count.{ones}
-use lib.ListN.{length, getD, set, length-append}
-use lib.Seq.{getD-set-same, getD-set-other}
+use native.Mathlib.Decide.{decLt}
+use borrow.Author.Tests.{lt-ltb, le-ltb, eq-eqb, ne-eqb, not-true}
+use lib.Dec.{ltb}
+use lib.ListN.{length, getD, set}
+use lib.Seq.{getD-set-other}
 use Rattle.transport.specs.Lists.{keep, table}
 use Rattle.transport.specs.ListLaws.{keep-yes, keep-no, keep-none, keep-all, keep-cong, keep-keep, keep-member, member-keep, all-members, member-place, member-at, and-left, and-right}
 use Rattle.transport.specs.Sheet.{Lane}
@@ -18,7 +17,8 @@ use Rattle.transport.specs.SheetLaws.{lane}
 use Rattle.transport.specs.Tableau.{basisSize}
 use Rattle.transport.specs.Leaf.{Strike, touches, spans}
 use Rattle.basis.specs.Mask.{has, has-zero}
-use Rattle.tableaux.specs.Striking.{Has, Fits, Ends, row-struck, column-struck, Leaf, Linked, Others, at-node, without, unless, found, leaf-exists, leaf-struck, leaf-member, leaf-lane, length-without, has-lane, no-members, nodes-others, touches-true, touches-false, Step, Peeled, bare, peel, Struck, every-leaf, struck-joined, joined-linked, spans-iff}
+use Rattle.basis.specs.Layout.{nodeRoom}
+use Rattle.tableaux.specs.Striking.{Has, Ends, row-struck, column-struck, Leaf, Linked, Others, at-node, without, unless, found, leaf-exists, leaf-struck, leaf-member, leaf-lane, length-without, has-lane, no-members, nodes-others, touches-true, touches-false, Step, Peeled, bare, peel, Struck, every-leaf, struck-joined, joined-linked, spans-iff}
 use Rattle.elimination.specs.Links.{Links, Masks, otherEnd, ownBit, tied, single, iff-same, end-row, end-col, end-back, Seen, of-row, of-col, seen, without-lane, gone-from, gone-to}
 use Rattle.elimination.specs.Queue.{Queue, leaf-low, leaf-few}
 
@@ -167,7 +167,7 @@ module _ {m n : ℕ} {B : List Lane} {adj : List ℕ} (M : Masks m n B adj) wher
 
 -- ---- a leaf of B is struck
 
-module _ {m n : ℕ} {B : List Lane} {adj live leaf : List ℕ} {k tail : ℕ} (M : Masks m n B adj) (w : Links m n live) (len : length live ≡ 64) (size : length leaf ≡ 64)
+module _ {m n : ℕ} {B : List Lane} {adj live leaf : List ℕ} {k tail : ℕ} (M : Masks m n B adj) (w : Links m n live) (len : length live ≡ nodeRoom) (size : length leaf ≡ nodeRoom)
     (q : Queue (m + n) live leaf k tail) (waits : k < tail) (b : ℕ) (e : tied live (getD leaf k 0) b ≡ true) where
   abbrev now : ℕ
   now = getD leaf k 0
@@ -227,7 +227,7 @@ module _ {m n : ℕ} {B : List Lane} {adj live leaf : List ℕ} {k tail : ℕ} (
       listed = others now .1 (q .nodes k waits .0, low);
     }
 
-    -- No strike before has touched this leaf, or now ends at one struck before.
+    -- Neither end of the lane is a leaf that was struck before.
     apart : (t : Strike) → List·Memᴰ t ss → (now ≢ t .leaf) × (strike .other ≢ t .leaf)
     apart t h =
         let (a, l, g) = S .leaves t h in
