@@ -1,1 +1,3 @@
 pub mod View
+pub mod Order
+pub mod PivotView
