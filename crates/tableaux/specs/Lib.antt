@@ -1,3 +1,5 @@
 pub mod View
+pub mod PairLaws
+pub mod Starting
 pub mod Order
 pub mod PivotView
