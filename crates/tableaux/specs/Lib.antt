@@ -3,4 +3,6 @@ pub mod PairLaws
 pub mod Starting
 pub mod Striking
 pub mod Order
+pub mod TableauView
 pub mod PivotView
+pub mod Pivoting
