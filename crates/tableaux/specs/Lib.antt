@@ -1,3 +1,5 @@
 pub mod View
 pub mod PairLaws
 pub mod Starting
+pub mod PlanView
+pub mod Least
