@@ -69,7 +69,7 @@ bags-carried S T belongs i j k l = rw (bagsOf-at S T i j k l) (nat-natAbs (amoun
 module _ (S : Sheet) (T : List Cell) (belongs : Belongs S T)
     (flow : Flow (sources S) (sinks S) (Basic T) (λ i j. bags (amountAt T i j)) (supplies S) (demands S)) where
   pub bagsOf-flow : Flow (sources S) (sinks S) (Basic T) (carried (sinks S) (bagsOf S T)) (supplies S) (demands S)
-  bagsOf-flow = flow-cong (carried (sinks S) (bagsOf S T)) (bags-carried S T belongs) flow
+  bagsOf-flow = flow-cong (bags-carried S T belongs) flow
 
   -- The tableau's bags are a plan in whole bags that meets the sheet.
   pub bags-meet : Meets S 1 (bagsOf S T)
