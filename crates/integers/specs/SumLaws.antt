@@ -1,12 +1,12 @@
 -- The laws of finite sums. A function argument is to be written out by the caller: `sum-add n (λ i. ..) (λ i. ..)`.
 use mathlib.Core.Path.{_≡_, refl}
-use mathlib.Core.Logic.{_≢_, if-pos, if-neg}
+use mathlib.Core.Logic.{_≢_, by-cases, if-pos, if-neg}
 use mathlib.Core.List.{List, [], _∷_}
 use Prim.Native.Nat.{ℕ, zero, suc, _<_}
 use native.Mathlib.Omega.{arith}
 use native.Mathlib.Decide.{ℕ-discrete}
 use lib.ListN.{length, getD}
-use Rattle.integers.specs.Integer.{Z, _≈_, _≼_, _⊕_, _⊖_, _⊗_, neg, nat}
+use Rattle.integers.specs.Integer.{Z, _≈_, _≼_, _≺_, ≼-dec, _⊕_, _⊖_, _⊗_, neg, nat}
 use Rattle.integers.specs.IntegerLaws.{⊗-cong}
 use Rattle.integers.specs.Sum.{sum, sum₂, sumN, total, point}
 
@@ -62,6 +62,13 @@ sum-each (suc n) f h k l = go (ℕ-discrete n k) (λ m. sum-each n f (λ i l. h 
     go : Dec (n ≡ k) → (k < n → f k ≼ sum n f) → f k ≼ sum (suc n) f
     go (yes e) r = rw (← e) (omega (arith, sum-nonneg n f (λ i l. h i (omega arith))))
     go (no e) r = omega (arith, r (omega arith), h n (omega arith))
+
+-- a negative sum has a negative term
+pub sum-negative : (n : ℕ) (f : ℕ → Z) → sum n f ≺ nat 0 → (i : ℕ) × (i < n) × (f i ≺ nat 0)
+sum-negative zero f h = absurd (omega arith)
+sum-negative (suc n) f h = by-cases (≼-dec (nat 0) (f n))
+    (λ l. let r : (i : ℕ) × (i < n) × (f i ≺ nat 0) = sum-negative n f (omega arith) in (r .0, omega arith, r .2))
+    (λ l. (n, omega arith, omega arith))
 
 -- one term changes
 pub sum-change : (n : ℕ) (f g : ℕ → Z) (k : ℕ) → k < n → ((i : ℕ) → i < n → i ≢ k → g i ≈ f i) → sum n g ≈ sum n f ⊕ (g k ⊖ f k)

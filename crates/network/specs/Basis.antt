@@ -18,6 +18,10 @@ use Rattle.network.specs.Cut.{cut, bit-le}
 abbrev pub In : (ℕ → ℕ) → (ℕ → ℕ) → ℕ → ℕ → ℕ → Type 0
 In r c K i j = (k : ℕ) × (k < K) × (r k ≡ i) × (c k ≡ j)
 
+-- what holds at each of them
+pub in-cells : {r c : ℕ → ℕ} {K i j : ℕ} (P : ℕ → ℕ → Type 0) → ((k : ℕ) → k < K → P (r k) (c k)) → In r c K i j → P i j
+in-cells P h (k, l, x, y) = rw (← x, ← y) (h k l)
+
 -- the cells (r 0, c 0) .. (r K, c K) are a basis
 pub record Basis (m n K : ℕ) (r c : ℕ → ℕ) : Type 1 where
   pub size : K + 2 ≡ m + n
@@ -116,8 +120,8 @@ module _ {m n K : ℕ} {r c : ℕ → ℕ} (t : Basis m n K r c) where
       agree k l = let w : Cut K r c k = cut-at k l in
           omega (arith, crossing (w .A (r k)) (w .B (c k)) (x (r k) (c k) ⊖ y (r k) (c k)) (w .crosses) (omega (arith, flow-at f l w, flow-at g l w)))
 
-      cell : {i j : ℕ} → In r c (suc K) i j → x i j ≈ y i j
-      cell {i} {j} (k, l, p, q) = rw (← p, ← q) (agree k l)
+      cell : In r c (suc K) i j → x i j ≈ y i j
+      cell = in-cells (λ i j. x i j ≈ y i j) agree
 
       go : Dec (x i j ≈ nat 0) → Dec (y i j ≈ nat 0) → x i j ≈ y i j
       go (yes e) (yes e′) = omega arith

@@ -1,5 +1,5 @@
 -- A round: a pivot at the least pair on a minus cell gives a tableau again, has no tie, and lowers the valued cost.
-use mathlib.Core.Path.{_≡_, refl, ap, sym, _∙_}
+use mathlib.Core.Path.{_≡_, refl}
 use mathlib.Core.Logic.{_⊎_, inl, inr, ⊎-elim, by-cases, Dec·and}
 use Prim.Native.Nat.{ℕ, suc, _+_, _*_, _<_}
 use native.Mathlib.Omega.{arith}
@@ -7,10 +7,10 @@ use native.Mathlib.Decide.{ℕ-discrete}
 use Rattle.integers.specs.Integer.{Z, _≈_, _≼_, _≺_, ≈-dec, _⊕_, _⊖_, _⊗_, neg, nat, Within}
 use Rattle.integers.specs.IntegerLaws.{⊗-cong}
 use Rattle.integers.specs.Sum.{point}
-use Rattle.integers.specs.SumLaws.{sum₂-cong}
-use Rattle.network.specs.Flow.{Flow, Circulation, cost, Tight}
+use Rattle.integers.specs.SumLaws.{sum-negative, point-at, sum₂-cong}
+use Rattle.network.specs.Flow.{Flow, Circulation, Nonneg, cost, Tight}
 use Rattle.network.specs.FlowLaws.{on-zero}
-use Rattle.network.specs.Basis.{Basis, In, Replaces, distinct, unit, replaced}
+use Rattle.network.specs.Basis.{Basis, In, in-cells, Replaces, distinct, unit, replaced}
 use Rattle.network.specs.Marks.{marks-within, no-zero-pair}
 use Rattle.network.specs.Pivot.{loop, loop-at, loop-off, loop-circulation, step, step-cost, pivot-flow, keeps-sign, lowers, valued, value-step, PairLess, value-less, value-positive, value-zero}
 
@@ -20,6 +20,21 @@ pub record Tableau (m n K : ℕ) (r c : ℕ → ℕ) (q e : ℕ → ℕ → Z) (
   pub bags : Flow m n (In r c (suc K)) q a b
   pub marks : Flow m n (In r c (suc K)) e (λ i. nat 1) (point z (nat m))
   pub above : (k : ℕ) → k < suc K → PairLess (nat 0) (nat 0) (q (r k) (c k)) (e (r k) (c k))
+
+-- no bags are negative, so they are a plan
+pub bags-nonneg : {m n K z : ℕ} {r c : ℕ → ℕ} {q e : ℕ → ℕ → Z} {a b : ℕ → Z} → Tableau m n K r c q e a b z → Nonneg m n q
+bags-nonneg {m} {n} {K} {z} {r} {c} {q} t i j hi hj = by-cases (≈-dec (q i j) (nat 0)) (λ x. omega arith) (λ x. in-cells (λ i j. nat 0 ≼ q i j) (λ k l. ⊎-elim (λ h. omega arith) (λ h. omega arith) (t .above k l)) (t .bags .on i j hi hj x))
+
+-- The loop has a minus cell, so there is a least pair to step by: in the entering cell's row the signs on the basis add up to −1.
+pub some-minus : {m n K p : ℕ} {r c : ℕ → ℕ} {σ : ℕ → ℕ → Z} {b : ℕ → Z} → p < m → Flow m n (In r c (suc K)) σ (point p (neg (nat 1))) b
+    → (k : ℕ) × (k < suc K) × (σ (r k) (c k) ≺ nat 0)
+some-minus {m} {n} {K} {p} {r} {c} {σ} hp f = go (sum-negative n (σ p) (omega (arith, f .rows p hp, total)))
+  where
+    total : point p (neg (nat 1)) p ≈ neg (nat 1)
+    total = rw (point-at p (neg (nat 1))) (omega arith)
+
+    go : (j : ℕ) × (j < n) × (σ p j ≺ nat 0) → (k : ℕ) × (k < suc K) × (σ (r k) (c k) ≺ nat 0)
+    go (j, l, h) = in-cells (λ i j. σ i j ≺ nat 0 → (k : ℕ) × (k < suc K) × (σ (r k) (c k) ≺ nat 0)) (λ k l h. (k, l, h)) (f .on p j hp l (λ x. omega arith)) h
 
 -- what a round chooses: an entering cell (p, s) off the basis, its loop signs σ, and a leaving cell ℓ with the least pair of those with sign −1
 pub record Choice (m n K : ℕ) (r c : ℕ → ℕ) (q e : ℕ → ℕ → Z) (p s : ℕ) (σ : ℕ → ℕ → Z) (ℓ : ℕ) : Type 0 where
@@ -49,10 +64,7 @@ module _ {m n K z : ℕ} {r c : ℕ → ℕ} {q e : ℕ → ℕ → Z} {a b : �
 
   -- ---- the signs, everywhere
   sign : (i j : ℕ) → i < m → j < n → Within 1 (σ i j)
-  sign i j hi hj = by-cases (≈-dec (σ i j) (nat 0)) (λ y. omega arith) (λ y. cell (ch .signs .on i j hi hj y))
-    where
-      cell : {i j : ℕ} → In r c (suc K) i j → Within 1 (σ i j)
-      cell {i} {j} (k, l, x, y) = rw (← x, ← y) (unit (t .basis) (ch .row) (ch .col) (ch .signs) k l)
+  sign i j hi hj = by-cases (≈-dec (σ i j) (nat 0)) (λ y. omega arith) (λ y. in-cells (λ i j. Within 1 (σ i j)) (unit (t .basis) (ch .row) (ch .col) (ch .signs)) (ch .signs .on i j hi hj y))
 
   enters : loop σ p s p s ≈ nat 1
   enters = loop-at σ p s (on-zero σ (ch .signs .on) p s (ch .row) (ch .col) (ch .off))
@@ -89,8 +101,8 @@ module _ {m n K z : ℕ} {r c : ℕ → ℕ} {q e : ℕ → ℕ → Z} {a b : �
   val-nonneg : (i j : ℕ) → i < m → j < n → nat 0 ≼ val i j
   val-nonneg i j hi hj = go (≈-dec (q i j) (nat 0)) (≈-dec (e i j) (nat 0))
     where
-      cell : {i j : ℕ} → In r c (suc K) i j → nat 0 ≼ val i j
-      cell {i} {j} (k, l, x, y) = rw (← x, ← y) (omega (arith, val-pos k l))
+      cell : In r c (suc K) i j → nat 0 ≼ val i j
+      cell = in-cells (λ i j. nat 0 ≼ val i j) (λ k l. omega (arith, val-pos k l))
 
       go : Dec (q i j ≈ nat 0) → Dec (e i j ≈ nat 0) → nat 0 ≼ val i j
       go (yes x) (yes y) = omega (arith, ⊗-cong (nat (2 * m + 1)) (q i j) (nat 0) x)
@@ -105,8 +117,8 @@ module _ {m n K z : ℕ} {r c : ℕ → ℕ} {q e : ℕ → ℕ → Z} {a b : �
       entering : (i j : ℕ) → (i ≡ p) × (j ≡ s) → ¬ (loop σ p s i j ≺ nat 0)
       entering i j d = rw (d .0, d .1) (λ h. omega (arith, enters))
 
-      cell : {i j : ℕ} → In r c (suc K) i j → σ i j ≺ nat 0 → val (r ℓ) (c ℓ) ≼ val i j
-      cell {i} {j} (k, l, x, y) = rw (← x, ← y) (λ u. let above : ¬ (val (r k) (c k) ≺ val (r ℓ) (c ℓ)) = λ v. ch .least k l u (value-less m (q (r k) (c k)) (e (r k) (c k)) (q (r ℓ) (c ℓ)) (e (r ℓ) (c ℓ)) (small k l) (small ℓ (ch .leaves)) .1 v) in omega arith)
+      cell : In r c (suc K) i j → σ i j ≺ nat 0 → val (r ℓ) (c ℓ) ≼ val i j
+      cell = in-cells (λ i j. σ i j ≺ nat 0 → val (r ℓ) (c ℓ) ≼ val i j) (λ k l u. let above : ¬ (val (r k) (c k) ≺ val (r ℓ) (c ℓ)) = λ v. ch .least k l u (value-less m (q (r k) (c k)) (e (r k) (c k)) (q (r ℓ) (c ℓ)) (e (r ℓ) (c ℓ)) (small k l) (small ℓ (ch .leaves)) .1 v) in omega arith)
 
   val-after : (i j : ℕ) → i < m → j < n → nat 0 ≼ val′ i j
   val-after i j hi hj = omega (
@@ -123,15 +135,12 @@ module _ {m n K z : ℕ} {r c : ℕ → ℕ} {q e : ℕ → ℕ → Z} {a b : �
         arith,
         sum₂-cong m n (λ i j. val′ i j ⊗ f i j) (λ i j. step val (val (r ℓ) (c ℓ)) (loop σ p s) i j ⊗ f i j)
             (λ i j hi hj. times (f i j) (val′ i j) (step val (val (r ℓ) (c ℓ)) (loop σ p s) i j) (value-step m (q i j) (e i j) (q (r ℓ) (c ℓ)) (e (r ℓ) (c ℓ)) (loop σ p s i j))),
-        step-cost circ (val (r ℓ) (c ℓ)) f u v val (ch .row) (ch .col) (λ i j hi hj y. ⊎-elim (λ x. inr (cell x)) inl (circ .on i j hi hj y)) enters,
+        step-cost circ (val (r ℓ) (c ℓ)) f u v val (ch .row) (ch .col) (λ i j hi hj y. ⊎-elim (λ x. inr (in-cells (Tight f u v) tight x)) inl (circ .on i j hi hj y)) enters,
       ))
       (val-pos ℓ (ch .leaves)) (omega arith)
     where
       times : (k x y : Z) → x ≈ y → x ⊗ k ≈ y ⊗ k
       times k x y h = omega (arith, ⊗-cong k x y h)
-
-      cell : {i j : ℕ} → In r c (suc K) i j → Tight f u v i j
-      cell (k, l, x, y) = rw (← x, ← y) (tight k l)
 
   -- r′, c′ are the cells after the round, in any order
   module _ {r′ c′ : ℕ → ℕ} (hr : (k : ℕ) → k < suc K → r′ k < m) (hc : (k : ℕ) → k < suc K → c′ k < n)

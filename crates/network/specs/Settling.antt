@@ -1,31 +1,20 @@
 -- Settling: lanes are decided one after another, and what is left is the plan that carries more on the first lane where it differs from any other.
 -- Lane (i, j) has the number i * n + j.
-use mathlib.Core.Path.{_≡_, ap}
+use mathlib.Core.Path.{_≡_}
 use mathlib.Core.Logic.{_↔_, _⊎_, inl, inr, ⊎-elim, by-cases}
 use Prim.Native.Nat.{ℕ, suc, _+_, _*_, _≤_, _<_}
-use native.Mathlib.Nat.{mul-le-mul-right}
 use native.Mathlib.Omega.{arith}
 use native.Mathlib.Decide.{ℕ-discrete, decLt}
 use Rattle.integers.specs.Integer.{Z, _≈_, _≼_, _≺_, ≈-dec, _⊗_, neg, nat}
 use Rattle.integers.specs.IntegerLaws.{⊗-cong}
 use Rattle.integers.specs.Sum.{point}
 use Rattle.integers.specs.SumLaws.{sum₂-one, point-at, point-off}
+use Rattle.transport.specs.Sheet.{place}
+use Rattle.transport.specs.SheetLaws.{place-below, place-injective}
 use Rattle.network.specs.Flow.{On, Flow, Nonneg, Plan, cost, Feasible, Tight}
 use Rattle.network.specs.FlowLaws.{on-zero, flow-on, flow-scale, plan-whole, plan-on, plan-restrict}
 use Rattle.network.specs.Duality.{least, least-tight}
 use Rattle.network.specs.Basis.{Basis, In, flow-unique}
-
--- ---- lanes
-pub lane-below : (m n i j : ℕ) → i < m → j < n → i * n + j < m * n
-lane-below m n i j h k = omega (arith, mul-le-mul-right n h)
-
-pub lane-inj : (n i j p q : ℕ) → j < n → q < n → i * n + j ≡ p * n + q → (i ≡ p) × (j ≡ q)
-lane-inj n i j p q h k e = go (decLt i p) (decLt p i)
-  where
-    go : Dec (i < p) → Dec (p < i) → (i ≡ p) × (j ≡ q)
-    go (yes l) r = absurd (omega (arith, mul-le-mul-right n l))
-    go (no l) (yes r) = absurd (omega (arith, mul-le-mul-right n r))
-    go (no l) (no r) = let s : i ≡ p = omega arith in (s, omega (arith, ap (λ (t : ℕ). t * n) s))
 
 -- ---- one phase
 -- the cost that asks for as much as can be on lane (p, q): −1 there, 0 elsewhere
@@ -120,12 +109,13 @@ module _ {m n : ℕ} {a b : ℕ → Z} {P₀ : ℕ → ℕ → Type 0} where
     -- if it carries as much it is on the lanes kept, and else it differs from x′ there first.
     pub decided-phase : {p q : ℕ} {u v : ℕ → Z} {x′ : ℕ → ℕ → Z} → p * n + q ≡ t → Phase m n P p q u v
         → Flow m n (Kept P p q u v) x′ a b → Nonneg m n x′ → Decided m n a b P₀ (suc t) (Kept P p q u v) x′
+    unfolding place
     decided-phase {p} {q} {u} {v} {x′} e ph f pos = record {
       inside = λ i j hi hj s. d .inside i j hi hj (s .0);
       flow = f;
       kept = λ k y g i j hi hj l. by-cases (decLt (i * n + j) t)
           (λ s. again k y t (omega arith) (d .kept k y (plan-on (λ i j hi hj s. s .0) g)) i j hi hj s)
-          (λ s. here k y g i j (lane-inj n i j p q hj (ph .col) (omega arith)));
+          (λ s. here k y g i j (place-injective n i j p q hj (ph .col) (omega arith)));
       rest = λ k y g. ⊎-elim (λ on. at-lane k y (plan-restrict on g)) (λ w. inr (before-lane k y w)) (d .rest k y g);
     }
       where
@@ -162,12 +152,13 @@ module _ {m n : ℕ} {a b : ℕ → Z} {P₀ : ℕ → ℕ → Type 0} where
 
     -- A lane that is not allowed needs no phase: no plan left carries anything on it.
     pub decided-skip : {p q : ℕ} → p < m → q < n → p * n + q ≡ t → ¬ P p q → Decided m n a b P₀ (suc t) P x
+    unfolding place
     decided-skip {p} {q} hp hq e shut = record {
       inside = d .inside;
       flow = d .flow;
       kept = λ k y g i j hi hj l. by-cases (decLt (i * n + j) t)
           (λ s. d .kept k y g i j hi hj s)
-          (λ s. here k y g i j (lane-inj n i j p q hj hq (omega arith)));
+          (λ s. here k y g i j (place-injective n i j p q hj hq (omega arith)));
       rest = λ k y g. ⊎-elim inl (λ w. inr (later (omega arith) w)) (d .rest k y g);
     }
       where
@@ -187,15 +178,16 @@ module _ {m n : ℕ} {a b : ℕ → Z} {P₀ : ℕ → ℕ → Type 0} where
     -- All lanes are decided: on the first lane where a plan on P₀ differs from x, it carries less.
     pub settled : {k : ℕ} {y : ℕ → ℕ → Z} → Plan m n P₀ k y a b
         → (i j : ℕ) → i < m → j < n → Agree m n (i * n + j) k x y → ¬ (y i j ≈ nat k ⊗ x i j) → y i j ≺ nat k ⊗ x i j
+    unfolding place
     settled {k} {y} g i j hi hj before differs = ⊎-elim
-        (λ on. absurd (differs (d .kept k y (plan-restrict on g) i j hi hj (lane-below m n i j hi hj))))
+        (λ on. absurd (differs (d .kept k y (plan-restrict on g) i j hi hj (place-below m n i j hi hj))))
         (λ w. first w (decLt (w .i * n + w .j) (i * n + j)) (decLt (i * n + j) (w .i * n + w .j)))
         (d .rest k y g)
       where
         first : (w : FirstLess m n (m * n) k x y) → Dec (w .i * n + w .j < i * n + j) → Dec (i * n + j < w .i * n + w .j) → y i j ≺ nat k ⊗ x i j
         first w (yes s) s′ = absurd (omega (arith, before (w .i) (w .j) (w .row) (w .col) s, w .less))
         first w (no s) (yes s′) = absurd (differs (w .agree i j hi hj s′))
-        first w (no s) (no s′) = let e : (i ≡ w .i) × (j ≡ w .j) = lane-inj n i j (w .i) (w .j) hj (w .col) (omega arith) in rw (e .0, e .1) (w .less)
+        first w (no s) (no s′) = let e : (i ≡ w .i) × (j ≡ w .j) = place-injective n i j (w .i) (w .j) hj (w .col) (omega arith) in rw (e .0, e .1) (w .less)
 
 -- The settled plan. P₀ are the tight lanes of a finished tableau, whose reduced costs are nowhere negative. The plans of least cost are exactly those on
 -- tight lanes, so of all plans of least cost, in k-ths too, x carries more on the first lane where it differs from another.

@@ -18,3 +18,4 @@ pub mod Samples
 pub mod ListLaws
 pub mod AmountLaws
 pub mod SheetLaws
+pub mod CallLaws
