@@ -1,6 +1,8 @@
 pub mod View
 pub mod PairLaws
 pub mod Starting
+pub mod PlanView
+pub mod Least
 pub mod Striking
 pub mod Order
 pub mod TableauView
