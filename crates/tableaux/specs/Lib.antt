@@ -4,6 +4,9 @@ pub mod Starting
 pub mod PlanView
 pub mod Least
 pub mod Striking
+pub mod Bases
+pub mod Flows
+pub mod Potentials
 pub mod Order
 pub mod TableauView
 pub mod PivotView
