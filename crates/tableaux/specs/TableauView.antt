@@ -24,6 +24,7 @@ use Rattle.transport.specs.Tableau.{noCell, basisSize, rowTotal, columnTotal}
 use Rattle.transport.specs.Statements.{Basic, Belongs}
 use Rattle.tableaux.specs.View.{rowOf, colOf, Distinct, Inside, amountAt, amount-at, row-sum, column-sum}
 use Rattle.tableaux.specs.PairLaws.{bags, marks, pair-eq, true-less}
+use Rattle.tableaux.specs.PlanView.{supplies, demands}
 use Rattle.tableaux.specs.Order.{Ordered, ordered-by, ordered-at, ordered-distinct}
 
 abbrev pub bagsAt : List Cell → ℕ → ℕ → Z
@@ -42,7 +43,7 @@ basic-in T K i j e = (
 abbrev pub Seen : Sheet → List Cell → Type 1
 Seen S T =
     Tableau (sources S) (sinks S) (sources S + sinks S - 2) (rowOf T) (colOf T) (bagsAt T) (marksAt T)
-    (λ i. nat (at (S .supply) i)) (λ j. nat (at (S .demand) j)) (sinks S - 1)
+    (supplies S) (demands S) (sinks S - 1)
 
 module _ {S : Sheet} (ok : Checked S) (T : List Cell) (size : length T ≡ basisSize (sources S) (sinks S)) where
   pub cells-many : suc (sources S + sinks S - 2) ≡ length T
