@@ -3,3 +3,4 @@ pub mod Striking
 pub mod Bases
 pub mod Flows
 pub mod Potentials
+pub mod Belonging
