@@ -13,20 +13,27 @@ use Rattle.integers.specs.Bridge.{toZ}
 use Rattle.network.specs.Flow.{Tight}
 use Rattle.transport.specs.ListLaws.{by-key, FirstLeast, firstLeast-is}
 use Rattle.transport.specs.AmountLaws.{ltZ-weak}
-use Rattle.transport.specs.Sheet.{Sheet, sources, sinks, Lane, lanes, place}
+use Rattle.transport.specs.Sheet.{Sheet, sources, sinks, Lane, lanes, place, laneCost}
 use Rattle.transport.specs.SheetLaws.{lane, Checked, place-below, Placed, place-of, length-lanes, getD-lanes, all-lanes}
 use Rattle.transport.specs.declared.Cell.{Cell}
 use Rattle.transport.specs.Tableau.{laneOf, noCell}
-use Rattle.transport.specs.Potential.{reducedCost, isFinished}
+use Rattle.transport.specs.Potential.{potential, reducedCost, isFinished}
 use Rattle.transport.specs.Round.{entering}
-use Rattle.transport.specs.Statements.{Basic}
+use Rattle.transport.specs.Statements.{Basic, Belongs}
 use Rattle.tableaux.specs.PairLaws.{ltZ-true, ltZ-false}
 use Rattle.tableaux.specs.PlanView.{costs}
+use Rattle.tableaux.specs.Striking.{has-basic}
+use Rattle.tableaux.specs.Potentials.{potential-tight}
+use Rattle.tableaux.specs.Belonging.{fits-of, spans-of}
 use Rattle.tableaux.specs.Least.{rowPotential, columnPotential, reduced-parts}
 
 -- The potentials meet the cost on the basic lanes.
 abbrev pub TightOn : Sheet → List Cell → Type 0
 TightOn S T = (i j : ℕ) → Basic T i j → Tight (costs S) (rowPotential S T) (columnPotential S T) i j
+
+pub potentials-tight : {S : Sheet} {T : List Cell} → Checked S → Belongs S T → TightOn S T
+unfolding potential
+potentials-tight {S} {T} ok w i j b = potential-tight (ok .sourcesLow) (fits-of ok w) (spans-of ok w) (laneCost S) (lane i j) (has-basic T i j .1 b)
 
 not-negative : (x y : ℤ) → ltZ x (pos 0) ≡ false → ltZ y x ≡ false → nonNeg y ≡ true
 not-negative x (pos b) p q = refl
@@ -73,5 +80,6 @@ module _ {S : Sheet} (ok : Checked S) (T : List Cell) where
     pub entering-below : costs S (entering S T .row) (entering S T .col) ≺ rowPotential S T (entering S T .row) ⊕ columnPotential S T (entering S T .col)
     entering-below = omega (arith, reduced-parts S T (entering S T .row) (entering S T .col), ltZ-true (reducedCost S T (entering S T)) (pos 0) entering-negative)
 
-    pub entering-new : TightOn S T → ¬ Basic T (entering S T .row) (entering S T .col)
-    entering-new tight b = omega (arith, entering-below, tight (entering S T .row) (entering S T .col) b)
+    -- On basic lanes it is 0.
+    pub entering-new : Belongs S T → ¬ Basic T (entering S T .row) (entering S T .col)
+    entering-new w b = omega (arith, entering-below, potentials-tight ok w (entering S T .row) (entering S T .col) b)

@@ -13,3 +13,5 @@ pub mod Order
 pub mod TableauView
 pub mod PivotView
 pub mod Pivoting
+pub mod Running
+pub mod Ending

@@ -17,7 +17,7 @@ use Rattle.integers.specs.SumLaws.{sum₂-cong}
 use Rattle.network.specs.Flow.{Flow, Tight, cost}
 use Rattle.network.specs.FlowLaws.{on-zero}
 use Rattle.network.specs.Basis.{In, in-cells, Replaces, unit}
-use Rattle.network.specs.Pivot.{loop, loop-at, loop-off, value, valued}
+use Rattle.network.specs.Pivot.{loop, loop-at, loop-off, lowers, value, valued}
 use Rattle.network.specs.Round.{Tableau, Choice, after, some-minus, tableau-cong, value-above, round-cost, round, no-tie}
 use Rattle.transport.specs.Lists.{at}
 use Rattle.transport.specs.ListLaws.{member-at, member-place}
@@ -32,17 +32,14 @@ use Rattle.transport.specs.Statements.{Basic, Belongs}
 use Rattle.tableaux.specs.View.{rowOf, colOf, Distinct, Inside, amountAt, amount-at, amount-none}
 use Rattle.tableaux.specs.PairLaws.{bags, marks, nothing-parts, add-parts, subtract-parts, true-less, ltZ-true, true-ltZ}
 use Rattle.tableaux.specs.PlanView.{supplies, demands}
+use Rattle.tableaux.specs.Belonging.{distinct-of, signs-flow}
 use Rattle.tableaux.specs.Order.{Ordered, ordered-by, ordered-distinct, basic-member, basic-dec, amount-member}
-use Rattle.tableaux.specs.TableauView.{bagsAt, marksAt, basic-in, Seen, cells-many, seen-belongs}
+use Rattle.tableaux.specs.TableauView.{bagsAt, marksAt, basic-in, Seen, cells-many, seen-belongs, belongs-seen}
 use Rattle.tableaux.specs.PivotView.{Stands, stands-dec, Leaves, leaving-is, signs, leaver, step, pivot-basic, pivot-ordered, length-pivot, pivot-inside, amount-enters, amount-stays, amount-leaves, amount-elsewhere}
 
 -- The loop's signs as integers of the theory.
 abbrev pub signAt : ℕ → ℕ → List Cell → Lane → ℕ → ℕ → Z
 signAt m n T e i j = toZ (signs m n T e (lane i j))
-
--- They add up, on the basis, to −1 at the entering lane's row and column, and to 0 elsewhere.
-abbrev pub Signed : ℕ → ℕ → List Cell → Lane → Type 0
-Signed m n T e = Flow m n (In (rowOf T) (colOf T) (suc (m + n - 2))) (signAt m n T e) (point (e .row) (neg (nat 1))) (point (e .col) (neg (nat 1)))
 
 -- The measure of rounds: the valued cost of the tableau.
 abbrev pub measure : Sheet → (ℕ → ℕ → Z) → List Cell → Z
@@ -82,8 +79,8 @@ leaves-moves θ d e = omega (arith, nothing-parts, ⊗-cong (bags θ) d (neg (na
 empty-moves : (θ : Pair) (d : Z) → d ≈ nat 0 → Moves nothing nothing θ d
 empty-moves θ d e = omega (arith, nothing-parts, ⊗-cong (bags θ) d (nat 0) e, ⊗-cong (marks θ) d (nat 0) e)
 
-module _ {S : Sheet} (ok : Checked S) {T : List Cell} (w : Belongs S T) (t : Seen S T) {e : Lane} (row : e .row < sources S) (col : e .col < sinks S)
-    (new : ¬ Basic T (e .row) (e .col)) (f : Signed (sources S) (sinks S) T e) where
+module _ {S : Sheet} (ok : Checked S) {T : List Cell} (w : Belongs S T) {e : Lane} (row : e .row < sources S) (col : e .col < sinks S)
+    (new : ¬ Basic T (e .row) (e .col)) where
   abbrev m : ℕ
   m = sources S
 
@@ -101,6 +98,12 @@ module _ {S : Sheet} (ok : Checked S) {T : List Cell} (w : Belongs S T) (t : See
 
   abbrev T′ : List Cell
   T′ = pivot (sources S) (sinks S) T e
+
+  t : Seen S T
+  t = belongs-seen ok w
+
+  f : Flow m n (In (rowOf T) (colOf T) (suc K)) σ (point (e .row) (neg (nat 1))) (point (e .col) (neg (nat 1)))
+  f = signs-flow ok w e row col
 
   many : suc K ≡ length T
   many = cells-many ok T (w .count)
@@ -125,7 +128,7 @@ module _ {S : Sheet} (ok : Checked S) {T : List Cell} (w : Belongs S T) (t : See
   ℓ = place .0
 
   at-out : amountAt T (rowOf T ℓ) (colOf T ℓ) ≡ out .amount
-  at-out = amount-at T (ordered-distinct n T order) ℓ (place .1) ∙ ap (λ c. c .amount) (place .2)
+  at-out = amount-at T (distinct-of ok w) ℓ (place .1) ∙ ap (λ c. c .amount) (place .2)
 
   pub step-positive : less nothing (step (sources S) (sinks S) T e) ≡ true
   step-positive = ap (λ c. less nothing (c .amount)) (sym (place .2)) ∙ w .above ℓ (place .1)
@@ -140,7 +143,7 @@ module _ {S : Sheet} (ok : Checked S) {T : List Cell} (w : Belongs S T) (t : See
     leaves = omega (arith, place .1, many);
     minus = subst (λ (c : Cell). toZ (signs m n T e (lane (c .row) (c .col))) ≺ nat 0) (sym (place .2)) (ltZ-true (signs m n T e (laneOf out)) (pos 0) (pivot-leaves .minus));
     least = λ k l s p. true≢false
-        (sym (true-less (getD T k noCell .amount) (out .amount) (rw (amount-at T (ordered-distinct n T order) k (omega (arith, many)), at-out) at p))
+        (sym (true-less (getD T k noCell .amount) (out .amount) (rw (amount-at T (distinct-of ok w) k (omega (arith, many)), at-out) at p))
         ∙ pivot-leaves .least (getD T k noCell) (member-at T noCell k (omega (arith, many))) (true-ltZ (signs m n T e (lane (rowOf T k) (colOf T k))) (pos 0) s));
   }
 
@@ -181,7 +184,7 @@ module _ {S : Sheet} (ok : Checked S) {T : List Cell} (w : Belongs S T) (t : See
 
   leaving-moves : Moves (amountAt T′ (out .row) (out .col)) (amountAt T (out .row) (out .col)) (out .amount) (round-loop (out .row) (out .col))
   unfolding laneOf
-  leaving-moves = rw (amount-leaves order (w .onSheet) col new (pivot-leaves .member), amount-member (ordered-distinct n T order) (pivot-leaves .member))
+  leaving-moves = rw (amount-leaves order (w .onSheet) col new (pivot-leaves .member), amount-member (distinct-of ok w) (pivot-leaves .member))
       (leaves-moves (out .amount) (round-loop (out .row) (out .col)) (omega (
         arith,
         loop-off σ (e .row) (e .col) (out .row) (out .col) (λ s. new (rw (s .0, s .1) at out-basic)),
@@ -240,7 +243,7 @@ module _ {S : Sheet} (ok : Checked S) {T : List Cell} (w : Belongs S T) (t : See
       go (k, l, s) = sym s ∙ ap (λ i. getD T i noCell) tie ∙ place .2
         where
           amounts : amountAt T (rowOf T k) (colOf T k) ≡ amountAt T (rowOf T ℓ) (colOf T ℓ)
-          amounts = amount-at T (ordered-distinct n T order) k l ∙ ap (λ x. x .amount) s ∙ same ∙ sym at-out
+          amounts = amount-at T (distinct-of ok w) k l ∙ ap (λ x. x .amount) s ∙ same ∙ sym at-out
 
           tie : k ≡ ℓ
           tie = no-tie hz wanted t choice (λ k l. inside-after k (omega (arith, many-after)) .0) (λ k l. inside-after k (omega (arith, many-after)) .1) replaces
@@ -275,3 +278,9 @@ module _ {S : Sheet} (ok : Checked S) {T : List Cell} (w : Belongs S T) (t : See
       change : cost m n c (valued m q′ e′) ≈ measure S c T ⊕ step-value ⊗ (c (e .row) (e .col) ⊖ u (e .row) ⊖ v (e .col))
       change = subst (λ (x : Z). cost m n c (valued m q′ e′) ≈ measure S c T ⊕ x ⊗ (c (e .row) (e .col) ⊖ u (e .row) ⊖ v (e .col))) at-step
           (round-cost hz wanted t choice c u v (λ k l. tight (rowOf T k) (colOf T k) (record { index = k; below = omega (arith, many); row = refl; column = refl })))
+
+  -- So where that reduced cost is negative it falls by 1 or more, for the step's value is positive.
+  pub pivot-falls : (c : ℕ → ℕ → Z) (u v : ℕ → Z) → ((i j : ℕ) → Basic T i j → Tight c u v i j) → c (e .row) (e .col) ≺ u (e .row) ⊕ v (e .col)
+      → measure S c (pivot (sources S) (sinks S) T e) ⊕ nat 1 ≼ measure S c T
+  pivot-falls c u v tight h = let l : measure S c T′ ≺ measure S c T =
+      lowers (measure S c T) (measure S c T′) step-value (c (e .row) (e .col) ⊖ u (e .row) ⊖ v (e .col)) (pivot-measure c u v tight) (omega (arith, step-value-positive)) (omega arith) in omega arith
