@@ -1,1 +1,5 @@
 pub mod View
+pub mod Striking
+pub mod Bases
+pub mod Flows
+pub mod Potentials
