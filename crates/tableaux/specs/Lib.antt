@@ -3,3 +3,7 @@ pub mod Striking
 pub mod Bases
 pub mod Flows
 pub mod Potentials
+pub mod PairLaws
+pub mod Starting
+pub mod PlanView
+pub mod Least
