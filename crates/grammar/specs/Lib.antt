@@ -1,0 +1,2 @@
+-- The theorems about the sheet text.
+pub mod Exact
