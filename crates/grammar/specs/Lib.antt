@@ -1,2 +1,5 @@
 -- The theorems about the sheet text.
+pub mod Tests
+pub mod Digits
+pub mod Numeral
 pub mod Exact
