@@ -180,7 +180,7 @@ module _ {A : Type 0} {L : A → List ℕ → Type 0} {After : List ℕ → Type
 
 -- ---- the readers that the sheet's reader is made of
 
-stuck≢got : {A : Type 0} {a : A} {text rest : List ℕ} → stuck text ≡ got a rest → ⊥
+pub stuck≢got : {A : Type 0} {a : A} {text rest : List ℕ} → stuck text ≡ got a rest → ⊥
 stuck≢got e = let n : _≡_ {A = ℕ} 0 1 = cc in omega arith
 
 module _ {A : Type 0} where
@@ -266,24 +266,40 @@ word-exact (c ∷ cs) = reworded same (then (byte-exact (eqb c) c (go (eqb c c) 
       λ h. record { value = c; front = c ∷ []; back = cs; first = (go (eqb c c) (eqb-refl c), refl); second = refl; joined = h },
     )
 
--- The end of the text.
-pub end-exact : Exact end (Bytes []) (λ rest. rest ≡ [])
-unfolding end
-end-exact = record { takes = λ u t rest h k. rw (h, k); taken = taken; stopped = stopped }
-  where
-    taken : (text : List ℕ) (u : Unit {0}) (rest : List ℕ) → end text ≡ got u rest → Taken (Bytes []) (λ z. z ≡ []) u text rest
-    taken [] u rest e = let h : [] ≡ rest = cc in record { part = []; member = refl; split = h; after = sym h }
-    taken (b ∷ t) u rest e = absurd (stuck≢got e)
-    stopped : (text rest : List ℕ) → end text ≡ stuck rest → Stopped end (Bytes []) text rest
-    stopped [] rest e = absurd (stuck≢got (sym e))
-    stopped (b ∷ t) rest e = record {
-      part = [];
-      split = let h : b ∷ t ≡ rest = cc in h;
-      value = tt;
-      more = [];
-      completed = refl;
-      closed = λ d old new f. refl;
-    }
+-- The end of the text, and the value a.
+module _ {A : Type 0} (a : A) where
+  end-got : (end >> pure a) [] ≡ got a []
+  unfolding end _>>_ pure
+  end-got = refl
+
+  end-stuck : (b : ℕ) (t : List ℕ) → (end >> pure a) (b ∷ t) ≡ stuck (b ∷ t)
+  unfolding end _>>_
+  end-stuck b t = refl
+
+  end-taken : (text : List ℕ) (b : A) (rest : List ℕ) → (end >> pure a) text ≡ got b rest → Taken (Only a) (λ z. z ≡ []) b text rest
+  end-taken [] b rest e =
+      let same : b ≡ a = cc end-got in
+      let none : rest ≡ [] = cc end-got in
+      record { part = []; member = (same, refl); split = sym none; after = none }
+  end-taken (d ∷ t) b rest e = absurd (stuck≢got (sym (end-stuck d t) ∙ e))
+
+  end-stopped : (text rest : List ℕ) → (end >> pure a) text ≡ stuck rest → Stopped (end >> pure a) (Only a) text rest
+  end-stopped [] rest e = absurd (stuck≢got (sym e ∙ end-got))
+  end-stopped (d ∷ t) rest e = record {
+    part = [];
+    split = let h : d ∷ t ≡ rest = cc (end-stuck d t) in h;
+    value = a;
+    more = [];
+    completed = (refl, refl);
+    closed = λ b old new f. end-stuck b new;
+  }
+
+  pub end-exact : Exact (end >> pure a) (Only a) (λ rest. rest ≡ [])
+  end-exact = record {
+    takes = λ b t rest h k. rw (h .0, h .1, k) end-got;
+    taken = end-taken;
+    stopped = end-stopped;
+  }
 
 -- ---- what a writer writes
 

@@ -3,3 +3,4 @@ pub mod Tests
 pub mod Digits
 pub mod Numeral
 pub mod Exact
+pub mod Number
