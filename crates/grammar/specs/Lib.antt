@@ -4,3 +4,5 @@ pub mod Digits
 pub mod Numeral
 pub mod Exact
 pub mod Number
+pub mod Rows
+pub mod Grammar

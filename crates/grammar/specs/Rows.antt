@@ -1,0 +1,82 @@
+-- Lists of numbers below a bound, and a list cut into rows.
+use mathlib.Core.Path.{_≡_, refl, _∙_, ap}
+use mathlib.Core.List.{List, [], _∷_, _++_, flatten}
+use Prim.Native.Nat.{ℕ, zero, suc, _*_, _^_, _<_}
+use native.Mathlib.Omega.{arith}
+use lib.ListN.{length, take, drop, length-append, length-drop, take-append-drop}
+use lib.Seq.{length-take-le, take-at, drop-at}
+use Rattle.transport.specs.Lists.{at}
+use Rattle.transport.specs.Limits.{maxDigits}
+use Rattle.transport.specs.SheetText.{rowsOf}
+use Rattle.grammar.specs.Exact.{Every, Count}
+
+-- ---- numbers of at most seven digits
+
+abbrev pub Small : ℕ → Type 0
+Small x = x < 10 ^ maxDigits
+
+pub every-at : (xs : List ℕ) → Every Small xs → (k : ℕ) → at xs k < 10 ^ maxDigits
+unfolding at maxDigits
+every-at [] h k = omega arith
+every-at (x ∷ xs) h zero = h .0
+every-at (x ∷ xs) h (suc k) = every-at xs (h .1) k
+
+pub at-every : (xs : List ℕ) → ((k : ℕ) → at xs k < 10 ^ maxDigits) → Every Small xs
+unfolding at
+at-every [] h = tt
+at-every (x ∷ xs) h = (h 0, at-every xs (λ k. h (suc k)))
+
+module _ {A : Type 0} (Good : A → Type 0) where
+  every-append : (xs ys : List A) → Every Good xs → Every Good ys → Every Good (xs ++ ys)
+  every-append [] ys h k = k
+  every-append (x ∷ xs) ys h k = (h .0, every-append xs ys (h .1) k)
+
+  every-take : (n : ℕ) (xs : List A) → Every Good xs → Every Good (take n xs)
+  every-take zero xs h = tt
+  every-take (suc n) [] h = tt
+  every-take (suc n) (x ∷ xs) h = (h .0, every-take n xs (h .1))
+
+  every-drop : (n : ℕ) (xs : List A) → Every Good xs → Every Good (drop n xs)
+  every-drop zero xs h = h
+  every-drop (suc n) [] h = tt
+  every-drop (suc n) (x ∷ xs) h = every-drop n xs (h .1)
+
+-- ---- rows of n
+
+module _ (Good : ℕ → Type 0) (n : ℕ) where
+  pub flatten-every : (rows : List (List ℕ)) → Every (Count Good n) rows → Every Good (flatten rows)
+  unfolding flatten
+  flatten-every [] h = tt
+  flatten-every (row ∷ rows) h = every-append Good row (flatten rows) (h .0 .1) (flatten-every rows (h .1))
+
+  pub flatten-length : (rows : List (List ℕ)) → Every (Count Good n) rows → length (flatten rows) ≡ length rows * n
+  unfolding flatten
+  flatten-length [] h = omega arith
+  flatten-length (row ∷ rows) h = length-append row (flatten rows) ∙ omega (arith, h .0 .0, flatten-length rows (h .1))
+
+  -- Rows laid end to end are cut into the same rows.
+  pub rowsOf-flatten : (rows : List (List ℕ)) → Every (Count Good n) rows → rowsOf (length rows) n (flatten rows) ≡ rows
+  unfolding rowsOf flatten
+  rowsOf-flatten [] h = refl
+  rowsOf-flatten (row ∷ rows) h =
+      rw (take-at row (flatten rows) n (h .0 .0), drop-at row (flatten rows) n (h .0 .0), rowsOf-flatten rows (h .1))
+
+  pub rowsOf-every : (m : ℕ) (xs : List ℕ) → length xs ≡ m * n → Every Good xs → Every (Count Good n) (rowsOf m n xs)
+  unfolding rowsOf
+  rowsOf-every zero xs e h = tt
+  rowsOf-every (suc m) xs e h =
+      ((length-take-le n xs (omega arith), every-take Good n xs h),
+      rowsOf-every m (drop n xs) (length-drop n xs ∙ omega arith) (every-drop Good n xs h))
+
+module _ (n : ℕ) where
+  pub rowsOf-length : (m : ℕ) (xs : List ℕ) → length (rowsOf m n xs) ≡ m
+  unfolding rowsOf
+  rowsOf-length zero xs = refl
+  rowsOf-length (suc m) xs = ap suc (rowsOf-length m (drop n xs))
+
+  -- The rows of a list of m * n numbers, laid end to end, are the list.
+  pub flatten-rowsOf : (m : ℕ) (xs : List ℕ) → length xs ≡ m * n → flatten (rowsOf m n xs) ≡ xs
+  unfolding rowsOf flatten
+  flatten-rowsOf zero [] e = refl
+  flatten-rowsOf zero (x ∷ xs) e = absurd (omega arith)
+  flatten-rowsOf (suc m) xs e = rw (flatten-rowsOf m (drop n xs) (length-drop n xs ∙ omega arith)) (take-append-drop n xs)
