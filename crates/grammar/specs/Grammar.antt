@@ -132,3 +132,156 @@ row-exact (suc (suc n)) =
     _
     (spaced 32 number (λ x. row (suc n) >>= (λ xs. pure (x ∷ xs))))
     (bind (number-exact 32 space-plain) (λ x. bind (row-exact (suc n)) (λ xs. pure-exact (x ∷ xs)))))
+
+-- ---- the sheet
+
+abbrev Side : ℕ → Type 0
+Side n = within 1 maxSide n ≡ true
+
+-- The sheet of what the sections hold.
+sheetOf : List ℕ → List ℕ → List (List ℕ) → Sheet
+sheetOf supply demand rows = record { supply = supply; demand = demand; cost = flatten rows }
+
+-- The sections in their order.
+abbrev Sections : Sheet → List ℕ → Type 0
+Sections =
+    Then (Bytes (bytes "supply ")) (λ u.
+    Then (Of Side numberLine) (λ m.
+    Then (Of (Count Small m) (flatMap numberLine)) (λ supply.
+    Then (Bytes (bytes "demand ")) (λ u.
+    Then (Of Side numberLine) (λ n.
+    Then (Of (Count Small n) (flatMap numberLine)) (λ demand.
+    Then (Bytes (headLine "cost" m)) (λ u.
+    Then (Of (Count (Count Small n) m) (flatMap rowLine)) (λ rows.
+    Only (sheetOf supply demand rows)))))))))
+
+sections-exact : Exact sheetReader Sections (λ rest. rest ≡ [])
+unfolding sheetReader sheetOf
+sections-exact =
+    then
+    (word-exact (bytes "supply "))
+    (bind side-line-exact (λ m.
+    bind (times-exact Small numberLine number-line-exact m) (λ supply.
+    then
+    (word-exact (bytes "demand "))
+    (bind side-line-exact (λ n.
+    bind (times-exact Small numberLine number-line-exact n) (λ demand.
+    then
+    (word-exact (headLine "cost" m))
+    (bind (times-exact (Count Small n) rowLine (row-exact n) m) (λ rows.
+    end-exact (sheetOf supply demand rows)))))))))
+
+-- The sections' texts one after the other.
+laidOut : (m n : ℕ) (supply demand : List ℕ) (rows : List (List ℕ)) → List ℕ
+laidOut m n supply demand rows =
+    bytes "supply "
+    ++ (numberLine m
+    ++ (flatMap numberLine supply
+    ++ (bytes "demand "
+    ++ (numberLine n
+    ++ (flatMap numberLine demand
+    ++ (headLine "cost" m
+    ++ flatMap rowLine rows))))))
+
+head-line : (m : ℕ) → (headLine "supply" m ≡ bytes "supply " ++ numberLine m) × (headLine "demand" m ≡ bytes "demand " ++ numberLine m)
+unfolding headLine bytes numberLine
+head-line m = (refl, refl)
+
+module _ (m n : ℕ) (supply demand : List ℕ) (rows : List (List ℕ)) (ms : length supply ≡ m) (ns : length demand ≡ n)
+    (rs : Count (Count Small n) m rows) where
+  cut : rowsOf m n (flatten rows) ≡ rows
+  cut = rw (← rs .0) (rowsOf-flatten Small n rows (rs .1))
+
+  sheetText-sections : sheetText (sheetOf supply demand rows) ≡ laidOut m n supply demand rows
+  unfolding sheetText sheetOf sources sinks laidOut
+  sheetText-sections = rw (ms, ns, cut, head-line m .0, head-line n .1) (simp append-assoc)
+
+  hasText-sections : Side m → Every Small supply → Side n → Every Small demand → HasText (sheetOf supply demand rows)
+  unfolding sheetOf sources sinks
+  hasText-sections sm es sn ed = record {
+    sides = (rw ms sm, rw ns sn);
+    lengths = flatten-length Small n rows (rs .1) ∙ rw (rs .0, ms, ns);
+    numbers = λ k. (every-at supply es k, every-at demand ed k, every-at (flatten rows) (flatten-every Small n rows (rs .1)) k);
+  }
+
+glued : {t f b g c : List ℕ} → t ≡ f ++ b → f ≡ g → b ≡ c → t ≡ g ++ c
+glued e p q = e ∙ ap₂ (λ (l m : List ℕ). l ++ m) p q
+
+sections-there : (S : Sheet) (text : List ℕ) → Sections S text → SheetTextOf S text
+unfolding laidOut
+sections-there S text h =
+    let h₁ = h .second in
+    let h₂ = h₁ .second in
+    let h₃ = h₂ .second in
+    let h₄ = h₃ .second in
+    let h₅ = h₄ .second in
+    let h₆ = h₅ .second in
+    let h₇ = h₆ .second in
+    let m = h₁ .value in
+    let n = h₄ .value in
+    let supply = h₂ .value in
+    let demand = h₅ .value in
+    let rows = h₇ .value in
+    let ms = h₂ .first .0 .0 in
+    let ns = h₅ .first .0 .0 in
+    let rs = h₇ .first .0 in
+    let written : text ≡ laidOut m n supply demand rows =
+        glued (h .joined) (h .first)
+        (glued (h₁ .joined) (h₁ .first .1)
+        (glued (h₂ .joined) (h₂ .first .1)
+        (glued (h₃ .joined) (h₃ .first)
+        (glued (h₄ .joined) (h₄ .first .1)
+        (glued (h₅ .joined) (h₅ .first .1)
+        (glued (h₆ .joined) (h₆ .first)
+        (glued (h₇ .joined) (h₇ .first .1) (h₇ .second .1) ∙ append-nil (flatMap rowLine rows))))))))
+    in
+    rw
+    (h₇ .second .0)
+    (record {
+      sheet = hasText-sections m n supply demand rows ms ns rs (h₁ .first .0) (h₂ .first .0 .1) (h₄ .first .0) (h₅ .first .0 .1);
+      written = written ∙ sym (sheetText-sections m n supply demand rows ms ns rs);
+    })
+
+sections-back : (S : Sheet) (text : List ℕ) → SheetTextOf S text → Sections S text
+unfolding laidOut sheetOf sources sinks
+sections-back S text h =
+    let m = sources S in
+    let n = sinks S in
+    let rows = rowsOf m n (S .cost) in
+    let numbers = h .sheet .numbers in
+    let costs : Every Small (S .cost) = at-every (S .cost) (λ k. numbers k .2) in
+    let rs : Count (Count Small n) m rows = (rowsOf-length n m (S .cost), rowsOf-every Small n m (S .cost) (h .sheet .lengths) costs) in
+    let same : S ≡ sheetOf (S .supply) (S .demand) rows =
+        ap (λ (c : List ℕ). record { supply = S .supply; demand = S .demand; cost = c }) (sym (flatten-rowsOf n m (S .cost) (h .sheet .lengths)))
+    in
+    let written : text ≡ laidOut m n (S .supply) (S .demand) rows =
+        h .written ∙ ap sheetText same ∙ sheetText-sections m n (S .supply) (S .demand) rows refl refl rs
+    in
+    record {
+      value = tt; front = _; back = _; first = refl; joined = written;
+      second = record {
+        value = m; front = _; back = _; first = (h .sheet .sides .0, refl); joined = refl;
+        second = record {
+          value = S .supply; front = _; back = _; first = ((refl, at-every (S .supply) (λ k. numbers k .0)), refl); joined = refl;
+          second = record {
+            value = tt; front = _; back = _; first = refl; joined = refl;
+            second = record {
+              value = n; front = _; back = _; first = (h .sheet .sides .1, refl); joined = refl;
+              second = record {
+                value = S .demand; front = _; back = _; first = ((refl, at-every (S .demand) (λ k. numbers k .1)), refl); joined = refl;
+                second = record {
+                  value = tt; front = _; back = _; first = refl; joined = refl;
+                  second = record {
+                    value = rows; front = _; back = []; first = (rs, refl); joined = sym (append-nil (flatMap rowLine rows));
+                    second = (same, refl);
+                  };
+                };
+              };
+            };
+          };
+        };
+      };
+    }
+
+sheet-exact : Exact sheetReader SheetTextOf (λ rest. rest ≡ [])
+sheet-exact = reworded (λ S text. (sections-there S text, sections-back S text)) sections-exact
