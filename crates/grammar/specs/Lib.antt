@@ -6,3 +6,4 @@ pub mod Exact
 pub mod Number
 pub mod Rows
 pub mod Grammar
+pub mod Longest
