@@ -283,5 +283,5 @@ sections-back S text h =
       };
     }
 
-sheet-exact : Exact sheetReader SheetTextOf (λ rest. rest ≡ [])
+pub sheet-exact : Exact sheetReader SheetTextOf (λ rest. rest ≡ [])
 sheet-exact = reworded (λ S text. (sections-there S text, sections-back S text)) sections-exact

@@ -7,3 +7,4 @@ pub mod Number
 pub mod Rows
 pub mod Grammar
 pub mod Longest
+pub mod Place
