@@ -8,3 +8,4 @@ pub mod Rows
 pub mod Grammar
 pub mod Longest
 pub mod Place
+pub mod Refusals
