@@ -76,7 +76,7 @@ module _ {A B : Type 0} {r : Reader A} {s : A → Reader B} {L : A → List ℕ 
   bind-takes : (b : B) (t rest : List ℕ) → Then L M b t → After rest → (r >>= s) (t ++ rest) ≡ got b rest
   bind-takes b t rest h k =
       let e : r (t ++ rest) ≡ got (h .value) (h .back ++ rest) =
-          rw (h .joined, append-assoc) (x .takes (h .value) (h .front) (h .back ++ rest) (h .first) tt)
+      rw (h .joined, append-assoc) (x .takes (h .value) (h .front) (h .back ++ rest) (h .first) tt)
       in
       bind-got r s (t ++ rest) (h .value) (h .back ++ rest) e ∙ y (h .value) .takes b (h .back) rest (h .second) k
 
@@ -138,10 +138,10 @@ module _ {A B : Type 0} {r : Reader A} {s : A → Reader B} {L : A → List ℕ 
               joined = append-assoc (h .part) (k .part) (k .more);
             };
             closed = λ b old new f.
-              let g : r ((h .part ++ k .part) ++ b ∷ new) ≡ got a (k .part ++ b ∷ new) =
-                  rw append-assoc (x .takes a (h .part) (k .part ++ b ∷ new) (h .member) tt)
-              in
-              bind-got r s ((h .part ++ k .part) ++ b ∷ new) a (k .part ++ b ∷ new) g ∙ k .closed b old new f;
+                let g : r ((h .part ++ k .part) ++ b ∷ new) ≡ got a (k .part ++ b ∷ new) =
+                rw append-assoc (x .takes a (h .part) (k .part ++ b ∷ new) (h .member) tt)
+                in
+                bind-got r s ((h .part ++ k .part) ++ b ∷ new) a (k .part ++ b ∷ new) g ∙ k .closed b old new f;
           }
 
   pub bind : Exact (r >>= s) (Then L M) After
@@ -159,18 +159,18 @@ module _ {A : Type 0} {r : Reader A} {L M : A → List ℕ → Type 0} {After : 
   reworded same x = record {
     takes = λ a t rest h k. x .takes a t rest (same a t .1 h) k;
     taken = λ text a rest e.
-      let h = x .taken text a rest e in
-      record { part = h .part; member = same a (h .part) .0 (h .member); split = h .split; after = h .after };
+        let h = x .taken text a rest e in
+        record { part = h .part; member = same a (h .part) .0 (h .member); split = h .split; after = h .after };
     stopped = λ text rest e.
-      let h = x .stopped text rest e in
-      record {
-        part = h .part;
-        split = h .split;
-        value = h .value;
-        more = h .more;
-        completed = same (h .value) (h .part ++ h .more) .0 (h .completed);
-        closed = h .closed;
-      };
+        let h = x .stopped text rest e in
+        record {
+          part = h .part;
+          split = h .split;
+          value = h .value;
+          more = h .more;
+          completed = same (h .value) (h .part ++ h .more) .0 (h .completed);
+          closed = h .closed;
+        };
   }
 
 -- A reader that does the same on every text.
@@ -193,9 +193,9 @@ module _ {A : Type 0} where
   pure-exact a = record {
     takes = λ b t rest h k. rw (h .0, h .1);
     taken = λ text b rest e.
-      let same : b ≡ a = cc in
-      let all : text ≡ rest = cc in
-      record { part = []; member = (same, refl); split = all; after = tt };
+        let same : b ≡ a = cc in
+        let all : text ≡ rest = cc in
+        record { part = []; member = (same, refl); split = all; after = tt };
     stopped = λ text rest e. absurd (stuck≢got (sym e));
   }
 
@@ -258,11 +258,12 @@ word-exact (c ∷ cs) = reworded same (then (byte-exact (eqb c) c (go (eqb c c) 
     go : (b : Bool) → T b → b ≡ true
     go true h = refl
     go false h = absurd h
+
     same : (u : Unit {0}) (t : List ℕ) → Then (Byte (eqb c)) (λ b. Bytes cs) u t ↔ (t ≡ c ∷ cs)
     same u t = (
       λ h.
-        let e : c ≡ h .value = eqb→eq c (h .value) (rw (h .first .0) tt) in
-        rw (h .joined, h .first .1, h .second, e),
+          let e : c ≡ h .value = eqb→eq c (h .value) (rw (h .first .0) tt) in
+          rw (h .joined, h .first .1, h .second, e),
       λ h. record { value = c; front = c ∷ []; back = cs; first = (go (eqb c c) (eqb-refl c), refl); second = refl; joined = h },
     )
 
@@ -334,9 +335,11 @@ module _ {A : Type 0} (Good : A → Type 0) (write : A → List ℕ) where
       there h =
           let n : suc (length (h .second .value)) ≡ suc k = ap suc (h .second .first .0 .0) in
           rw
-          (h .second .second .0)
-          ((n, (h .first .0, h .second .first .0 .1)),
-          rw (h .joined, h .first .1, h .second .joined, h .second .first .1, h .second .second .1, append-nil))
+          (h .second .second .0) (
+            (n, (h .first .0, h .second .first .0 .1)),
+            rw (h .joined, h .first .1, h .second .joined, h .second .first .1, h .second .second .1, append-nil),
+          )
+
       back : (zs : List A) → Of (Count Good (suc k)) (flatMap write) zs t → Further k zs t
       back [] h = absurd (omega arith)
       back (y ∷ ys) h = record {

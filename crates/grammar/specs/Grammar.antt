@@ -44,10 +44,10 @@ spaced c r f t = go (r t) refl
     inner : (x : ℕ) (z : List ℕ) (o : Reading (Unit {0})) → word (c ∷ []) z ≡ o → ((word (c ∷ []) >> pure x) >>= f) z ≡ (word (c ∷ []) >> f x) z
     inner x z (stuck rest) d = rw (d, _>>_, _>>=_)
     inner x z (got u rest) d = rw (d, _>>_, _>>=_)
+
     go : (o : Reading ℕ) → r t ≡ o → (closedBy c r >>= f) t ≡ (r >>= (λ x. word (c ∷ []) >> f x)) t
     go (stuck rest) e = rw (e, _>>=_)
     go (got x z) e = rw (e, _>>=_) (inner x z (word (c ∷ []) z) refl)
-
 
 module _ (m : ℕ) where
   abbrev Row : List ℕ → List ℕ → Type 0
@@ -98,9 +98,11 @@ row-more n xs t = (there, back xs)
         let l : suc (length (k .value)) ≡ suc (suc n) = ap suc (k .first .0 .0) in
         let e : h .back ≡ rowLine (k .value) = k .joined ∙ ap₂ (λ (a b : List ℕ). a ++ b) (k .first .1) (k .second .1) ∙ rw append-nil in
         rw
-        (k .second .0)
-        ((l, (h .first .0, k .first .0 .1)),
-        h .joined ∙ ap₂ (λ (a b : List ℕ). a ++ b) (h .first .1) e ∙ sym (rowLine-cons (h .value) n (k .value) (k .first .0 .0)))
+        (k .second .0) (
+          (l, (h .first .0, k .first .0 .1)),
+          h .joined ∙ ap₂ (λ (a b : List ℕ). a ++ b) (h .first .1) e ∙ sym (rowLine-cons (h .value) n (k .value) (k .first .0 .0)),
+        )
+
     back : (ys : List ℕ) → Row (suc (suc n)) ys t → Longer n ys t
     back [] h = absurd (omega arith)
     back (y ∷ []) h = absurd (omega arith)
@@ -226,14 +228,14 @@ sections-there S text h =
     let ns = h₅ .first .0 .0 in
     let rs = h₇ .first .0 in
     let written : text ≡ laidOut m n supply demand rows =
-        glued (h .joined) (h .first)
-        (glued (h₁ .joined) (h₁ .first .1)
-        (glued (h₂ .joined) (h₂ .first .1)
-        (glued (h₃ .joined) (h₃ .first)
-        (glued (h₄ .joined) (h₄ .first .1)
-        (glued (h₅ .joined) (h₅ .first .1)
-        (glued (h₆ .joined) (h₆ .first)
-        (glued (h₇ .joined) (h₇ .first .1) (h₇ .second .1) ∙ append-nil (flatMap rowLine rows))))))))
+    glued (h .joined) (h .first)
+    (glued (h₁ .joined) (h₁ .first .1)
+    (glued (h₂ .joined) (h₂ .first .1)
+    (glued (h₃ .joined) (h₃ .first)
+    (glued (h₄ .joined) (h₄ .first .1)
+    (glued (h₅ .joined) (h₅ .first .1)
+    (glued (h₆ .joined) (h₆ .first)
+    (glued (h₇ .joined) (h₇ .first .1) (h₇ .second .1) ∙ append-nil (flatMap rowLine rows))))))))
     in
     rw
     (h₇ .second .0)
@@ -252,27 +254,59 @@ sections-back S text h =
     let costs : Every Small (S .cost) = at-every (S .cost) (λ k. numbers k .2) in
     let rs : Count (Count Small n) m rows = (rowsOf-length n m (S .cost), rowsOf-every Small n m (S .cost) (h .sheet .lengths) costs) in
     let same : S ≡ sheetOf (S .supply) (S .demand) rows =
-        ap (λ (c : List ℕ). record { supply = S .supply; demand = S .demand; cost = c }) (sym (flatten-rowsOf n m (S .cost) (h .sheet .lengths)))
+    ap (λ (c : List ℕ). record { supply = S .supply; demand = S .demand; cost = c }) (sym (flatten-rowsOf n m (S .cost) (h .sheet .lengths)))
     in
     let written : text ≡ laidOut m n (S .supply) (S .demand) rows =
-        h .written ∙ ap sheetText same ∙ sheetText-sections m n (S .supply) (S .demand) rows refl refl rs
+    h .written ∙ ap sheetText same ∙ sheetText-sections m n (S .supply) (S .demand) rows refl refl rs
     in
     record {
-      value = tt; front = _; back = _; first = refl; joined = written;
+      value = tt;
+      front = _;
+      back = _;
+      first = refl;
+      joined = written;
       second = record {
-        value = m; front = _; back = _; first = (h .sheet .sides .0, refl); joined = refl;
+        value = m;
+        front = _;
+        back = _;
+        first = (h .sheet .sides .0, refl);
+        joined = refl;
         second = record {
-          value = S .supply; front = _; back = _; first = ((refl, at-every (S .supply) (λ k. numbers k .0)), refl); joined = refl;
+          value = S .supply;
+          front = _;
+          back = _;
+          first = ((refl, at-every (S .supply) (λ k. numbers k .0)), refl);
+          joined = refl;
           second = record {
-            value = tt; front = _; back = _; first = refl; joined = refl;
+            value = tt;
+            front = _;
+            back = _;
+            first = refl;
+            joined = refl;
             second = record {
-              value = n; front = _; back = _; first = (h .sheet .sides .1, refl); joined = refl;
+              value = n;
+              front = _;
+              back = _;
+              first = (h .sheet .sides .1, refl);
+              joined = refl;
               second = record {
-                value = S .demand; front = _; back = _; first = ((refl, at-every (S .demand) (λ k. numbers k .1)), refl); joined = refl;
+                value = S .demand;
+                front = _;
+                back = _;
+                first = ((refl, at-every (S .demand) (λ k. numbers k .1)), refl);
+                joined = refl;
                 second = record {
-                  value = tt; front = _; back = _; first = refl; joined = refl;
+                  value = tt;
+                  front = _;
+                  back = _;
+                  first = refl;
+                  joined = refl;
                   second = record {
-                    value = rows; front = _; back = []; first = (rs, refl); joined = sym (append-nil (flatMap rowLine rows));
+                    value = rows;
+                    front = _;
+                    back = [];
+                    first = (rs, refl);
+                    joined = sym (append-nil (flatMap rowLine rows));
                     second = (same, refl);
                   };
                 };

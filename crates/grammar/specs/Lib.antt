@@ -9,3 +9,4 @@ pub mod Grammar
 pub mod Longest
 pub mod Place
 pub mod Refusals
+pub mod SheetCalls

@@ -61,13 +61,13 @@ text-length S h =
     let rows : List (List ℕ) = rowsOf m n (S .cost) in
     let costs : Every (Count Small n) rows = rowsOf-every Small n m (S .cost) (h .lengths) (at-every (S .cost) (λ k. h .numbers k .2)) in
     let supplies : length (flatMap numberLine (S .supply)) ≤ m * 8 =
-        lines-length Small numberLine 8 numberLine-length (S .supply) (at-every (S .supply) (λ k. h .numbers k .0))
+    lines-length Small numberLine 8 numberLine-length (S .supply) (at-every (S .supply) (λ k. h .numbers k .0))
     in
     let demands : length (flatMap numberLine (S .demand)) ≤ n * 8 =
-        lines-length Small numberLine 8 numberLine-length (S .demand) (at-every (S .demand) (λ k. h .numbers k .1))
+    lines-length Small numberLine 8 numberLine-length (S .demand) (at-every (S .demand) (λ k. h .numbers k .1))
     in
     let lanes : length (flatMap rowLine rows) ≤ m * (n * 8) =
-        rw (rowsOf-length n m (S .cost)) at (lines-length (Count Small n) rowLine (n * 8) (row-length n (ns .0)) rows costs)
+    rw (rowsOf-length n m (S .cost)) at (lines-length (Count Small n) rowLine (n * 8) (row-length n (ns .0)) rows costs)
     in
     let most : m * n ≤ 32 * 32 = mul-le-mul (ms .1) (ns .1) in
     simp length-append (omega (arith, side-length m (ms .1), side-length n (ns .1)))

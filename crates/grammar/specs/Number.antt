@@ -144,7 +144,7 @@ module _ (test : ℕ → Bool) (c : ℕ) (plain : isDigit c ≡ false) where
     tail-stopped (b ∷ t) rest e = go (isDigit b && test (x * 10 + digitValue b)) (eqb c b) refl refl
       where
         go : (o p : Bool) → isDigit b && test (x * 10 + digitValue b) ≡ o → eqb c b ≡ p
-          → Stopped (closedBy c (moreDigits test (suc k) x)) (Tail test c (suc k) x) (b ∷ t) rest
+            → Stopped (closedBy c (moreDigits test (suc k) x)) (Tail test c (suc k) x) (b ∷ t) rest
         go true p f g =
             let h = ih (x * 10 + digitValue b) .stopped t rest (sym (more-digit k x b t f) ∙ e) in
             let both = and-eq-true-iff (isDigit b) (test (x * 10 + digitValue b)) .0 f in
@@ -167,8 +167,8 @@ module _ (test : ℕ → Bool) (c : ℕ) (plain : isDigit c ≡ false) where
               more = c ∷ [];
               completed = closed x (c ∷ []) (refl, refl);
               closed = λ d old new i.
-                let first : d ≡ b = cc in
-                rw first (more-last k x b new f ∙ last-other x b new g);
+                  let first : d ≡ b = cc in
+                  rw first (more-last k x b new f ∙ last-other x b new g);
             }
 
   tail-exact : (k x : ℕ) → Exact (closedBy c (moreDigits test k x)) (Tail test c k x) Any
@@ -256,8 +256,9 @@ number-digits b ds d f = go (eqb (digitValue b) 0) refl ds f
   where
     v : (48 + digitValue b ≡ b) × (digitValue b < 10)
     v = digit-value b d
+
     go : (o : Bool) → eqb (digitValue b) 0 ≡ o → (es : List ℕ) → Follows (λ x. true) (cond o 0 6) (digitValue b) es
-      → (value (digitValue b) es < 10 ^ 7) × (digits (value (digitValue b) es) ≡ b ∷ es)
+        → (value (digitValue b) es < 10 ^ 7) × (digits (value (digitValue b) es) ≡ b ∷ es)
     go true e [] i = (omega (arith, v .1), digits-small (digitValue b) (v .1) ∙ rw (v .0))
     go true e (c ∷ es) i = absurd i
     go false e es i =
@@ -315,17 +316,18 @@ module _ (c : ℕ) (plain : isDigit c ≡ false) where
       let b = h .value in
       let ds = h .second .ds in
       let k = and-eq-true-iff (isDigit b) (within 1 maxSide (digitValue b)) .0 (h .first .0) in
-      let l = within-iff 1 maxSide (digitValue b) .0 (k .1) .0 in
-      (rw (h .second .whole) (follows-test (within 1 maxSide) 1 (digitValue b) ds (k .1) (h .second .follows)),
-      begun-written
-      c
-      isFirst
-      (within 1 maxSide)
-      (λ d. 1)
-      n
-      t
-      h
-      (rw (h .second .whole) (first-digits (within 1 maxSide) 1 b ds (k .0) l (h .second .follows))))
+      let l = within-iff 1 maxSide (digitValue b) .0 (k .1) .0 in (
+        rw (h .second .whole) (follows-test (within 1 maxSide) 1 (digitValue b) ds (k .1) (h .second .follows)),
+        begun-written
+            c
+            isFirst
+            (within 1 maxSide)
+            (λ d. 1)
+            n
+            t
+            h
+            (rw (h .second .whole) (first-digits (within 1 maxSide) 1 b ds (k .0) l (h .second .follows))),
+      )
 
   side-back : (n : ℕ) (t : List ℕ) → Side n t → Begun c isFirst (within 1 maxSide) (λ b. 1) n t
   unfolding isFirst maxSide

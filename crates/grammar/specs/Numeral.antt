@@ -27,9 +27,11 @@ value-digits n = below (suc n) n (omega arith)
   where
     large : (m : ℕ) → 10 ≤ m → value 0 (digits (m / 10)) ≡ m / 10 → value 0 (digits m) ≡ m
     large m l ih = rw (digits-large m l) (value-push 0 (digits (m / 10)) (m % 10) ∙ rw ih (omega arith))
+
     step : (m : ℕ) → Dec (m < 10) → (10 ≤ m → value 0 (digits (m / 10)) ≡ m / 10) → value 0 (digits m) ≡ m
     step m (yes s) ih = rw (digits-small m s) (omega (arith, value-of m))
     step m (no s) ih = large m (omega arith) (ih (omega arith))
+
     below : (k m : ℕ) → m < k → value 0 (digits m) ≡ m
     below zero m h = absurd (omega arith)
     below (suc k) m h = step m (decLt m 10) (λ l. below k (m / 10) (omega arith))

@@ -25,6 +25,7 @@ reader-iff text S rest = (there, back)
         let h = sheet-exact .taken text S rest e in
         let whole : text ≡ h .part = h .split ∙ ap (λ (l : List ℕ). h .part ++ l) (h .after) ∙ append-nil (h .part) in
         (h .after, rw whole (h .member))
+
     back : (rest ≡ []) × SheetTextOf S text → sheetReader text ≡ got S rest
     back h = rw (h .0) (rw append-nil at (sheet-exact .takes S text [] (h .1) refl))
 
@@ -36,10 +37,10 @@ next-byte : (part old other : List ℕ) (b q : ℕ) → suc (length part) ≤ q 
 next-byte part old other b q l e =
     let n : ℕ = suc (length part) in
     let first : take n (part ++ b ∷ old) ≡ part ++ (b ∷ []) =
-        ap (take n) (sym (append-assoc part (b ∷ []) old)) ∙ take-at (part ++ (b ∷ [])) old n (length-append part (b ∷ []) ∙ omega arith)
+    ap (take n) (sym (append-assoc part (b ∷ []) old)) ∙ take-at (part ++ (b ∷ [])) old n (length-append part (b ∷ []) ∙ omega arith)
     in
     let same : take n other ≡ part ++ (b ∷ []) =
-        sym (take-take n q other l) ∙ ap (take n) (sym e) ∙ take-take n q (part ++ b ∷ old) l ∙ first
+    sym (take-take n q other l) ∙ ap (take n) (sym e) ∙ take-take n q (part ++ b ∷ old) l ∙ first
     in
     sym (take-append-drop n other) ∙ ap (λ (z : List ℕ). z ++ drop n other) same ∙ append-assoc part (b ∷ []) (drop n other)
 

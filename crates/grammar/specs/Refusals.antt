@@ -20,16 +20,16 @@ use Rattle.grammar.specs.Rows.{Small, every-at}
 
 -- ---- lists of tests
 
-some≢none : {A : Type 0} {a : A} → some a ≡ none → ⊥
+pub some≢none : {A : Type 0} {a : A} → some a ≡ none → ⊥
 some≢none e = let n : _≡_ {A = ℕ} 0 1 = cc in omega arith
 
 true≢false : true ≡ false → ⊥
 true≢false e = let n : _≡_ {A = ℕ} 0 1 = cc in omega arith
 
-refused≢given : {A : Type 0} {r : Refusal} {a : A} → refused r ≡ given a → ⊥
+pub refused≢given : {A : Type 0} {r : Refusal} {a : A} → refused r ≡ given a → ⊥
 refused≢given e = let n : _≡_ {A = ℕ} 0 1 = cc in omega arith
 
-pub refusal-cons : (t : Bool × ℕ) (ts : List (Bool × ℕ)) → (refusal (t ∷ ts) ≡ none) ↔ (t .0 ≡ false) × (refusal ts ≡ none)
+refusal-cons : (t : Bool × ℕ) (ts : List (Bool × ℕ)) → (refusal (t ∷ ts) ≡ none) ↔ (t .0 ≡ false) × (refusal ts ≡ none)
 unfolding refusal
 refusal-cons t ts = go (t .0) (t .1)
   where
@@ -37,21 +37,22 @@ refusal-cons t ts = go (t .0) (t .1)
     go true k = (λ e. absurd (some≢none e), λ h. absurd (true≢false (h .0)))
     go false k = (λ e. (refl, e), λ h. h .1)
 
-pub refusal-append : (ts us : List (Bool × ℕ)) → (refusal (ts ++ us) ≡ none) ↔ (refusal ts ≡ none) × (refusal us ≡ none)
+-- One test more at the end.
+pub refusal-last : (ts : List (Bool × ℕ)) (t : Bool × ℕ) → (refusal (ts ++ (t ∷ [])) ≡ none) ↔ (refusal ts ≡ none) × (t .0 ≡ false)
 unfolding refusal
-refusal-append [] us = (λ e. (refl, e), λ h. h .1)
-refusal-append (t ∷ ts) us = go (refusal-append ts us)
+refusal-last [] t = (λ e. (refl, refusal-cons t [] .0 e .0), λ h. refusal-cons t [] .1 (h .1, refl))
+refusal-last (u ∷ ts) t = go (refusal-last ts t)
   where
-    go : ((refusal (ts ++ us) ≡ none) ↔ (refusal ts ≡ none) × (refusal us ≡ none))
-      → (refusal (t ∷ ts ++ us) ≡ none) ↔ (refusal (t ∷ ts) ≡ none) × (refusal us ≡ none)
+    go : ((refusal (ts ++ (t ∷ [])) ≡ none) ↔ (refusal ts ≡ none) × (t .0 ≡ false))
+        → (refusal (u ∷ ts ++ (t ∷ [])) ≡ none) ↔ (refusal (u ∷ ts) ≡ none) × (t .0 ≡ false)
     go ih = (
       λ e.
-        let h = refusal-cons t (ts ++ us) .0 e in
-        let k = ih .0 (h .1) in
-        (refusal-cons t ts .1 (h .0, k .0), k .1),
+          let h = refusal-cons u (ts ++ (t ∷ [])) .0 e in
+          let k = ih .0 (h .1) in
+          (refusal-cons u ts .1 (h .0, k .0), k .1),
       λ h.
-        let k = refusal-cons t ts .0 (h .0) in
-        refusal-cons t (ts ++ us) .1 (k .0, ih .1 (k .1, h .1)),
+          let k = refusal-cons u ts .0 (h .0) in
+          refusal-cons u (ts ++ (t ∷ [])) .1 (k .0, ih .1 (k .1, h .1)),
     )
 
 module _ {A : Type 0} (tests : List (Bool × ℕ)) (x : A) where
@@ -143,8 +144,9 @@ accepted-text S a =
     record {
       sides = sides-iff S .0 (h₁ .0);
       lengths = length-iff S .0 (h₂ .0);
-      numbers = λ k.
-        (every-at (S .supply) (all-small 1 1_000_000 (omega arith) (S .supply) (amounts .0)) k,
+      numbers = λ k. (
+        every-at (S .supply) (all-small 1 1_000_000 (omega arith) (S .supply) (amounts .0)) k,
         every-at (S .demand) (all-small 1 1_000_000 (omega arith) (S .demand) (amounts .1)) k,
-        every-at (S .cost) (all-small 0 1_000_000 (omega arith) (S .cost) (costs-iff S .0 (h₄ .0))) k);
+        every-at (S .cost) (all-small 0 1_000_000 (omega arith) (S .cost) (costs-iff S .0 (h₄ .0))) k,
+      );
     }

@@ -64,9 +64,10 @@ module _ (Good : ℕ → Type 0) (n : ℕ) where
   pub rowsOf-every : (m : ℕ) (xs : List ℕ) → length xs ≡ m * n → Every Good xs → Every (Count Good n) (rowsOf m n xs)
   unfolding rowsOf
   rowsOf-every zero xs e h = tt
-  rowsOf-every (suc m) xs e h =
-      ((length-take-le n xs (omega arith), every-take Good n xs h),
-      rowsOf-every m (drop n xs) (length-drop n xs ∙ omega arith) (every-drop Good n xs h))
+  rowsOf-every (suc m) xs e h = (
+    (length-take-le n xs (omega arith), every-take Good n xs h),
+    rowsOf-every m (drop n xs) (length-drop n xs ∙ omega arith) (every-drop Good n xs h),
+  )
 
 module _ (n : ℕ) where
   pub rowsOf-length : (m : ℕ) (xs : List ℕ) → length (rowsOf m n xs) ≡ m
