@@ -1,13 +1,10 @@
 -- Exact readers: they take the texts of a language and no others, and are stuck at the first byte with which no text of the language goes on.
-use mathlib.Core.Path.{_≡_, refl, sym, _∙_, ap, subst, fun-ext}
+use mathlib.Core.Path.{_≡_, refl, sym, _∙_, ap, ap₂, subst, fun-ext}
 use mathlib.Core.Logic.{_↔_}
-use mathlib.Core.Bool.{Bool, true, false, cond}
-use mathlib.Core.List.{List, [], _∷_, _++_, append-assoc, append-nil, flatMap}
-use Prim.Native.Nat.{ℕ, zero, suc}
+use mathlib.Core.List.{List, [], _∷_, _++_, append-assoc}
+use Prim.Native.Nat.{ℕ}
 use native.Mathlib.Omega.{arith}
-use lib.Dec.{T, eqb, eqb→eq, eqb-refl}
-use lib.ListN.{length}
-use Rattle.transport.specs.SheetText.{Reading, stuck, got, Reader, _>>=_, _>>_, pure, byteThat, word, end, times}
+use Rattle.transport.specs.SheetText.{Reading, stuck, got, Reader, _>>=_, _>>_}
 
 -- What a reader took: a text of the language, before a rest that may stand after it.
 pub record Taken {A : Type 0} (L : A → List ℕ → Type 0) (After : List ℕ → Type 0) (a : A) (text rest : List ℕ) : Type 0 where
@@ -35,6 +32,10 @@ pub record Exact {A : Type 0} (r : Reader A) (L : A → List ℕ → Type 0) (Af
 abbrev pub Any : List ℕ → Type 0
 Any rest = Unit {0}
 
+-- Nothing may stand after.
+abbrev pub AtEnd : List ℕ → Type 0
+AtEnd rest = rest ≡ []
+
 -- A text of L, and then one of M.
 pub record Then {A B : Type 0} (L : A → List ℕ → Type 0) (M : A → B → List ℕ → Type 0) (b : B) (t : List ℕ) : Type 0 where
   pub value : A
@@ -43,6 +44,13 @@ pub record Then {A B : Type 0} (L : A → List ℕ → Type 0) (M : A → B → 
   pub first : L value front
   pub second : M value b back
   pub joined : t ≡ front ++ back
+
+-- The two parts in other words.
+pub glued : {t front back left right : List ℕ} → t ≡ front ++ back → front ≡ left → back ≡ right → t ≡ left ++ right
+glued e p q = e ∙ ap₂ (λ (l m : List ℕ). l ++ m) p q
+
+pub stuck≢got : {A : Type 0} {a : A} {text rest : List ℕ} → stuck text ≡ got a rest → ⊥
+stuck≢got e = let n : _≡_ {A = ℕ} 0 1 = cc in omega arith
 
 -- ---- one reader after another
 
@@ -55,12 +63,12 @@ module _ {A B : Type 0} (r : Reader A) (s : A → Reader B) where
   unfolding _>>=_
   bind-stuck text rest e = rw (e, _>>=_)
 
--- A language of an exact reader is not empty: on the empty text the reader takes one of its texts or begins one.
-pub record Inhabited {A : Type 0} (L : A → List ℕ → Type 0) : Type 0 where
-  pub value : A
-  pub text : List ℕ
-  pub member : L value text
+record Inhabited {A : Type 0} (L : A → List ℕ → Type 0) : Type 0 where
+  value : A
+  text : List ℕ
+  member : L value text
 
+-- The language of an exact reader is not empty: on the empty text the reader takes one of its texts or begins one.
 inhabited : {A : Type 0} (r : Reader A) (L : A → List ℕ → Type 0) (After : List ℕ → Type 0) → Exact r L After → Inhabited L
 inhabited r L After x = go (r []) refl
   where
@@ -76,7 +84,7 @@ module _ {A B : Type 0} {r : Reader A} {s : A → Reader B} {L : A → List ℕ 
   bind-takes : (b : B) (t rest : List ℕ) → Then L M b t → After rest → (r >>= s) (t ++ rest) ≡ got b rest
   bind-takes b t rest h k =
       let e : r (t ++ rest) ≡ got (h .value) (h .back ++ rest) =
-      rw (h .joined, append-assoc) (x .takes (h .value) (h .front) (h .back ++ rest) (h .first) tt)
+          rw (h .joined, append-assoc) (x .takes (h .value) (h .front) (h .back ++ rest) (h .first) tt)
       in
       bind-got r s (t ++ rest) (h .value) (h .back ++ rest) e ∙ y (h .value) .takes b (h .back) rest (h .second) k
 
@@ -84,10 +92,7 @@ module _ {A B : Type 0} {r : Reader A} {s : A → Reader B} {L : A → List ℕ 
   bind-taken text b rest e = go (r text) refl
     where
       go : (o : Reading A) → r text ≡ o → Taken (Then L M) After b text rest
-      go (stuck z) d =
-          let f : stuck z ≡ got b rest = sym (bind-stuck r s text z d) ∙ e in
-          let n : _≡_ {A = ℕ} 0 1 = cc in
-          absurd (omega arith)
+      go (stuck z) d = absurd (stuck≢got (sym (bind-stuck r s text z d) ∙ e))
       go (got a z) d =
           let h = x .taken text a z d in
           let k = y a .taken z b rest (sym (bind-got r s text a z d) ∙ e) in
@@ -144,6 +149,8 @@ module _ {A B : Type 0} {r : Reader A} {s : A → Reader B} {L : A → List ℕ 
                 bind-got r s ((h .part ++ k .part) ++ b ∷ new) a (k .part ++ b ∷ new) g ∙ k .closed b old new f;
           }
 
+  -- Where the first reader is stuck, what it has read is completed to a text of its own and then by any text of the second; where the second is, the first takes
+  -- the same part of every text that goes on so.
   pub bind : Exact (r >>= s) (Then L M) After
   bind = record { takes = bind-takes; taken = bind-taken; stopped = bind-stopped }
 
@@ -177,188 +184,3 @@ module _ {A : Type 0} {r : Reader A} {L M : A → List ℕ → Type 0} {After : 
 module _ {A : Type 0} {L : A → List ℕ → Type 0} {After : List ℕ → Type 0} (r s : Reader A) where
   pub agreeing : ((text : List ℕ) → r text ≡ s text) → Exact r L After → Exact s L After
   agreeing same x = subst (λ (q : Reader A). Exact q L After) (fun-ext same) x
-
--- ---- the readers that the sheet's reader is made of
-
-pub stuck≢got : {A : Type 0} {a : A} {text rest : List ℕ} → stuck text ≡ got a rest → ⊥
-stuck≢got e = let n : _≡_ {A = ℕ} 0 1 = cc in omega arith
-
-module _ {A : Type 0} where
-  -- No byte, and the value a.
-  abbrev pub Only : A → A → List ℕ → Type 0
-  Only a b t = (b ≡ a) × (t ≡ [])
-
-  pub pure-exact : (a : A) → Exact (pure a) (Only a) Any
-  unfolding pure
-  pure-exact a = record {
-    takes = λ b t rest h k. rw (h .0, h .1);
-    taken = λ text b rest e.
-        let same : b ≡ a = cc in
-        let all : text ≡ rest = cc in
-        record { part = []; member = (same, refl); split = all; after = tt };
-    stopped = λ text rest e. absurd (stuck≢got (sym e));
-  }
-
--- One byte that passes the test.
-abbrev pub Byte : (ℕ → Bool) → ℕ → List ℕ → Type 0
-Byte test b t = (test b ≡ true) × (t ≡ b ∷ [])
-
--- Some byte has to pass the test: else nothing could complete a text here.
-module _ (test : ℕ → Bool) (c : ℕ) (passes : test c ≡ true) where
-  byte-taken : (text : List ℕ) (b : ℕ) (rest : List ℕ) → byteThat test text ≡ got b rest → Taken (Byte test) Any b text rest
-  unfolding byteThat
-  byte-taken [] b rest e = absurd (stuck≢got e)
-  byte-taken (d ∷ t) b rest e = go (test d) refl
-    where
-      go : (o : Bool) → test d ≡ o → Taken (Byte test) Any b (d ∷ t) rest
-      go true f =
-          let g : got d t ≡ got b rest = rw f at e in
-          let same : d ≡ b = cc in
-          record { part = b ∷ []; member = (rw (← same) f, refl); split = cc; after = tt }
-      go false f = absurd (stuck≢got (rw f at e))
-
-  byte-stopped : (text rest : List ℕ) → byteThat test text ≡ stuck rest → Stopped (byteThat test) (Byte test) text rest
-  unfolding byteThat
-  byte-stopped [] rest e = record {
-    part = [];
-    split = let h : [] ≡ rest = cc in h;
-    value = c;
-    more = c ∷ [];
-    completed = (passes, refl);
-    closed = λ b old new f. let h : [] ≡ rest = cc in let n : _≡_ {A = ℕ} 0 1 = cc in absurd (omega arith);
-  }
-  byte-stopped (d ∷ t) rest e = go (test d) refl
-    where
-      go : (o : Bool) → test d ≡ o → Stopped (byteThat test) (Byte test) (d ∷ t) rest
-      go true f = absurd (stuck≢got (sym (rw f at e)))
-      go false f =
-          let g : _≡_ {A = Reading ℕ} (stuck (d ∷ t)) (stuck rest) = rw f at e in
-          record {
-            part = [];
-            split = let h : d ∷ t ≡ rest = cc in h;
-            value = c;
-            more = c ∷ [];
-            completed = (passes, refl);
-            closed = λ b old new h. let same : b ≡ d = cc in rw (same, f);
-          }
-
-  pub byte-exact : Exact (byteThat test) (Byte test) Any
-  unfolding byteThat
-  byte-exact = record { takes = λ b t rest h k. rw (h .1, h .0); taken = byte-taken; stopped = byte-stopped }
-
--- These bytes.
-abbrev pub Bytes : List ℕ → Unit {0} → List ℕ → Type 0
-Bytes cs u t = t ≡ cs
-
-pub word-exact : (cs : List ℕ) → Exact (word cs) (Bytes cs) Any
-unfolding word
-word-exact [] = reworded (λ u t. (λ h. h .1, λ h. (refl, h))) (pure-exact tt)
-word-exact (c ∷ cs) = reworded same (then (byte-exact (eqb c) c (go (eqb c c) (eqb-refl c))) (word-exact cs))
-  where
-    go : (b : Bool) → T b → b ≡ true
-    go true h = refl
-    go false h = absurd h
-
-    same : (u : Unit {0}) (t : List ℕ) → Then (Byte (eqb c)) (λ b. Bytes cs) u t ↔ (t ≡ c ∷ cs)
-    same u t = (
-      λ h.
-          let e : c ≡ h .value = eqb→eq c (h .value) (rw (h .first .0) tt) in
-          rw (h .joined, h .first .1, h .second, e),
-      λ h. record { value = c; front = c ∷ []; back = cs; first = (go (eqb c c) (eqb-refl c), refl); second = refl; joined = h },
-    )
-
--- The end of the text, and the value a.
-module _ {A : Type 0} (a : A) where
-  end-got : (end >> pure a) [] ≡ got a []
-  unfolding end _>>_ pure
-  end-got = refl
-
-  end-stuck : (b : ℕ) (t : List ℕ) → (end >> pure a) (b ∷ t) ≡ stuck (b ∷ t)
-  unfolding end _>>_
-  end-stuck b t = refl
-
-  end-taken : (text : List ℕ) (b : A) (rest : List ℕ) → (end >> pure a) text ≡ got b rest → Taken (Only a) (λ z. z ≡ []) b text rest
-  end-taken [] b rest e =
-      let same : b ≡ a = cc end-got in
-      let none : rest ≡ [] = cc end-got in
-      record { part = []; member = (same, refl); split = sym none; after = none }
-  end-taken (d ∷ t) b rest e = absurd (stuck≢got (sym (end-stuck d t) ∙ e))
-
-  end-stopped : (text rest : List ℕ) → (end >> pure a) text ≡ stuck rest → Stopped (end >> pure a) (Only a) text rest
-  end-stopped [] rest e = absurd (stuck≢got (sym e ∙ end-got))
-  end-stopped (d ∷ t) rest e = record {
-    part = [];
-    split = let h : d ∷ t ≡ rest = cc (end-stuck d t) in h;
-    value = a;
-    more = [];
-    completed = (refl, refl);
-    closed = λ b old new f. end-stuck b new;
-  }
-
-  pub end-exact : Exact (end >> pure a) (Only a) (λ rest. rest ≡ [])
-  end-exact = record {
-    takes = λ b t rest h k. rw (h .0, h .1, k) end-got;
-    taken = end-taken;
-    stopped = end-stopped;
-  }
-
--- ---- what a writer writes
-
-module _ {A : Type 0} where
-  -- The texts that `write` gives of good values.
-  abbrev pub Of : (A → Type 0) → (A → List ℕ) → A → List ℕ → Type 0
-  Of Good write a t = Good a × (t ≡ write a)
-
-  -- Every element of a list is good.
-  abbrev pub Every : (A → Type 0) → List A → Type 0
-  Every Good [] = Unit {0}
-  Every Good (x ∷ xs) = Good x × Every Good xs
-
-  -- k good values.
-  abbrev pub Count : (A → Type 0) → ℕ → List A → Type 0
-  Count Good k xs = (length xs ≡ k) × Every Good xs
-
-module _ {A : Type 0} (Good : A → Type 0) (write : A → List ℕ) where
-  times-zero : (xs : List A) (t : List ℕ) → Only [] xs t ↔ Of (Count Good 0) (flatMap write) xs t
-  unfolding flatMap
-  times-zero [] t = (λ h. ((refl, tt), h .1), λ h. (refl, h .1))
-  times-zero (x ∷ xs) t = (λ h. let n : _≡_ {A = ℕ} 0 1 = cc in absurd (omega arith), λ h. absurd (omega arith))
-
-  abbrev Further : ℕ → List A → List ℕ → Type 0
-  Further k = Then (Of Good write) (λ y. Then (Of (Count Good k) (flatMap write)) (λ ys. Only (y ∷ ys)))
-
-  times-suc : (k : ℕ) (xs : List A) (t : List ℕ) → Further k xs t ↔ Of (Count Good (suc k)) (flatMap write) xs t
-  unfolding flatMap
-  times-suc k xs t = (there, back xs)
-    where
-      there : Further k xs t → Of (Count Good (suc k)) (flatMap write) xs t
-      there h =
-          let n : suc (length (h .second .value)) ≡ suc k = ap suc (h .second .first .0 .0) in
-          rw
-          (h .second .second .0) (
-            (n, (h .first .0, h .second .first .0 .1)),
-            rw (h .joined, h .first .1, h .second .joined, h .second .first .1, h .second .second .1, append-nil),
-          )
-
-      back : (zs : List A) → Of (Count Good (suc k)) (flatMap write) zs t → Further k zs t
-      back [] h = absurd (omega arith)
-      back (y ∷ ys) h = record {
-        value = y;
-        front = write y;
-        back = flatMap write ys;
-        first = (h .0 .1 .0, refl);
-        second = record {
-          value = ys;
-          front = flatMap write ys;
-          back = [];
-          first = ((omega arith, h .0 .1 .1), refl);
-          second = (refl, refl);
-          joined = rw append-nil;
-        };
-        joined = h .1;
-      }
-
-  pub times-exact : {r : Reader A} → Exact r (Of Good write) Any → (k : ℕ) → Exact (times k r) (Of (Count Good k) (flatMap write)) Any
-  unfolding times
-  times-exact x zero = reworded times-zero (pure-exact [])
-  times-exact x (suc k) = reworded (times-suc k) (bind x (λ y. bind (times-exact x k) (λ ys. pure-exact (y ∷ ys))))

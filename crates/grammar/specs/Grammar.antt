@@ -12,7 +12,8 @@ use Rattle.transport.specs.Sheet.{Sheet, sources, sinks}
 use Rattle.transport.specs.Text.{bytes, kindOf, digits, headLine, numberLine, rowLine}
 use Rattle.transport.specs.SheetText.{Reading, stuck, got, Reader, _>>=_, _>>_, pure, times, byteThat, word, end, isDigit, number, side, line, row, rowsOf, sheetText, sheetReader}
 use Rattle.transport.specs.Statements.{HasText, SheetTextOf}
-use Rattle.grammar.specs.Exact.{Exact, Any, Then, bind, then, reworded, agreeing, Only, pure-exact, Bytes, word-exact, end-exact, Of, Every, Count, times-exact}
+use Rattle.grammar.specs.Exact.{Exact, Any, Then, bind, then, reworded, agreeing}
+use Rattle.grammar.specs.Readers.{Only, pure-exact, Bytes, word-exact, end-exact, Of, Every, Count, times-exact}
 use Rattle.grammar.specs.Number.{closedBy, number-exact, side-exact}
 use Rattle.grammar.specs.Rows.{Small, every-at, at-every, flatten-every, flatten-length, rowsOf-flatten, rowsOf-length, rowsOf-every, flatten-rowsOf}
 

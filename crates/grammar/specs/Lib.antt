@@ -3,6 +3,7 @@ pub mod Tests
 pub mod Digits
 pub mod Numeral
 pub mod Exact
+pub mod Readers
 pub mod Number
 pub mod Rows
 pub mod Grammar

@@ -14,7 +14,8 @@ use Rattle.transport.specs.SheetText.{Reading, stuck, got, Reader, _>>=_, _>>_,
 use Rattle.grammar.specs.Tests.{within-iff}
 use Rattle.grammar.specs.Digits.{digits-small, digits-length, digit-value, digit-of, value-of}
 use Rattle.grammar.specs.Numeral.{value, Follows, follows-length, follows-test, follows-digits, Beginnings, Numeral, numeral}
-use Rattle.grammar.specs.Exact.{Exact, Taken, Stopped, Any, Then, bind, then, reworded, agreeing, Only, pure-exact, Byte, byte-exact, Bytes, word-exact, Of, stuck≢got}
+use Rattle.grammar.specs.Exact.{Exact, Taken, Stopped, Any, Then, bind, then, reworded, agreeing, stuck≢got}
+use Rattle.grammar.specs.Readers.{Only, pure-exact, Byte, byte-exact, Bytes, word-exact, Of}
 
 -- A number, and the byte c after it.
 unfoldable pub closedBy : ℕ → Reader ℕ → Reader ℕ

@@ -8,7 +8,7 @@ use lib.Seq.{length-take-le, take-at, drop-at}
 use Rattle.transport.specs.Lists.{at}
 use Rattle.transport.specs.Limits.{maxDigits}
 use Rattle.transport.specs.SheetText.{rowsOf}
-use Rattle.grammar.specs.Exact.{Every, Count}
+use Rattle.grammar.specs.Readers.{Every, Count}
 
 -- ---- numbers of at most seven digits
 
