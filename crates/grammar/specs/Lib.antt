@@ -4,8 +4,10 @@ pub mod Digits
 pub mod Numeral
 pub mod Exact
 pub mod Readers
+pub mod Decimal
 pub mod Number
 pub mod Rows
+pub mod Lines
 pub mod Grammar
 pub mod Longest
 pub mod Place

@@ -1,5 +1,5 @@
 -- The number readers are exact once the byte that closes a number is read too: a number alone has no end of its own.
-use mathlib.Core.Path.{_≡_, refl, sym, _∙_, ap, ap₂}
+use mathlib.Core.Path.{_≡_, refl, sym, _∙_, ap}
 use mathlib.Core.Logic.{_↔_}
 use mathlib.Core.Bool.{Bool, true, false, _&&_, cond, and-eq-true-iff}
 use mathlib.Core.List.{List, [], _∷_, _++_, append-assoc, append-nil}
@@ -13,8 +13,8 @@ use Rattle.transport.specs.Text.{kindOf, digits}
 use Rattle.transport.specs.SheetText.{Reading, stuck, got, Reader, _>>=_, _>>_, pure, byteThat, word, isDigit, digitValue, moreDigits, number, side}
 use Rattle.grammar.specs.Tests.{within-iff}
 use Rattle.grammar.specs.Digits.{digits-small, digits-length, digit-value, digit-of, value-of}
-use Rattle.grammar.specs.Numeral.{value, Follows, follows-length, follows-test, follows-digits, Beginnings, Numeral, numeral}
-use Rattle.grammar.specs.Exact.{Exact, Taken, Stopped, Any, Then, bind, then, reworded, agreeing, stuck≢got}
+use Rattle.grammar.specs.Numeral.{value, Follows, follows-length, follows-test, first-digits, Beginnings, Numeral, numeral}
+use Rattle.grammar.specs.Exact.{Exact, Taken, Stopped, Any, Then, glued, bind, then, reworded, agreeing, stuck≢got}
 use Rattle.grammar.specs.Readers.{Only, pure-exact, Byte, byte-exact, Bytes, word-exact, Of}
 
 -- A number, and the byte c after it.
@@ -40,7 +40,7 @@ module _ (test : ℕ → Bool) (c : ℕ) (plain : isDigit c ≡ false) where
     where
       same : (y : ℕ) (t : List ℕ) → Then (Bytes (c ∷ [])) (λ u. Only x) y t ↔ (y ≡ x) × (t ≡ c ∷ [])
       same y t = (
-        λ h. (h .second .0, h .joined ∙ rw (h .first, h .second .1)),
+        λ h. (h .second .0, glued (h .joined) (h .first) (h .second .1)),
         λ h. record { value = tt; front = c ∷ []; back = []; first = refl; second = (h .0, refl); joined = h .1 },
       )
 
@@ -213,16 +213,9 @@ module _ (c : ℕ) (plain : isDigit c ≡ false) where
       (closed-later (byteThat head) (λ d. moreDigits test (room d) (digitValue d)))
       (bind (byte-exact head b e) (λ d. tail-exact test c plain (room d) (digitValue d)))
 
--- A first digit above 0 and those that follow are the digits of the number.
-first-digits : (test : ℕ → Bool) (k b : ℕ) (ds : List ℕ) → isDigit b ≡ true → 1 ≤ digitValue b → Follows test k (digitValue b) ds
-    → digits (value (digitValue b) ds) ≡ b ∷ ds
-first-digits test k b ds d l f =
-    let v = digit-value b d in
-    follows-digits test k (digitValue b) ds l f ∙ rw (digits-small (digitValue b) (v .1), v .0)
-
 begun-written : (c : ℕ) (head test : ℕ → Bool) (room : ℕ → ℕ) (n : ℕ) (t : List ℕ) (h : Begun c head test room n t)
     → digits n ≡ h .value ∷ h .second .ds → t ≡ digits n ++ (c ∷ [])
-begun-written c head test room n t h e = rw e (h .joined ∙ ap₂ (λ (l m : List ℕ). l ++ m) (h .first .1) (h .second .written))
+begun-written c head test room n t h e = rw e (glued (h .joined) (h .first .1) (h .second .written))
 
 numeral-begun : (c : ℕ) (head test : ℕ → Bool) (room : ℕ → ℕ) (k n : ℕ) (t : List ℕ) (x : Numeral test k n)
     → head (48 + x .first) ≡ true → room (48 + x .first) ≡ k → t ≡ digits n ++ (c ∷ []) → Begun c head test room n t

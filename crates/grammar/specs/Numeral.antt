@@ -57,7 +57,7 @@ follows-test test zero x (b ∷ ds) e h = absurd h
 follows-test test (suc k) x (b ∷ ds) e h = follows-test test k (x * 10 + digitValue b) ds (h .1) (h .2)
 
 -- They are the digits of what they make of x, after x's own.
-pub follows-digits : (test : ℕ → Bool) (k x : ℕ) (ds : List ℕ) → 1 ≤ x → Follows test k x ds → digits (value x ds) ≡ digits x ++ ds
+follows-digits : (test : ℕ → Bool) (k x : ℕ) (ds : List ℕ) → 1 ≤ x → Follows test k x ds → digits (value x ds) ≡ digits x ++ ds
 unfolding value
 follows-digits test k x [] l h = rw append-nil
 follows-digits test zero x (b ∷ ds) l h = absurd h
@@ -65,6 +65,13 @@ follows-digits test (suc k) x (b ∷ ds) l h =
     let v = digit-value b (h .0) in
     follows-digits test k (x * 10 + digitValue b) ds (omega arith) (h .2)
     ∙ rw (digits-push x (digitValue b) l (v .1), v .0, append-assoc)
+
+-- A first digit above 0 and those that follow are the digits of the number.
+pub first-digits : (test : ℕ → Bool) (k b : ℕ) (ds : List ℕ) → isDigit b ≡ true → 1 ≤ digitValue b → Follows test k (digitValue b) ds
+    → digits (value (digitValue b) ds) ≡ b ∷ ds
+first-digits test k b ds d l f =
+    let v = digit-value b d in
+    follows-digits test k (digitValue b) ds l f ∙ rw (digits-small (digitValue b) (v .1), v .0)
 
 follows-push : (test : ℕ → Bool) (k x : ℕ) (ds : List ℕ) (d : ℕ) → d < 10 → test (value x ds * 10 + d) ≡ true → Follows test k x ds
     → Follows test (suc k) x (ds ++ ((48 + d) ∷ []))
