@@ -11,7 +11,7 @@ use Rattle.transport.specs.Text.{digits}
 use Rattle.transport.specs.SheetText.{isDigit, digitValue}
 use Rattle.grammar.specs.Digits.{digits-small, digit-value, digit-of}
 use Rattle.grammar.specs.Numeral.{value, value-digits, Follows, first-digits, numeral}
-use Rattle.grammar.specs.Readers.{Every}
+use Rattle.grammar.specs.Every.{Every}
 
 -- Digits, at least one, and no leading 0 except 0 itself.
 pub record Decimal (ds : List ℕ) : Type 0 where

@@ -11,7 +11,8 @@ use Rattle.transport.specs.Text.{bytes, headLine, numberLine, rowLine}
 use Rattle.transport.specs.SheetText.{rowsOf, sheetText, sheetReader}
 use Rattle.transport.specs.Statements.{HasText, SheetTextOf}
 use Rattle.grammar.specs.Exact.{Exact, AtEnd, Then, glued, bind, then, reworded}
-use Rattle.grammar.specs.Readers.{Only, Bytes, word-exact, end-exact, Of, Every, Count, times-exact}
+use Rattle.grammar.specs.Every.{Every, Count}
+use Rattle.grammar.specs.Readers.{Only, Bytes, word-exact, end-exact, Of, times-exact}
 use Rattle.grammar.specs.Lines.{number-line-exact, side-line-exact, row-exact}
 use Rattle.grammar.specs.Rows.{Small, every-at, at-every, flatten-every, flatten-length, rowsOf-flatten, rowsOf-length, rowsOf-every, flatten-rowsOf}
 

@@ -1,10 +1,11 @@
 -- The theorems about the sheet text.
 pub mod Tests
+pub mod Every
 pub mod Digits
 pub mod Numeral
+pub mod Decimal
 pub mod Exact
 pub mod Readers
-pub mod Decimal
 pub mod Number
 pub mod Rows
 pub mod Lines

@@ -11,7 +11,8 @@ use Rattle.transport.specs.Limits.{maxSide, maxDigits}
 use Rattle.transport.specs.Text.{bytes, kindOf, digits, numberLine, rowLine}
 use Rattle.transport.specs.SheetText.{Reading, stuck, got, Reader, _>>=_, _>>_, pure, word, isDigit, number, side, line, row}
 use Rattle.grammar.specs.Exact.{Exact, Any, Then, glued, bind, then, reworded, agreeing}
-use Rattle.grammar.specs.Readers.{Only, pure-exact, Bytes, word-exact, Of, Every, Count}
+use Rattle.grammar.specs.Every.{Every, Count}
+use Rattle.grammar.specs.Readers.{Only, pure-exact, Bytes, word-exact, Of}
 use Rattle.grammar.specs.Number.{closedBy, number-exact, side-exact}
 use Rattle.grammar.specs.Rows.{Small}
 

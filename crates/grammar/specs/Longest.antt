@@ -15,7 +15,7 @@ use Rattle.transport.specs.SheetText.{sheetText, rowsOf}
 use Rattle.transport.specs.Statements.{HasText, Accepted}
 use Rattle.grammar.specs.Tests.{within-iff}
 use Rattle.grammar.specs.Digits.{digits-length}
-use Rattle.grammar.specs.Readers.{Every, Count}
+use Rattle.grammar.specs.Every.{Every, Count}
 use Rattle.grammar.specs.Rows.{Small, at-every, rowsOf-length, rowsOf-every}
 
 -- ---- parts

@@ -7,7 +7,7 @@ use native.Mathlib.Omega.{arith}
 use native.Mathlib.Nat.{le-antisymm}
 use native.Mathlib.Decide.{decLe}
 use lib.ListN.{length, take, drop, length-append, take-append-drop}
-use lib.Seq.{take-at, take-take, take-all}
+use lib.Seq.{take-at, take-take, take-append-add}
 use Rattle.transport.specs.Limits.{maxText}
 use Rattle.transport.specs.Sheet.{Sheet}
 use Rattle.transport.specs.SheetText.{Reading, stuck, got, sheetText, sheetReader}
@@ -80,6 +80,18 @@ module _ (text rest : List ℕ) (s : Stopped sheetReader SheetTextOf text rest) 
           absurd
           (stop-closed (h .sheet) (h .has) b old _ e (next-byte (s .part) old (sheetText (h .sheet)) b q more same))
 
+  stop-short : length (s .part) ≤ maxText
+  stop-short = omega (arith, text-length (s .value) (s .completed .sheet), ap length (s .completed .written), length-append (s .part) (s .more))
+
+  -- A cut behind the refused byte.
+  stop-cut : (room : ℕ) → length (s .part) < room → (b : ℕ) (old : List ℕ) → rest ≡ b ∷ old
+      → take room text ≡ s .part ++ b ∷ take (room - suc (length (s .part))) old
+  stop-cut room l b old e =
+      let k : ℕ = room - suc (length (s .part)) in
+      let n : room ≡ length (s .part) + suc k = omega arith in
+      let t : text ≡ s .part ++ b ∷ old = s .split ∙ ap (λ (z : List ℕ). s .part ++ z) e in
+      ap (take room) t ∙ ap (λ (q : ℕ). take q (s .part ++ b ∷ old)) n ∙ take-append-add (s .part) (b ∷ old) (suc k)
+
 pub place : (text rest : List ℕ) → sheetReader text ≡ stuck rest → Place text (length text - length rest)
 place text rest e =
     let s = sheet-exact .stopped text rest e in
@@ -89,3 +101,22 @@ place text rest e =
 -- There is only one.
 pub place-unique : (text : List ℕ) (p q : ℕ) → Place text p → Place text q → p ≡ q
 place-unique text p q h k = le-antisymm (k .longest p (h .shared)) (h .longest q (k .shared))
+
+-- A longer text than any sheet text is refused by a byte among its first 8,733.
+pub place-cut : (text rest : List ℕ) → sheetReader text ≡ stuck rest → suc maxText ≤ length text
+    → (z : List ℕ) × (sheetReader (take (suc maxText) text) ≡ stuck z) × (length (take (suc maxText) text) - length z ≡ length text - length rest)
+place-cut text rest e l = go rest refl
+  where
+    s : Stopped sheetReader SheetTextOf text rest
+    s = sheet-exact .stopped text rest e
+    go : (y : List ℕ) → rest ≡ y
+      → (z : List ℕ) × (sheetReader (take (suc maxText) text) ≡ stuck z) × (length (take (suc maxText) text) - length z ≡ length text - length rest)
+    go [] f = absurd (omega (arith, stop-length text rest s, stop-short text rest s, ap length f))
+    go (b ∷ old) f =
+        let k : ℕ = suc maxText - suc (length (s .part)) in
+        let cut : take (suc maxText) text ≡ s .part ++ b ∷ take k old =
+            stop-cut text rest s (suc maxText) (omega (arith, stop-short text rest s)) b old f
+        in
+        (b ∷ take k old,
+        rw cut (s .closed b old (take k old) f),
+        omega (arith, ap length cut, length-append (s .part) (b ∷ take k old), stop-length text rest s))

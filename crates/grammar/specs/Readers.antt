@@ -9,6 +9,7 @@ use lib.Dec.{eqb}
 use lib.ListN.{length}
 use borrow.Author.Tests.{eqb-true, eq-eqb}
 use Rattle.transport.specs.SheetText.{Reading, stuck, got, Reader, _>>=_, _>>_, pure, byteThat, word, end, times}
+use Rattle.grammar.specs.Every.{Every, Count}
 use Rattle.grammar.specs.Exact.{Exact, Taken, Stopped, Any, AtEnd, Then, glued, stuck≢got, bind, then, reworded}
 
 module _ {A : Type 0} where
@@ -132,15 +133,6 @@ module _ {A : Type 0} where
   -- The texts that `write` gives of good values.
   abbrev pub Of : (A → Type 0) → (A → List ℕ) → A → List ℕ → Type 0
   Of Good write a t = Good a × (t ≡ write a)
-
-  -- Every element of a list is good.
-  abbrev pub Every : (A → Type 0) → List A → Type 0
-  Every Good [] = Unit {0}
-  Every Good (x ∷ xs) = Good x × Every Good xs
-
-  -- k good values.
-  abbrev pub Count : (A → Type 0) → ℕ → List A → Type 0
-  Count Good k xs = (length xs ≡ k) × Every Good xs
 
 module _ {A : Type 0} (Good : A → Type 0) (write : A → List ℕ) where
   times-zero : (xs : List A) (t : List ℕ) → Only [] xs t ↔ Of (Count Good 0) (flatMap write) xs t

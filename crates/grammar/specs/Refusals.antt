@@ -15,7 +15,7 @@ use Rattle.transport.specs.Sheet.{Sheet, sources, sinks, badSides, badLength, b
 use Rattle.transport.specs.Calls.{Answer, Refusal, refused, given, refusedBy, unless, tooShort}
 use Rattle.transport.specs.Statements.{Accepted, HasText}
 use Rattle.grammar.specs.Tests.{within-iff}
-use Rattle.grammar.specs.Readers.{Every}
+use Rattle.grammar.specs.Every.{Every}
 use Rattle.grammar.specs.Rows.{Small, every-at}
 
 -- ---- lists of tests

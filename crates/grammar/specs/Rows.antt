@@ -8,7 +8,7 @@ use lib.Seq.{length-take-le, take-at, drop-at}
 use Rattle.transport.specs.Lists.{at}
 use Rattle.transport.specs.Limits.{maxDigits}
 use Rattle.transport.specs.SheetText.{rowsOf}
-use Rattle.grammar.specs.Readers.{Every, Count}
+use Rattle.grammar.specs.Every.{Every, Count, every-append, every-take, every-drop}
 
 -- ---- numbers of at most seven digits
 
@@ -25,21 +25,6 @@ pub at-every : (xs : List ℕ) → ((k : ℕ) → at xs k < 10 ^ maxDigits) → 
 unfolding at
 at-every [] h = tt
 at-every (x ∷ xs) h = (h 0, at-every xs (λ k. h (suc k)))
-
-module _ {A : Type 0} (Good : A → Type 0) where
-  every-append : (xs ys : List A) → Every Good xs → Every Good ys → Every Good (xs ++ ys)
-  every-append [] ys h k = k
-  every-append (x ∷ xs) ys h k = (h .0, every-append xs ys (h .1) k)
-
-  every-take : (n : ℕ) (xs : List A) → Every Good xs → Every Good (take n xs)
-  every-take zero xs h = tt
-  every-take (suc n) [] h = tt
-  every-take (suc n) (x ∷ xs) h = (h .0, every-take n xs (h .1))
-
-  every-drop : (n : ℕ) (xs : List A) → Every Good xs → Every Good (drop n xs)
-  every-drop zero xs h = h
-  every-drop (suc n) [] h = tt
-  every-drop (suc n) (x ∷ xs) h = every-drop n xs (h .1)
 
 -- ---- rows of n
 

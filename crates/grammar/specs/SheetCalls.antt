@@ -7,7 +7,9 @@ use mathlib.Core.Option.{none, some}
 use Prim.Native.Nat.{ℕ, zero, suc, _*_, _-_, _≤_}
 use native.Mathlib.Omega.{arith}
 use native.Mathlib.Nat.{mul-le-mul}
+use native.Mathlib.Decide.{decLe}
 use lib.ListN.{length, take}
+use lib.Seq.{take-all}
 use Rattle.transport.specs.Limits.{maxSide, maxText}
 use Rattle.transport.specs.Sheet.{Sheet, sources, sinks, refusal, sheetTests, numberTests}
 use Rattle.transport.specs.Calls.{Answer, Refusal, refused, given, unless, tooShort}
@@ -15,7 +17,7 @@ use Rattle.transport.specs.SheetText.{Reading, stuck, got, sheetText, sheetRead
 use Rattle.transport.specs.Statements.{Accepted, HasText, SheetTextOf, Place, Undo}
 use Rattle.grammar.specs.Tests.{within-iff}
 use Rattle.grammar.specs.Exact.{stuck≢got}
-use Rattle.grammar.specs.Place.{reader-iff, place, place-unique}
+use Rattle.grammar.specs.Place.{reader-iff, place, place-unique, place-cut}
 use Rattle.grammar.specs.Longest.{text-length}
 use Rattle.grammar.specs.Refusals.{refusal-last, unless-given, unless-refused, room-iff, or-false-iff, some≢none, refused≢given, text-accepted, accepted-text}
 
@@ -125,3 +127,19 @@ undo = record {
       let h = readSheet-iff text maxSide maxSide (maxSide * maxSide) S .0 e in
       writeSheet-iff S maxText text .1 (h .1, text-length S (h .0 .sheet), h .0 .written);
 }
+
+-- ---- the first 8,733 bytes
+
+-- What a text that is longer than any sheet text is refused by stands in its first 8,733 bytes: reading those gives the same answer as reading the whole.
+pub read-cut : (tests : Sheet → List (Bool × ℕ)) (text : List ℕ) → readWith tests (take (suc maxText) text) ≡ readWith tests text
+read-cut tests text = go (decLe (length text) (suc maxText)) (sheetReader text) refl
+  where
+    go : Dec (length text ≤ suc maxText) → (o : Reading Sheet) → sheetReader text ≡ o
+      → readWith tests (take (suc maxText) text) ≡ readWith tests text
+    go (yes l) o e = rw (take-all (suc maxText) text l)
+    go (no l) (got S rest) e =
+        let h = reader-iff text S rest .0 e .1 in
+        absurd (omega (arith, ap length (h .written), text-length S (h .sheet)))
+    go (no l) (stuck rest) e =
+        let h = place-cut text rest e (omega arith) in
+        read-stuck tests (take (suc maxText) text) (h .0) (h .1) ∙ rw (h .2) (sym (read-stuck tests text rest e))
