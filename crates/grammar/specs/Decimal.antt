@@ -1,7 +1,7 @@
 -- The digits of a number are its one decimal numeral with no leading 0, of whatever length (paper 01, "Texts").
 use mathlib.Core.Path.{_≡_, refl, sym, _∙_, ap}
 use mathlib.Core.Logic.{_↔_}
-use mathlib.Core.Bool.{Bool, true, false}
+use mathlib.Core.Bool.{Bool, true}
 use mathlib.Core.List.{List, [], _∷_, head-eq-of-cons-eq}
 use Prim.Native.Nat.{ℕ, zero, suc, _+_, _*_, _^_, _≤_, _<_}
 use native.Mathlib.Omega.{arith}
@@ -54,8 +54,10 @@ decimal-digits (b ∷ ds) h = go (decLt (digitValue b) 1)
   where
     v : (48 + digitValue b ≡ b) × (digitValue b < 10)
     v = digit-value b (h .digit .0)
+
     start : 0 * 10 + digitValue b ≡ digitValue b
     start = omega arith
+
     go : Dec (digitValue b < 1) → digits (value (0 * 10 + digitValue b) ds) ≡ b ∷ ds
     go (yes z) =
         let e : b ≡ 48 = omega (arith, v .0) in

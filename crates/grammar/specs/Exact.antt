@@ -84,7 +84,7 @@ module _ {A B : Type 0} {r : Reader A} {s : A → Reader B} {L : A → List ℕ 
   bind-takes : (b : B) (t rest : List ℕ) → Then L M b t → After rest → (r >>= s) (t ++ rest) ≡ got b rest
   bind-takes b t rest h k =
       let e : r (t ++ rest) ≡ got (h .value) (h .back ++ rest) =
-          rw (h .joined, append-assoc) (x .takes (h .value) (h .front) (h .back ++ rest) (h .first) tt)
+      rw (h .joined, append-assoc) (x .takes (h .value) (h .front) (h .back ++ rest) (h .first) tt)
       in
       bind-got r s (t ++ rest) (h .value) (h .back ++ rest) e ∙ y (h .value) .takes b (h .back) rest (h .second) k
 

@@ -1,7 +1,7 @@
 -- The sheet's reader is exact: it takes the sheet texts, each as its own sheet, and nothing else.
 use mathlib.Core.Path.{_≡_, refl, sym, _∙_, ap}
 use mathlib.Core.Bool.{true}
-use mathlib.Core.List.{List, [], _∷_, _++_, append-assoc, append-nil, flatMap, flatten}
+use mathlib.Core.List.{List, [], _++_, append-assoc, append-nil, flatMap, flatten}
 use Prim.Native.Nat.{ℕ}
 use lib.ListN.{length}
 use Rattle.transport.specs.Lists.{within}

@@ -3,15 +3,15 @@ use mathlib.Core.Path.{_≡_, refl, sym, _∙_, ap}
 use mathlib.Core.Logic.{_↔_}
 use mathlib.Core.Bool.{true, false}
 use mathlib.Core.List.{List, [], _∷_, _++_, append-nil}
-use Prim.Native.Nat.{ℕ, zero, suc, _^_, _<_}
+use Prim.Native.Nat.{ℕ, zero, suc}
 use native.Mathlib.Omega.{arith}
 use lib.ListN.{length}
 use Rattle.transport.specs.Lists.{within}
-use Rattle.transport.specs.Limits.{maxSide, maxDigits}
+use Rattle.transport.specs.Limits.{maxSide}
 use Rattle.transport.specs.Text.{bytes, kindOf, digits, numberLine, rowLine}
 use Rattle.transport.specs.SheetText.{Reading, stuck, got, Reader, _>>=_, _>>_, pure, word, isDigit, number, side, line, row}
 use Rattle.grammar.specs.Exact.{Exact, Any, Then, glued, bind, then, reworded, agreeing}
-use Rattle.grammar.specs.Every.{Every, Count}
+use Rattle.grammar.specs.Every.{Count}
 use Rattle.grammar.specs.Readers.{Only, pure-exact, Bytes, word-exact, Of}
 use Rattle.grammar.specs.Number.{closedBy, number-exact, side-exact}
 use Rattle.grammar.specs.Rows.{Small}

@@ -1,9 +1,7 @@
 -- The longest sheet text has 8,732 bytes.
-use mathlib.Core.Path.{_≡_, refl, sym, _∙_, ap}
-use mathlib.Core.Logic.{_↔_}
-use mathlib.Core.Bool.{true}
-use mathlib.Core.List.{List, [], _∷_, _++_, flatMap}
-use Prim.Native.Nat.{ℕ, zero, suc, _+_, _*_, _^_, _≤_, _<_}
+use mathlib.Core.Path.{_≡_, refl}
+use mathlib.Core.List.{List, [], _∷_, flatMap}
+use Prim.Native.Nat.{ℕ, suc, _*_, _≤_}
 use native.Mathlib.Omega.{arith}
 use native.Mathlib.Nat.{mul-le-mul}
 use lib.ListN.{length, length-append, replicate}
@@ -16,6 +14,7 @@ use Rattle.transport.specs.Statements.{HasText, Accepted}
 use Rattle.grammar.specs.Tests.{within-iff}
 use Rattle.grammar.specs.Digits.{digits-length}
 use Rattle.grammar.specs.Every.{Every, Count}
+use Rattle.grammar.specs.Refusals.{accepted-text}
 use Rattle.grammar.specs.Rows.{Small, at-every, rowsOf-length, rowsOf-every}
 
 -- ---- parts
@@ -83,3 +82,6 @@ largest-length = refl
 pub largest-accepted : Accepted largest
 unfolding largest sources sinks refusal sheetTests numberTests badSides badLength badAmount badCost unbalanced within all total sumTo at maxSide maxAmount maxCost
 largest-accepted = record { accepted = refl }
+
+pub largest-text : HasText largest
+largest-text = accepted-text largest largest-accepted

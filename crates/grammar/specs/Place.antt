@@ -2,7 +2,7 @@
 use mathlib.Core.Path.{_≡_, refl, sym, _∙_, ap}
 use mathlib.Core.Logic.{_↔_}
 use mathlib.Core.List.{List, [], _∷_, _++_, append-assoc, append-nil}
-use Prim.Native.Nat.{ℕ, zero, suc, _+_, _-_, _≤_, _<_}
+use Prim.Native.Nat.{ℕ, suc, _+_, _-_, _≤_, _<_}
 use native.Mathlib.Omega.{arith}
 use native.Mathlib.Nat.{le-antisymm}
 use native.Mathlib.Decide.{decLe}
@@ -10,9 +10,9 @@ use lib.ListN.{length, take, drop, length-append, take-append-drop}
 use lib.Seq.{take-at, take-take, take-append-add}
 use Rattle.transport.specs.Limits.{maxText}
 use Rattle.transport.specs.Sheet.{Sheet}
-use Rattle.transport.specs.SheetText.{Reading, stuck, got, sheetText, sheetReader}
+use Rattle.transport.specs.SheetText.{stuck, got, sheetText, sheetReader}
 use Rattle.transport.specs.Statements.{HasText, SheetTextOf, Shared, Place}
-use Rattle.grammar.specs.Exact.{Exact, Stopped, stuck≢got}
+use Rattle.grammar.specs.Exact.{Stopped, stuck≢got}
 use Rattle.grammar.specs.Grammar.{sheet-exact}
 use Rattle.grammar.specs.Longest.{text-length}
 
@@ -109,14 +109,16 @@ place-cut text rest e l = go rest refl
   where
     s : Stopped sheetReader SheetTextOf text rest
     s = sheet-exact .stopped text rest e
+
     go : (y : List ℕ) → rest ≡ y
-      → (z : List ℕ) × (sheetReader (take (suc maxText) text) ≡ stuck z) × (length (take (suc maxText) text) - length z ≡ length text - length rest)
+        → (z : List ℕ) × (sheetReader (take (suc maxText) text) ≡ stuck z) × (length (take (suc maxText) text) - length z ≡ length text - length rest)
     go [] f = absurd (omega (arith, stop-length text rest s, stop-short text rest s, ap length f))
     go (b ∷ old) f =
         let k : ℕ = suc maxText - suc (length (s .part)) in
         let cut : take (suc maxText) text ≡ s .part ++ b ∷ take k old =
-            stop-cut text rest s (suc maxText) (omega (arith, stop-short text rest s)) b old f
-        in
-        (b ∷ take k old,
-        rw cut (s .closed b old (take k old) f),
-        omega (arith, ap length cut, length-append (s .part) (b ∷ take k old), stop-length text rest s))
+        stop-cut text rest s (suc maxText) (omega (arith, stop-short text rest s)) b old f
+        in (
+          b ∷ take k old,
+          rw cut (s .closed b old (take k old) f),
+          omega (arith, ap length cut, length-append (s .part) (b ∷ take k old), stop-length text rest s),
+        )

@@ -2,14 +2,14 @@
 use mathlib.Core.Path.{_≡_, refl, sym, _∙_, ap}
 use mathlib.Core.Logic.{_↔_}
 use mathlib.Core.Bool.{Bool, true, false}
-use mathlib.Core.List.{List, [], _∷_, _++_, append-nil, cons≢nil, nil≢cons, flatMap}
+use mathlib.Core.List.{List, [], _∷_, append-nil, cons≢nil, nil≢cons, flatMap}
 use Prim.Native.Nat.{ℕ, zero, suc}
 use native.Mathlib.Omega.{arith}
 use lib.Dec.{eqb}
 use lib.ListN.{length}
 use borrow.Author.Tests.{eqb-true, eq-eqb}
-use Rattle.transport.specs.SheetText.{Reading, stuck, got, Reader, _>>=_, _>>_, pure, byteThat, word, end, times}
-use Rattle.grammar.specs.Every.{Every, Count}
+use Rattle.transport.specs.SheetText.{Reading, stuck, got, Reader, _>>_, pure, byteThat, word, end, times}
+use Rattle.grammar.specs.Every.{Count}
 use Rattle.grammar.specs.Exact.{Exact, Taken, Stopped, Any, AtEnd, Then, glued, stuck≢got, bind, then, reworded}
 
 module _ {A : Type 0} where

@@ -1,18 +1,17 @@
 -- Laws of refusals: when no test of a list refuses, and what a sheet then is.
 use mathlib.Core.Path.{_≡_, refl, sym, _∙_, ap}
 use mathlib.Core.Logic.{_↔_, Iff·trans}
-use mathlib.Core.Bool.{Bool, true, false, not, _&&_, _||_, and-eq-true-iff}
+use mathlib.Core.Bool.{Bool, true, false, not, _||_, and-eq-true-iff}
 use mathlib.Core.List.{List, [], _∷_, _++_}
 use mathlib.Core.Option.{Option, none, some}
-use Prim.Native.Nat.{ℕ, zero, suc, _*_, _^_, _≤_, _<_}
+use Prim.Native.Nat.{ℕ, _*_, _^_, _≤_, _<_}
 use native.Mathlib.Omega.{arith}
-use lib.Dec.{eqb, ltb}
 use lib.ListN.{length}
 use borrow.Author.Tests.{ltb-false, le-ltb, eqb-true, eq-eqb, not-false}
 use Rattle.transport.specs.Lists.{within, all}
 use Rattle.transport.specs.Limits.{maxSide, maxDigits, maxAmount, maxCost}
-use Rattle.transport.specs.Sheet.{Sheet, sources, sinks, badSides, badLength, badAmount, badCost, unbalanced, numberTests, sheetTests, refusal}
-use Rattle.transport.specs.Calls.{Answer, Refusal, refused, given, refusedBy, unless, tooShort}
+use Rattle.transport.specs.Sheet.{Sheet, sources, sinks, badSides, badLength, badAmount, badCost, numberTests, sheetTests, refusal}
+use Rattle.transport.specs.Calls.{Refusal, refused, given, refusedBy, unless, tooShort}
 use Rattle.transport.specs.Statements.{Accepted, HasText}
 use Rattle.grammar.specs.Tests.{within-iff}
 use Rattle.grammar.specs.Every.{Every}

@@ -1,10 +1,10 @@
 -- Read sheet and write sheet: when they succeed, that they undo each other, and what refusal 9 says.
 use mathlib.Core.Path.{_≡_, refl, sym, _∙_, ap}
 use mathlib.Core.Logic.{_↔_}
-use mathlib.Core.Bool.{Bool, true, false, _||_}
-use mathlib.Core.List.{List, [], _∷_, _++_}
+use mathlib.Core.Bool.{Bool, false, _||_}
+use mathlib.Core.List.{List, []}
 use mathlib.Core.Option.{none, some}
-use Prim.Native.Nat.{ℕ, zero, suc, _*_, _-_, _≤_}
+use Prim.Native.Nat.{ℕ, suc, _*_, _-_, _≤_}
 use native.Mathlib.Omega.{arith}
 use native.Mathlib.Nat.{mul-le-mul}
 use native.Mathlib.Decide.{decLe}
@@ -12,9 +12,9 @@ use lib.ListN.{length, take}
 use lib.Seq.{take-all}
 use Rattle.transport.specs.Limits.{maxSide, maxText}
 use Rattle.transport.specs.Sheet.{Sheet, sources, sinks, refusal, sheetTests, numberTests}
-use Rattle.transport.specs.Calls.{Answer, Refusal, refused, given, unless, tooShort}
+use Rattle.transport.specs.Calls.{Refusal, refused, given, unless, tooShort}
 use Rattle.transport.specs.SheetText.{Reading, stuck, got, sheetText, sheetReader, writeSheetCall, readWith, readTests, readSheetCall}
-use Rattle.transport.specs.Statements.{Accepted, HasText, SheetTextOf, Place, Undo}
+use Rattle.transport.specs.Statements.{Accepted, SheetTextOf, Place, Undo}
 use Rattle.grammar.specs.Tests.{within-iff}
 use Rattle.grammar.specs.Exact.{stuck≢got}
 use Rattle.grammar.specs.Place.{reader-iff, place, place-unique, place-cut}
@@ -135,7 +135,7 @@ pub read-cut : (tests : Sheet → List (Bool × ℕ)) (text : List ℕ) → read
 read-cut tests text = go (decLe (length text) (suc maxText)) (sheetReader text) refl
   where
     go : Dec (length text ≤ suc maxText) → (o : Reading Sheet) → sheetReader text ≡ o
-      → readWith tests (take (suc maxText) text) ≡ readWith tests text
+        → readWith tests (take (suc maxText) text) ≡ readWith tests text
     go (yes l) o e = rw (take-all (suc maxText) text l)
     go (no l) (got S rest) e =
         let h = reader-iff text S rest .0 e .1 in
