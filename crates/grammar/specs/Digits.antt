@@ -12,7 +12,7 @@ use borrow.Author.Tests.{ltb-true, ltb-false}
 use Rattle.transport.specs.Lists.{within}
 use Rattle.transport.specs.Text.{kindOf, digitsUpTo, digits}
 use Rattle.transport.specs.SheetText.{isDigit, digitValue}
-use Rattle.grammar.specs.Tests.{within-iff}
+use Rattle.grammar.specs.Numbers.{within-iff}
 
 -- ---- digits grow at the end
 

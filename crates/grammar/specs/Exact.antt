@@ -45,6 +45,11 @@ pub record Then {A B : Type 0} (L : A → List ℕ → Type 0) (M : A → B → 
   pub second : M value b back
   pub joined : t ≡ front ++ back
 
+-- The two parts, one after the other.
+pub joining : {A B : Type 0} {L : A → List ℕ → Type 0} {M : A → B → List ℕ → Type 0} {b : B} (a : A) (front back : List ℕ)
+    → L a front → M a b back → Then L M b (front ++ back)
+joining a front back h k = record { value = a; front = front; back = back; first = h; second = k; joined = refl }
+
 -- The two parts in other words.
 pub glued : {t front back left right : List ℕ} → t ≡ front ++ back → front ≡ left → back ≡ right → t ≡ left ++ right
 glued e p q = e ∙ ap₂ (λ (l m : List ℕ). l ++ m) p q

@@ -1,23 +1,18 @@
 -- The sheet's reader is exact: it takes the sheet texts, each as its own sheet, and nothing else.
 use mathlib.Core.Path.{_≡_, refl, sym, _∙_, ap}
-use mathlib.Core.Bool.{true}
 use mathlib.Core.List.{List, [], _++_, append-assoc, append-nil, flatMap, flatten}
 use Prim.Native.Nat.{ℕ}
 use lib.ListN.{length}
-use Rattle.transport.specs.Lists.{within}
-use Rattle.transport.specs.Limits.{maxSide}
 use Rattle.transport.specs.Sheet.{Sheet, sources, sinks}
 use Rattle.transport.specs.Text.{bytes, headLine, numberLine, rowLine}
 use Rattle.transport.specs.SheetText.{rowsOf, sheetText, sheetReader}
 use Rattle.transport.specs.Statements.{HasText, SheetTextOf}
-use Rattle.grammar.specs.Exact.{Exact, AtEnd, Then, glued, bind, then, reworded}
+use Rattle.grammar.specs.Numbers.{Side, Small, every-at, at-every}
+use Rattle.grammar.specs.Exact.{Exact, AtEnd, Then, joining, glued, bind, then, reworded}
 use Rattle.grammar.specs.Every.{Every, Count}
 use Rattle.grammar.specs.Readers.{Only, Bytes, word-exact, end-exact, Of, times-exact}
 use Rattle.grammar.specs.Lines.{number-line-exact, side-line-exact, row-exact}
-use Rattle.grammar.specs.Rows.{Small, every-at, at-every, flatten-every, flatten-length, rowsOf-flatten, rowsOf-length, rowsOf-every, flatten-rowsOf}
-
-abbrev Side : ℕ → Type 0
-Side n = within 1 maxSide n ≡ true
+use Rattle.grammar.specs.Rows.{flatten-every, flatten-length, rowsOf-flatten, rowsOf-length, rowsOf-every, flatten-rowsOf}
 
 -- The sheet of what the sections hold.
 sheetOf : List ℕ → List ℕ → List (List ℕ) → Sheet
@@ -36,6 +31,7 @@ Sections =
     Then (Of (Count (Count Small n) m) (flatMap rowLine)) (λ rows.
     Only (sheetOf supply demand rows)))))))))
 
+-- Section by section, since the pieces are exact.
 sections-exact : Exact sheetReader Sections AtEnd
 unfolding sheetReader sheetOf
 sections-exact =
@@ -62,7 +58,8 @@ laidOut m n supply demand rows =
     ++ (numberLine n
     ++ (flatMap numberLine demand
     ++ (headLine "cost" m
-    ++ flatMap rowLine rows))))))
+    ++ (flatMap rowLine rows
+    ++ [])))))))
 
 head-line : (m : ℕ) → (headLine "supply" m ≡ bytes "supply " ++ numberLine m) × (headLine "demand" m ≡ bytes "demand " ++ numberLine m)
 unfolding headLine bytes numberLine
@@ -75,7 +72,7 @@ module _ (m n : ℕ) (supply demand : List ℕ) (rows : List (List ℕ)) (ms : l
 
   sheetText-sections : sheetText (sheetOf supply demand rows) ≡ laidOut m n supply demand rows
   unfolding sheetText sheetOf sources sinks laidOut
-  sheetText-sections = rw (ms, ns, cut, head-line m .0, head-line n .1) (simp append-assoc)
+  sheetText-sections = rw (ms, ns, cut, head-line m .0, head-line n .1) (simp (append-assoc, append-nil))
 
   hasText-sections : Side m → Every Small supply → Side n → Every Small demand → HasText (sheetOf supply demand rows)
   unfolding sheetOf sources sinks
@@ -111,7 +108,7 @@ sections-there S text h =
     (glued (h₄ .joined) (h₄ .first .1)
     (glued (h₅ .joined) (h₅ .first .1)
     (glued (h₆ .joined) (h₆ .first)
-    (glued (h₇ .joined) (h₇ .first .1) (h₇ .second .1) ∙ append-nil (flatMap rowLine rows))))))))
+    (glued (h₇ .joined) (h₇ .first .1) (h₇ .second .1))))))))
     in
     rw
     (h₇ .second .0)
@@ -135,63 +132,18 @@ sections-back S text h =
     let written : text ≡ laidOut m n (S .supply) (S .demand) rows =
     h .written ∙ ap sheetText same ∙ sheetText-sections m n (S .supply) (S .demand) rows refl refl rs
     in
-    record {
-      value = tt;
-      front = _;
-      back = _;
-      first = refl;
-      joined = written;
-      second = record {
-        value = m;
-        front = _;
-        back = _;
-        first = (h .sheet .sides .0, refl);
-        joined = refl;
-        second = record {
-          value = S .supply;
-          front = _;
-          back = _;
-          first = ((refl, at-every (S .supply) (λ k. numbers k .0)), refl);
-          joined = refl;
-          second = record {
-            value = tt;
-            front = _;
-            back = _;
-            first = refl;
-            joined = refl;
-            second = record {
-              value = n;
-              front = _;
-              back = _;
-              first = (h .sheet .sides .1, refl);
-              joined = refl;
-              second = record {
-                value = S .demand;
-                front = _;
-                back = _;
-                first = ((refl, at-every (S .demand) (λ k. numbers k .1)), refl);
-                joined = refl;
-                second = record {
-                  value = tt;
-                  front = _;
-                  back = _;
-                  first = refl;
-                  joined = refl;
-                  second = record {
-                    value = rows;
-                    front = _;
-                    back = [];
-                    first = (rs, refl);
-                    joined = sym (append-nil (flatMap rowLine rows));
-                    second = (same, refl);
-                  };
-                };
-              };
-            };
-          };
-        };
-      };
-    }
+    rw
+    written
+    (joining tt _ _ refl
+    (joining m _ _ (h .sheet .sides .0, refl)
+    (joining (S .supply) _ _ ((refl, at-every (S .supply) (λ k. numbers k .0)), refl)
+    (joining tt _ _ refl
+    (joining n _ _ (h .sheet .sides .1, refl)
+    (joining (S .demand) _ _ ((refl, at-every (S .demand) (λ k. numbers k .1)), refl)
+    (joining tt _ _ refl
+    (joining rows _ [] (rs, refl)
+    (same, refl)))))))))
 
+-- The sections are those of a sheet text, and the language of the sheet's reader is that of the sheet texts.
 pub sheet-exact : Exact sheetReader SheetTextOf AtEnd
 sheet-exact = reworded (λ S text. (sections-there S text, sections-back S text)) sections-exact

@@ -1,20 +1,20 @@
 -- The readers of lines are exact: of one number, of a count, and of a row of numbers.
 use mathlib.Core.Path.{_≡_, refl, sym, _∙_, ap}
 use mathlib.Core.Logic.{_↔_}
-use mathlib.Core.Bool.{true, false}
+use mathlib.Core.Bool.{false}
 use mathlib.Core.List.{List, [], _∷_, _++_, append-nil}
 use Prim.Native.Nat.{ℕ, zero, suc}
 use native.Mathlib.Omega.{arith}
 use lib.ListN.{length}
 use Rattle.transport.specs.Lists.{within}
-use Rattle.transport.specs.Limits.{maxSide}
 use Rattle.transport.specs.Text.{bytes, kindOf, digits, numberLine, rowLine}
 use Rattle.transport.specs.SheetText.{Reading, stuck, got, Reader, _>>=_, _>>_, pure, word, isDigit, number, side, line, row}
+use Rattle.grammar.specs.Numbers.{Side, Small}
 use Rattle.grammar.specs.Exact.{Exact, Any, Then, glued, bind, then, reworded, agreeing}
 use Rattle.grammar.specs.Every.{Count}
 use Rattle.grammar.specs.Readers.{Only, pure-exact, Bytes, word-exact, Of}
-use Rattle.grammar.specs.Number.{closedBy, number-exact, side-exact}
-use Rattle.grammar.specs.Rows.{Small}
+use Rattle.grammar.specs.Closing.{closedBy, Closed}
+use Rattle.grammar.specs.Number.{number-exact, side-exact}
 
 -- ---- lines
 
@@ -30,7 +30,7 @@ pub number-line-exact : Exact (line number) (Of Small numberLine) Any
 unfolding line closedBy bytes numberLine
 number-line-exact = number-exact 10 LF-plain
 
-pub side-line-exact : Exact (line side) (Of (λ n. within 1 maxSide n ≡ true) numberLine) Any
+pub side-line-exact : Exact (line side) (Of Side numberLine) Any
 unfolding line closedBy bytes numberLine
 side-line-exact = side-exact 10 LF-plain
 
@@ -81,7 +81,7 @@ row-one xs t = (
     back (y ∷ z ∷ ys) h = absurd (omega arith)
 
 abbrev Longer : ℕ → List ℕ → List ℕ → Type 0
-Longer n = Then (Of Small (λ x. digits x ++ (32 ∷ []))) (λ x. Then (Row (suc n)) (λ xs. Only (x ∷ xs)))
+Longer n = Then (Closed Small 32) (λ x. Then (Row (suc n)) (λ xs. Only (x ∷ xs)))
 
 rowLine-cons : (x n : ℕ) (xs : List ℕ) → length xs ≡ suc n → rowLine (x ∷ xs) ≡ (digits x ++ (32 ∷ [])) ++ rowLine xs
 unfolding rowLine bytes

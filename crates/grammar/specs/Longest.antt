@@ -11,11 +11,11 @@ use Rattle.transport.specs.Sheet.{Sheet, sources, sinks, refusal, sheetTests, n
 use Rattle.transport.specs.Text.{bytes, digits, digitsUpTo, headLine, numberLine, rowLine}
 use Rattle.transport.specs.SheetText.{sheetText, rowsOf}
 use Rattle.transport.specs.Statements.{HasText, Accepted}
-use Rattle.grammar.specs.Tests.{within-iff}
+use Rattle.grammar.specs.Numbers.{within-iff, Small, at-every}
 use Rattle.grammar.specs.Digits.{digits-length}
 use Rattle.grammar.specs.Every.{Every, Count}
 use Rattle.grammar.specs.Refusals.{accepted-text}
-use Rattle.grammar.specs.Rows.{Small, at-every, rowsOf-length, rowsOf-every}
+use Rattle.grammar.specs.Rows.{rowsOf-length, rowsOf-every}
 
 -- ---- parts
 

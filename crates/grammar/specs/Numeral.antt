@@ -124,6 +124,7 @@ one-more test k n l e h =
       whole = value-push (h .first) (h .rest) (n % 10) ∙ d;
     }
 
+-- Every number from 1 with at most k + 1 digits is a numeral: that of n / 10 with one digit more.
 pub numeral : (test : ℕ → Bool) → Beginnings test → (k n : ℕ) → 1 ≤ n → n < 10 ^ suc k → test n ≡ true → Numeral test k n
 numeral test begins zero n l h e = one-digit test 0 n l (omega arith) e
 numeral test begins (suc k) n l h e = go (decLt n 10) (numeral test begins k (n / 10))

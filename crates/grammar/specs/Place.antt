@@ -30,6 +30,9 @@ reader-iff text S rest = (there, back)
     back h = rw (h .0) (rw append-nil at (sheet-exact .takes S text [] (h .1) refl))
 
 -- ---- the place
+--
+-- The grammar has no dead ends: what the reader has read when it is stuck can be completed to a sheet text, and no sheet text goes on with the byte at which it
+-- is stuck (both by `sheet-exact`). So the number of bytes read is the place in the paper's words.
 
 -- A text that shares more with another than its beginning `part` goes on there with the same byte.
 next-byte : (part old other : List ℕ) (b q : ℕ) → suc (length part) ≤ q → take q (part ++ b ∷ old) ≡ take q other
@@ -80,6 +83,7 @@ module _ (text rest : List ℕ) (s : Stopped sheetReader SheetTextOf text rest) 
           absurd
           (stop-closed (h .sheet) (h .has) b old _ e (next-byte (s .part) old (sheetText (h .sheet)) b q more same))
 
+  -- It is no longer than a sheet text.
   stop-short : length (s .part) ≤ maxText
   stop-short = omega (arith, text-length (s .value) (s .completed .sheet), ap length (s .completed .written), length-append (s .part) (s .more))
 
@@ -92,6 +96,7 @@ module _ (text rest : List ℕ) (s : Stopped sheetReader SheetTextOf text rest) 
       let t : text ≡ s .part ++ b ∷ old = s .split ∙ ap (λ (z : List ℕ). s .part ++ z) e in
       ap (take room) t ∙ ap (λ (q : ℕ). take q (s .part ++ b ∷ old)) n ∙ take-append-add (s .part) (b ∷ old) (suc k)
 
+-- Where the reader is stuck is the place: that many bytes begin some sheet text, and no more do.
 pub place : (text rest : List ℕ) → sheetReader text ≡ stuck rest → Place text (length text - length rest)
 place text rest e =
     let s = sheet-exact .stopped text rest e in

@@ -13,9 +13,8 @@ use Rattle.transport.specs.Limits.{maxSide, maxDigits, maxAmount, maxCost}
 use Rattle.transport.specs.Sheet.{Sheet, sources, sinks, badSides, badLength, badAmount, badCost, numberTests, sheetTests, refusal}
 use Rattle.transport.specs.Calls.{Refusal, refused, given, refusedBy, unless, tooShort}
 use Rattle.transport.specs.Statements.{Accepted, HasText}
-use Rattle.grammar.specs.Tests.{within-iff}
+use Rattle.grammar.specs.Numbers.{within-iff, Small, every-at}
 use Rattle.grammar.specs.Every.{Every}
-use Rattle.grammar.specs.Rows.{Small, every-at}
 
 -- ---- lists of tests
 
@@ -86,9 +85,21 @@ pub room-iff : (room needed : ℕ) → (tooShort room needed ≡ false) ↔ (nee
 unfolding tooShort
 room-iff room needed = (ltb-false room needed, le-ltb room needed)
 
-pub or-false-iff : (a b : Bool) → (a || b ≡ false) ↔ (a ≡ false) × (b ≡ false)
+or-false-iff : (a b : Bool) → (a || b ≡ false) ↔ (a ≡ false) × (b ≡ false)
 or-false-iff true b = (λ e. absurd (true≢false e), λ h. h .0)
 or-false-iff false b = (λ e. (refl, e), λ h. h .1)
+
+-- Three lent lists.
+pub rooms-iff : (a x b y c z : ℕ) → (tooShort a x || tooShort b y || tooShort c z ≡ false) ↔ (x ≤ a) × (y ≤ b) × (z ≤ c)
+rooms-iff a x b y c z = (
+  λ e.
+      let h = or-false-iff (tooShort a x || tooShort b y) (tooShort c z) .0 e in
+      let k = or-false-iff (tooShort a x) (tooShort b y) .0 (h .0) in
+      (room-iff a x .0 (k .0), room-iff b y .0 (k .1), room-iff c z .0 (h .1)),
+  λ h.
+      or-false-iff (tooShort a x || tooShort b y) (tooShort c z) .1
+      (or-false-iff (tooShort a x) (tooShort b y) .1 (room-iff a x .1 (h .0), room-iff b y .1 (h .1)), room-iff c z .1 (h .2)),
+)
 
 -- ---- sheets
 

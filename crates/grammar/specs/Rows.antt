@@ -1,32 +1,12 @@
--- Lists of numbers below a bound, and a list cut into rows.
+-- A list cut into rows, and rows laid end to end.
 use mathlib.Core.Path.{_≡_, refl, _∙_, ap}
 use mathlib.Core.List.{List, [], _∷_, flatten}
-use Prim.Native.Nat.{ℕ, zero, suc, _*_, _^_, _<_}
+use Prim.Native.Nat.{ℕ, zero, suc, _*_}
 use native.Mathlib.Omega.{arith}
 use lib.ListN.{length, drop, length-append, length-drop, take-append-drop}
 use lib.Seq.{length-take-le, take-at, drop-at}
-use Rattle.transport.specs.Lists.{at}
-use Rattle.transport.specs.Limits.{maxDigits}
 use Rattle.transport.specs.SheetText.{rowsOf}
 use Rattle.grammar.specs.Every.{Every, Count, every-append, every-take, every-drop}
-
--- ---- numbers of at most seven digits
-
-abbrev pub Small : ℕ → Type 0
-Small x = x < 10 ^ maxDigits
-
-pub every-at : (xs : List ℕ) → Every Small xs → (k : ℕ) → at xs k < 10 ^ maxDigits
-unfolding at maxDigits
-every-at [] h k = omega arith
-every-at (x ∷ xs) h zero = h .0
-every-at (x ∷ xs) h (suc k) = every-at xs (h .1) k
-
-pub at-every : (xs : List ℕ) → ((k : ℕ) → at xs k < 10 ^ maxDigits) → Every Small xs
-unfolding at
-at-every [] h = tt
-at-every (x ∷ xs) h = (h 0, at-every xs (λ k. h (suc k)))
-
--- ---- rows of n
 
 module _ (Good : ℕ → Type 0) (n : ℕ) where
   pub flatten-every : (rows : List (List ℕ)) → Every (Count Good n) rows → Every Good (flatten rows)

@@ -15,11 +15,11 @@ use Rattle.transport.specs.Sheet.{Sheet, sources, sinks, refusal, sheetTests, n
 use Rattle.transport.specs.Calls.{Refusal, refused, given, unless, tooShort}
 use Rattle.transport.specs.SheetText.{Reading, stuck, got, sheetText, sheetReader, writeSheetCall, readWith, readTests, readSheetCall}
 use Rattle.transport.specs.Statements.{Accepted, SheetTextOf, Place, Undo}
-use Rattle.grammar.specs.Tests.{within-iff}
+use Rattle.grammar.specs.Numbers.{within-iff}
 use Rattle.grammar.specs.Exact.{stuck≢got}
 use Rattle.grammar.specs.Place.{reader-iff, place, place-unique, place-cut}
 use Rattle.grammar.specs.Longest.{text-length}
-use Rattle.grammar.specs.Refusals.{refusal-last, unless-given, unless-refused, room-iff, or-false-iff, some≢none, refused≢given, text-accepted, accepted-text}
+use Rattle.grammar.specs.Refusals.{refusal-last, unless-given, unless-refused, room-iff, rooms-iff, some≢none, refused≢given, text-accepted, accepted-text}
 
 -- ---- write sheet
 
@@ -99,17 +99,18 @@ readSheet-iff text a b c S = (
   λ e.
       let h = read-iff (readTests a b c) text S .0 e in
       let k = refusal-last (numberTests S) short .0 (h .1) in
-      let r = or-false-iff _ _ .0 (k .1) in
-      let q = or-false-iff _ _ .0 (r .0) in
-      (h .0, text-accepted S (h .0 .sheet) .0 (k .0), room-iff a (sources S) .0 (q .0), room-iff b (sinks S) .0 (q .1), room-iff c (sources S * sinks S) .0 (r .1)),
+      let r = rooms .0 (k .1) in
+      (h .0, text-accepted S (h .0 .sheet) .0 (k .0), r .0, r .1, r .2),
   λ h.
-      let fit = or-false-iff _ _ .1 (or-false-iff _ _ .1 (room-iff a (sources S) .1 (h .2), room-iff b (sinks S) .1 (h .3)), room-iff c (sources S * sinks S) .1 (h .4)) in
       read-iff (readTests a b c) text S .1
-      (h .0, refusal-last (numberTests S) short .1 (text-accepted S (h .0 .sheet) .1 (h .1), fit)),
+      (h .0, refusal-last (numberTests S) short .1 (text-accepted S (h .0 .sheet) .1 (h .1), rooms .1 (h .2, h .3, h .4))),
 )
   where
     short : Bool × ℕ
     short = (tooShort a (sources S) || tooShort b (sinks S) || tooShort c (sources S * sinks S), 8)
+
+    rooms : (short .0 ≡ false) ↔ (sources S ≤ a) × (sinks S ≤ b) × (sources S * sinks S ≤ c)
+    rooms = rooms-iff a (sources S) b (sinks S) c (sources S * sinks S)
 
 -- ---- both ways round
 
