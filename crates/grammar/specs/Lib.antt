@@ -12,7 +12,7 @@ pub mod Number
 pub mod Rows
 pub mod Lines
 pub mod Grammar
+pub mod Refusals
 pub mod Longest
 pub mod Place
-pub mod Refusals
 pub mod SheetCalls

@@ -1,7 +1,7 @@
 -- Laws of refusals: when no test of a list refuses, and what a sheet then is.
 use mathlib.Core.Path.{_≡_, refl, sym, _∙_, ap}
 use mathlib.Core.Logic.{_↔_, Iff·trans}
-use mathlib.Core.Bool.{Bool, true, false, not, _||_, and-eq-true-iff}
+use mathlib.Core.Bool.{Bool, true, false, not, _||_, true≢false, and-eq-true-iff}
 use mathlib.Core.List.{List, [], _∷_, _++_}
 use mathlib.Core.Option.{Option, none, some}
 use Prim.Native.Nat.{ℕ, _*_, _^_, _≤_, _<_}
@@ -20,9 +20,6 @@ use Rattle.grammar.specs.Every.{Every}
 
 pub some≢none : {A : Type 0} {a : A} → some a ≡ none → ⊥
 some≢none e = let n : _≡_ {A = ℕ} 0 1 = cc in omega arith
-
-true≢false : true ≡ false → ⊥
-true≢false e = let n : _≡_ {A = ℕ} 0 1 = cc in omega arith
 
 pub refused≢given : {A : Type 0} {r : Refusal} {a : A} → refused r ≡ given a → ⊥
 refused≢given e = let n : _≡_ {A = ℕ} 0 1 = cc in omega arith
