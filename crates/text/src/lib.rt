@@ -1,0 +1,2 @@
+// Sheet texts: reading, writing, and the numbers in them.
+pub mod number;
