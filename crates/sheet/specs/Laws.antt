@@ -42,6 +42,14 @@ module _ (low high x : ℕ) where
       go true e = e
       go false e = absurd (true≢false (sym e))
 
+  pub within-below : within low high x ≡ true → low ≤ x
+  unfolding within
+  within-below e = leb-true low x (go (leb low x) e)
+    where
+      go : (t : Bool) → (t && leb x high) ≡ true → t ≡ true
+      go true e = refl
+      go false e = e
+
 -- ---- all
 
 module _ (test : ℕ → Bool) where

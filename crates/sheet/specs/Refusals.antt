@@ -5,13 +5,14 @@ use mathlib.Core.List.{List, [], _∷_}
 use mathlib.Core.Option.{Option, none, some}
 use Prim.Native.Nat.{ℕ, _*_, _≤_}
 use native.Mathlib.Omega.{arith}
+use native.Mathlib.Nat.{mul-le-mul}
 use lib.Dec.{eqb}
 use borrow.Author.Tests.{eqb-true, not-false}
 use lib.ListN.{length}
 use Rattle.transport.specs.Lists.{all, within, total}
 use Rattle.transport.specs.Limits.{maxSide, maxAmount, maxCost}
 use Rattle.transport.specs.Sheet.{Sheet, sources, sinks, badSides, badLength, badAmount, badCost, unbalanced, numberTests, sheetTests, refusal}
-use Rattle.sheet.specs.Laws.{refusal-next}
+use Rattle.sheet.specs.Laws.{within-below, within-above, refusal-next, side-limit}
 
 module _ (S : Sheet) where
   abbrev supplies : Bool
@@ -111,3 +112,20 @@ module _ (S : Sheet) where
         costsFit = not-false _ (none-here _ _ _ e4);
         evenTotals = eqb-true _ _ (not-false _ (none-here _ _ _ e5));
       }
+
+  -- .. and in numbers.
+  module _ (p : Passed) where
+    pub sources-some : 1 ≤ length (S .supply)
+    sources-some = within-below 1 maxSide _ (p .sourcesFit)
+
+    pub sources-few : length (S .supply) ≤ 32
+    sources-few = rw side-limit at (within-above 1 maxSide _ (p .sourcesFit))
+
+    pub sinks-some : 1 ≤ length (S .demand)
+    sinks-some = within-below 1 maxSide _ (p .sinksFit)
+
+    pub sinks-few : length (S .demand) ≤ 32
+    sinks-few = rw side-limit at (within-above 1 maxSide _ (p .sinksFit))
+
+    pub costs-few : length (S .cost) ≤ 1024
+    costs-few = rw (p .costLength) (mul-le-mul sources-few sinks-few)

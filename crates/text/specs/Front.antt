@@ -5,7 +5,7 @@ use Prim.Native.Nat.{ℕ, zero, suc, _+_, _-_, _≤_, _<_}
 use native.Mathlib.Omega.{arith}
 use native.Mathlib.Numerals.{add-one}
 use lib.ListN.{length, take, drop, set, getD, length-append, length-drop, drop-of-length-le}
-use lib.Seq.{take-all, take-at, drop-at, drop-drop, drop-cons, set-at, take-add}
+use lib.Seq.{length-take-le, take-all, take-at, drop-at, drop-drop, drop-cons, set-at, take-add}
 use borrow.Rule.Slice.PartMut.{midOf, putMid}
 
 unfoldable pub front : List ℕ → List ℕ → List ℕ
@@ -54,3 +54,37 @@ module _ (first out held : List ℕ) (n : ℕ) (e : n ≡ length first) (h : hel
   front-then second =
       put-tail n held (front second (midOf n (length held - n) held))
       ∙ (rw (lent-rest, h, take-at first (drop (length first) out) n (sym e), e, drop-drop, length-append, append-assoc))
+
+-- ---- a text written piece by piece: what is written is its first `at` bytes
+
+module _ (T : List ℕ) (at : ℕ) (piece rest : List ℕ) (p : at ≤ length T) (e : drop at T ≡ piece ++ rest) where
+  pub piece-room : at + length piece ≤ length T
+  piece-room = omega (arith, length-drop at T, ap length e, length-append piece rest)
+
+  pub take-piece : take (at + length piece) T ≡ take at T ++ piece
+  take-piece = take-add at (length piece) T ∙ (rw (e, take-at piece rest (length piece) refl))
+
+  pub drop-piece : drop (at + length piece) T ≡ rest
+  drop-piece = sym (drop-drop (length piece) at T) ∙ (rw (e, drop-at piece rest (length piece) refl))
+
+  -- The output holds the first bytes, and the next piece was written in the rest of it.
+  module _ (out held : List ℕ) (h : held ≡ front (take at T) out) where
+    whole : at ≡ length (take at T)
+    whole = sym (length-take-le at T p)
+
+    pub room-piece : length T ≤ length out → length piece ≤ length (midOf at (length held - at) held)
+    room-piece q = omega (arith, lent-length (take at T) out held at whole h, piece-room)
+
+    pub write-piece : putMid at (length held - at) held (front piece (midOf at (length held - at) held)) ≡ front (take (at + length piece) T) out
+    write-piece = front-then (take at T) out held at whole h piece ∙ (rw take-piece)
+
+-- Two texts for which the output has room, one after the other.
+module _ (first second out held : List ℕ) (n : ℕ) (p : length (first ++ second) ≤ length out) where
+  pub first-room : length first ≤ length out
+  first-room = omega (arith, length-append first second)
+
+  pub second-start : n ≡ length first → held ≡ front first out → n ≤ length held
+  second-start e h = omega (arith, first-room, ap length h ∙ length-front first out first-room)
+
+  pub second-room : n ≡ length first → held ≡ front first out → length second ≤ length (midOf n (length held - n) held)
+  second-room e h = omega (arith, lent-length first out held n e h, length-append first second)
