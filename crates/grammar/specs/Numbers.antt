@@ -1,22 +1,17 @@
 -- The numbers of a sheet text: those of at most seven digits, and the counts 1 to 32.
 use mathlib.Core.Path.{_≡_}
 use mathlib.Core.Logic.{_↔_}
-use mathlib.Core.Bool.{true, and-eq-true-iff}
+use mathlib.Core.Bool.{true}
 use mathlib.Core.List.{List, [], _∷_}
 use Prim.Native.Nat.{ℕ, zero, suc, _^_, _≤_, _<_}
 use native.Mathlib.Omega.{arith}
-use lib.Dec.{leb}
-use borrow.Author.Tests.{leb-true, le-leb}
 use Rattle.transport.specs.Lists.{at, within}
+use Rattle.transport.specs.SheetLaws.{within-true, true-within}
 use Rattle.transport.specs.Limits.{maxSide, maxDigits}
 use Rattle.grammar.specs.Every.{Every}
 
 pub within-iff : (low high x : ℕ) → (within low high x ≡ true) ↔ (low ≤ x) × (x ≤ high)
-unfolding within
-within-iff low high x = (
-  λ h. let k = and-eq-true-iff (leb low x) (leb x high) .0 h in (leb-true low x (k .0), leb-true x high (k .1)),
-  λ h. and-eq-true-iff (leb low x) (leb x high) .1 (le-leb low x (h .0), le-leb x high (h .1)),
-)
+within-iff low high x = (within-true low high x, λ h. true-within low high x (h .0) (h .1))
 
 -- m and n.
 abbrev pub Side : ℕ → Type 0

@@ -19,7 +19,8 @@ use Rattle.grammar.specs.Numbers.{within-iff}
 use Rattle.grammar.specs.Exact.{stuck≢got}
 use Rattle.grammar.specs.Place.{reader-iff, place, place-unique, place-cut}
 use Rattle.grammar.specs.Longest.{text-length}
-use Rattle.grammar.specs.Refusals.{refusal-last, unless-given, unless-refused, room-iff, rooms-iff, some≢none, refused≢given, text-accepted, accepted-text}
+use Rattle.transport.specs.CallLaws.{refusal-last, unless-given-iff, unless-placeless, room-iff, rooms-iff, some≢none, refused≢given}
+use Rattle.grammar.specs.Refusals.{text-accepted, accepted-text}
 
 -- ---- write sheet
 
@@ -29,10 +30,10 @@ pub writeSheet-iff : (S : Sheet) (room : ℕ) (text : List ℕ)
 unfolding writeSheetCall
 writeSheet-iff S room text = (
   λ e.
-      let h = unless-given _ (sheetText S) text .0 e in
+      let h = unless-given-iff _ (sheetText S) text .0 e in
       let k = refusal-last (sheetTests S) short .0 (h .0) in
       (record { accepted = k .0 }, fits .0 (k .1), h .1),
-  λ h. unless-given _ (sheetText S) text .1 (refusal-last (sheetTests S) short .1 (h .0 .accepted, fits .1 (h .1)), h .2),
+  λ h. unless-given-iff _ (sheetText S) text .1 (refusal-last (sheetTests S) short .1 (h .0 .accepted, fits .1 (h .1)), h .2),
 )
   where
     short : Bool × ℕ
@@ -59,12 +60,12 @@ module _ (tests : Sheet → List (Bool × ℕ)) (text : List ℕ) where
 
   -- Reading succeeds exactly on the text of a sheet that no test refuses.
   pub read-iff : (S : Sheet) → (readWith tests text ≡ given S) ↔ SheetTextOf S text × (refusal (tests S) ≡ none)
-  read-iff S = (there (sheetReader text) refl, λ h. read-text S (h .0) ∙ unless-given (tests S) S S .1 (h .1, refl))
+  read-iff S = (there (sheetReader text) refl, λ h. read-text S (h .0) ∙ unless-given-iff (tests S) S S .1 (h .1, refl))
     where
       there : (o : Reading Sheet) → sheetReader text ≡ o → readWith tests text ≡ given S → SheetTextOf S text × (refusal (tests S) ≡ none)
       there (stuck rest) e f = absurd (refused≢given (sym (read-stuck rest e) ∙ f))
       there (got R rest) e f =
-          let h = unless-given (tests R) R S .0 (sym (read-got R rest e) ∙ f) in
+          let h = unless-given-iff (tests R) R S .0 (sym (read-got R rest e) ∙ f) in
           rw (h .1) (reader-iff text R rest .0 e .1, h .0)
 
   -- Reading gives refusal 9 exactly on a text that is no sheet text, and with it the place: the length of the longest beginning that some sheet text also has.
@@ -82,7 +83,7 @@ module _ (tests : Sheet → List (Bool × ℕ)) (text : List ℕ) where
           let same : length text - length rest ≡ p = cc in
           (λ S h. stuck≢got (sym e ∙ reader-iff text S [] .1 (refl, h)), rw same at (place text rest e))
       there (got R rest) e f =
-          let h : some p ≡ none = unless-refused (tests R) R _ (sym (read-got R rest e) ∙ f) in
+          let h : some p ≡ none = unless-placeless (tests R) R _ (sym (read-got R rest e) ∙ f) in
           absurd (some≢none h)
 
       back : (o : Reading Sheet) → sheetReader text ≡ o → ((S : Sheet) → SheetTextOf S text → ⊥) → Place text p
