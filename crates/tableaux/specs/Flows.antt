@@ -1,7 +1,7 @@
 -- Flows through the strikes have the margins asked for; and so the loop's signs are the flow of −1 at the two nodes of the entering lane.
 use mathlib.Core.Path.{_≡_, refl, ap, sym, _∙_}
 use mathlib.Core.Logic.{_≢_, _⊎_, inl, inr, ⊎-elim, by-cases, Dec·and}
-use mathlib.Core.Bool.{Bool, true, false, _&&_, true≢false}
+use mathlib.Core.Bool.{Bool, true, false, true≢false}
 use mathlib.Core.List.{List, [], _∷_, List·Memᴰ, List·Memᴰ·head, List·Memᴰ·tail, List·Memᴰ·not-nil, List·Memᴰ·cases-cons}
 use Prim.Native.Nat.{ℕ, zero, suc, _+_, _-_, _≤_, _<_}
 use native.Mathlib.Omega.{arith}
@@ -10,8 +10,8 @@ use borrow.Author.Tests.{eq-eqb, ne-eqb, eqb-true}
 use lib.Dec.{eqb}
 use lib.IntN.{ℤ, pos, negsuc, negℤ, _-ℤ_}
 use lib.ListN.{length}
-use Rattle.integers.specs.Integer.{Z, _≈_, ≈-dec, _⊕_, _⊖_, _⊗_, neg, nat, Within}
-use Rattle.integers.specs.Bridge.{toZ, z-add, z-neg, z-eq, eq-z}
+use Rattle.integers.specs.Integer.{Z, _≈_, _⊕_, _⊖_, _⊗_, neg, nat, Within}
+use Rattle.integers.specs.Bridge.{toZ, z-add, z-neg}
 use Rattle.integers.specs.Sum.{sum, point}
 use Rattle.integers.specs.SumLaws.{sum-zero, sum-cong, sum-add, sum-change, sum-swap, sum-point, point-at, point-off}
 use Rattle.transport.specs.ListLaws.{and-left, and-right}
@@ -22,7 +22,7 @@ use Rattle.transport.specs.Leaf.{Strike, strikes, spans}
 use Rattle.transport.specs.Round.{takeFrom, flow, sign}
 use Rattle.network.specs.Flow.{Flow}
 use Rattle.network.specs.FlowLaws.{flow-on}
-use Rattle.network.specs.Basis.{In, Basis, unit}
+use Rattle.network.specs.Basis.{In, unit}
 use Rattle.tableaux.specs.View.{point-one}
 use Rattle.tableaux.specs.Striking.{Has, Fits, Ends, row-struck, column-struck, Step, Peeled, bare, peel, IsLeaf, Struck, struck-of, lane-once, step-of, ends-differ, spans-iff}
 use Rattle.tableaux.specs.Bases.{rowAt, colAt, has-in, spans-basis}
