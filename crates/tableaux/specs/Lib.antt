@@ -4,3 +4,4 @@ pub mod Bases
 pub mod Flows
 pub mod Potentials
 pub mod Belonging
+pub mod Loop
