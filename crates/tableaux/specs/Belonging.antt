@@ -2,15 +2,15 @@
 use mathlib.Core.Path.{_≡_, refl, ap, sym, _∙_}
 use mathlib.Core.Logic.{_↔_, _⊎_, inl, inr, ⊎-elim, by-cases, Dec·and}
 use mathlib.Core.Bool.{Bool, true, false, _&&_, cond, false≢true}
-use mathlib.Core.List.{List, [], _∷_, List·Memᴰ}
+use mathlib.Core.List.{List, [], _∷_}
 use Prim.Native.Nat.{ℕ, zero, suc, _+_, _-_, _≤_, _<_}
 use native.Mathlib.Omega.{arith}
 use native.Mathlib.Decide.{ℕ-discrete}
 use borrow.Author.Tests.{ltb-true, lt-ltb, eq-eqb, ne-eqb}
 use lib.Dec.{ltb, eqb}
 use lib.IntN.{ℤ, pos, _+ℤ_}
-use lib.ListN.{length, getD, length-map}
-use Rattle.integers.specs.Integer.{Z, _≈_, nat, neg}
+use lib.ListN.{length, length-map}
+use Rattle.integers.specs.Integer.{_≈_, nat, neg}
 use Rattle.integers.specs.Bridge.{toZ, z-eq}
 use Rattle.integers.specs.Sum.{sum, point}
 use Rattle.integers.specs.SumLaws.{point-at, point-off}
@@ -20,17 +20,17 @@ use Rattle.transport.specs.Sheet.{Sheet, sources, sinks, Lane, place}
 use Rattle.transport.specs.SheetLaws.{Checked, lane}
 use Rattle.transport.specs.declared.Pair.{Pair}
 use Rattle.transport.specs.declared.Cell.{Cell}
-use Rattle.transport.specs.Amount.{nothing, add, less, same, pairedSupply, pairedDemand}
+use Rattle.transport.specs.Amount.{nothing, add, same, pairedSupply, pairedDemand}
 use Rattle.transport.specs.AmountLaws.{same-true, same-self}
 use Rattle.transport.specs.Tableau.{noCell, laneOf, basisOf, basisSize, onSheet, inOrder, aboveZero, rowTotal, columnTotal, balanced}
 use Rattle.transport.specs.Leaf.{strikes, spans, cellsBelong}
 use Rattle.transport.specs.Round.{sign}
-use Rattle.transport.specs.Statements.{Joined, Basic, Belongs}
+use Rattle.transport.specs.Statements.{Basic, Belongs}
 use Rattle.network.specs.Flow.{On, Flow}
 use Rattle.network.specs.FlowLaws.{flow-on}
 use Rattle.network.specs.Basis.{In, Basis, distinct}
 use Rattle.tableaux.specs.View.{rowOf, colOf, Distinct, Inside, basic-later, amountAt, amount-later, row-sum, column-sum}
-use Rattle.tableaux.specs.Striking.{Has, Fits, has-basic, spans-iff}
+use Rattle.tableaux.specs.Striking.{Fits, has-basic, spans-iff}
 use Rattle.tableaux.specs.Bases.{joined-on}
 use Rattle.tableaux.specs.Flows.{signs-of}
 

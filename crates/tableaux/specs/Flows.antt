@@ -1,7 +1,7 @@
 -- Flows through the strikes have the margins asked for; and so the loop's signs are the flow of −1 at the two nodes of the entering lane.
 use mathlib.Core.Path.{_≡_, refl, ap, sym, _∙_}
 use mathlib.Core.Logic.{_≢_, _⊎_, inl, inr, ⊎-elim, by-cases, Dec·and}
-use mathlib.Core.Bool.{Bool, true, false, _&&_, true≢false}
+use mathlib.Core.Bool.{Bool, true, false, true≢false}
 use mathlib.Core.List.{List, [], _∷_, List·Memᴰ, List·Memᴰ·head, List·Memᴰ·tail, List·Memᴰ·not-nil, List·Memᴰ·cases-cons}
 use Prim.Native.Nat.{ℕ, zero, suc, _+_, _-_, _≤_, _<_}
 use native.Mathlib.Omega.{arith}
@@ -10,8 +10,8 @@ use borrow.Author.Tests.{eq-eqb, ne-eqb, eqb-true}
 use lib.Dec.{eqb}
 use lib.IntN.{ℤ, pos, negsuc, negℤ, _-ℤ_}
 use lib.ListN.{length}
-use Rattle.integers.specs.Integer.{Z, _≈_, ≈-dec, _⊕_, _⊖_, _⊗_, neg, nat, Within}
-use Rattle.integers.specs.Bridge.{toZ, z-add, z-neg, z-eq, eq-z}
+use Rattle.integers.specs.Integer.{Z, _≈_, _⊕_, _⊖_, _⊗_, neg, nat, Within}
+use Rattle.integers.specs.Bridge.{toZ, z-add, z-neg}
 use Rattle.integers.specs.Sum.{sum, point}
 use Rattle.integers.specs.SumLaws.{sum-zero, sum-cong, sum-add, sum-change, sum-swap, sum-point, point-at, point-off}
 use Rattle.transport.specs.ListLaws.{and-left, and-right}
@@ -22,7 +22,7 @@ use Rattle.transport.specs.Leaf.{Strike, strikes, spans}
 use Rattle.transport.specs.Round.{takeFrom, flow, sign}
 use Rattle.network.specs.Flow.{Flow}
 use Rattle.network.specs.FlowLaws.{flow-on}
-use Rattle.network.specs.Basis.{In, Basis, unit}
+use Rattle.network.specs.Basis.{In, unit}
 use Rattle.tableaux.specs.View.{point-one}
 use Rattle.tableaux.specs.Striking.{Has, Fits, Ends, row-struck, column-struck, Step, Peeled, bare, peel, IsLeaf, Struck, struck-of, lane-once, step-of, ends-differ, spans-iff}
 use Rattle.tableaux.specs.Bases.{rowAt, colAt, has-in, spans-basis}
@@ -47,6 +47,13 @@ lane-other k l d = go (sameLane k l) refl
     go true e = absurd (d (same-lane k l e))
     go false e = e
 
+pub lane-dec : (k l : Lane) → Dec (k ≡ l)
+lane-dec k l = go (sameLane k l) refl
+  where
+    go : (b : Bool) → sameLane k l ≡ b → Dec (k ≡ l)
+    go true e = yes (same-lane k l e)
+    go false e = no (λ q. true≢false (sym (lane-same l) ∙ ap (λ (v : Lane). sameLane v l) (sym q) ∙ e))
+
 -- ---- points
 
 point-zero : (p : ℕ) (y : Z) (k : ℕ) → k ≢ p → point p y k ≈ nat 0
@@ -64,11 +71,11 @@ point-up m p y j = by-cases (ℕ-discrete j p)
 abbrev pub after : (ℕ → ℤ) → Strike → ℕ → ℤ
 after w s = takeFrom (takeFrom w (s .leaf) (w (s .leaf))) (s .other) (w (s .leaf))
 
-take-at : (w : ℕ → ℤ) (p : ℕ) (y : ℤ) → takeFrom w p y p ≡ w p -ℤ y
+pub take-at : (w : ℕ → ℤ) (p : ℕ) (y : ℤ) → takeFrom w p y p ≡ w p -ℤ y
 unfolding takeFrom
 take-at w p y = rw (eq-eqb p p refl, takeFrom)
 
-take-off : (w : ℕ → ℤ) (p : ℕ) (y : ℤ) (k : ℕ) → k ≢ p → takeFrom w p y k ≡ w k
+pub take-off : (w : ℕ → ℤ) (p : ℕ) (y : ℤ) (k : ℕ) → k ≢ p → takeFrom w p y k ≡ w k
 unfolding takeFrom
 take-off w p y k e = rw (ne-eqb k p e, takeFrom)
 
@@ -88,11 +95,11 @@ after-z {m} w {s} (column-struck p q) k = rw (← p, ← q) (omega (arith, take-
 
 -- ---- what a lane carries
 
-flow-here : (w : ℕ → ℤ) (s : Strike) (ss : List Strike) → flow w (s ∷ ss) (s .lane) ≡ w (s .leaf)
+pub flow-here : (w : ℕ → ℤ) (s : Strike) (ss : List Strike) → flow w (s ∷ ss) (s .lane) ≡ w (s .leaf)
 unfolding flow
 flow-here w s ss = rw (lane-same (s .lane), flow)
 
-flow-later : (w : ℕ → ℤ) (s : Strike) (ss : List Strike) (l : Lane) → l ≢ s .lane → flow w (s ∷ ss) l ≡ flow (after w s) ss l
+pub flow-later : (w : ℕ → ℤ) (s : Strike) (ss : List Strike) (l : Lane) → l ≢ s .lane → flow w (s ∷ ss) l ≡ flow (after w s) ss l
 unfolding flow
 flow-later w s ss l e = rw (lane-other l (s .lane) e, flow)
 
@@ -186,13 +193,12 @@ left-leaf {m} {n} w (peel {s} {later} st rest) k (t, h, e) = ⊎-elim
 
 lane-or : (ss : List Strike) (l : Lane) → ((s : Strike) × List·Memᴰ s ss × (s .lane ≡ l)) ⊎ ((s : Strike) → List·Memᴰ s ss → s .lane ≢ l)
 lane-or [] l = inr (λ s h. absurd (List·Memᴰ·not-nil h))
-lane-or (s ∷ ss) l = go (sameLane (s .lane) l) refl (lane-or ss l)
+lane-or (s ∷ ss) l = by-cases (lane-dec (s .lane) l) (λ e. inl (s, List·Memᴰ·head refl, e)) (λ e. go e (lane-or ss l))
   where
-    go : (b : Bool) → sameLane (s .lane) l ≡ b → ((t : Strike) × List·Memᴰ t ss × (t .lane ≡ l)) ⊎ ((t : Strike) → List·Memᴰ t ss → t .lane ≢ l)
+    go : s .lane ≢ l → ((t : Strike) × List·Memᴰ t ss × (t .lane ≡ l)) ⊎ ((t : Strike) → List·Memᴰ t ss → t .lane ≢ l)
         → ((t : Strike) × List·Memᴰ t (s ∷ ss) × (t .lane ≡ l)) ⊎ ((t : Strike) → List·Memᴰ t (s ∷ ss) → t .lane ≢ l)
-    go true e rest = inl (s, List·Memᴰ·head refl, same-lane (s .lane) l e)
-    go false e (inl (t, h, q)) = inl (t, List·Memᴰ·tail h, q)
-    go false e (inr d) = inr (λ t h. ⊎-elim (λ q r. true≢false (sym (lane-same l) ∙ ap (λ (v : Lane). sameLane v l) (sym r) ∙ ap (λ (v : Strike). sameLane (v .lane) l) q ∙ e)) (d t) (List·Memᴰ·cases-cons h))
+    go e (inl (t, h, q)) = inl (t, List·Memᴰ·tail h, q)
+    go e (inr d) = inr (λ t h. ⊎-elim (λ q r. e (ap (λ (v : Strike). v .lane) (sym q) ∙ r)) (d t) (List·Memᴰ·cases-cons h))
 
 -- The flow of the weights has them as its margins. Every node but row 0 is a leaf, so it has nothing left and has got its weight. What all rows get is what all columns get, so
 -- where the totals agree, row 0 has got its weight too.
@@ -231,7 +237,7 @@ flow-margins : {m n : ℕ} {T : ℕ → ℕ → Type 0} {x : ℕ → ℕ → Z} 
 flow-margins h k f = record { on = f .on; rows = λ i l. omega (arith, f .rows i l, h i l); cols = λ j l. omega (arith, f .cols j l, k j l) }
 
 -- What the entering lane takes from both its nodes.
-abbrev owed : ℕ → Lane → ℕ → ℤ
+abbrev pub owed : ℕ → Lane → ℕ → ℤ
 owed m enter = takeFrom (takeFrom (λ k. pos 0) (enter .row) (pos 1)) (m + enter .col) (pos 1)
 
 point-neg : (p k : ℕ) → point p (neg (nat 1)) k ≈ neg (point p (nat 1) k)

@@ -15,3 +15,4 @@ pub mod PivotView
 pub mod Pivoting
 pub mod Running
 pub mod Ending
+pub mod Loop

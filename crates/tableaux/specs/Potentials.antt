@@ -1,16 +1,16 @@
 -- Potentials through the strikes: tight on every lane, 0 at the root, the only such numbers, and bounded.
 use mathlib.Core.Path.{_≡_, refl, ap, sym, _∙_}
-use mathlib.Core.Logic.{_≢_, _⊎_, inl, inr, ⊎-elim, by-cases}
-use mathlib.Core.Bool.{Bool, true, false}
+use mathlib.Core.Logic.{_≢_, _⊎_, ⊎-elim, by-cases}
+use mathlib.Core.Bool.{true}
 use mathlib.Core.List.{List, [], _∷_, List·Memᴰ, List·Memᴰ·head, List·Memᴰ·tail, List·Memᴰ·not-nil, List·Memᴰ·cases-cons}
-use Prim.Native.Nat.{ℕ, zero, suc, _+_, _*_, _-_, _≤_, _<_}
+use Prim.Native.Nat.{ℕ, _+_, _*_, _-_, _≤_, _<_}
 use native.Mathlib.Omega.{arith}
 use native.Mathlib.Nat.{mul-le-mul-right}
 use native.Mathlib.Decide.{ℕ-discrete, decLt}
 use borrow.Author.Tests.{eq-eqb, ne-eqb}
 use lib.IntN.{ℤ, pos, negsuc, negℤ, natAbs, _-ℤ_}
 use lib.ListN.{length}
-use Rattle.integers.specs.Integer.{Z, _≈_, _⊕_, _⊖_, neg, nat, Within}
+use Rattle.integers.specs.Integer.{_≈_, _⊕_, Within}
 use Rattle.integers.specs.Bridge.{toZ, z-add, z-neg, z-eq, eq-z}
 use Rattle.transport.specs.Limits.{maxSide, maxCost, maxCells}
 use Rattle.transport.specs.Sheet.{Sheet, sources, sinks, Lane, place, laneCost}
@@ -19,10 +19,8 @@ use Rattle.transport.specs.declared.Cell.{Cell}
 use Rattle.transport.specs.Tableau.{basisSize, basisOf}
 use Rattle.transport.specs.Leaf.{Strike, strikes, spans}
 use Rattle.transport.specs.Potential.{potentialBy, potential}
-use Rattle.transport.specs.Statements.{Joined}
-use Rattle.network.specs.Flow.{Tight}
 use Rattle.network.specs.Joined.{potentials-unique}
-use Rattle.tableaux.specs.Striking.{Has, Fits, Ends, row-struck, column-struck, Step, Peeled, bare, peel, Struck, struck-of, ends-differ, step-of, root-no-leaf, spans-iff}
+use Rattle.tableaux.specs.Striking.{Fits, Ends, row-struck, column-struck, Peeled, bare, peel, struck-of, ends-differ, step-of, root-no-leaf, spans-iff}
 
 -- ---- sizes
 

@@ -1,7 +1,7 @@
 -- Striking off leaves: lanes join all nodes without a loop exactly if all of them are struck off, and what the list of strikes then is.
 use mathlib.Core.Path.{_≡_, refl, ap, sym, _∙_}
 use mathlib.Core.Logic.{_↔_, _≢_, _⊎_, inl, inr, ⊎-elim, by-cases}
-use mathlib.Core.Bool.{Bool, true, false, not, _&&_, _||_, cond, true≢false, false≢true}
+use mathlib.Core.Bool.{Bool, true, false, not, _&&_, _||_, cond, true≢false}
 use mathlib.Core.List.{List, [], _∷_, map, List·Memᴰ, List·Memᴰ·head, List·Memᴰ·tail, List·Memᴰ·not-nil, List·Memᴰ·cases-cons, List·Memᴰ·eq-of-singleton, Memᴰ·cast}
 use mathlib.Core.Option.{Option, none, some}
 use Prim.Native.Nat.{ℕ, zero, suc, _+_, _*_, _-_, _≤_, _<_}
@@ -9,7 +9,7 @@ use native.Mathlib.Omega.{arith}
 use native.Mathlib.Decide.{ℕ-discrete, decLt}
 use borrow.Author.Tests.{lt-ltb, le-ltb, eqb-true, eqb-false, eq-eqb, ne-eqb, not-true}
 use lib.Dec.{eqb, ltb}
-use lib.ListN.{length, getD}
+use lib.ListN.{length}
 use Rattle.transport.specs.Lists.{keep, table, sumTo}
 use Rattle.transport.specs.ListLaws.{keep-yes, keep-no, keep-member, member-keep, member-at, member-place, member-map, map-member, getD-table, length-table, and-left, and-right, sumTo-cong, sumTo-none, sumTo-add, sumTo-le, sumTo-scale}
 use Rattle.transport.specs.Sheet.{Lane}
@@ -44,14 +44,6 @@ has-basic T i j = (to, from)
     from b = Memᴰ·cast (λ t. lane (sym (b .row) t) (sym (b .column) t)) (member-map laneOf (member-at T noCell (b .index) (b .below)))
 
 -- ---- the nodes that a lane touches
-
-touches-true : (m k : ℕ) (l : Lane) → touches m k l ≡ true → (l .row ≡ k) ⊎ (m + l .col ≡ k)
-unfolding touches
-touches-true m k l e = go (eqb (l .row) k) refl e
-  where
-    go : (b : Bool) → eqb (l .row) k ≡ b → b || eqb (m + l .col) k ≡ true → (l .row ≡ k) ⊎ (m + l .col ≡ k)
-    go true p e = inl (eqb-true (l .row) k p)
-    go false p e = inr (eqb-true (m + l .col) k e)
 
 touches-false : (m k : ℕ) (l : Lane) → touches m k l ≡ false → (l .row ≢ k) × (m + l .col ≢ k)
 unfolding touches
@@ -558,16 +550,12 @@ every-leaf {m} {n} {ss} peels e k z l = go (leaf-or ss k)
 
 -- ---- the strikes of lanes that span
 
--- What the strikes of B are where all of B is struck off: the lanes of the strikes are those of B, no strike touches the leaf of an earlier one, and every node
--- but the root is the leaf of one.
-pub record Struck (m n : ℕ) (B : List Lane) (ss : List Strike) : Type 0 where
-  pub peels : Peeled m n ss
-  pub struck : (l : Lane) → List·Memᴰ l B → (s : Strike) × List·Memᴰ s ss × (s .lane ≡ l)
-  pub lanes : (s : Strike) → List·Memᴰ s ss → List·Memᴰ (s .lane) B
-  pub leaves : (k : ℕ) → k ≢ 0 → k < m + n → IsLeaf ss k
-  pub size : suc (length ss) ≡ m + n
+-- Each strike has its place in the list.
+pub step-of : {m n : ℕ} {ss : List Strike} → Peeled m n ss → (s : Strike) → List·Memᴰ s ss → (later : List Strike) × Step m n s later
+step-of bare s h = absurd (List·Memᴰ·not-nil h)
+step-of {m} {n} (peel {s} {later} st rest) t h = ⊎-elim (λ e. (later, rw e st)) (step-of rest t) (List·Memᴰ·cases-cons h)
 
--- A lane is that of one strike only.
+-- No later strike has the lane of an earlier one.
 pub lane-once : {m n : ℕ} {s : Strike} {later : List Strike} → Step m n s later → (t : Strike) → List·Memᴰ t later → Ends m t → t .lane ≢ s .lane
 lane-once {m} {n} {s} {later} st t h ends e = go (st .ends) ends (st .clear t h)
   where
@@ -576,6 +564,29 @@ lane-once {m} {n} {s} {later} st t h ends e = go (st .ends) ends (st .clear t h)
     go (row-struck p q) (column-struck p′ q′) d = d .1 (q′ ∙ ap (λ (l : Lane). l .row) e ∙ sym p)
     go (column-struck p q) (row-struck p′ q′) d = d .1 (q′ ∙ ap (λ (l : Lane). m + l .col) e ∙ sym p)
     go (column-struck p q) (column-struck p′ q′) d = d .0 (p′ ∙ ap (λ (l : Lane). m + l .col) e ∙ sym p)
+
+strike-once : {m n : ℕ} {ss : List Strike} → Peeled m n ss → (s t : Strike) → List·Memᴰ s ss → List·Memᴰ t ss → s .lane ≡ t .lane → s ≡ t
+strike-once bare s t h k e = absurd (List·Memᴰ·not-nil h)
+strike-once {m} {n} (peel {s = r} {later} st rest) s t h k e = go (List·Memᴰ·cases-cons h) (List·Memᴰ·cases-cons k) (strike-once rest s t)
+  where
+    differ : (u : Strike) → List·Memᴰ u later → u .lane ≢ r .lane
+    differ u q = let (us, step) = step-of rest u q in lane-once st u q (step .ends)
+
+    go : (s ≡ r) ⊎ List·Memᴰ s later → (t ≡ r) ⊎ List·Memᴰ t later → (List·Memᴰ s later → List·Memᴰ t later → s .lane ≡ t .lane → s ≡ t) → s ≡ t
+    go (inl p) (inl q) again = p ∙ sym q
+    go (inl p) (inr q) again = absurd (differ t q (sym e ∙ ap (λ (v : Strike). v .lane) p))
+    go (inr p) (inl q) again = absurd (differ s p (e ∙ ap (λ (v : Strike). v .lane) q))
+    go (inr p) (inr q) again = again p q e
+
+-- What the strikes of B are where all of B is struck off: each lane of B is that of one strike, and the other way round, no strike touches the leaf of an earlier one, and every node
+-- but the root is the leaf of one.
+pub record Struck (m n : ℕ) (B : List Lane) (ss : List Strike) : Type 0 where
+  pub peels : Peeled m n ss
+  pub struck : (l : Lane) → List·Memᴰ l B → (s : Strike) × List·Memᴰ s ss × (s .lane ≡ l)
+  pub once : (s t : Strike) → List·Memᴰ s ss → List·Memᴰ t ss → s .lane ≡ t .lane → s ≡ t
+  pub lanes : (s : Strike) → List·Memᴰ s ss → List·Memᴰ (s .lane) B
+  pub leaves : (k : ℕ) → k ≢ 0 → k < m + n → IsLeaf ss k
+  pub size : suc (length ss) ≡ m + n
 
 nodes-others : (m n : ℕ) → 1 ≤ m → Others m n (table (basisSize m n) suc)
 unfolding basisSize
@@ -601,6 +612,7 @@ module _ {m n : ℕ} {B : List Lane} (p : 1 ≤ m) (h : Fits m n B) where
   struck-of e = record {
     peels = peels;
     struck = λ l q. all-struck m nodes (length B) B l same q;
+    once = strike-once peels;
     lanes = λ s q. strike-of m nodes (length B) B s q .member;
     leaves = every-leaf peels size;
     size = size;
@@ -620,28 +632,45 @@ module _ {m n : ℕ} {B : List Lane} (p : 1 ≤ m) (h : Fits m n B) where
 
 -- ---- spanning is joining
 
--- A strike's other node is the root or the leaf of a later strike. So from the last strike back, each leaf is on the root's side of a split without a lane across.
-all-sides : {m n : ℕ} {ss : List Strike} → Peeled m n ss → ((s : Strike) → List·Memᴰ s ss → (s .other ≡ 0) ⊎ IsLeaf ss (s .other))
-    → (side : ℕ → Bool) → side 0 ≡ true → ((s : Strike) → List·Memᴰ s ss → side (s .leaf) ≡ side (s .other)) → (s : Strike) → List·Memᴰ s ss → side (s .leaf) ≡ true
+-- A node that is not struck off yet: the root, or the leaf of a strike to come.
+abbrev pub Live : List Strike → ℕ → Type 0
+Live ss k = (k ≡ 0) ⊎ IsLeaf ss k
+
+pub live-later : {s : Strike} {later : List Strike} {k : ℕ} → s .leaf ≢ k → Live (s ∷ later) k → Live later k
+live-later d (inl z) = inl z
+live-later d (inr (t, h, e)) = ⊎-elim (λ q. absurd (d (ap (λ (v : Strike). v .leaf) (sym q) ∙ e))) (λ q. inr (t, q, e)) (List·Memᴰ·cases-cons h)
+
+-- Every strike hangs on a node that is not struck off before it.
+abbrev pub Hung : List Strike → Type 0
+Hung ss = (s : Strike) → List·Memᴰ s ss → Live ss (s .other)
+
+pub hung-later : {m n : ℕ} {s : Strike} {later : List Strike} → Step m n s later → Hung (s ∷ later) → Hung later
+hung-later st hang t h = live-later (λ e. st .clear t h .1 (sym e)) (hang t (List·Memᴰ·tail h))
+
+pub hung-first : {m n : ℕ} {s : Strike} {later : List Strike} → Step m n s later → Hung (s ∷ later) → Live later (s .other)
+hung-first {m} {n} {s} st hang = live-later (ends-differ (st .ends) (st .row)) (hang s (List·Memᴰ·head refl))
+
+-- From the last strike back, each leaf is on the root's side of a split without a lane across: so is the node that it hangs on.
+all-sides : {m n : ℕ} {ss : List Strike} → Peeled m n ss → Hung ss → (side : ℕ → Bool) → side 0 ≡ true
+    → ((s : Strike) → List·Memᴰ s ss → side (s .leaf) ≡ side (s .other)) → (s : Strike) → List·Memᴰ s ss → side (s .leaf) ≡ true
 all-sides bare hang side z closed s h = absurd (List·Memᴰ·not-nil h)
-all-sides {m} {n} {ss} (peel {s} {later} st rest) hang side z closed t h = go (all-sides rest hang′ side z (λ r q. closed r (List·Memᴰ·tail q)))
+all-sides {m} {n} (peel {s} {later} st rest) hang side z closed t h = go (all-sides rest (hung-later st hang) side z (λ r q. closed r (List·Memᴰ·tail q)))
   where
-    hang′ : (r : Strike) → List·Memᴰ r later → (r .other ≡ 0) ⊎ IsLeaf later (r .other)
-    hang′ r q = ⊎-elim inl (λ (x, y, e). ⊎-elim (λ w. absurd (st .clear r q .1 (sym e ∙ ap (λ (v : Strike). v .leaf) w))) (λ w. inr (x, w, e)) (List·Memᴰ·cases-cons y)) (hang r (List·Memᴰ·tail q))
-
-    head : ((r : Strike) → List·Memᴰ r later → side (r .leaf) ≡ true) → side (s .leaf) ≡ true
-    head back = closed s (List·Memᴰ·head refl) ∙ ⊎-elim
-        (λ e. ap side e ∙ z)
-        (λ (x, y, e). ap side (sym e) ∙ ⊎-elim (λ w. absurd (ends-differ (st .ends) (st .row) (ap (λ (v : Strike). v .leaf) (sym w) ∙ e))) (back x) (List·Memᴰ·cases-cons y))
-        (hang s (List·Memᴰ·head refl))
-
     go : ((r : Strike) → List·Memᴰ r later → side (r .leaf) ≡ true) → side (t .leaf) ≡ true
-    go back = ⊎-elim (λ e. rw e (head back)) (back t) (List·Memᴰ·cases-cons h)
+    go back = ⊎-elim
+        (λ e. rw e (closed s (List·Memᴰ·head refl) ∙ ⊎-elim (λ q. ap side q ∙ z) (λ (r, q, f). ap side (sym f) ∙ back r q) (hung-first st hang)))
+        (back t)
+        (List·Memᴰ·cases-cons h)
 
--- Each strike has its place in the list.
-pub step-of : {m n : ℕ} {ss : List Strike} → Peeled m n ss → (s : Strike) → List·Memᴰ s ss → (later : List Strike) × Step m n s later
-step-of bare s h = absurd (List·Memᴰ·not-nil h)
-step-of {m} {n} (peel {s} {later} st rest) t h = ⊎-elim (λ e. (later, rw e st)) (step-of rest t) (List·Memᴰ·cases-cons h)
+pub struck-live : {m n : ℕ} {B : List Lane} {ss : List Strike} → Struck m n B ss → (k : ℕ) → k < m + n → Live ss k
+struck-live w k l = by-cases (ℕ-discrete k 0) inl (λ e. inr (w .leaves k e l))
+
+pub struck-hung : {m n : ℕ} {B : List Lane} {ss : List Strike} → Struck m n B ss → Hung ss
+struck-hung {m} {n} {B} {ss} w s h = let (later, st) = step-of (w .peels) s h in struck-live w (s .other) (below st (st .ends))
+  where
+    below : {later : List Strike} → Step m n s later → Ends m s → s .other < m + n
+    below st (row-struck a b) = omega (arith, st .col)
+    below st (column-struck a b) = omega (arith, st .row)
 
 struck-joined : {m n : ℕ} {B : List Lane} {ss : List Strike} → 1 ≤ m → Struck m n B ss → Joined m n (Has B)
 struck-joined {m} {n} {B} {ss} p w = record {
@@ -658,17 +687,10 @@ struck-joined {m} {n} {B} {ss} p w = record {
     side-col : (A C : ℕ → Bool) (j : ℕ) → side A C (m + j) ≡ C j
     side-col A C j = let e : m + j - m ≡ j = omega arith in rw (le-ltb (m + j) m (omega arith), e)
 
-    hang : (s : Strike) → List·Memᴰ s ss → (s .other ≡ 0) ⊎ IsLeaf ss (s .other)
-    hang s h = let (later, st) = step-of (w .peels) s h in by-cases (ℕ-discrete (s .other) 0) inl (λ e. inr (w .leaves (s .other) e (below st (st .ends))))
-      where
-        below : {later : List Strike} → Step m n s later → Ends m s → s .other < m + n
-        below st (row-struck a b) = omega (arith, st .col)
-        below st (column-struck a b) = omega (arith, st .row)
-
     all : (A C : ℕ → Bool) → A 0 ≡ true → Closed m n (Has B) A C → (k : ℕ) → k < m + n → side A C k ≡ true
     all A C z closed k l = by-cases (ℕ-discrete k 0)
         (λ e. rw e root)
-        (λ e. let (s, h, q) = w .leaves k e l in rw (← q) (all-sides (w .peels) hang (side A C) root across s h))
+        (λ e. let (s, h, q) = w .leaves k e l in rw (← q) (all-sides (w .peels) (struck-hung w) (side A C) root across s h))
       where
         root : side A C 0 ≡ true
         root = side-row A C 0 (omega arith) ∙ z
