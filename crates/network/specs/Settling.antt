@@ -1,9 +1,8 @@
 -- Settling: lanes are decided one after another, and what is left is the plan that carries more on the first lane where it differs from any other.
 -- Lane (i, j) has the number i * n + j.
-use mathlib.Core.Path.{_≡_, ap}
+use mathlib.Core.Path.{_≡_}
 use mathlib.Core.Logic.{_↔_, _⊎_, inl, inr, ⊎-elim, by-cases}
 use Prim.Native.Nat.{ℕ, suc, _+_, _*_, _≤_, _<_}
-use native.Mathlib.Nat.{mul-le-mul-right}
 use native.Mathlib.Omega.{arith}
 use native.Mathlib.Decide.{ℕ-discrete, decLt}
 use Rattle.integers.specs.Integer.{Z, _≈_, _≼_, _≺_, ≈-dec, _⊗_, neg, nat}

@@ -1,1 +1,6 @@
 pub mod View
+pub mod PairLaws
+pub mod Starting
+pub mod Striking
+pub mod Order
+pub mod PivotView

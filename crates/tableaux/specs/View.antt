@@ -1,16 +1,16 @@
 -- A tableau as amounts on rows and columns: the view in which the theory of networks speaks of it.
-use mathlib.Core.Path.{_≡_, refl, ap, sym, _∙_}
-use mathlib.Core.Logic.{_⊎_, inl, inr, by-cases, Dec·and}
-use mathlib.Core.Bool.{Bool, true, false, _&&_, cond}
+use mathlib.Core.Path.{_≡_, refl, sym, _∙_}
+use mathlib.Core.Logic.{by-cases, Dec·and}
+use mathlib.Core.Bool.{_&&_, cond}
 use mathlib.Core.List.{List, [], _∷_, map}
-use Prim.Native.Nat.{ℕ, zero, suc, _+_, _*_, _≤_, _<_}
+use Prim.Native.Nat.{ℕ, zero, suc, _+_, _<_}
 use native.Mathlib.Omega.{arith}
 use native.Mathlib.Decide.{ℕ-discrete}
 use borrow.Author.Tests.{eq-eqb, ne-eqb}
 use lib.Dec.{eqb}
 use lib.IntN.{ℤ, pos, _+ℤ_}
 use lib.ListN.{length, getD}
-use Rattle.integers.specs.Integer.{Z, _≈_, _⊕_, _⊗_, nat, neg}
+use Rattle.integers.specs.Integer.{Z, _≈_, _⊕_, _⊗_, nat}
 use Rattle.integers.specs.Bridge.{toZ, z-add}
 use Rattle.integers.specs.Sum.{sum, point}
 use Rattle.integers.specs.SumLaws.{sum-add, sum-zero, sum-cong, sum-point, point-at, point-off}
@@ -18,7 +18,7 @@ use Rattle.transport.specs.Lists.{keep}
 use Rattle.transport.specs.declared.Pair.{Pair}
 use Rattle.transport.specs.declared.Cell.{Cell}
 use Rattle.transport.specs.Amount.{nothing, add, addUp}
-use Rattle.transport.specs.Tableau.{noCell, rowTotal, columnTotal}
+use Rattle.transport.specs.Tableau.{noCell}
 use Rattle.transport.specs.Statements.{Basic}
 
 -- ---- rows and columns by index

@@ -6,7 +6,7 @@ use mathlib.Core.Option.{none, some}
 use Prim.Native.Nat.{ℕ}
 use lib.ListN.{length, drop}
 use Rattle.transport.specs.Sheet.{refusal}
-use Rattle.transport.specs.Calls.{Answer, refused, given, refusedBy, unless, lentAfter}
+use Rattle.transport.specs.Calls.{given, refusedBy, unless, lentAfter}
 
 module _ {A : Type 0} (tests : List (Bool × ℕ)) (x : A) where
   pub unless-given : refusal tests ≡ none → unless tests x ≡ given x

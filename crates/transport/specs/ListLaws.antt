@@ -1,5 +1,5 @@
 -- The laws of Lists: tables, tests of all elements, kept elements, sums, and the first least element.
-use Prim.Native.Nat.{ℕ, zero, suc, _+_, _*_, _≤_, _<_}
+use Prim.Native.Nat.{ℕ, zero, suc, _+_, _*_, _-_, _≤_, _<_}
 use native.Mathlib.Omega.{arith}
 use native.Mathlib.Numerals.{add-one}
 use native.Mathlib.Nat.{eq-or-lt-of-le, mul-add, add-suc, add-zero, suc-mul, zero-mul}
@@ -390,6 +390,9 @@ pub sumTo-split : (n m : ℕ) (f : ℕ → ℕ) → sumTo (n + m) f ≡ sumTo n 
 unfolding sumTo
 sumTo-split n zero f = rw (add-zero n) (omega arith)
 sumTo-split n (suc m) f = rw (add-suc, sumTo) (omega (arith, sumTo-split n m f))
+
+pub sumTo-part : (k n : ℕ) (f : ℕ → ℕ) → k ≤ n → sumTo k f ≤ sumTo n f
+sumTo-part k n f l = let e : k + (n - k) ≡ n = omega arith in omega (arith, sumTo-split k (n - k) f, ap (λ (t : ℕ). sumTo t f) e)
 
 -- A double sum, by rows or by columns.
 pub sumTo-swap : (m n : ℕ) (f : ℕ → ℕ → ℕ) → sumTo m (λ i. sumTo n (λ j. f i j)) ≡ sumTo n (λ j. sumTo m (λ i. f i j))
