@@ -4,3 +4,5 @@ pub mod Starting
 pub mod Striking
 pub mod Order
 pub mod PivotView
+pub mod PlanView
+pub mod Least

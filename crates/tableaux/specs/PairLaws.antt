@@ -1,16 +1,19 @@
--- Pairs over the integers of the theory: their parts, their sums and differences, and their order as `PairLess`.
+-- Pairs over the integers of the theory: their parts, their sums and differences, and their order as `PairLess`; and those of paired supplies and demands.
+use Prim.Native.Nat.{ℕ, suc, _-_, _<_}
 use native.Mathlib.Omega.{arith}
 use mathlib.Core.Path.{_≡_, refl, ap, sym, _∙_}
 use mathlib.Core.Logic.{_⊎_, inl, inr, ⊎-elim}
 use mathlib.Core.Bool.{true, false, true≢false}
-use borrow.Author.Tests.{ltb-true, ltb-false, lt-ltb}
+use borrow.Author.Tests.{ltb-true, ltb-false, lt-ltb, eq-eqb, ne-eqb}
 use lib.IntN.{ℤ, pos, negsuc}
 use lib.Signed.{ltZ}
 use Rattle.integers.specs.Integer.{Z, _≈_, _≼_, _≺_, _⊕_, _⊖_, nat}
 use Rattle.integers.specs.Bridge.{toZ, z-eq, eq-z, z-add, z-ev, !, _-'_}
 use Rattle.network.specs.Pivot.{PairLess}
+use Rattle.transport.specs.Lists.{at}
+use Rattle.transport.specs.Sheet.{Sheet, sources, sinks}
 use Rattle.transport.specs.declared.Pair.{Pair}
-use Rattle.transport.specs.Amount.{nothing, add, subtract, less}
+use Rattle.transport.specs.Amount.{nothing, add, subtract, less, pairedSupply, pairedDemand}
 use Rattle.transport.specs.AmountLaws.{less-q, less-e, less-no, Compared, fewer, equal, more, compared}
 
 -- ---- parts
@@ -114,3 +117,21 @@ subtract-above a b p =
     (λ s. inl (omega (arith, subtract-parts b a, nothing-parts)))
     (λ s. inr (omega (arith, subtract-parts b a, nothing-parts)))
     (less-true a b p))
+
+-- ---- paired supplies and demands
+
+pub pairedSupply-parts : (S : Sheet) (i : ℕ) → (bags (pairedSupply S i) ≈ nat (at (S .supply) i)) × (marks (pairedSupply S i) ≈ nat 1)
+unfolding pairedSupply
+pairedSupply-parts S i = omega arith
+
+pub pairedDemand-bags : (S : Sheet) (j : ℕ) → bags (pairedDemand S j) ≈ nat (at (S .demand) j)
+unfolding pairedDemand
+pairedDemand-bags S j = omega arith
+
+pub pairedDemand-last : (S : Sheet) (j : ℕ) → suc j ≡ sinks S → marks (pairedDemand S j) ≈ nat (sources S)
+unfolding pairedDemand
+pairedDemand-last S j e = rw (eq-eqb j (sinks S - 1) (omega arith)) (omega arith)
+
+pub pairedDemand-early : (S : Sheet) (j : ℕ) → suc j < sinks S → marks (pairedDemand S j) ≈ nat 0
+unfolding pairedDemand
+pairedDemand-early S j l = rw (ne-eqb j (sinks S - 1) (omega arith)) (omega arith)

@@ -23,7 +23,7 @@ use Rattle.transport.specs.AmountLaws.{same-true, same-self, less-weak}
 use Rattle.transport.specs.Tableau.{noCell, basisSize, corner, start, rowTotal, columnTotal}
 use Rattle.transport.specs.Statements.{Basic, Belongs}
 use Rattle.tableaux.specs.View.{rowOf, colOf}
-use Rattle.tableaux.specs.PairLaws.{bags, marks, Less, pair-eq, nothing-parts, subtract-parts, add-nothing, add-subtract, subtract-self, subtract-nothing, less-true, less-false, true-less, subtract-above}
+use Rattle.tableaux.specs.PairLaws.{bags, marks, Less, pair-eq, nothing-parts, subtract-parts, add-nothing, add-subtract, subtract-self, subtract-nothing, less-true, less-false, true-less, subtract-above, pairedSupply-parts, pairedDemand-bags, pairedDemand-last, pairedDemand-early}
 
 -- ---- one step of the rule
 
@@ -74,28 +74,12 @@ pub record State (S : Sheet) (left i j : ℕ) (s d : Pair) : Type 0 where
   pub bagsEven : bags s ⊕ nat (sumTo (suc j) (at (S .demand))) ≈ bags d ⊕ nat (sumTo (suc i) (at (S .supply)))
   pub marksEven : marks s ⊕ marks (pairedDemand S j) ≈ marks d ⊕ nat (suc i)
 
-demand-last : (S : Sheet) (j : ℕ) → suc j ≡ sinks S → marks (pairedDemand S j) ≈ nat (sources S)
-unfolding pairedDemand
-demand-last S j e = rw (eq-eqb j (sinks S - 1) (omega arith)) (omega arith)
-
-demand-early : (S : Sheet) (j : ℕ) → suc j < sinks S → marks (pairedDemand S j) ≈ nat 0
-unfolding pairedDemand
-demand-early S j l = rw (ne-eqb j (sinks S - 1) (omega arith)) (omega arith)
-
-demand-bags : (S : Sheet) (j : ℕ) → bags (pairedDemand S j) ≈ nat (at (S .demand) j)
-unfolding pairedDemand
-demand-bags S j = omega arith
-
-supply-parts : (S : Sheet) (i : ℕ) → (bags (pairedSupply S i) ≈ nat (at (S .supply) i)) × (marks (pairedSupply S i) ≈ nat 1)
-unfolding pairedSupply
-supply-parts S i = omega arith
-
 module _ (S : Sheet) (ok : Checked S) where
   supply-above : (i : ℕ) → i < sources S → less nothing (pairedSupply S i) ≡ true
-  supply-above i l = true-less nothing (pairedSupply S i) (inl (omega (arith, nothing-parts, supply-parts S i, ok .supplyLow i l)))
+  supply-above i l = true-less nothing (pairedSupply S i) (inl (omega (arith, nothing-parts, pairedSupply-parts S i, ok .supplyLow i l)))
 
   demand-above : (j : ℕ) → j < sinks S → less nothing (pairedDemand S j) ≡ true
-  demand-above j l = true-less nothing (pairedDemand S j) (inl (omega (arith, nothing-parts, demand-bags S j, ok .demandLow j l)))
+  demand-above j l = true-less nothing (pairedDemand S j) (inl (omega (arith, nothing-parts, pairedDemand-bags S j, ok .demandLow j l)))
 
   -- The rows up to the last, and the columns up to the last, have the same bags.
   whole : sumTo (sources S) (at (S .supply)) ≡ sumTo (sinks S) (at (S .demand))
@@ -110,16 +94,16 @@ module _ (S : Sheet) (ok : Checked S) where
     size = omega arith;
     rowLeft = supply-above 0 (ok .sourcesLow);
     columnLeft = demand-above 0 (ok .sinksLow);
-    bagsEven = omega (arith, supply-parts S 0, demand-bags S 0);
-    marksEven = omega (arith, supply-parts S 0);
+    bagsEven = omega (arith, pairedSupply-parts S 0, pairedDemand-bags S 0);
+    marksEven = omega (arith, pairedSupply-parts S 0);
   }
 
   module _ (left i j : ℕ) (s d : Pair) (st : State S left i j s d) where
     -- Equal pairs remain at the last cell only: the marks of the rows so far are 1 to m, and those of the columns so far are none before the last.
     even-last : bags s ≈ bags d → marks s ≈ marks d → left ≡ 0
     even-last p q = by-cases (decLt (suc j) (sinks S))
-        (λ l. absurd (omega (arith, demand-early S j l, st .marksEven)))
-        (λ l. let e : suc j ≡ sinks S = omega (arith, st .column) in omega (arith, demand-last S j e, st .marksEven, st .size))
+        (λ l. absurd (omega (arith, pairedDemand-early S j l, st .marksEven)))
+        (λ l. let e : suc j ≡ sinks S = omega (arith, st .column) in omega (arith, pairedDemand-last S j e, st .marksEven, st .size))
 
     -- A row with more than the column stands before the last column: the last one takes all that the rows still have.
     right-exists : less d s ≡ true → suc j < sinks S
@@ -128,7 +112,7 @@ module _ (S : Sheet) (ok : Checked S) where
         end : suc j ≡ sinks S → ⊥
         end e = ⊎-elim
             (λ q. omega (arith, st .bagsEven, ap (λ (t : ℕ). sumTo t (at (S .demand))) e, whole, sumTo-part (suc i) (sources S) (at (S .supply)) (st .row)))
-            (λ q. omega (arith, st .marksEven, demand-last S j e, st .row))
+            (λ q. omega (arith, st .marksEven, pairedDemand-last S j e, st .row))
             (less-true d s p)
 
     -- A row with no more than the column stands before the last row, or at the last cell.
@@ -138,7 +122,7 @@ module _ (S : Sheet) (ok : Checked S) where
         early : suc j < sinks S → ⊥
         early l = ⊎-elim
             (λ q. omega (arith, st .bagsEven, ap (λ (t : ℕ). sumTo t (at (S .supply))) e, whole, sumTo-part (suc j) (sinks S) (at (S .demand)) (st .column)))
-            (λ q. omega (arith, st .marksEven, demand-early S j l))
+            (λ q. omega (arith, st .marksEven, pairedDemand-early S j l))
             (less-false d s p)
 
     -- At the last cell equal pairs remain.
@@ -148,7 +132,7 @@ module _ (S : Sheet) (ok : Checked S) where
         let f : suc j ≡ sinks S = omega (arith, st .row, st .column, st .size) in
         pair-eq s d
         (omega (arith, st .bagsEven, whole, ap (λ (t : ℕ). sumTo t (at (S .supply))) e, ap (λ (t : ℕ). sumTo t (at (S .demand))) f))
-        (omega (arith, st .marksEven, demand-last S j f))
+        (omega (arith, st .marksEven, pairedDemand-last S j f))
 
   module _ (left i j : ℕ) (s d : Pair) (st : State S (suc left) i j s d) where
     state-right : less d s ≡ true → State S left i (suc j) (subtract s d) (pairedDemand S (suc j))
@@ -161,8 +145,8 @@ module _ (S : Sheet) (ok : Checked S) where
           size = omega (arith, st .size);
           rowLeft = subtract-above d s p;
           columnLeft = demand-above (suc j) l;
-          bagsEven = omega (arith, st .bagsEven, subtract-parts s d, demand-bags S (suc j));
-          marksEven = omega (arith, st .marksEven, subtract-parts s d, demand-early S j l);
+          bagsEven = omega (arith, st .bagsEven, subtract-parts s d, pairedDemand-bags S (suc j));
+          marksEven = omega (arith, st .marksEven, subtract-parts s d, pairedDemand-early S j l);
         }
 
     state-down : less d s ≡ false → State S left (suc i) j (pairedSupply S (suc i)) (subtract d s)
@@ -175,8 +159,8 @@ module _ (S : Sheet) (ok : Checked S) where
           size = omega (arith, st .size);
           rowLeft = supply-above (suc i) l;
           columnLeft = subtract-above s d (true-less s d (⊎-elim inl under (less-false d s p)));
-          bagsEven = omega (arith, st .bagsEven, subtract-parts d s, supply-parts S (suc i));
-          marksEven = omega (arith, st .marksEven, subtract-parts d s, supply-parts S (suc i));
+          bagsEven = omega (arith, st .bagsEven, subtract-parts d s, pairedSupply-parts S (suc i));
+          marksEven = omega (arith, st .marksEven, subtract-parts d s, pairedSupply-parts S (suc i));
         }
       where
         under : (bags s ≈ bags d) × (marks s ≼ marks d) → Less s d

@@ -74,6 +74,11 @@ unfolding table
 map-table g zero f = refl
 map-table g (suc n) f = rw (table-first n f, table-first n (λ k. g (f k)), map-table g n (λ k. f (suc k)))
 
+pub getD-map : {A B : Type 0} (f : A → B) (xs : List A) (k : ℕ) (d : A) (e : B) → k < length xs → getD (map f xs) k e ≡ f (getD xs k d)
+getD-map f [] k d e l = absurd (omega arith)
+getD-map f (x ∷ xs) zero d e l = refl
+getD-map f (x ∷ xs) (suc k) d e l = getD-map f xs k d e (omega arith)
+
 -- ---- below
 
 pub length-below : (n : ℕ) → length (below n) ≡ n
