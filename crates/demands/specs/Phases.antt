@@ -29,20 +29,16 @@ use Rattle.transport.specs.Potential.{potentialBy}
 use Rattle.transport.specs.Round.{pivot}
 use Rattle.transport.specs.Statements.{Basic, Belongs}
 use Rattle.tableaux.specs.View.{amountAt}
+use Rattle.tableaux.specs.PairLaws.{bags, marks}
+use Rattle.tableaux.specs.PlanView.{supplies, demands}
 
 -- ---- a tableau as amounts and potentials
 
 abbrev pub bagsAt : List Cell → ℕ → ℕ → Z
-bagsAt T i j = toZ (amountAt T i j .q)
+bagsAt T i j = bags (amountAt T i j)
 
 abbrev pub marksAt : List Cell → ℕ → ℕ → Z
-marksAt T i j = toZ (amountAt T i j .e)
-
-abbrev pub supplies : Sheet → ℕ → Z
-supplies S i = nat (at (S .supply) i)
-
-abbrev pub demands : Sheet → ℕ → Z
-demands S j = nat (at (S .demand) j)
+marksAt T i j = marks (amountAt T i j)
 
 -- the potential of each node for any cost of lanes
 abbrev pub potentialFor : Sheet → (Lane → ℤ) → List Cell → ℕ → ℤ
