@@ -61,14 +61,15 @@ amount-nonneg (c ∷ cs) h i j = by-cases (Dec·and (ℕ-discrete (c .row) i) (�
     (λ e. rw (amount-here c cs i j (e .0) (e .1)) (⊎-elim (λ s. omega (arith, nothing-parts)) (λ s. omega (arith, nothing-parts)) (less-true nothing (c .amount) (h 0 (omega arith)))))
     (λ e. rw (amount-later c cs i j e) (amount-nonneg cs (λ k l. h (suc k) (omega arith)) i j))
 
+pub bags-carried : (S : Sheet) (T : List Cell) → Belongs S T → (i j : ℕ) → i < sources S → j < sinks S
+    → carried (sinks S) (bagsOf S T) i j ≈ bags (amountAt T i j)
+unfolding bagsOn
+bags-carried S T belongs i j k l = rw (bagsOf-at S T i j k l) (nat-natAbs (amountAt T i j .q) (amount-nonneg T (belongs .above) i j))
+
 module _ (S : Sheet) (T : List Cell) (belongs : Belongs S T)
     (flow : Flow (sources S) (sinks S) (Basic T) (λ i j. bags (amountAt T i j)) (supplies S) (demands S)) where
-  pub bags-carried : (i j : ℕ) → i < sources S → j < sinks S → carried (sinks S) (bagsOf S T) i j ≈ bags (amountAt T i j)
-  unfolding bagsOn
-  bags-carried i j k l = rw (bagsOf-at S T i j k l) (nat-natAbs (amountAt T i j .q) (amount-nonneg T (belongs .above) i j))
-
   pub bagsOf-flow : Flow (sources S) (sinks S) (Basic T) (carried (sinks S) (bagsOf S T)) (supplies S) (demands S)
-  bagsOf-flow = flow-cong bags-carried flow
+  bagsOf-flow = flow-cong (bags-carried S T belongs) flow
 
   -- The tableau's bags are a plan in whole bags that meets the sheet.
   pub bags-meet : Meets S 1 (bagsOf S T)

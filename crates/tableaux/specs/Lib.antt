@@ -1,8 +1,13 @@
 pub mod View
 pub mod PairLaws
 pub mod Starting
-pub mod Striking
-pub mod Order
-pub mod PivotView
 pub mod PlanView
 pub mod Least
+pub mod Striking
+pub mod Bases
+pub mod Flows
+pub mod Potentials
+pub mod Order
+pub mod TableauView
+pub mod PivotView
+pub mod Pivoting

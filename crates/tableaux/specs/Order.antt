@@ -1,10 +1,11 @@
 -- Cells in sheet order, said of members instead of indices: each cell stands before all that come after it in the list.
 use mathlib.Core.Path.{_≡_, refl, ap, sym, _∙_}
-use mathlib.Core.Logic.{_⊎_, inl, inr, ⊎-elim}
+use mathlib.Core.Logic.{_⊎_, inl, inr, ⊎-elim, Dec·and}
 use mathlib.Core.Bool.{Bool, true, false, cond}
 use mathlib.Core.List.{List, [], _∷_, map, List·Memᴰ, List·Memᴰ·head, List·Memᴰ·tail, List·Memᴰ·not-nil, List·Memᴰ·cases-cons}
 use Prim.Native.Nat.{ℕ, zero, suc, _<_}
 use native.Mathlib.Omega.{arith}
+use native.Mathlib.Decide.{ℕ-discrete}
 use borrow.Author.Tests.{ltb-true, ltb-false}
 use lib.Dec.{ltb}
 use lib.ListN.{length, getD}
@@ -31,6 +32,24 @@ pub record CellAt (T : List Cell) (i j : ℕ) : Type 0 where
 
 pub cell-at : {T : List Cell} {i j : ℕ} → Basic T i j → CellAt T i j
 cell-at {T} b = record { cell = getD T (b .index) noCell; member = member-at T noCell (b .index) (b .below); row = b .row; col = b .column }
+
+pub basic-dec : (T : List Cell) (i j : ℕ) → Dec (Basic T i j)
+basic-dec [] i j = no (λ b. omega (arith, b .below))
+basic-dec (c ∷ cs) i j = go (Dec·and (ℕ-discrete (c .row) i) (ℕ-discrete (c .col) j)) (basic-dec cs i j)
+  where
+    go : Dec ((c .row ≡ i) × (c .col ≡ j)) → Dec (Basic cs i j) → Dec (Basic (c ∷ cs) i j)
+    go (yes e) d = yes (record { index = 0; below = omega arith; row = e .0; column = e .1 })
+    go (no e) (yes b) = yes (record { index = suc (b .index); below = omega (arith, b .below); row = b .row; column = b .column })
+    go (no e) (no d) = no (λ b. back (cell-at b))
+      where
+        back : CellAt (c ∷ cs) i j → ⊥
+        back x = ⊎-elim
+            (λ s. e (ap (λ y. y .row) (sym s) ∙ x .row, ap (λ y. y .col) (sym s) ∙ x .col))
+            (λ k. d (at (x .cell) k (x .row) (x .col)))
+            (List·Memᴰ·cases-cons (x .member))
+          where
+            at : (y : Cell) → List·Memᴰ y cs → y .row ≡ i → y .col ≡ j → Basic cs i j
+            at y k p q = rw (← p, ← q) (basic-member k)
 
 pub amount-member : {c : Cell} {T : List Cell} → Distinct T → List·Memᴰ c T → amountAt T (c .row) (c .col) ≡ c .amount
 amount-member {c} {T} d m =

@@ -8,7 +8,8 @@ use mathlib.Core.Bool.{Bool, true, false, true≢false}
 use mathlib.Core.List.{List, [], _∷_, map}
 use borrow.Author.Tests.{eq-eqb, ne-eqb}
 use lib.Dec.{eqb}
-use lib.ListN.{length, getD}
+use lib.ListN.{length, getD, drop}
+use lib.Seq.{drop-cons}
 use Rattle.integers.specs.Integer.{_≈_, _≼_, ≼-dec, _⊕_, nat}
 use Rattle.network.specs.Basis.{Basis, In}
 use Rattle.network.specs.Staircase.{Step, staircase}
@@ -65,14 +66,14 @@ corner-right S left i j s d p = rw (smaller-column s d p, not-empty s d p, corne
 
 -- The rule stands at row i and column j, whose remaining pairs are s and d, and `left` cells come after this one. The rows up to i have given as much as the
 -- columns up to j have taken, in bags and in marks.
-pub record State (S : Sheet) (left i j : ℕ) (s d : Pair) : Type 0 where
-  pub row : i < sources S
-  pub column : j < sinks S
-  pub size : left + i + j + 2 ≡ sources S + sinks S
-  pub rowLeft : less nothing s ≡ true
-  pub columnLeft : less nothing d ≡ true
-  pub bagsEven : bags s ⊕ nat (sumTo (suc j) (at (S .demand))) ≈ bags d ⊕ nat (sumTo (suc i) (at (S .supply)))
-  pub marksEven : marks s ⊕ marks (pairedDemand S j) ≈ marks d ⊕ nat (suc i)
+record State (S : Sheet) (left i j : ℕ) (s d : Pair) : Type 0 where
+  row : i < sources S
+  column : j < sinks S
+  size : left + i + j + 2 ≡ sources S + sinks S
+  rowLeft : less nothing s ≡ true
+  columnLeft : less nothing d ≡ true
+  bagsEven : bags s ⊕ nat (sumTo (suc j) (at (S .demand))) ≈ bags d ⊕ nat (sumTo (suc i) (at (S .supply)))
+  marksEven : marks s ⊕ marks (pairedDemand S j) ≈ marks d ⊕ nat (suc i)
 
 module _ (S : Sheet) (ok : Checked S) where
   supply-above : (i : ℕ) → i < sources S → less nothing (pairedSupply S i) ≡ true
@@ -304,10 +305,10 @@ later n i j h k l (inr e) = rw (e .0, e .1) (omega arith)
 in-basic : (T : List Cell) (K i j : ℕ) → K ≡ length T → In (rowOf T) (colOf T) K i j → Basic T i j
 in-basic T K i j e (k, l, p, q) = record { index = k; below = omega arith; row = p; column = q }
 
--- The start belongs to its sheet. While the rule runs, the rows up to the present one have given as much as the columns up to the present one have taken; so the
--- present row and column are never exhausted together before the last cell, for the marks of the columns so far are 0 or m, and those of the rows so far are
--- 1 to m − 1 or the last row is reached. Each cell therefore takes a pair above (0, 0), the rule moves by one row or one column m + n − 2 times, and ends in the last
--- row and column: a staircase, whose cells join all, and each row and column has got what it had to give or take when it is left.
+-- The start belongs to its sheet. While the rule runs, the rows so far have given as much as the columns so far have taken. The marks of the rows so far are 1 to m,
+-- and those of the columns so far are 0 or, from the last column on, m; so the present row and column are not empty together before the last cell. Each cell
+-- therefore takes a pair above (0, 0), and the rule moves by one row or one column m + n − 2 times and ends in the last row and column. That is a staircase,
+-- whose cells join all; and each row and column has given or taken all of its pair when the rule leaves it.
 pub start-belongs : (S : Sheet) → Checked S → Belongs S (start S)
 unfolding rowTotal columnTotal basisSize
 start-belongs S ok = record {
@@ -346,18 +347,78 @@ pub data Passes (S : Sheet) : ℕ → ℕ → ℕ → Pair → Pair → Type 0 w
   rowNotEmpty : {left i j : ℕ} {s d : Pair} → Passes S (suc left) i j s d → ¬ (subtract s (smaller s d) ≡ nothing)
       → Passes S left i (suc j) (subtract s (smaller s d)) (pairedDemand S (suc j))
 
+row-empty : (s d : Pair) → less d s ≡ false → subtract s (smaller s d) ≡ nothing
+row-empty s d p = rw (smaller-row s d p) (subtract-self s)
+
+row-left : (s d : Pair) → less d s ≡ true → ¬ (subtract s (smaller s d) ≡ nothing)
+row-left s d p q = true≢false (sym (rw (← smaller-column s d p, q) (same-self nothing)) ∙ not-empty s d p)
+
+-- Cell k of the start is put in a state that the rule passes through: the cells from k on are those that the rule puts from this state on.
+pub record Put (S : Sheet) (k : ℕ) : Type 0 where
+  pub left : ℕ
+  pub row : ℕ
+  pub column : ℕ
+  pub rowPair : Pair
+  pub columnPair : Pair
+  pub passes : Passes S (suc left) row column rowPair columnPair
+  pub size : k + suc left ≡ basisSize (sources S) (sinks S)
+  pub cells : drop k (start S) ≡ corner S (suc left) row column rowPair columnPair
+
+pub start-put : (S : Sheet) → Checked S → (k : ℕ) → k < length (start S) → Put S k
+unfolding start
+start-put S ok zero l = record {
+  left = basisSize (sources S) (sinks S) - 1;
+  row = 0;
+  column = 0;
+  rowPair = pairedSupply S 0;
+  columnPair = pairedDemand S 0;
+  passes = rw (← size-suc S ok) begins;
+  size = omega (arith, size-suc S ok);
+  cells = rw (← size-suc S ok) refl;
+}
+start-put S ok (suc k) l =
+    let w : Put S k = start-put S ok k (omega arith) in
+    next (w .left) (w .row) (w .column) (w .rowPair) (w .columnPair) (w .passes) (w .size) (w .cells) (less (w .columnPair) (w .rowPair)) refl
+  where
+    tail : (c : Cell) (cs : List Cell) → drop k (start S) ≡ c ∷ cs → drop (suc k) (start S) ≡ cs
+    tail c cs e = let f : drop k (start S) ≡ getD (start S) k noCell ∷ drop (suc k) (start S) = drop-cons (start S) k noCell (omega arith) in cc
+
+    next : (left i j : ℕ) (s d : Pair) → Passes S (suc left) i j s d → k + suc left ≡ basisSize (sources S) (sinks S)
+        → drop k (start S) ≡ corner S (suc left) i j s d → (b : Bool) → less d s ≡ b → Put S (suc k)
+    next zero i j s d w e f b p = absurd (omega (arith, start-belongs S ok .count))
+    next (suc left) i j s d w e f true p = record {
+      left = left;
+      row = i;
+      column = suc j;
+      rowPair = subtract s (smaller s d);
+      columnPair = pairedDemand S (suc j);
+      passes = rowNotEmpty w (row-left s d p);
+      size = omega arith;
+      cells = rw (smaller-column s d p) (tail _ _ (f ∙ corner-right S (suc left) i j s d p));
+    }
+    next (suc left) i j s d w e f false p = record {
+      left = left;
+      row = suc i;
+      column = j;
+      rowPair = pairedSupply S (suc i);
+      columnPair = subtract d (smaller s d);
+      passes = rowEmpty w (row-empty s d p);
+      size = omega arith;
+      cells = rw (smaller-row s d p) (tail _ _ (f ∙ corner-down S (suc left) i j s d p));
+    }
+
 passes-state : (S : Sheet) → Checked S → {left i j : ℕ} {s d : Pair} → Passes S left i j s d → (k : ℕ) → left ≡ suc k → State S k i j s d
 passes-state S ok begins k e = begin S ok k e
 passes-state S ok (rowEmpty {left} {i} {j} {s} {d} w p) k e = go (less d s) refl (passes-state S ok w (suc k) (ap suc e))
   where
     go : (b : Bool) → less d s ≡ b → State S (suc k) i j s d → State S k (suc i) j (pairedSupply S (suc i)) (subtract d (smaller s d))
-    go true q st = absurd (true≢false (sym (rw (← smaller-column s d q, p) (same-self nothing)) ∙ not-empty s d q))
+    go true q st = absurd (row-left s d q p)
     go false q st = rw (smaller-row s d q) (state-down S ok k i j s d st q)
 passes-state S ok (rowNotEmpty {left} {i} {j} {s} {d} w p) k e = go (less d s) refl (passes-state S ok w (suc k) (ap suc e))
   where
     go : (b : Bool) → less d s ≡ b → State S (suc k) i j s d → State S k i (suc j) (subtract s (smaller s d)) (pairedDemand S (suc j))
     go true q st = rw (smaller-column s d q) (state-right S ok k i j s d st q)
-    go false q st = absurd (p (rw (smaller-row s d q) (subtract-self s)))
+    go false q st = absurd (p (row-empty s d q))
 
 -- Both are empty together at the last cell, and only there: with equal pairs left, the marks of the rows so far, 1 to m, are those of the columns so far, 0 or m.
 pub both-empty : (S : Sheet) → Checked S → (left i j : ℕ) (s d : Pair) → Passes S (suc left) i j s d

@@ -303,7 +303,7 @@ module _ {m : ℕ} {nodes : List ℕ} {B : List Lane} {s : Strike} (f : Leaf m n
   length-without : suc (length (without m (s .leaf) B)) ≡ length B
   length-without = omega (arith, keep-split (touches m (s .leaf)) B, ap length (f .only))
 
-ends-differ : {m : ℕ} {s : Strike} → Ends m s → s .lane .row < m → s .leaf ≢ s .other
+pub ends-differ : {m : ℕ} {s : Strike} → Ends m s → s .lane .row < m → s .leaf ≢ s .other
 ends-differ (row-struck p q) h = omega arith
 ends-differ (column-struck p q) h = omega arith
 
@@ -528,7 +528,7 @@ unfolding times
 times-total {m} {n} bare = sumTo-none (m + n)
 times-total {m} {n} (peel {s} {later} st rest) = omega (arith, sumTo-add (m + n) (one-at (s .leaf)) (times later), sum-one-at (m + n) (s .leaf) (leaf-below st), times-total rest)
 
-root-no-leaf : {m n : ℕ} {ss : List Strike} → Peeled m n ss → (s : Strike) → List·Memᴰ s ss → s .leaf ≢ 0
+pub root-no-leaf : {m n : ℕ} {ss : List Strike} → Peeled m n ss → (s : Strike) → List·Memᴰ s ss → s .leaf ≢ 0
 root-no-leaf bare s h = absurd (List·Memᴰ·not-nil h)
 root-no-leaf (peel {s} {later} st rest) t h = ⊎-elim (λ q. rw q (st .proper)) (root-no-leaf rest t) (List·Memᴰ·cases-cons h)
 
@@ -639,7 +639,7 @@ all-sides {m} {n} {ss} (peel {s} {later} st rest) hang side z closed t h = go (a
     go back = ⊎-elim (λ e. rw e (head back)) (back t) (List·Memᴰ·cases-cons h)
 
 -- Each strike has its place in the list.
-step-of : {m n : ℕ} {ss : List Strike} → Peeled m n ss → (s : Strike) → List·Memᴰ s ss → (later : List Strike) × Step m n s later
+pub step-of : {m n : ℕ} {ss : List Strike} → Peeled m n ss → (s : Strike) → List·Memᴰ s ss → (later : List Strike) × Step m n s later
 step-of bare s h = absurd (List·Memᴰ·not-nil h)
 step-of {m} {n} (peel {s} {later} st rest) t h = ⊎-elim (λ e. (later, rw e st)) (step-of rest t) (List·Memᴰ·cases-cons h)
 

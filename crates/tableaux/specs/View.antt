@@ -85,7 +85,7 @@ amount-at (c ∷ cs) d (suc k) l =
 
 -- ---- sums of a part of the amounts, bags or marks
 
-point-one : (p : ℕ) (x : Z) (i : ℕ) → point p (nat 1) i ⊗ x ≈ point p x i
+pub point-one : (p : ℕ) (x : Z) (i : ℕ) → point p (nat 1) i ⊗ x ≈ point p x i
 point-one p x i = by-cases (ℕ-discrete i p)
     (λ e. rw (e, point-at p (nat 1), point-at p x) (omega arith))
     (λ e. rw (point-off p (nat 1) i e, point-off p x i e) (omega arith))

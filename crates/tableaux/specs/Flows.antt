@@ -1,0 +1,313 @@
+-- Flows through the strikes have the margins asked for; and so the loop's signs are the flow of −1 at the two nodes of the entering lane.
+use mathlib.Core.Path.{_≡_, refl, ap, sym, _∙_}
+use mathlib.Core.Logic.{_≢_, _⊎_, inl, inr, ⊎-elim, by-cases, Dec·and}
+use mathlib.Core.Bool.{Bool, true, false, _&&_, true≢false}
+use mathlib.Core.List.{List, [], _∷_, List·Memᴰ, List·Memᴰ·head, List·Memᴰ·tail, List·Memᴰ·not-nil, List·Memᴰ·cases-cons}
+use Prim.Native.Nat.{ℕ, zero, suc, _+_, _-_, _≤_, _<_}
+use native.Mathlib.Omega.{arith}
+use native.Mathlib.Decide.{ℕ-discrete}
+use borrow.Author.Tests.{eq-eqb, ne-eqb, eqb-true}
+use lib.Dec.{eqb}
+use lib.IntN.{ℤ, pos, negsuc, negℤ, _-ℤ_}
+use lib.ListN.{length}
+use Rattle.integers.specs.Integer.{Z, _≈_, ≈-dec, _⊕_, _⊖_, _⊗_, neg, nat, Within}
+use Rattle.integers.specs.Bridge.{toZ, z-add, z-neg, z-eq, eq-z}
+use Rattle.integers.specs.Sum.{sum, point}
+use Rattle.integers.specs.SumLaws.{sum-zero, sum-cong, sum-add, sum-change, sum-swap, sum-point, point-at, point-off}
+use Rattle.transport.specs.ListLaws.{and-left, and-right}
+use Rattle.transport.specs.Sheet.{Lane}
+use Rattle.transport.specs.SheetLaws.{lane}
+use Rattle.transport.specs.Tableau.{sameLane, basisSize}
+use Rattle.transport.specs.Leaf.{Strike, strikes, spans}
+use Rattle.transport.specs.Round.{takeFrom, flow, sign}
+use Rattle.network.specs.Flow.{Flow}
+use Rattle.network.specs.FlowLaws.{flow-on}
+use Rattle.network.specs.Basis.{In, Basis, unit}
+use Rattle.tableaux.specs.View.{point-one}
+use Rattle.tableaux.specs.Striking.{Has, Fits, Ends, row-struck, column-struck, Step, Peeled, bare, peel, IsLeaf, Struck, struck-of, lane-once, step-of, ends-differ, spans-iff}
+use Rattle.tableaux.specs.Bases.{rowAt, colAt, has-in, spans-basis}
+
+-- ---- the same lane
+
+pub same-lane : (k l : Lane) → sameLane k l ≡ true → k ≡ l
+unfolding sameLane
+same-lane k l e =
+    let p : k .row ≡ l .row = eqb-true (k .row) (l .row) (and-left (eqb (k .row) (l .row)) (eqb (k .col) (l .col)) e) in
+    let q : k .col ≡ l .col = eqb-true (k .col) (l .col) (and-right (eqb (k .row) (l .row)) (eqb (k .col) (l .col)) e) in
+    λ t. lane (p t) (q t)
+
+pub lane-same : (l : Lane) → sameLane l l ≡ true
+unfolding sameLane
+lane-same l = rw (eq-eqb (l .row) (l .row) refl, eq-eqb (l .col) (l .col) refl)
+
+pub lane-other : (k l : Lane) → k ≢ l → sameLane k l ≡ false
+lane-other k l d = go (sameLane k l) refl
+  where
+    go : (b : Bool) → sameLane k l ≡ b → sameLane k l ≡ false
+    go true e = absurd (d (same-lane k l e))
+    go false e = e
+
+-- ---- points
+
+point-zero : (p : ℕ) (y : Z) (k : ℕ) → k ≢ p → point p y k ≈ nat 0
+point-zero p y k e = rw (point-off p y k e) (omega arith)
+
+-- column j as node m + j
+point-up : (m p : ℕ) (y : Z) (j : ℕ) → point (m + p) y (m + j) ≈ point p y j
+point-up m p y j = by-cases (ℕ-discrete j p)
+    (λ e. rw (e, point-at (m + p) y, point-at p y) (omega arith))
+    (λ e. rw (point-off (m + p) y (m + j) (omega arith), point-off p y j e) (omega arith))
+
+-- ---- the weights after a strike
+
+-- The strike's lane carries what its leaf has left, which is taken from both ends.
+abbrev pub after : (ℕ → ℤ) → Strike → ℕ → ℤ
+after w s = takeFrom (takeFrom w (s .leaf) (w (s .leaf))) (s .other) (w (s .leaf))
+
+take-at : (w : ℕ → ℤ) (p : ℕ) (y : ℤ) → takeFrom w p y p ≡ w p -ℤ y
+unfolding takeFrom
+take-at w p y = rw (eq-eqb p p refl, takeFrom)
+
+take-off : (w : ℕ → ℤ) (p : ℕ) (y : ℤ) (k : ℕ) → k ≢ p → takeFrom w p y k ≡ w k
+unfolding takeFrom
+take-off w p y k e = rw (ne-eqb k p e, takeFrom)
+
+take-z : (w : ℕ → ℤ) (p : ℕ) (y : ℤ) (k : ℕ) → toZ (takeFrom w p y k) ≈ toZ (w k) ⊖ point p (toZ y) k
+take-z w p y k = by-cases (ℕ-discrete k p)
+    (λ e. rw (e, take-at w p y, point-at p (toZ y)) (omega (arith, z-add (w p) (negℤ y), z-neg y)))
+    (λ e. rw (take-off w p y k e, point-off p (toZ y) k e) (omega arith))
+
+take-both : (w : ℕ → ℤ) (a b : ℕ) (y : ℤ) (k : ℕ) → toZ (takeFrom (takeFrom w a y) b y k) ≈ toZ (w k) ⊖ (point a (toZ y) k ⊕ point b (toZ y) k)
+take-both w a b y k = omega (arith, take-z (takeFrom w a y) b y k, take-z w a y k)
+
+-- Each end of its lane loses what it carries.
+after-z : {m : ℕ} (w : ℕ → ℤ) {s : Strike} → Ends m s → (k : ℕ)
+    → toZ (after w s k) ≈ toZ (w k) ⊖ (point (s .lane .row) (toZ (w (s .leaf))) k ⊕ point (m + s .lane .col) (toZ (w (s .leaf))) k)
+after-z {m} w {s} (row-struck p q) k = rw (← p, ← q) (take-both w (s .leaf) (s .other) (w (s .leaf)) k)
+after-z {m} w {s} (column-struck p q) k = rw (← p, ← q) (omega (arith, take-both w (s .leaf) (s .other) (w (s .leaf)) k))
+
+-- ---- what a lane carries
+
+flow-here : (w : ℕ → ℤ) (s : Strike) (ss : List Strike) → flow w (s ∷ ss) (s .lane) ≡ w (s .leaf)
+unfolding flow
+flow-here w s ss = rw (lane-same (s .lane), flow)
+
+flow-later : (w : ℕ → ℤ) (s : Strike) (ss : List Strike) (l : Lane) → l ≢ s .lane → flow w (s ∷ ss) l ≡ flow (after w s) ss l
+unfolding flow
+flow-later w s ss l e = rw (lane-other l (s .lane) e, flow)
+
+-- nothing, where it is the lane of no strike
+pub flow-off : (w : ℕ → ℤ) (ss : List Strike) (l : Lane) → ((s : Strike) → List·Memᴰ s ss → s .lane ≢ l) → flow w ss l ≡ pos 0
+unfolding flow
+flow-off w [] l d = refl
+flow-off w (s ∷ ss) l d =
+    flow-later w s ss l (λ e. d s (List·Memᴰ·head refl) (sym e)) ∙ flow-off (after w s) ss l (λ t h. d t (List·Memᴰ·tail h))
+
+-- A strike adds what its lane carries at the lane's row and column.
+flow-splits : {m n : ℕ} (w : ℕ → ℤ) {s : Strike} {later : List Strike} → Step m n s later → Peeled m n later → (i j : ℕ)
+    → toZ (flow w (s ∷ later) (lane i j)) ≈ point (s .lane .row) (nat 1) i ⊗ point (s .lane .col) (toZ (w (s .leaf))) j ⊕ toZ (flow (after w s) later (lane i j))
+flow-splits {m} {n} w {s} {later} st rest i j = by-cases (Dec·and (ℕ-discrete i (s .lane .row)) (ℕ-discrete j (s .lane .col)))
+    (λ e. rw (e .0, e .1, flow-here w s later, gone, point-at (s .lane .row) (nat 1), point-at (s .lane .col) (toZ (w (s .leaf)))) (omega arith))
+    (λ e. rw (flow-later w s later (lane i j) (λ q. e (ap (λ (l : Lane). l .row) q, ap (λ (l : Lane). l .col) q))) (omega (arith, off e)))
+  where
+    gone : flow (after w s) later (s .lane) ≡ pos 0
+    gone = flow-off (after w s) later (s .lane) (λ t h. let (ts, step) = step-of rest t h in lane-once st t h (step .ends))
+
+    off : ¬ ((i ≡ s .lane .row) × (j ≡ s .lane .col)) → point (s .lane .row) (nat 1) i ⊗ point (s .lane .col) (toZ (w (s .leaf))) j ≈ nat 0
+    off e = by-cases (ℕ-discrete i (s .lane .row))
+        (λ f. rw (point-off (s .lane .col) (toZ (w (s .leaf))) j (λ g. e (f, g))) (omega arith))
+        (λ f. rw (point-off (s .lane .row) (nat 1) i f) (omega arith))
+
+-- ---- what the nodes have left in the end
+
+unfoldable left : (ℕ → ℤ) → List Strike → ℕ → ℤ
+left w [] k = w k
+left w (s ∷ ss) k = left (after w s) ss k
+
+-- What a row gets of the flow and what it has left add up to its weight: so it is at the end, and each strike takes from a row what its lane brings it.
+row-weight : {m n : ℕ} (w : ℕ → ℤ) {ss : List Strike} → Peeled m n ss → (i : ℕ) → i < m → sum n (λ j. toZ (flow w ss (lane i j))) ⊕ toZ (left w ss i) ≈ toZ (w i)
+unfolding flow left
+row-weight {m} {n} w bare i l = omega (arith, sum-zero n (λ j. nat 0) (λ j q. omega arith))
+row-weight {m} {n} w (peel {s} {later} st rest) i l = omega (
+  arith,
+  sum-cong n (λ j. toZ (flow w (s ∷ later) (lane i j))) (λ j. point (s .lane .row) (nat 1) i ⊗ point (s .lane .col) (toZ (w (s .leaf))) j ⊕ toZ (flow (after w s) later (lane i j))) (λ j q. flow-splits w st rest i j),
+  sum-add n (λ j. point (s .lane .row) (nat 1) i ⊗ point (s .lane .col) (toZ (w (s .leaf))) j) (λ j. toZ (flow (after w s) later (lane i j))),
+  sum-point n (λ j. point (s .lane .row) (nat 1) i) (s .lane .col) (toZ (w (s .leaf))) (st .col),
+  point-one (s .lane .row) (toZ (w (s .leaf))) i,
+  row-weight (after w s) rest i l,
+  after-z w (st .ends) i,
+  point-zero (m + s .lane .col) (toZ (w (s .leaf))) i (omega arith),
+)
+
+column-weight : {m n : ℕ} (w : ℕ → ℤ) {ss : List Strike} → Peeled m n ss → (j : ℕ) → sum m (λ i. toZ (flow w ss (lane i j))) ⊕ toZ (left w ss (m + j)) ≈ toZ (w (m + j))
+unfolding flow left
+column-weight {m} {n} w bare j = omega (arith, sum-zero m (λ i. nat 0) (λ i q. omega arith))
+column-weight {m} {n} w (peel {s} {later} st rest) j = omega (
+  arith,
+  sum-cong m (λ i. toZ (flow w (s ∷ later) (lane i j))) (λ i. point (s .lane .col) (toZ (w (s .leaf))) j ⊗ point (s .lane .row) (nat 1) i ⊕ toZ (flow (after w s) later (lane i j))) (λ i q. omega (arith, flow-splits w st rest i j)),
+  sum-add m (λ i. point (s .lane .col) (toZ (w (s .leaf))) j ⊗ point (s .lane .row) (nat 1) i) (λ i. toZ (flow (after w s) later (lane i j))),
+  sum-point m (λ i. point (s .lane .col) (toZ (w (s .leaf))) j) (s .lane .row) (nat 1) (st .row),
+  column-weight (after w s) rest j,
+  after-z w (st .ends) (m + j),
+  point-zero (s .lane .row) (toZ (w (s .leaf))) (m + j) (omega (arith, st .row)),
+  point-up m (s .lane .col) (toZ (w (s .leaf))) j,
+)
+
+left-clear : (w : ℕ → ℤ) (ss : List Strike) (k : ℕ) → ((t : Strike) → List·Memᴰ t ss → (t .leaf ≢ k) × (t .other ≢ k)) → left w ss k ≡ w k
+unfolding left
+left-clear w [] k d = refl
+left-clear w (s ∷ ss) k d =
+    let (a, b) = d s (List·Memᴰ·head refl) in
+    left-clear (after w s) ss k (λ t h. d t (List·Memᴰ·tail h))
+    ∙ take-off (takeFrom w (s .leaf) (w (s .leaf))) (s .other) (w (s .leaf)) k (λ e. b (sym e))
+    ∙ take-off w (s .leaf) (w (s .leaf)) k (λ e. a (sym e))
+
+-- A leaf has nothing left: its strike takes all, and no later one touches it.
+left-leaf : {m n : ℕ} (w : ℕ → ℤ) {ss : List Strike} → Peeled m n ss → (k : ℕ) → IsLeaf ss k → toZ (left w ss k) ≈ nat 0
+unfolding left
+left-leaf w bare k (t, h, e) = absurd (List·Memᴰ·not-nil h)
+left-leaf {m} {n} w (peel {s} {later} st rest) k (t, h, e) = ⊎-elim
+    (λ q. let r : k ≡ s .leaf = sym e ∙ ap (λ (v : Strike). v .leaf) q in rw r struck)
+    (λ q. left-leaf (after w s) rest k (t, q, e))
+    (List·Memᴰ·cases-cons h)
+  where
+    struck : toZ (left (after w s) later (s .leaf)) ≈ nat 0
+    struck = rw (left-clear (after w s) later (s .leaf) (st .clear)) (omega (
+      arith,
+      take-both w (s .leaf) (s .other) (w (s .leaf)) (s .leaf),
+      point-zero (s .other) (toZ (w (s .leaf))) (s .leaf) (ends-differ (st .ends) (st .row)),
+      here,
+    ))
+      where
+        here : point (s .leaf) (toZ (w (s .leaf))) (s .leaf) ≈ toZ (w (s .leaf))
+        here = rw (point-at (s .leaf) (toZ (w (s .leaf)))) (omega arith)
+
+-- ---- the flow
+
+lane-or : (ss : List Strike) (l : Lane) → ((s : Strike) × List·Memᴰ s ss × (s .lane ≡ l)) ⊎ ((s : Strike) → List·Memᴰ s ss → s .lane ≢ l)
+lane-or [] l = inr (λ s h. absurd (List·Memᴰ·not-nil h))
+lane-or (s ∷ ss) l = go (sameLane (s .lane) l) refl (lane-or ss l)
+  where
+    go : (b : Bool) → sameLane (s .lane) l ≡ b → ((t : Strike) × List·Memᴰ t ss × (t .lane ≡ l)) ⊎ ((t : Strike) → List·Memᴰ t ss → t .lane ≢ l)
+        → ((t : Strike) × List·Memᴰ t (s ∷ ss) × (t .lane ≡ l)) ⊎ ((t : Strike) → List·Memᴰ t (s ∷ ss) → t .lane ≢ l)
+    go true e rest = inl (s, List·Memᴰ·head refl, same-lane (s .lane) l e)
+    go false e (inl (t, h, q)) = inl (t, List·Memᴰ·tail h, q)
+    go false e (inr d) = inr (λ t h. ⊎-elim (λ q r. true≢false (sym (lane-same l) ∙ ap (λ (v : Lane). sameLane v l) (sym r) ∙ ap (λ (v : Strike). sameLane (v .lane) l) q ∙ e)) (d t) (List·Memᴰ·cases-cons h))
+
+-- The flow of the weights has them as its margins. Every node but row 0 is a leaf, so it has nothing left and has got its weight. What all rows get is what all columns get, so
+-- where the totals agree, row 0 has got its weight too.
+pub struck-flow : {m n : ℕ} {B : List Lane} {ss : List Strike} → 1 ≤ m → Struck m n B ss → (w : ℕ → ℤ) → sum m (λ i. toZ (w i)) ≈ sum n (λ j. toZ (w (m + j)))
+    → Flow m n (Has B) (λ i j. toZ (flow w ss (lane i j))) (λ i. toZ (w i)) (λ j. toZ (w (m + j)))
+struck-flow {m} {n} {B} {ss} p st w even = record {
+  on = λ i j hi hj e. ⊎-elim
+      (λ (s, h, q). rw q at (st .lanes s h))
+      (λ d. absurd (e (rw (flow-off w ss (lane i j) d) (omega arith))))
+      (lane-or ss (lane i j));
+  rows = λ i l. by-cases (ℕ-discrete i 0) (λ e. rw e root) (row i l);
+  cols = column;
+}
+  where
+    x : ℕ → ℕ → Z
+    x i j = toZ (flow w ss (lane i j))
+
+    row : (i : ℕ) → i < m → i ≢ 0 → sum n (x i) ≈ toZ (w i)
+    row i l e = omega (arith, row-weight w (st .peels) i l, left-leaf w (st .peels) i (st .leaves i e (omega arith)))
+
+    column : (j : ℕ) → j < n → sum m (λ i. x i j) ≈ toZ (w (m + j))
+    column j l = omega (arith, column-weight w (st .peels) j, left-leaf w (st .peels) (m + j) (st .leaves (m + j) (omega arith) (omega arith)))
+
+    root : sum n (x 0) ≈ toZ (w 0)
+    root = omega (
+      arith,
+      sum-change m (λ i. toZ (w i)) (λ i. sum n (x i)) 0 (omega arith) row,
+      sum-swap m n x,
+      sum-cong n (λ j. sum m (λ i. x i j)) (λ j. toZ (w (m + j))) column,
+    )
+
+-- ---- the signs
+
+-- the same flow by margins that are equal numbers
+flow-margins : {m n : ℕ} {T : ℕ → ℕ → Type 0} {x : ℕ → ℕ → Z} {a b a′ b′ : ℕ → Z} → ((i : ℕ) → i < m → a i ≈ a′ i) → ((j : ℕ) → j < n → b j ≈ b′ j) → Flow m n T x a b → Flow m n T x a′ b′
+flow-margins h k f = record { on = f .on; rows = λ i l. omega (arith, f .rows i l, h i l); cols = λ j l. omega (arith, f .cols j l, k j l) }
+
+-- What the entering lane takes from both its nodes.
+abbrev owed : ℕ → Lane → ℕ → ℤ
+owed m enter = takeFrom (takeFrom (λ k. pos 0) (enter .row) (pos 1)) (m + enter .col) (pos 1)
+
+point-neg : (p k : ℕ) → point p (neg (nat 1)) k ≈ neg (point p (nat 1) k)
+point-neg p k = by-cases (ℕ-discrete k p)
+    (λ e. rw (e, point-at p (neg (nat 1)), point-at p (nat 1)) (omega arith))
+    (λ e. rw (point-off p (neg (nat 1)) k e, point-off p (nat 1) k e) (omega arith))
+
+module _ {m n : ℕ} {enter : Lane} (hr : enter .row < m) (hc : enter .col < n) where
+  owed-row : (i : ℕ) → i < m → toZ (owed m enter i) ≈ point (enter .row) (neg (nat 1)) i
+  owed-row i l = omega (
+    arith,
+    take-both (λ k. pos 0) (enter .row) (m + enter .col) (pos 1) i,
+    point-zero (m + enter .col) (nat 1) i (omega arith),
+    point-neg (enter .row) i,
+  )
+
+  owed-column : (j : ℕ) → j < n → toZ (owed m enter (m + j)) ≈ point (enter .col) (neg (nat 1)) j
+  owed-column j l = omega (
+    arith,
+    take-both (λ k. pos 0) (enter .row) (m + enter .col) (pos 1) (m + j),
+    point-zero (enter .row) (nat 1) (m + j) (omega arith),
+    point-up m (enter .col) (nat 1) j,
+    point-neg (enter .col) j,
+  )
+
+  -- The signs are the flow of −1 at the entering lane's row and −1 at its column.
+  pub struck-signs : {B : List Lane} {ss : List Strike} → 1 ≤ m → Struck m n B ss
+      → Flow m n (Has B) (λ i j. toZ (sign m ss enter (lane i j))) (point (enter .row) (neg (nat 1))) (point (enter .col) (neg (nat 1)))
+  unfolding sign
+  struck-signs p st = flow-margins owed-row owed-column (struck-flow p st (owed m enter) (omega (
+    arith,
+    sum-cong m (λ i. toZ (owed m enter i)) (point (enter .row) (neg (nat 1))) owed-row,
+    sum-cong n (λ j. toZ (owed m enter (m + j))) (point (enter .col) (neg (nat 1))) owed-column,
+    sum-cong m (point (enter .row) (neg (nat 1))) (λ i. nat 1 ⊗ point (enter .row) (neg (nat 1)) i) (λ i l. omega arith),
+    sum-cong n (point (enter .col) (neg (nat 1))) (λ j. nat 1 ⊗ point (enter .col) (neg (nat 1)) j) (λ j l. omega arith),
+    sum-point m (λ i. nat 1) (enter .row) (neg (nat 1)) hr,
+    sum-point n (λ j. nat 1) (enter .col) (neg (nat 1)) hc,
+  )))
+
+-- A sign is 0, 1 or −1.
+pub data Signed (z : ℤ) : Type 0 where
+  off : z ≡ pos 0 → Signed z
+  plus : z ≡ pos 1 → Signed z
+  minus : z ≡ negsuc 0 → Signed z
+
+signed : (z : ℤ) → Within 1 (toZ z) → Signed z
+signed (pos zero) h = off refl
+signed (pos (suc zero)) h = plus refl
+signed (pos (suc (suc k))) h = absurd (omega arith)
+signed (negsuc zero) h = minus refl
+signed (negsuc (suc k)) h = absurd (omega arith)
+
+-- ---- the flow and the signs on lanes that span
+
+module _ {m n : ℕ} {B : List Lane} (p : 1 ≤ m) (h : Fits m n B) (s : spans m n B ≡ true) where
+  pub flow-of : (w : ℕ → ℤ) → sum m (λ i. toZ (w i)) ≈ sum n (λ j. toZ (w (m + j)))
+      → Flow m n (Has B) (λ i j. toZ (flow w (strikes m n B) (lane i j))) (λ i. toZ (w i)) (λ j. toZ (w (m + j)))
+  flow-of w even = struck-flow p (struck-of p h s) w even
+
+  pub signs-of : (enter : Lane) → enter .row < m → enter .col < n
+      → Flow m n (Has B) (λ i j. toZ (sign m (strikes m n B) enter (lane i j))) (point (enter .row) (neg (nat 1))) (point (enter .col) (neg (nat 1)))
+  signs-of enter hr hc = struck-signs hr hc p (struck-of p h s)
+
+  -- Each sign is −1, 0 or 1, for the lanes are a basis.
+  pub sign-unit : 1 ≤ n → (enter : Lane) → enter .row < m → enter .col < n → (l : Lane) → Signed (sign m (strikes m n B) enter l)
+  unfolding sign basisSize
+  sign-unit q enter hr hc l = ⊎-elim
+      (λ (t, k, e). here (has-in B (l .row) (l .col) .0 (rw e at (struck-of p h s .lanes t k))))
+      (λ d. off (flow-off _ (strikes m n B) l d))
+      (lane-or (strikes m n B) l)
+    where
+      count : length B ≡ basisSize m n
+      count = spans-iff p h .0 s .0
+
+      on-basis : Flow m n (In (rowAt B) (colAt B) (suc (m + n - 2))) (λ i j. toZ (sign m (strikes m n B) enter (lane i j))) (point (enter .row) (neg (nat 1))) (point (enter .col) (neg (nat 1)))
+      on-basis = flow-on (λ i j hi hj u. let (k, d, a, b) = has-in B i j .0 u in (k, omega (arith, count), a, b)) (signs-of enter hr hc)
+
+      here : In (rowAt B) (colAt B) (length B) (l .row) (l .col) → Signed (sign m (strikes m n B) enter l)
+      here (k, d, a, b) = signed (sign m (strikes m n B) enter l) (rw (← a, ← b) (unit (spans-basis p q h s) hr hc on-basis k (omega (arith, count))))

@@ -1,0 +1,130 @@
+-- Potentials through the strikes: tight on every lane, 0 at the root, the only such numbers, and bounded.
+use mathlib.Core.Path.{_≡_, refl, ap, sym, _∙_}
+use mathlib.Core.Logic.{_≢_, _⊎_, inl, inr, ⊎-elim, by-cases}
+use mathlib.Core.Bool.{Bool, true, false}
+use mathlib.Core.List.{List, [], _∷_, List·Memᴰ, List·Memᴰ·head, List·Memᴰ·tail, List·Memᴰ·not-nil, List·Memᴰ·cases-cons}
+use Prim.Native.Nat.{ℕ, zero, suc, _+_, _*_, _-_, _≤_, _<_}
+use native.Mathlib.Omega.{arith}
+use native.Mathlib.Nat.{mul-le-mul-right}
+use native.Mathlib.Decide.{ℕ-discrete, decLt}
+use borrow.Author.Tests.{eq-eqb, ne-eqb}
+use lib.IntN.{ℤ, pos, negsuc, negℤ, natAbs, _-ℤ_}
+use lib.ListN.{length}
+use Rattle.integers.specs.Integer.{Z, _≈_, _⊕_, _⊖_, neg, nat, Within}
+use Rattle.integers.specs.Bridge.{toZ, z-add, z-neg, z-eq, eq-z}
+use Rattle.transport.specs.Limits.{maxSide, maxCost, maxCells}
+use Rattle.transport.specs.Sheet.{Sheet, sources, sinks, Lane, place, laneCost}
+use Rattle.transport.specs.SheetLaws.{Checked, lane}
+use Rattle.transport.specs.declared.Cell.{Cell}
+use Rattle.transport.specs.Tableau.{basisSize, basisOf}
+use Rattle.transport.specs.Leaf.{Strike, strikes, spans}
+use Rattle.transport.specs.Potential.{potentialBy, potential}
+use Rattle.transport.specs.Statements.{Joined}
+use Rattle.network.specs.Flow.{Tight}
+use Rattle.network.specs.Joined.{potentials-unique}
+use Rattle.tableaux.specs.Striking.{Has, Fits, Ends, row-struck, column-struck, Step, Peeled, bare, peel, Struck, struck-of, ends-differ, step-of, root-no-leaf, spans-iff}
+
+-- ---- sizes
+
+size-within : (z : ℤ) → Within (natAbs z) (toZ z)
+size-within (pos k) = omega arith
+size-within (negsuc k) = omega arith
+
+within-size : (z : ℤ) (H : ℕ) → Within H (toZ z) → natAbs z ≤ H
+within-size (pos k) H h = omega arith
+within-size (negsuc k) H h = omega arith
+
+size-difference : (a b : ℤ) → natAbs (a -ℤ b) ≤ natAbs a + natAbs b
+size-difference a b = within-size (a -ℤ b) (natAbs a + natAbs b) (omega (arith, z-add a (negℤ b), z-neg b, size-within a, size-within b))
+
+-- ---- potentials, strike by strike
+
+module _ (cost : Lane → ℤ) where
+  potential-leaf : (s : Strike) (ss : List Strike) → potentialBy cost (s ∷ ss) (s .leaf) ≡ cost (s .lane) -ℤ potentialBy cost ss (s .other)
+  unfolding potentialBy
+  potential-leaf s ss = rw (eq-eqb (s .leaf) (s .leaf) refl, potentialBy)
+
+  potential-later : (s : Strike) (ss : List Strike) (k : ℕ) → k ≢ s .leaf → potentialBy cost (s ∷ ss) k ≡ potentialBy cost ss k
+  unfolding potentialBy
+  potential-later s ss k e = rw (ne-eqb k (s .leaf) e, potentialBy)
+
+  -- A node that is no leaf has potential 0.
+  potential-off : (ss : List Strike) (k : ℕ) → ((s : Strike) → List·Memᴰ s ss → s .leaf ≢ k) → potentialBy cost ss k ≡ pos 0
+  unfolding potentialBy
+  potential-off [] k d = refl
+  potential-off (s ∷ ss) k d = potential-later s ss k (λ e. d s (List·Memᴰ·head refl) (sym e)) ∙ potential-off ss k (λ t h. d t (List·Memᴰ·tail h))
+
+  -- On the lane of each strike the two potentials add up to the cost: so they do when the leaf gets its own, and no earlier strike changes either.
+  strike-tight : {m n : ℕ} {ss : List Strike} → Peeled m n ss → (s : Strike) → List·Memᴰ s ss
+      → toZ (potentialBy cost ss (s .leaf)) ⊕ toZ (potentialBy cost ss (s .other)) ≈ toZ (cost (s .lane))
+  strike-tight bare s h = absurd (List·Memᴰ·not-nil h)
+  strike-tight {m} {n} (peel {s} {later} st rest) t h = ⊎-elim (λ e. rw e here) (λ q. there q (strike-tight rest t q)) (List·Memᴰ·cases-cons h)
+    where
+      here : toZ (potentialBy cost (s ∷ later) (s .leaf)) ⊕ toZ (potentialBy cost (s ∷ later) (s .other)) ≈ toZ (cost (s .lane))
+      here = rw (potential-leaf s later, potential-later s later (s .other) (λ e. ends-differ (st .ends) (st .row) (sym e)))
+          (omega (arith, z-add (cost (s .lane)) (negℤ (potentialBy cost later (s .other))), z-neg (potentialBy cost later (s .other))))
+
+      there : List·Memᴰ t later → toZ (potentialBy cost later (t .leaf)) ⊕ toZ (potentialBy cost later (t .other)) ≈ toZ (cost (t .lane))
+          → toZ (potentialBy cost (s ∷ later) (t .leaf)) ⊕ toZ (potentialBy cost (s ∷ later) (t .other)) ≈ toZ (cost (t .lane))
+      there q e = rw (potential-later s later (t .leaf) (st .clear t q .0), potential-later s later (t .other) (st .clear t q .1)) e
+
+  -- Each assignment adds at most one cost.
+  potential-bound : (C : ℕ) (ss : List Strike) → ((s : Strike) → List·Memᴰ s ss → natAbs (cost (s .lane)) ≤ C) → (k : ℕ) → natAbs (potentialBy cost ss k) ≤ length ss * C
+  unfolding potentialBy
+  potential-bound C [] h k = omega arith
+  potential-bound C (s ∷ ss) h k = by-cases (ℕ-discrete k (s .leaf))
+      (λ e. rw (e, potential-leaf s ss) (omega (arith, size-difference (cost (s .lane)) (potentialBy cost ss (s .other)), h s (List·Memᴰ·head refl), potential-bound C ss (λ t q. h t (List·Memᴰ·tail q)) (s .other))))
+      (λ e. rw (potential-later s ss k e) (omega (arith, potential-bound C ss (λ t q. h t (List·Memᴰ·tail q)) k)))
+
+module _ {m n : ℕ} {B : List Lane} (p : 1 ≤ m) (h : Fits m n B) (e : spans m n B ≡ true) (cost : Lane → ℤ) where
+  abbrev pub solution : ℕ → ℤ
+  solution = potentialBy cost (strikes m n B)
+
+  pub potential-root : solution 0 ≡ pos 0
+  potential-root = potential-off cost (strikes m n B) 0 (root-no-leaf (struck-of p h e .peels))
+
+  pub potential-tight : (l : Lane) → List·Memᴰ l B → toZ (solution (l .row)) ⊕ toZ (solution (m + l .col)) ≈ toZ (cost l)
+  potential-tight l q =
+      let (s, r, c) = struck-of p h e .struck l q in
+      let (later, st) = step-of (struck-of p h e .peels) s r in
+      rw (← c) (by-ends s (st .ends) (strike-tight cost (struck-of p h e .peels) s r))
+    where
+      by-ends : (s : Strike) → Ends m s → toZ (solution (s .leaf)) ⊕ toZ (solution (s .other)) ≈ toZ (cost (s .lane))
+          → toZ (solution (s .lane .row)) ⊕ toZ (solution (m + s .lane .col)) ≈ toZ (cost (s .lane))
+      by-ends s (row-struck a b) t = omega (arith, z-eq (ap solution a), z-eq (ap solution b))
+      by-ends s (column-struck a b) t = omega (arith, z-eq (ap solution a), z-eq (ap solution b))
+
+  -- They are the only numbers that are 0 at the root and tight on every lane.
+  pub potential-only : (q : ℕ → ℤ) → q 0 ≡ pos 0 → ((l : Lane) → List·Memᴰ l B → toZ (q (l .row)) ⊕ toZ (q (m + l .col)) ≈ toZ (cost l))
+      → (k : ℕ) → k < m + n → q k ≡ solution k
+  potential-only q z tight k l = by-cases (decLt k m)
+      (λ r. eq-z (q k) (solution k) (same .0 k r))
+      (λ r. let place : m + (k - m) ≡ k = omega arith in
+      eq-z (q k) (solution k) (omega (arith, same .1 (k - m) (omega arith), z-eq (ap q place), z-eq (ap solution place))))
+    where
+      same : ((i : ℕ) → i < m → toZ (q i) ≈ toZ (solution i)) × ((j : ℕ) → j < n → toZ (q (m + j)) ≈ toZ (solution (m + j)))
+      same = potentials-unique (spans-iff p h .0 e .1) (λ i j. toZ (cost (lane i j))) (λ i. toZ (q i)) (λ j. toZ (q (m + j))) (λ i. toZ (solution i)) (λ j. toZ (solution (m + j)))
+          (λ i j hi hj s. tight (lane i j) s)
+          (λ i j hi hj s. potential-tight (lane i j) s)
+          (z-eq (z ∙ sym potential-root))
+
+  -- After m + n − 1 assignments none passes m + n − 1 times the greatest cost.
+  pub potential-size : (C : ℕ) → ((l : Lane) → List·Memᴰ l B → natAbs (cost l) ≤ C) → (k : ℕ) → natAbs (solution k) ≤ basisSize m n * C
+  unfolding basisSize
+  potential-size C c k =
+      let count : length (strikes m n B) ≡ m + n - 1 = omega (arith, struck-of p h e .size) in
+      rw (← count) (potential-bound cost C (strikes m n B) (λ s q. c (s .lane) (struck-of p h e .lanes s q)) k)
+
+-- No price of a tableau passes 63,000,000 in size.
+pub price-size : (S : Sheet) → Checked S → (T : List Cell) → Fits (sources S) (sinks S) (basisOf T) → spans (sources S) (sinks S) (basisOf T) ≡ true
+    → (k : ℕ) → natAbs (potential S T k) ≤ maxCells * maxCost
+unfolding potential laneCost maxCells basisSize
+price-size S c T h e k = omega (
+  arith,
+  potential-size (c .sourcesLow) h e (laneCost S) maxCost (λ l q. c .costHigh (place (sinks S) (l .row) (l .col))) k,
+  mul-le-mul-right {m = sources S + sinks S - 1} {n = 2 * maxSide - 1} maxCost (omega (arith, c .sourcesHigh, c .sinksHigh)),
+)
+
+pub price-limit : maxCells * maxCost ≡ 63_000_000
+unfolding maxCells maxSide maxCost
+price-limit = refl
