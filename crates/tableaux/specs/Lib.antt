@@ -7,6 +7,7 @@ pub mod Striking
 pub mod Bases
 pub mod Flows
 pub mod Potentials
+pub mod Belonging
 pub mod Order
 pub mod TableauView
 pub mod PivotView

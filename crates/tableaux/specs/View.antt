@@ -48,7 +48,7 @@ distinct-fresh c cs d b =
     let s : 0 ≡ suc (b .index) = d 0 (suc (b .index)) (omega arith) (omega (arith, b .below)) (sym (b .row)) (sym (b .column)) in
     omega arith
 
-basic-later : (c : Cell) (cs : List Cell) (i j : ℕ) → Basic cs i j → Basic (c ∷ cs) i j
+pub basic-later : (c : Cell) (cs : List Cell) (i j : ℕ) → Basic cs i j → Basic (c ∷ cs) i j
 basic-later c cs i j b = record { index = suc (b .index); below = omega (arith, b .below); row = b .row; column = b .column }
 
 -- ---- the amount at a row and column, (0, 0) where no cell is
