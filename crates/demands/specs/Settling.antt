@@ -3,7 +3,7 @@ use mathlib.Core.Path.{_≡_, refl, sym, ap, _∙_}
 use mathlib.Core.Logic.{_↔_, by-cases, Iff·rfl, Iff·symm}
 use mathlib.Core.Bool.{Bool, true, Bool-discrete}
 use mathlib.Core.List.{List, [], _∷_}
-use Prim.Native.Nat.{ℕ, zero, suc, _+_, _*_, _≤_, _<_}
+use Prim.Native.Nat.{ℕ, zero, suc, _+_, _*_, _-_, _≤_, _<_}
 use native.Mathlib.Omega.{arith}
 use native.Mathlib.Nat.{mul-zero}
 use lib.IntN.{pos}
@@ -13,7 +13,7 @@ use Rattle.integers.specs.IntegerLaws.{⊗-cong}
 use Rattle.network.specs.Flow.{Flow, Plan, cost, Feasible, Tight}
 use Rattle.network.specs.FlowLaws.{flow-on}
 use Rattle.network.specs.Duality.{least}
-use Rattle.network.specs.Settling.{Agree, Decided, decided-cong, decided-start, decided-phase, decided-skip, settled-least}
+use Rattle.network.specs.Settling.{Agree, Decided, decided-cong, decided-start, decided-phase, decided-skip, decided-rest, settled-least}
 use Rattle.transport.specs.Lists.{at}
 use Rattle.transport.specs.Sheet.{Sheet, sources, sinks, place, laneCost}
 use Rattle.transport.specs.SheetLaws.{Checked, lane, place-of}
@@ -21,8 +21,10 @@ use Rattle.transport.specs.Amount.{eqZ}
 use Rattle.transport.specs.declared.Cell.{Cell}
 use Rattle.transport.specs.Potential.{potential, reducedCost, isFinished}
 use Rattle.transport.specs.Plan.{planCost, settled}
-use Rattle.transport.specs.Statements.{Belongs, Meets, FirstDifference, Best, scaled}
+use Rattle.transport.specs.Statements.{Basic, Belongs, Meets, FirstDifference, Best, scaled}
 use Rattle.plans.specs.Settled.{best-settled}
+use Rattle.tableaux.specs.Belonging.{basis-of}
+use Rattle.tableaux.specs.TableauView.{basic-in, cells-many}
 use Rattle.tableaux.specs.PlanView.{carried, supplies, demands, costs, meets-plan, cost-planCost}
 use Rattle.tableaux.specs.Least.{bagsOf, bags-carried, bags-meet, rowPotential, columnPotential, feasible}
 use Rattle.demands.specs.Phases.{Known, bagsAt, reduced-zero, Allowed, Restricted, Ended, phase-ends, keptLanes, kept-iff, kept-restricted, kept-flow}
@@ -79,6 +81,15 @@ module _ (S : Sheet) (known : Known S) (T₀ : List Cell) (belongs : Belongs S T
     unfolding place
     settling-skip shut = record { restricted = d .restricted; decided = decided-skip (d .decided) row col refl shut }
 
+  -- Where only basic lanes are still allowed all lanes are decided.
+  pub settling-rest : Checked S → {t : ℕ} {allowed : ℕ → ℕ → Bool} {T : List Cell} → t ≤ sources S * sinks S → DecidedTo S T₀ t allowed T
+      → ((i j : ℕ) → i < sources S → j < sinks S → Allowed allowed i j → Basic T i j) → DecidedTo S T₀ (sources S * sinks S) allowed T
+  settling-rest ok {T = T} l d h = record {
+    restricted = d .restricted;
+    decided = decided-rest (d .decided) l (basis-of ok (d .restricted .belongs))
+        (λ i j hi hj a. basic-in T (suc (sources S + sinks S - 2)) i j (cells-many ok T (d .restricted .belongs .count)) .0 (h i j hi hj a));
+  }
+
   pub settles-to : (t : ℕ) → t ≤ sources S * sinks S → (allowed : ℕ → ℕ → Bool) × (T : List Cell) × DecidedTo S T₀ t allowed T
   settles-to zero l = (tightLanes S T₀, T₀, settling-start)
   settles-to (suc t) l = go (settles-to t (omega arith))
@@ -97,7 +108,7 @@ module _ (S : Sheet) (known : Known S) (T₀ : List Cell) (belongs : Belongs S T
 
   module _ (ok : Checked S) (done : isFinished S T₀ ≡ true) {allowed : ℕ → ℕ → Bool} {T : List Cell} (d : DecidedTo S T₀ (sources S * sinks S) allowed T) where
     ours : Decided (sources S) (sinks S) (supplies S) (demands S) (Tight (costs S) u v) (sources S * sinks S) (Allowed allowed) (carried (sinks S) (bagsOf S T))
-    ours = decided-cong (λ i j hi hj. Iff·rfl) (bags-carried S T (d .restricted .belongs) (known .flow T (d .restricted .belongs))) (d .decided)
+    ours = decided-cong (λ i j hi hj. Iff·rfl) (bags-carried S T (d .restricted .belongs)) (d .decided)
 
     abbrev plan : List ℕ
     plan = bagsOf S T
