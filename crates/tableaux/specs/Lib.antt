@@ -8,7 +8,10 @@ pub mod Bases
 pub mod Flows
 pub mod Potentials
 pub mod Belonging
+pub mod Entering
 pub mod Order
 pub mod TableauView
 pub mod PivotView
 pub mod Pivoting
+pub mod Running
+pub mod Ending

@@ -24,6 +24,7 @@ use Rattle.transport.specs.Leaf.{strikes}
 use Rattle.transport.specs.Round.{sign, leaving, gain, shift, pivot}
 use Rattle.transport.specs.Statements.{Basic}
 use Rattle.tableaux.specs.View.{Distinct, Inside, amountAt, amount-none}
+use Rattle.tableaux.specs.Flows.{lane-same, lane-other}
 use Rattle.tableaux.specs.Order.{CellAt, cell-at, basic-member, amount-member, placeOf, Ordered, ordered-distinct, ordered-keep, ordered-map, ordered-insert, insert-here, insert-keeps, insert-member, length-insert}
 
 -- ---- lanes
@@ -35,33 +36,17 @@ Stands c i j = (i ≡ c .row) × (j ≡ c .col)
 pub stands-dec : (c : Cell) (i j : ℕ) → Dec (Stands c i j)
 stands-dec c i j = Dec·and (ℕ-discrete i (c .row)) (ℕ-discrete j (c .col))
 
-pub sameLane-true : (k l : Lane) → sameLane k l ≡ true → (k .row ≡ l .row) × (k .col ≡ l .col)
-unfolding sameLane
-sameLane-true k l e =
-    (eqb-true (k .row) (l .row) (and-left _ (eqb (k .col) (l .col)) e), eqb-true (k .col) (l .col) (and-right (eqb (k .row) (l .row)) _ e))
-
-pub sameLane-yes : (k l : Lane) → k .row ≡ l .row → k .col ≡ l .col → sameLane k l ≡ true
-unfolding sameLane
-sameLane-yes k l e f = rw (eq-eqb (k .row) (l .row) e, eq-eqb (k .col) (l .col) f)
-
-pub sameLane-no : (k l : Lane) → ¬ ((k .row ≡ l .row) × (k .col ≡ l .col)) → sameLane k l ≡ false
-sameLane-no k l d = go (sameLane k l) refl
-  where
-    go : (b : Bool) → sameLane k l ≡ b → sameLane k l ≡ false
-    go true e = absurd (d (sameLane-true k l e))
-    go false e = e
-
 -- The cell is on another lane.
 abbrev other : Cell → Cell → Bool
 other out c = not (sameLane (laneOf c) (laneOf out))
 
 other-yes : (out c : Cell) → ¬ Stands out (c .row) (c .col) → other out c ≡ true
 unfolding laneOf
-other-yes out c d = rw (sameLane-no (laneOf c) (laneOf out) d)
+other-yes out c d = rw (lane-other (laneOf c) (laneOf out) (λ p. d (ap (λ l. l .row) p, ap (λ l. l .col) p)))
 
 other-no : (out c : Cell) → Stands out (c .row) (c .col) → other out c ≡ false
 unfolding laneOf
-other-no out c d = rw (sameLane-yes (laneOf c) (laneOf out) (d .0) (d .1))
+other-no out c d = ap (λ l. not (sameLane l (laneOf out))) (λ i. lane (d .0 i) (d .1 i)) ∙ ap not (lane-same (laneOf out))
 
 yes-other : (out c : Cell) → other out c ≡ true → ¬ Stands out (c .row) (c .col)
 yes-other out c p d = true≢false (sym p ∙ other-no out c d)

@@ -3,21 +3,22 @@ use mathlib.Core.Path.{_≡_, refl, ap, sym, _∙_, subst}
 use mathlib.Core.Logic.{_⊎_, inl, inr, ⊎-elim, by-cases, Dec·and}
 use mathlib.Core.Bool.{Bool, true, false, true≢false}
 use mathlib.Core.List.{List, List·Memᴰ}
-use Prim.Native.Nat.{ℕ, zero, suc, _+_, _-_, _<_}
+use Prim.Native.Nat.{ℕ, zero, suc, _+_, _*_, _-_, _<_}
 use native.Mathlib.Omega.{arith}
 use native.Mathlib.Decide.{ℕ-discrete}
 use lib.IntN.{ℤ, pos, negsuc}
 use lib.Signed.{ltZ}
 use lib.ListN.{length, getD}
-use Rattle.integers.specs.Integer.{Z, _≈_, _≺_, _⊕_, _⊗_, neg, nat, Within}
+use Rattle.integers.specs.Integer.{Z, _≈_, _≼_, _≺_, _⊕_, _⊖_, _⊗_, neg, nat, Within}
 use Rattle.integers.specs.IntegerLaws.{⊗-cong}
 use Rattle.integers.specs.Bridge.{toZ, z-eq}
 use Rattle.integers.specs.Sum.{point}
-use Rattle.network.specs.Flow.{Flow}
+use Rattle.integers.specs.SumLaws.{sum₂-cong}
+use Rattle.network.specs.Flow.{Flow, Tight, cost}
 use Rattle.network.specs.FlowLaws.{on-zero}
 use Rattle.network.specs.Basis.{In, in-cells, Replaces, unit}
-use Rattle.network.specs.Pivot.{loop, loop-at, loop-off}
-use Rattle.network.specs.Round.{Tableau, Choice, after, some-minus, tableau-cong, round, no-tie}
+use Rattle.network.specs.Pivot.{loop, loop-at, loop-off, lowers, value, valued}
+use Rattle.network.specs.Round.{Tableau, Choice, after, some-minus, tableau-cong, value-above, round-cost, round, no-tie}
 use Rattle.transport.specs.Lists.{at}
 use Rattle.transport.specs.ListLaws.{member-at, member-place}
 use Rattle.transport.specs.Sheet.{Sheet, sources, sinks, Lane}
@@ -30,17 +31,28 @@ use Rattle.transport.specs.Round.{gain, pivot}
 use Rattle.transport.specs.Statements.{Basic, Belongs}
 use Rattle.tableaux.specs.View.{rowOf, colOf, Distinct, Inside, amountAt, amount-at, amount-none}
 use Rattle.tableaux.specs.PairLaws.{bags, marks, nothing-parts, add-parts, subtract-parts, true-less, ltZ-true, true-ltZ}
+use Rattle.tableaux.specs.PlanView.{supplies, demands}
+use Rattle.tableaux.specs.Belonging.{distinct-of, signs-flow}
 use Rattle.tableaux.specs.Order.{Ordered, ordered-by, ordered-distinct, basic-member, basic-dec, amount-member}
-use Rattle.tableaux.specs.TableauView.{bagsAt, marksAt, basic-in, Seen, cells-many, seen-belongs}
+use Rattle.tableaux.specs.TableauView.{bagsAt, marksAt, basic-in, Seen, cells-many, seen-belongs, belongs-seen}
 use Rattle.tableaux.specs.PivotView.{Stands, stands-dec, Leaves, leaving-is, signs, leaver, step, pivot-basic, pivot-ordered, length-pivot, pivot-inside, amount-enters, amount-stays, amount-leaves, amount-elsewhere}
 
 -- The loop's signs as integers of the theory.
 abbrev pub signAt : ℕ → ℕ → List Cell → Lane → ℕ → ℕ → Z
 signAt m n T e i j = toZ (signs m n T e (lane i j))
 
--- They add up, on the basis, to −1 at the entering lane's row and column, and to 0 elsewhere.
-abbrev pub Signed : ℕ → ℕ → List Cell → Lane → Type 0
-Signed m n T e = Flow m n (In (rowOf T) (colOf T) (suc (m + n - 2))) (signAt m n T e) (point (e .row) (neg (nat 1))) (point (e .col) (neg (nat 1)))
+-- The measure of rounds: the valued cost of the tableau.
+abbrev pub measure : Sheet → (ℕ → ℕ → Z) → List Cell → Z
+measure S c T = cost (sources S) (sinks S) c (valued (sources S) (bagsAt T) (marksAt T))
+
+measure-cong : (m n : ℕ) (c q e q₂ e₂ : ℕ → ℕ → Z) → ((i j : ℕ) → i < m → j < n → q i j ≈ q₂ i j) → ((i j : ℕ) → i < m → j < n → e i j ≈ e₂ i j)
+    → cost m n c (valued m q e) ≈ cost m n c (valued m q₂ e₂)
+measure-cong m n c q e q₂ e₂ h h′ = sum₂-cong m n (λ i j. valued m q e i j ⊗ c i j) (λ i j. valued m q₂ e₂ i j ⊗ c i j)
+    (λ i j hi hj. times (q i j) (e i j) (q₂ i j) (e₂ i j) (c i j) (h i j hi hj) (h′ i j hi hj))
+  where
+    times : (q e q₂ e₂ c : Z) → q ≈ q₂ → e ≈ e₂ → value m q e ⊗ c ≈ value m q₂ e₂ ⊗ c
+    times q e q₂ e₂ c h h′ = let same : value m q e ≈ value m q₂ e₂ = omega (arith, ⊗-cong (nat (2 * m + 1)) q q₂ h) in
+        omega (arith, ⊗-cong c (value m q e) (value m q₂ e₂) same)
 
 -- The pair y comes of x by the step θ, taken d times.
 abbrev pub Moves : Pair → Pair → Pair → Z → Type 0
@@ -67,8 +79,8 @@ leaves-moves θ d e = omega (arith, nothing-parts, ⊗-cong (bags θ) d (neg (na
 empty-moves : (θ : Pair) (d : Z) → d ≈ nat 0 → Moves nothing nothing θ d
 empty-moves θ d e = omega (arith, nothing-parts, ⊗-cong (bags θ) d (nat 0) e, ⊗-cong (marks θ) d (nat 0) e)
 
-module _ {S : Sheet} (ok : Checked S) {T : List Cell} (w : Belongs S T) (t : Seen S T) {e : Lane} (row : e .row < sources S) (col : e .col < sinks S)
-    (new : ¬ Basic T (e .row) (e .col)) (f : Signed (sources S) (sinks S) T e) where
+module _ {S : Sheet} (ok : Checked S) {T : List Cell} (w : Belongs S T) {e : Lane} (row : e .row < sources S) (col : e .col < sinks S)
+    (new : ¬ Basic T (e .row) (e .col)) where
   abbrev m : ℕ
   m = sources S
 
@@ -86,6 +98,12 @@ module _ {S : Sheet} (ok : Checked S) {T : List Cell} (w : Belongs S T) (t : See
 
   abbrev T′ : List Cell
   T′ = pivot (sources S) (sinks S) T e
+
+  t : Seen S T
+  t = belongs-seen ok w
+
+  f : Flow m n (In (rowOf T) (colOf T) (suc K)) σ (point (e .row) (neg (nat 1))) (point (e .col) (neg (nat 1)))
+  f = signs-flow ok w e row col
 
   many : suc K ≡ length T
   many = cells-many ok T (w .count)
@@ -110,7 +128,7 @@ module _ {S : Sheet} (ok : Checked S) {T : List Cell} (w : Belongs S T) (t : See
   ℓ = place .0
 
   at-out : amountAt T (rowOf T ℓ) (colOf T ℓ) ≡ out .amount
-  at-out = amount-at T (ordered-distinct n T order) ℓ (place .1) ∙ ap (λ c. c .amount) (place .2)
+  at-out = amount-at T (distinct-of ok w) ℓ (place .1) ∙ ap (λ c. c .amount) (place .2)
 
   pub step-positive : less nothing (step (sources S) (sinks S) T e) ≡ true
   step-positive = ap (λ c. less nothing (c .amount)) (sym (place .2)) ∙ w .above ℓ (place .1)
@@ -125,7 +143,7 @@ module _ {S : Sheet} (ok : Checked S) {T : List Cell} (w : Belongs S T) (t : See
     leaves = omega (arith, place .1, many);
     minus = subst (λ (c : Cell). toZ (signs m n T e (lane (c .row) (c .col))) ≺ nat 0) (sym (place .2)) (ltZ-true (signs m n T e (laneOf out)) (pos 0) (pivot-leaves .minus));
     least = λ k l s p. true≢false
-        (sym (true-less (getD T k noCell .amount) (out .amount) (rw (amount-at T (ordered-distinct n T order) k (omega (arith, many)), at-out) at p))
+        (sym (true-less (getD T k noCell .amount) (out .amount) (rw (amount-at T (distinct-of ok w) k (omega (arith, many)), at-out) at p))
         ∙ pivot-leaves .least (getD T k noCell) (member-at T noCell k (omega (arith, many))) (true-ltZ (signs m n T e (lane (rowOf T k) (colOf T k))) (pos 0) s));
   }
 
@@ -166,7 +184,7 @@ module _ {S : Sheet} (ok : Checked S) {T : List Cell} (w : Belongs S T) (t : See
 
   leaving-moves : Moves (amountAt T′ (out .row) (out .col)) (amountAt T (out .row) (out .col)) (out .amount) (round-loop (out .row) (out .col))
   unfolding laneOf
-  leaving-moves = rw (amount-leaves order (w .onSheet) col new (pivot-leaves .member), amount-member (ordered-distinct n T order) (pivot-leaves .member))
+  leaving-moves = rw (amount-leaves order (w .onSheet) col new (pivot-leaves .member), amount-member (distinct-of ok w) (pivot-leaves .member))
       (leaves-moves (out .amount) (round-loop (out .row) (out .col)) (omega (
         arith,
         loop-off σ (e .row) (e .col) (out .row) (out .col) (λ s. new (rw (s .0, s .1) at out-basic)),
@@ -195,11 +213,11 @@ module _ {S : Sheet} (ok : Checked S) {T : List Cell} (w : Belongs S T) (t : See
   hz : n - 1 < n
   hz = omega (arith, ok .sinksLow)
 
-  demands : (j : ℕ) → j < n → nat 0 ≺ nat (at (S .demand) j)
-  demands j l = omega (arith, ok .demandLow j l)
+  wanted : (j : ℕ) → j < n → nat 0 ≺ demands S j
+  wanted j l = omega (arith, ok .demandLow j l)
 
-  round-after : Tableau m n K (rowOf T′) (colOf T′) (after (rowOf T) (colOf T) ℓ σ (e .row) (e .col) (bagsAt T)) (after (rowOf T) (colOf T) ℓ σ (e .row) (e .col) (marksAt T)) (λ i. nat (at (S .supply) i)) (λ j. nat (at (S .demand) j)) (n - 1)
-  round-after = round hz demands t choice (λ k l. inside-after k (omega (arith, many-after)) .0) (λ k l. inside-after k (omega (arith, many-after)) .1) replaces
+  round-after : Tableau m n K (rowOf T′) (colOf T′) (after (rowOf T) (colOf T) ℓ σ (e .row) (e .col) (bagsAt T)) (after (rowOf T) (colOf T) ℓ σ (e .row) (e .col) (marksAt T)) (supplies S) (demands S) (n - 1)
+  round-after = round hz wanted t choice (λ k l. inside-after k (omega (arith, many-after)) .0) (λ k l. inside-after k (omega (arith, many-after)) .1) replaces
 
   bags-after : (i j : ℕ) → i < m → j < n → bagsAt T′ i j ≈ after (rowOf T) (colOf T) ℓ σ (e .row) (e .col) (bagsAt T) i j
   bags-after i j hi hj = rw at-out (pivot-moves i j hi hj .0)
@@ -225,9 +243,44 @@ module _ {S : Sheet} (ok : Checked S) {T : List Cell} (w : Belongs S T) (t : See
       go (k, l, s) = sym s ∙ ap (λ i. getD T i noCell) tie ∙ place .2
         where
           amounts : amountAt T (rowOf T k) (colOf T k) ≡ amountAt T (rowOf T ℓ) (colOf T ℓ)
-          amounts = amount-at T (ordered-distinct n T order) k l ∙ ap (λ x. x .amount) s ∙ same ∙ sym at-out
+          amounts = amount-at T (distinct-of ok w) k l ∙ ap (λ x. x .amount) s ∙ same ∙ sym at-out
 
           tie : k ≡ ℓ
-          tie = no-tie hz demands t choice (λ k l. inside-after k (omega (arith, many-after)) .0) (λ k l. inside-after k (omega (arith, many-after)) .1) replaces
+          tie = no-tie hz wanted t choice (λ k l. inside-after k (omega (arith, many-after)) .0) (λ k l. inside-after k (omega (arith, many-after)) .1) replaces
               k (omega (arith, many)) (subst (λ (x : Cell). toZ (signs m n T e (lane (x .row) (x .col))) ≺ nat 0) (sym s) (ltZ-true (signs m n T e (laneOf c)) (pos 0) minus))
               (z-eq (ap (λ x. x .q) amounts)) (z-eq (ap (λ x. x .e) amounts))
+
+  -- ---- the valued cost
+
+  abbrev step-value : Z
+  step-value = value (sources S) (bags (step (sources S) (sinks S) T e)) (marks (step (sources S) (sinks S) T e))
+
+  at-step : valued m (bagsAt T) (marksAt T) (rowOf T ℓ) (colOf T ℓ) ≡ step-value
+  at-step = ap (λ x. value m (bags x) (marks x)) at-out
+
+  pub step-value-positive : nat 1 ≼ step-value
+  step-value-positive = let h : nat 0 ≺ step-value = subst (λ (x : Z). nat 0 ≺ x) at-step (value-above hz t ℓ (omega (arith, many, place .1))) in omega arith
+
+  -- The valued cost changes by the value of the step times the reduced cost of the entering lane.
+  pub pivot-measure : (c : ℕ → ℕ → Z) (u v : ℕ → Z) → ((i j : ℕ) → Basic T i j → Tight c u v i j)
+      → measure S c (pivot (sources S) (sinks S) T e) ≈ measure S c T ⊕ step-value ⊗ (c (e .row) (e .col) ⊖ u (e .row) ⊖ v (e .col))
+  pivot-measure c u v tight = omega (arith, same, change)
+    where
+      q′ : ℕ → ℕ → Z
+      q′ = after (rowOf T) (colOf T) ℓ σ (e .row) (e .col) (bagsAt T)
+
+      e′ : ℕ → ℕ → Z
+      e′ = after (rowOf T) (colOf T) ℓ σ (e .row) (e .col) (marksAt T)
+
+      same : measure S c T′ ≈ cost m n c (valued m q′ e′)
+      same = measure-cong m n c (bagsAt T′) (marksAt T′) q′ e′ bags-after marks-after
+
+      change : cost m n c (valued m q′ e′) ≈ measure S c T ⊕ step-value ⊗ (c (e .row) (e .col) ⊖ u (e .row) ⊖ v (e .col))
+      change = subst (λ (x : Z). cost m n c (valued m q′ e′) ≈ measure S c T ⊕ x ⊗ (c (e .row) (e .col) ⊖ u (e .row) ⊖ v (e .col))) at-step
+          (round-cost hz wanted t choice c u v (λ k l. tight (rowOf T k) (colOf T k) (record { index = k; below = omega (arith, many); row = refl; column = refl })))
+
+  -- So where that reduced cost is negative it falls by 1 or more, for the step's value is positive.
+  pub pivot-falls : (c : ℕ → ℕ → Z) (u v : ℕ → Z) → ((i j : ℕ) → Basic T i j → Tight c u v i j) → c (e .row) (e .col) ≺ u (e .row) ⊕ v (e .col)
+      → measure S c (pivot (sources S) (sinks S) T e) ⊕ nat 1 ≼ measure S c T
+  pivot-falls c u v tight h = let l : measure S c T′ ≺ measure S c T =
+      lowers (measure S c T) (measure S c T′) step-value (c (e .row) (e .col) ⊖ u (e .row) ⊖ v (e .col)) (pivot-measure c u v tight) (omega (arith, step-value-positive)) (omega arith) in omega arith

@@ -23,8 +23,10 @@ use Rattle.transport.specs.Amount.{nothing, add, less, pairedSupply, pairedDema
 use Rattle.transport.specs.Tableau.{noCell, basisSize, rowTotal, columnTotal}
 use Rattle.transport.specs.Statements.{Basic, Belongs}
 use Rattle.tableaux.specs.View.{rowOf, colOf, Distinct, Inside, amountAt, amount-at, row-sum, column-sum}
-use Rattle.tableaux.specs.PairLaws.{bags, marks, pair-eq, true-less}
-use Rattle.tableaux.specs.Order.{Ordered, ordered-by, ordered-at, ordered-distinct}
+use Rattle.tableaux.specs.PairLaws.{bags, marks, pair-eq, true-less, less-true}
+use Rattle.tableaux.specs.PlanView.{supplies, demands}
+use Rattle.tableaux.specs.Belonging.{basis-of, distinct-of, bags-flow, marks-flow}
+use Rattle.tableaux.specs.Order.{Ordered, ordered-at, ordered-distinct}
 
 abbrev pub bagsAt : List Cell → ℕ → ℕ → Z
 bagsAt T i j = bags (amountAt T i j)
@@ -42,7 +44,7 @@ basic-in T K i j e = (
 abbrev pub Seen : Sheet → List Cell → Type 1
 Seen S T =
     Tableau (sources S) (sinks S) (sources S + sinks S - 2) (rowOf T) (colOf T) (bagsAt T) (marksAt T)
-    (λ i. nat (at (S .supply) i)) (λ j. nat (at (S .demand) j)) (sinks S - 1)
+    (supplies S) (demands S) (sinks S - 1)
 
 module _ {S : Sheet} (ok : Checked S) (T : List Cell) (size : length T ≡ basisSize (sources S) (sinks S)) where
   pub cells-many : suc (sources S + sinks S - 2) ≡ length T
@@ -82,6 +84,18 @@ module _ {S : Sheet} (ok : Checked S) (T : List Cell) (size : length T ≡ basis
           (λ e. rw (e, point-at (sinks S - 1) (nat (sources S)), eq-eqb (sinks S - 1) (sinks S - 1) refl) (omega arith))
           (λ e. rw (point-off (sinks S - 1) (nat (sources S)) j e, ne-eqb j (sinks S - 1) e) (omega arith))
 
+-- What belongs to the sheet is such a tableau.
+pub belongs-seen : {S : Sheet} {T : List Cell} → Checked S → Belongs S T → Seen S T
+unfolding nothing
+belongs-seen {S} {T} ok w = record {
+  basis = basis-of ok w;
+  bags = bags-flow ok w;
+  marks = marks-flow ok w;
+  above = λ k l.
+      let l : k < length T = omega (arith, cells-many ok T (w .count)) in
+      rw (amount-at T (distinct-of ok w) k l) (less-true nothing (getD T k noCell .amount) (w .above k l));
+}
+
 -- ---- bounds
 
 -- A cell's marks are within −m and m, and its bags are no more than its row has and its column takes.
@@ -91,7 +105,7 @@ pub record Bounded (S : Sheet) (c : Cell) : Type 0 where
   pub supply : bags (c .amount) ≼ nat (at (S .supply) (c .row))
   pub demand : bags (c .amount) ≼ nat (at (S .demand) (c .col))
 
-module _ {S : Sheet} (ok : Checked S) {T : List Cell} (w : Belongs S T) (t : Seen S T) where
+module _ {S : Sheet} (ok : Checked S) {T : List Cell} (w : Belongs S T) where
   pub cell-bounded : {c : Cell} → List·Memᴰ c T → Bounded S c
   cell-bounded {c} mem = go (member-place noCell mem)
     where
@@ -100,6 +114,9 @@ module _ {S : Sheet} (ok : Checked S) {T : List Cell} (w : Belongs S T) (t : See
 
       n : ℕ
       n = sinks S
+
+      t : Seen S T
+      t = belongs-seen ok w
 
       go : (k : ℕ) × (k < length T) × (getD T k noCell ≡ c) → Bounded S c
       go (k, l, s) = rw (← s) (record {
@@ -125,7 +142,7 @@ module _ {S : Sheet} (ok : Checked S) {T : List Cell} (w : Belongs S T) (t : See
           many = cells-many ok T (w .count)
 
           here : amountAt T i j ≡ getD T k noCell .amount
-          here = amount-at T (ordered-distinct n T (ordered-by n T (w .order))) k l
+          here = amount-at T (distinct-of ok w) k l
 
           row : bagsAt T i j ≼ nat (at (S .supply) i)
           row = omega (arith, sum-each n (bagsAt T i) (λ y hy. bags-nonneg t i y hi hy) j hj, t .bags .rows i hi)

@@ -17,5 +17,6 @@ pub mod Open
 pub mod Samples
 pub mod ListLaws
 pub mod AmountLaws
+pub mod RangeLaws
 pub mod SheetLaws
 pub mod CallLaws

@@ -1,4 +1,7 @@
 // The types that every crate of the panel shares, and, in specs/, the definitions that every contract cites.
+ghost use mathlib.Core.Path.{_≡_};
+ghost use Rattle.transport.specs.Amount.{add, subtract, less};
+ghost use Rattle.transport.specs.RangeLaws.{Fit};
 
 // The most sources, and the most sinks, that a sheet may have.
 pub const MAX_SIDE: usize = 32;
@@ -16,6 +19,42 @@ pub const MAX_COST: u64 = 1_000_000;
 pub struct Pair {
     pub q: i64,
     pub e: i64,
+}
+
+impl Pair {
+    // Part by part. The caller sees to it that neither part leaves the range.
+    pub fn add(self, o: Pair) -> Pair
+        requires { ⌜ Fit self o ⌝ }
+        ensures { λ r. ⌜ r ≡ add self o ⌝ }
+    {
+        Pair {
+            q: self.q + o.q,
+            e: self.e + o.e,
+        }
+    }
+
+    pub fn subtract(self, o: Pair) -> Pair
+        requires { ⌜ Fit self o ⌝ }
+        ensures { λ r. ⌜ r ≡ subtract self o ⌝ }
+    {
+        Pair {
+            q: self.q - o.q,
+            e: self.e - o.e,
+        }
+    }
+
+    // By bags first, then by marks.
+    pub fn less(self, o: Pair) -> bool
+        ensures { λ r. ⌜ r ≡ less self o ⌝ }
+    {
+        if self.q < o.q {
+            return true;
+        }
+        if o.q < self.q {
+            return false;
+        }
+        self.e < o.e
+    }
 }
 
 // A basic cell with its amount. Rows (sources) and columns (sinks) count from 0.

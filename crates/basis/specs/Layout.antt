@@ -1,0 +1,93 @@
+-- How a round's numbers lie in the flat arrays, and what the arrays stand for.
+use mathlib.Core.Path.{_≡_, refl, sym, ap, _∙_}
+use mathlib.Core.Bool.{Bool, true, false, cond}
+use mathlib.Core.List.{List, [], _∷_}
+use Prim.Native.Nat.{ℕ, suc, _+_, _*_, _/_, _%_, _<_, _≤_}
+use native.Mathlib.Omega.{arith}
+use native.Mathlib.Nat.{div-add-mod'}
+use lib.IntN.{ℤ, pos}
+use lib.Dec.{eqb}
+use lib.ListN.{length, drop, getD, set, drop-of-length-le}
+use lib.Seq.{drop-cons, getD-set-same, getD-set-other}
+use borrow.Author.Tests.{eqb-true, eqb-false}
+use Rattle.transport.specs.Limits.{maxSide}
+use Rattle.transport.specs.Lists.{table}
+use Rattle.transport.specs.ListLaws.{length-table, getD-table}
+use Rattle.transport.specs.Sheet.{Lane}
+use Rattle.transport.specs.Leaf.{Strike}
+
+-- The lane of row i and column j lies at i * stride + j.
+abbrev pub stride : ℕ
+stride = 32
+
+pub stride-is : stride ≡ maxSide
+unfolding maxSide
+stride-is = refl
+
+-- The room for nodes (sources, then sinks) and for lanes.
+abbrev pub nodeRoom : ℕ
+nodeRoom = 64
+
+abbrev pub laneRoom : ℕ
+laneRoom = 1024
+
+abbrev pub laneAt : ℕ → Lane
+laneAt l = record { row = l / stride; col = l % stride }
+
+abbrev pub placeOf : Lane → ℕ
+placeOf l = l .row * stride + l .col
+
+pub place-laneAt : (l : ℕ) → placeOf (laneAt l) ≡ l
+place-laneAt l = div-add-mod' l stride
+
+-- A cost for each lane.
+abbrev pub costOf : List ℤ → Lane → ℤ
+costOf cost l = getD cost (placeOf l) (pos 0)
+
+pub costOf-at : (cost : List ℤ) (l : ℕ) → costOf cost (laneAt l) ≡ getD cost l (pos 0)
+costOf-at cost l = ap (λ (k : ℕ). getD cost k (pos 0)) (place-laneAt l)
+
+-- ---- strikes: the leaf, the node at the other end, and the place of the lane, in three arrays
+
+abbrev pub strikeOf : List ℕ → List ℕ → List ℕ → ℕ → Strike
+strikeOf leaf other lane k = record { leaf = getD leaf k 0; other = getD other k 0; lane = laneAt (getD lane k 0) }
+
+unfoldable pub strikesOf : List ℕ → List ℕ → List ℕ → ℕ → List Strike
+strikesOf leaf other lane count = table count (strikeOf leaf other lane)
+
+pub length-strikes : (leaf other lane : List ℕ) (count : ℕ) → length (strikesOf leaf other lane count) ≡ count
+unfolding strikesOf
+length-strikes leaf other lane count = length-table (strikeOf leaf other lane) count
+
+pub getD-strikes : (leaf other lane : List ℕ) (count k : ℕ) (d : Strike) → k < count → getD (strikesOf leaf other lane count) k d ≡ strikeOf leaf other lane k
+unfolding strikesOf
+getD-strikes leaf other lane count k d p = getD-table (strikeOf leaf other lane) count k d p
+
+-- The strikes from number k on.
+abbrev pub strikesFrom : List ℕ → List ℕ → List ℕ → ℕ → ℕ → List Strike
+strikesFrom leaf other lane count k = drop k (strikesOf leaf other lane count)
+
+pub strikesFrom-cons : (leaf other lane : List ℕ) (count k : ℕ) → k < count
+    → strikesFrom leaf other lane count k ≡ strikeOf leaf other lane k ∷ strikesFrom leaf other lane count (suc k)
+strikesFrom-cons leaf other lane count k p =
+    rw (drop-cons (strikesOf leaf other lane count) k (strikeOf leaf other lane k) (omega (arith, length-strikes leaf other lane count)), getD-strikes leaf other lane count k (strikeOf leaf other lane k) p)
+
+pub strikesFrom-nil : (leaf other lane : List ℕ) (count : ℕ) → strikesFrom leaf other lane count count ≡ []
+strikesFrom-nil leaf other lane count =
+    drop-of-length-le (strikesOf leaf other lane count) {i = count} (omega (arith, length-strikes leaf other lane count))
+
+-- ---- one element of an array is written
+
+pub getD-set : {A : Type 0} (xs : List A) (i k : ℕ) (v d : A) → i < length xs → getD (set xs i v) k d ≡ cond (eqb k i) v (getD xs k d)
+getD-set xs i k v d p = go (eqb k i) refl
+  where
+    go : (b : Bool) → eqb k i ≡ b → getD (set xs i v) k d ≡ cond b v (getD xs k d)
+    go true e = let s : k ≡ i = eqb-true k i e in rw s (getD-set-same xs i v d p)
+    go false e = getD-set-other xs i k v d (eqb-false k i e)
+
+-- Nodes and lanes are within the room.
+pub record Struck (leaf other lane : List ℕ) (count : ℕ) : Type 0 where
+  pub few : count ≤ nodeRoom
+  pub leafIn : (k : ℕ) → k < count → getD leaf k 0 < nodeRoom
+  pub otherIn : (k : ℕ) → k < count → getD other k 0 < nodeRoom
+  pub laneIn : (k : ℕ) → k < count → getD lane k 0 < laneRoom

@@ -1,0 +1,183 @@
+-- A mask: a number as the set of its bits. Bit k is in the mask x where the binary digit k of x is 1.
+use Prim.Native.Nat.{ℕ, zero, suc, _+_, _-_, _*_, _/_, _%_, _^_, _<_, _≤_, min, max}
+use native.Mathlib.Omega.{arith}
+use native.Mathlib.Nat.{pow-suc, div-eq-of-lt, one-mul, eq-or-lt-of-le}
+use native.Mathlib.Decide.{decLt}
+use mathlib.Core.Path.{_≡_, refl, sym, ap, _∙_, subst}
+use mathlib.Core.Bool.{Bool, true, false, not, _&&_, _||_}
+use borrow.Author.Tests.{eqb-true, eqb-false}
+use mathlib.Core.Logic.{⊎-elim, _⊎_, inl, inr}
+use lib.Dec.{eqb}
+use lib.Bits.{bitAnd, bitOr, bitXor, differ, or-shr, or-step, and-shr, and-step, xor-shr, xor-step, and-mask}
+use native.Mathlib.Numerals.{one-add, add-one}
+use lib.Pow.{shr-shr, shl-shr, shl-exact, pow-lt, pow-add}
+use lib.Count.{trailing-le, onesIn, ones, ones-step, trailingZeros, under}
+use Rattle.transport.specs.Lists.{sumTo}
+use Rattle.transport.specs.ListLaws.{sumTo-zero, sumTo-first, sumTo-cong}
+
+abbrev pub bit : ℕ → ℕ → ℕ
+bit x j = x / 2 ^ j % 2
+
+abbrev pub has : ℕ → ℕ → Bool
+has x j = eqb (x / 2 ^ j % 2) 1
+
+pub bit-or : (a b k : ℕ) → bit (bitOr a b) k ≡ max (bit a k) (bit b k)
+bit-or a b k = rw (or-shr a b k) (omega (arith, or-step (a / 2 ^ k) (b / 2 ^ k)))
+
+pub bit-and : (a b k : ℕ) → bit (bitAnd a b) k ≡ min (bit a k) (bit b k)
+bit-and a b k = rw (and-shr a b k) (omega (arith, and-step (a / 2 ^ k) (b / 2 ^ k)))
+
+pub bit-pow-same : (j : ℕ) → bit (1 * 2 ^ j) j ≡ 1
+bit-pow-same j = rw (shl-shr 1 j)
+
+pow-even : (d k : ℕ) → 2 ^ (d + 1 + k) / 2 ^ k % 2 ≡ 0
+pow-even d k = rw (pow-add 2 (d + 1) k, shl-shr (2 ^ (d + 1)) k, pow-add 2 d 1) (omega arith)
+
+pub bit-pow-below : (j k : ℕ) → k < j → bit (1 * 2 ^ j) k ≡ 0
+bit-pow-below j k p =
+    let e : j ≡ (j - k - 1) + 1 + k = omega arith in
+    rw one-mul (subst (λ (n : ℕ). 2 ^ n / 2 ^ k % 2 ≡ 0) (sym e) (pow-even (j - k - 1) k))
+
+pub bit-pow-above : (j k : ℕ) → j < k → bit (1 * 2 ^ j) k ≡ 0
+bit-pow-above j k p = rw (one-mul, div-eq-of-lt (pow-lt p))
+
+pub bit-xor : (a b k : ℕ) → bit (bitXor a b) k ≡ differ (bit a k) (bit b k)
+bit-xor a b k = rw (xor-shr a b k, xor-step (a / 2 ^ k) (b / 2 ^ k)) (bottom (bitXor (a / 2 ^ k / 2) (b / 2 ^ k / 2)) (differ-lt (a / 2 ^ k % 2) (b / 2 ^ k % 2) (omega arith) (omega arith)))
+  where
+    bottom : (q : ℕ) {r : ℕ} → r < 2 → (q * 2 + r) % 2 ≡ r
+    bottom q h = omega arith
+
+    differ-lt : (x y : ℕ) → x < 2 → y < 2 → differ x y < 2
+    differ-lt zero y p q = q
+    differ-lt (suc x) zero p q = p
+    differ-lt (suc x) (suc y) p q = differ-lt x y (omega arith) (omega arith)
+
+-- ---- a bit is put in, a bit is taken out
+
+unfoldable pub put : ℕ → ℕ → ℕ
+put x j = bitOr x (1 * 2 ^ j)
+
+unfoldable pub cut : ℕ → ℕ → ℕ
+cut x j = bitXor (bitOr x (1 * 2 ^ j)) (1 * 2 ^ j)
+
+bit-pow-other : (j k : ℕ) → (k ≡ j → ⊥) → bit (1 * 2 ^ j) k ≡ 0
+bit-pow-other j k n = ⊎-elim (λ p. bit-pow-below j k p) (λ p. bit-pow-above j k p) (apart k j n)
+  where
+    sides : (k j : ℕ) → (k ≡ j → ⊥) → Dec (k < j) → (k < j) ⊎ (j < k)
+    sides k j n (yes p) = inl p
+    sides k j n (no h) = inr (omega arith)
+
+    apart : (k j : ℕ) → (k ≡ j → ⊥) → (k < j) ⊎ (j < k)
+    apart k j n = sides k j n (decLt k j)
+
+pub put-here : (x j : ℕ) → bit (put x j) j ≡ 1
+unfolding put
+put-here x j = omega (arith, bit-or x (1 * 2 ^ j) j, bit-pow-same j)
+
+pub put-there : (x j k : ℕ) → (k ≡ j → ⊥) → bit (put x j) k ≡ bit x k
+unfolding put
+put-there x j k n = omega (arith, bit-or x (1 * 2 ^ j) k, bit-pow-other j k n)
+
+pub cut-here : (x j : ℕ) → bit (cut x j) j ≡ 0
+unfolding cut
+cut-here x j = bit-xor (bitOr x (1 * 2 ^ j)) (1 * 2 ^ j) j ∙ rw (bit-pow-same j, bit-or x (1 * 2 ^ j) j, bit-pow-same j) (top (x / 2 ^ j % 2) (omega arith))
+  where
+    top : (d : ℕ) → d < 2 → differ (max d 1) 1 ≡ 0
+    top zero p = refl
+    top (suc zero) p = refl
+    top (suc (suc d)) p = absurd (omega arith)
+
+pub cut-there : (x j k : ℕ) → (k ≡ j → ⊥) → bit (cut x j) k ≡ bit x k
+unfolding cut
+cut-there x j k n =
+    bit-xor (bitOr x (1 * 2 ^ j)) (1 * 2 ^ j) k ∙ rw (bit-pow-other j k n, bit-or x (1 * 2 ^ j) k, bit-pow-other j k n) (low (x / 2 ^ k % 2))
+  where
+    keep : (d : ℕ) → differ d 0 ≡ d
+    keep zero = refl
+    keep (suc d) = refl
+
+    low : (d : ℕ) → differ (max d 0) 0 ≡ d
+    low d = let e : max d 0 ≡ d = omega arith in rw e (keep d)
+
+-- ---- how many bits are in, and the least
+
+pub bit-suc : (x k : ℕ) → bit x (suc k) ≡ bit (x / 2) k
+bit-suc x k = ap (λ (n : ℕ). x / 2 ^ n % 2) (sym (one-add k)) ∙ rw (← shr-shr x 1 k)
+
+pub none : (x k : ℕ) → ones x ≡ 0 → bit x k ≡ 0
+none x zero e = omega (arith, ones-step x)
+none x (suc k) e = bit-suc x k ∙ none (x / 2) k (omega (arith, ones-step x))
+
+-- Where at most one bit is in, two that are in are the same.
+pub only : (x j k : ℕ) → ones x ≤ 1 → bit x j ≡ 1 → bit x k ≡ 1 → j ≡ k
+only x zero zero h p q = refl
+only x zero (suc k) h p q = absurd (omega (arith, ones-step x, none (x / 2) k (omega (arith, ones-step x)), bit-suc x k))
+only x (suc j) zero h p q = absurd (omega (arith, ones-step x, none (x / 2) j (omega (arith, ones-step x)), bit-suc x j))
+only x (suc j) (suc k) h p q = ap suc (only (x / 2) j k (omega (arith, ones-step x)) (omega (arith, bit-suc x j)) (omega (arith, bit-suc x k)))
+
+-- The least bit that is in.
+pub first-in : (K x : ℕ) → 0 < x → x < 2 ^ K → bit x (trailingZeros K x) ≡ 1
+unfolding trailingZeros
+first-in zero x p q = absurd (omega arith)
+first-in (suc K) x p q = go (x % 2) refl (first-in K (x / 2))
+  where
+    go : (d : ℕ) → x % 2 ≡ d → (0 < x / 2 → x / 2 < 2 ^ K → bit (x / 2) (trailingZeros K (x / 2)) ≡ 1) → bit x (under d (trailingZeros K (x / 2))) ≡ 1
+    go zero e ih = bit-suc x (trailingZeros K (x / 2)) ∙ ih (omega arith) (omega (arith, pow-suc 2 K))
+    go (suc d) e ih = omega arith
+
+pub first-least : (K x k : ℕ) → k < trailingZeros K x → bit x k ≡ 0
+unfolding trailingZeros
+first-least zero x k p = absurd (omega arith)
+first-least (suc K) x k p = go (x % 2) refl k (first-least K (x / 2)) p
+  where
+    go : (d : ℕ) → x % 2 ≡ d → (k : ℕ) → ((i : ℕ) → i < trailingZeros K (x / 2) → bit (x / 2) i ≡ 0) → k < under d (trailingZeros K (x / 2)) → bit x k ≡ 0
+    go zero e zero ih q = omega arith
+    go zero e (suc k) ih q = bit-suc x k ∙ ih k (omega arith)
+    go (suc d) e k ih q = absurd (omega arith)
+
+pub first-lt : (K x : ℕ) → 0 < x → x < 2 ^ K → trailingZeros K x < K
+first-lt K x p q =
+    ⊎-elim
+    (λ e. absurd (omega (arith, first-in K x p q, ap (λ (n : ℕ). bit x n) e, div-eq-of-lt q)))
+    (λ l. l)
+    (eq-or-lt-of-le (trailing-le K x))
+
+-- ---- as the code has them
+
+pub put-shl : (x j : ℕ) → j < 64 → bitOr x ((1 * 2 ^ j) % 2 ^ 64) ≡ put x j
+unfolding put
+put-shl x j p = rw (shl-exact {a = 1} 1 j 64 (omega arith) (omega arith))
+
+pub cut-shl : (x j : ℕ) → j < 64 → bitXor (bitOr x ((1 * 2 ^ j) % 2 ^ 64)) ((1 * 2 ^ j) % 2 ^ 64) ≡ cut x j
+unfolding cut
+cut-shl x j p = rw (shl-exact {a = 1} 1 j 64 (omega arith) (omega arith))
+
+pub ones-zero : ones 0 ≡ 0
+unfolding ones onesIn
+ones-zero = refl
+
+-- ---- the same as tests
+
+pub has-put : (x j k : ℕ) → has (put x j) k ≡ eqb k j || has x k
+has-put x j k = go (eqb k j) refl
+  where
+    go : (b : Bool) → eqb k j ≡ b → has (put x j) k ≡ b || has x k
+    go true e = let s : k ≡ j = eqb-true k j e in rw (s, put-here x j)
+    go false e = rw (put-there x j k (eqb-false k j e))
+
+pub has-cut : (x j k : ℕ) → has (cut x j) k ≡ not (eqb k j) && has x k
+has-cut x j k = go (eqb k j) refl
+  where
+    go : (b : Bool) → eqb k j ≡ b → has (cut x j) k ≡ not b && has x k
+    go true e = let s : k ≡ j = eqb-true k j e in rw (s, cut-here x j)
+    go false e = rw (cut-there x j k (eqb-false k j e))
+
+pub has-zero : (k : ℕ) → has 0 k ≡ false
+has-zero k = rw (none 0 k ones-zero)
+
+-- ---- the count of ones is the sum of the bits
+
+pub ones-sum : (K x : ℕ) → x < 2 ^ K → ones x ≡ sumTo K (bit x)
+ones-sum zero x p = let e : x ≡ 0 = omega arith in rw (e, ones-zero, sumTo-zero)
+ones-sum (suc K) x p =
+    omega (arith, ones-step x, ones-sum K (x / 2) (omega (arith, pow-suc 2 K)), sumTo-first K (bit x), sumTo-cong K (λ k. bit x (suc k)) (bit (x / 2)) (λ k l. bit-suc x k))
