@@ -13,6 +13,7 @@ use Rattle.integers.specs.IntegerLaws.{⊗-cong}
 use Rattle.network.specs.Flow.{Flow, Plan, cost, Feasible, Tight}
 use Rattle.network.specs.FlowLaws.{flow-on}
 use Rattle.network.specs.Duality.{least}
+use Rattle.network.specs.Round.{bags-nonneg}
 use Rattle.network.specs.Settling.{Agree, Decided, decided-cong, decided-start, decided-phase, decided-skip, decided-rest, settled-least}
 use Rattle.transport.specs.Lists.{at}
 use Rattle.transport.specs.Sheet.{Sheet, sources, sinks, place, laneCost}
@@ -24,10 +25,11 @@ use Rattle.transport.specs.Plan.{planCost, settled}
 use Rattle.transport.specs.Statements.{Basic, Belongs, Meets, FirstDifference, Best, scaled}
 use Rattle.plans.specs.Settled.{best-settled}
 use Rattle.tableaux.specs.Belonging.{basis-of}
-use Rattle.tableaux.specs.TableauView.{basic-in, cells-many}
+use Rattle.tableaux.specs.TableauView.{bagsAt, basic-in, cells-many, belongs-seen}
+use Rattle.tableaux.specs.Entering.{potentials-tight}
 use Rattle.tableaux.specs.PlanView.{carried, supplies, demands, costs, meets-plan, cost-planCost}
 use Rattle.tableaux.specs.Least.{bagsOf, bags-carried, bags-meet, rowPotential, columnPotential, feasible}
-use Rattle.demands.specs.Phases.{Known, bagsAt, reduced-zero, Allowed, Restricted, Ended, phase-ends, keptLanes, kept-iff, kept-restricted, kept-flow}
+use Rattle.demands.specs.Phases.{reduced-zero, basic-flow, Allowed, Restricted, Ended, phase-ends, keptLanes, kept-iff, kept-restricted, kept-flow}
 
 -- The lanes of least cost: those with reduced cost 0.
 unfoldable pub tightLanes : Sheet → List Cell → ℕ → ℕ → Bool
@@ -45,7 +47,7 @@ scaled-at k [] l = sym (mul-zero k)
 scaled-at k (x ∷ xs) zero = refl
 scaled-at k (x ∷ xs) (suc l) = scaled-at k xs l
 
-module _ (S : Sheet) (known : Known S) (T₀ : List Cell) (belongs : Belongs S T₀) where
+module _ {S : Sheet} (ok : Checked S) (T₀ : List Cell) (belongs : Belongs S T₀) where
   abbrev u : ℕ → Z
   u = rowPotential S T₀
 
@@ -57,9 +59,9 @@ module _ (S : Sheet) (known : Known S) (T₀ : List Cell) (belongs : Belongs S T
   pub settling-start : DecidedTo S T₀ 0 (tightLanes S T₀) T₀
   unfolding tightLanes reducedCost potential
   settling-start = record {
-    restricted = record { belongs = belongs; basics = λ i j b. zero i j .1 (known .tight (laneCost S) T₀ belongs i j b) };
+    restricted = record { belongs = belongs; basics = λ i j b. zero i j .1 (potentials-tight ok belongs i j b) };
     decided = decided-cong (λ i j hi hj. Iff·symm (zero i j)) (λ i j hi hj. omega arith)
-        (decided-start (flow-on (λ i j hi hj b. known .tight (laneCost S) T₀ belongs i j b) (known .flow T₀ belongs)));
+        (decided-start (flow-on (λ i j hi hj b. potentials-tight ok belongs i j b) (basic-flow ok belongs)));
   }
     where
       zero : (i j : ℕ) → Allowed (tightLanes S T₀) i j ↔ Tight (costs S) u v i j
@@ -71,9 +73,9 @@ module _ (S : Sheet) (known : Known S) (T₀ : List Cell) (belongs : Belongs S T
         → DecidedTo S T₀ (suc (place (sinks S) p q)) (keptLanes S allowed p q T′) T′
     unfolding place
     settling-phase {T′} r e = record {
-      restricted = kept-restricted S known allowed row col T′ r;
-      decided = decided-cong (λ i j hi hj. Iff·symm (kept-iff S known allowed row col T′ i j)) (λ i j hi hj. omega arith)
-          (decided-phase (d .decided) refl e (kept-flow S known allowed row col T′ r) (known .nonneg T′ (r .belongs)));
+      restricted = kept-restricted ok allowed row col T′ r;
+      decided = decided-cong (λ i j hi hj. Iff·symm (kept-iff ok allowed row col T′ i j)) (λ i j hi hj. omega arith)
+          (decided-phase (d .decided) refl e (kept-flow ok allowed row col T′ r) (bags-nonneg (belongs-seen ok (r .belongs))));
     }
 
     -- a lane that is not allowed
@@ -82,9 +84,9 @@ module _ (S : Sheet) (known : Known S) (T₀ : List Cell) (belongs : Belongs S T
     settling-skip shut = record { restricted = d .restricted; decided = decided-skip (d .decided) row col refl shut }
 
   -- Where only basic lanes are still allowed all lanes are decided.
-  pub settling-rest : Checked S → {t : ℕ} {allowed : ℕ → ℕ → Bool} {T : List Cell} → t ≤ sources S * sinks S → DecidedTo S T₀ t allowed T
+  pub settling-rest : {t : ℕ} {allowed : ℕ → ℕ → Bool} {T : List Cell} → t ≤ sources S * sinks S → DecidedTo S T₀ t allowed T
       → ((i j : ℕ) → i < sources S → j < sinks S → Allowed allowed i j → Basic T i j) → DecidedTo S T₀ (sources S * sinks S) allowed T
-  settling-rest ok {T = T} l d h = record {
+  settling-rest {T = T} l d h = record {
     restricted = d .restricted;
     decided = decided-rest (d .decided) l (basis-of ok (d .restricted .belongs))
         (λ i j hi hj a. basic-in T (suc (sources S + sinks S - 2)) i j (cells-many ok T (d .restricted .belongs .count)) .0 (h i j hi hj a));
@@ -100,13 +102,13 @@ module _ (S : Sheet) (known : Known S) (T₀ : List Cell) (belongs : Belongs S T
           let d : DecidedTo S T₀ (place (sinks S) (w .row) (w .col)) allowed T = rw (w .placed) d in
           rw (← w .placed)
           (by-cases (Bool-discrete (allowed (w .row) (w .col)) true)
-          (λ a. let (T′, r, e) = phase-ends S known allowed (w .rowBelow) (w .colBelow) T (d .restricted) in
+          (λ a. let (T′, r, e) = phase-ends ok allowed (w .rowBelow) (w .colBelow) T (d .restricted) in
           (keptLanes S allowed (w .row) (w .col) T′, T′, settling-phase (w .rowBelow) (w .colBelow) d {T′ = T′} r e))
           (λ a. (allowed, T, settling-skip (w .rowBelow) (w .colBelow) d a)))
 
   -- ---- the settled plan
 
-  module _ (ok : Checked S) (done : isFinished S T₀ ≡ true) {allowed : ℕ → ℕ → Bool} {T : List Cell} (d : DecidedTo S T₀ (sources S * sinks S) allowed T) where
+  module _ (done : isFinished S T₀ ≡ true) {allowed : ℕ → ℕ → Bool} {T : List Cell} (d : DecidedTo S T₀ (sources S * sinks S) allowed T) where
     ours : Decided (sources S) (sinks S) (supplies S) (demands S) (Tight (costs S) u v) (sources S * sinks S) (Allowed allowed) (carried (sinks S) (bagsOf S T))
     ours = decided-cong (λ i j hi hj. Iff·rfl) (bags-carried S T (d .restricted .belongs)) (d .decided)
 
@@ -115,7 +117,7 @@ module _ (S : Sheet) (known : Known S) (T₀ : List Cell) (belongs : Belongs S T
 
     all-feasible : (i j : ℕ) → i < sources S → j < sinks S → Feasible (costs S) u v i j
     unfolding potential
-    all-feasible = feasible S ok T₀ belongs (known .flow T₀ belongs) (known .tight (laneCost S) T₀ belongs) done
+    all-feasible = feasible S ok T₀ belongs (basic-flow ok belongs) (potentials-tight ok belongs) done
 
     theirs : (k : ℕ) (Q : List ℕ) → Meets S k Q → Plan (sources S) (sinks S) (Feasible (costs S) u v) k (carried (sinks S) Q) (supplies S) (demands S)
     theirs k Q = meets-plan (λ i j hi hj e. all-feasible i j hi hj)
@@ -137,7 +139,7 @@ module _ (S : Sheet) (known : Known S) (T₀ : List Cell) (belongs : Belongs S T
     }
       where
         meets : Meets S 1 plan
-        meets = bags-meet S T (d .restricted .belongs) (known .flow T (d .restricted .belongs))
+        meets = bags-meet S T (d .restricted .belongs) (basic-flow ok (d .restricted .belongs))
 
         lane-less : (k : ℕ) (Q : List ℕ) → Meets S k Q → planCost S Q ≡ k * planCost S plan → (i j : ℕ) → i < sources S → j < sinks S
             → FirstDifference (scaled k plan) Q (place (sinks S) i j) → at Q (place (sinks S) i j) < at (scaled k plan) (place (sinks S) i j)
@@ -154,7 +156,7 @@ module _ (S : Sheet) (known : Known S) (T₀ : List Cell) (belongs : Belongs S T
     decided-settled = best-settled S (bagsOf S T) (planCost S (bagsOf S T)) decided-best
 
   -- From every finished tableau all lanes are decided in the end, so the settled plan is as demand 3 asks.
-  pub finished-best : Checked S → isFinished S T₀ ≡ true → Best S (settled S) (planCost S (settled S))
-  finished-best ok done =
+  pub finished-best : isFinished S T₀ ≡ true → Best S (settled S) (planCost S (settled S))
+  finished-best done =
       let (allowed, T, d) = settles-to (sources S * sinks S) (omega arith) in
-      rw (decided-settled ok done d) (decided-best ok done d)
+      rw (decided-settled done d) (decided-best done d)
