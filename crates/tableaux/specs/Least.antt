@@ -100,7 +100,7 @@ module _ (S : Sheet) (ok : Checked S) (T : List Cell) (belongs : Belongs S T)
     (flow : Flow (sources S) (sinks S) (Basic T) (λ i j. bags (amountAt T i j)) (supplies S) (demands S))
     (tight : (i j : ℕ) → Basic T i j → Tight (costs S) (rowPotential S T) (columnPotential S T) i j)
     (done : isFinished S T ≡ true) where
-  feasible : (i j : ℕ) → i < sources S → j < sinks S → Feasible (costs S) (rowPotential S T) (columnPotential S T) i j
+  pub feasible : (i j : ℕ) → i < sources S → j < sinks S → Feasible (costs S) (rowPotential S T) (columnPotential S T) i j
   unfolding isFinished
   feasible i j k l =
       omega (
