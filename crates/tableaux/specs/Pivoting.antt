@@ -54,6 +54,10 @@ measure-cong m n c q e q₂ e₂ h h′ = sum₂-cong m n (λ i j. valued m q e 
     times q e q₂ e₂ c h h′ = let same : value m q e ≈ value m q₂ e₂ = omega (arith, ⊗-cong (nat (2 * m + 1)) q q₂ h) in
         omega (arith, ⊗-cong c (value m q e) (value m q₂ e₂) same)
 
+-- The value of the step.
+abbrev pub stepValue : ℕ → ℕ → List Cell → Lane → Z
+stepValue m n T e = value m (bags (step m n T e)) (marks (step m n T e))
+
 -- The pair y comes of x by the step θ, taken d times.
 abbrev pub Moves : Pair → Pair → Pair → Z → Type 0
 Moves y x θ d = (bags y ≈ bags x ⊕ bags θ ⊗ d) × (marks y ≈ marks x ⊕ marks θ ⊗ d)
@@ -81,6 +85,7 @@ empty-moves θ d e = omega (arith, nothing-parts, ⊗-cong (bags θ) d (nat 0) e
 
 module _ {S : Sheet} (ok : Checked S) {T : List Cell} (w : Belongs S T) {e : Lane} (row : e .row < sources S) (col : e .col < sinks S)
     (new : ¬ Basic T (e .row) (e .col)) where
+  -- m rows and n columns; the basic cells 0 to K; the signs; the leaving cell; the tableau after the pivot
   abbrev m : ℕ
   m = sources S
 
@@ -120,18 +125,18 @@ module _ {S : Sheet} (ok : Checked S) {T : List Cell} (w : Belongs S T) {e : Lan
       let (k, l, s) = some-minus row f in
       leaving-is (signs m n T e) T (member-at T noCell k (omega (arith, many))) (true-ltZ (signs m n T e (lane (rowOf T k) (colOf T k))) (pos 0) s)
 
-  -- its index
-  place : (ℓ : ℕ) × (ℓ < length T) × (getD T ℓ noCell ≡ out)
-  place = member-place noCell (pivot-leaves .member)
+  -- It stands at index ℓ.
+  indexed : (ℓ : ℕ) × (ℓ < length T) × (getD T ℓ noCell ≡ out)
+  indexed = member-place noCell (pivot-leaves .member)
 
   abbrev ℓ : ℕ
-  ℓ = place .0
+  ℓ = indexed .0
 
   at-out : amountAt T (rowOf T ℓ) (colOf T ℓ) ≡ out .amount
-  at-out = amount-at T (distinct-of ok w) ℓ (place .1) ∙ ap (λ c. c .amount) (place .2)
+  at-out = amount-at T (distinct-of ok w) ℓ (indexed .1) ∙ ap (λ c. c .amount) (indexed .2)
 
   pub step-positive : less nothing (step (sources S) (sinks S) T e) ≡ true
-  step-positive = ap (λ c. less nothing (c .amount)) (sym (place .2)) ∙ w .above ℓ (place .1)
+  step-positive = ap (λ c. less nothing (c .amount)) (sym (indexed .2)) ∙ w .above ℓ (indexed .1)
 
   choice : Choice m n K (rowOf T) (colOf T) (bagsAt T) (marksAt T) (e .row) (e .col) σ ℓ
   unfolding laneOf
@@ -140,8 +145,8 @@ module _ {S : Sheet} (ok : Checked S) {T : List Cell} (w : Belongs S T) {e : Lan
     col = col;
     off = λ i. new (basic-in T (suc K) (e .row) (e .col) many .1 i);
     signs = f;
-    leaves = omega (arith, place .1, many);
-    minus = subst (λ (c : Cell). toZ (signs m n T e (lane (c .row) (c .col))) ≺ nat 0) (sym (place .2)) (ltZ-true (signs m n T e (laneOf out)) (pos 0) (pivot-leaves .minus));
+    leaves = omega (arith, indexed .1, many);
+    minus = subst (λ (c : Cell). toZ (signs m n T e (lane (c .row) (c .col))) ≺ nat 0) (sym (indexed .2)) (ltZ-true (signs m n T e (laneOf out)) (pos 0) (pivot-leaves .minus));
     least = λ k l s p. true≢false
         (sym (true-less (getD T k noCell .amount) (out .amount) (rw (amount-at T (distinct-of ok w) k (omega (arith, many)), at-out) at p))
         ∙ pivot-leaves .least (getD T k noCell) (member-at T noCell k (omega (arith, many))) (true-ltZ (signs m n T e (lane (rowOf T k) (colOf T k))) (pos 0) s));
@@ -160,7 +165,7 @@ module _ {S : Sheet} (ok : Checked S) {T : List Cell} (w : Belongs S T) {e : Lan
 
   replaces : Replaces m n (In (rowOf T) (colOf T) (suc K)) (rowOf T ℓ) (colOf T ℓ) (In (rowOf T′) (colOf T′) (suc K)) (e .row) (e .col)
   replaces = record {
-    keeps = λ i j hi hj s d. basic-in T′ (suc K) i j many-after .0 (pivot-basic m n T e i j .1 (inr (basic-in T (suc K) i j many .1 s, (λ r. d (r .0 ∙ ap (λ c. c .row) (sym (place .2)), r .1 ∙ ap (λ c. c .col) (sym (place .2)))))));
+    keeps = λ i j hi hj s d. basic-in T′ (suc K) i j many-after .0 (pivot-basic m n T e i j .1 (inr (basic-in T (suc K) i j many .1 s, (λ r. d (r .0 ∙ ap (λ c. c .row) (sym (indexed .2)), r .1 ∙ ap (λ c. c .col) (sym (indexed .2)))))));
     enters = basic-in T′ (suc K) (e .row) (e .col) many-after .0 (pivot-basic m n T e (e .row) (e .col) .1 (inl (refl, refl)));
   }
 
@@ -240,7 +245,7 @@ module _ {S : Sheet} (ok : Checked S) {T : List Cell} (w : Belongs S T) {e : Lan
   pivot-no-tie {c} mem minus same = go (member-place noCell mem)
     where
       go : (k : ℕ) × (k < length T) × (getD T k noCell ≡ c) → c ≡ out
-      go (k, l, s) = sym s ∙ ap (λ i. getD T i noCell) tie ∙ place .2
+      go (k, l, s) = sym s ∙ ap (λ i. getD T i noCell) tie ∙ indexed .2
         where
           amounts : amountAt T (rowOf T k) (colOf T k) ≡ amountAt T (rowOf T ℓ) (colOf T ℓ)
           amounts = amount-at T (distinct-of ok w) k l ∙ ap (λ x. x .amount) s ∙ same ∙ sym at-out
@@ -252,18 +257,15 @@ module _ {S : Sheet} (ok : Checked S) {T : List Cell} (w : Belongs S T) {e : Lan
 
   -- ---- the valued cost
 
-  abbrev step-value : Z
-  step-value = value (sources S) (bags (step (sources S) (sinks S) T e)) (marks (step (sources S) (sinks S) T e))
-
-  at-step : valued m (bagsAt T) (marksAt T) (rowOf T ℓ) (colOf T ℓ) ≡ step-value
+  at-step : valued m (bagsAt T) (marksAt T) (rowOf T ℓ) (colOf T ℓ) ≡ stepValue m n T e
   at-step = ap (λ x. value m (bags x) (marks x)) at-out
 
-  pub step-value-positive : nat 1 ≼ step-value
-  step-value-positive = let h : nat 0 ≺ step-value = subst (λ (x : Z). nat 0 ≺ x) at-step (value-above hz t ℓ (omega (arith, many, place .1))) in omega arith
+  pub stepValue-positive : nat 1 ≼ stepValue (sources S) (sinks S) T e
+  stepValue-positive = let h : nat 0 ≺ stepValue m n T e = subst (λ (x : Z). nat 0 ≺ x) at-step (value-above hz t ℓ (omega (arith, many, indexed .1))) in omega arith
 
   -- The valued cost changes by the value of the step times the reduced cost of the entering lane.
   pub pivot-measure : (c : ℕ → ℕ → Z) (u v : ℕ → Z) → ((i j : ℕ) → Basic T i j → Tight c u v i j)
-      → measure S c (pivot (sources S) (sinks S) T e) ≈ measure S c T ⊕ step-value ⊗ (c (e .row) (e .col) ⊖ u (e .row) ⊖ v (e .col))
+      → measure S c (pivot (sources S) (sinks S) T e) ≈ measure S c T ⊕ stepValue (sources S) (sinks S) T e ⊗ (c (e .row) (e .col) ⊖ u (e .row) ⊖ v (e .col))
   pivot-measure c u v tight = omega (arith, same, change)
     where
       q′ : ℕ → ℕ → Z
@@ -275,7 +277,7 @@ module _ {S : Sheet} (ok : Checked S) {T : List Cell} (w : Belongs S T) {e : Lan
       same : measure S c T′ ≈ cost m n c (valued m q′ e′)
       same = measure-cong m n c (bagsAt T′) (marksAt T′) q′ e′ bags-after marks-after
 
-      change : cost m n c (valued m q′ e′) ≈ measure S c T ⊕ step-value ⊗ (c (e .row) (e .col) ⊖ u (e .row) ⊖ v (e .col))
+      change : cost m n c (valued m q′ e′) ≈ measure S c T ⊕ stepValue (sources S) (sinks S) T e ⊗ (c (e .row) (e .col) ⊖ u (e .row) ⊖ v (e .col))
       change = subst (λ (x : Z). cost m n c (valued m q′ e′) ≈ measure S c T ⊕ x ⊗ (c (e .row) (e .col) ⊖ u (e .row) ⊖ v (e .col))) at-step
           (round-cost hz wanted t choice c u v (λ k l. tight (rowOf T k) (colOf T k) (record { index = k; below = omega (arith, many); row = refl; column = refl })))
 
@@ -283,4 +285,4 @@ module _ {S : Sheet} (ok : Checked S) {T : List Cell} (w : Belongs S T) {e : Lan
   pub pivot-falls : (c : ℕ → ℕ → Z) (u v : ℕ → Z) → ((i j : ℕ) → Basic T i j → Tight c u v i j) → c (e .row) (e .col) ≺ u (e .row) ⊕ v (e .col)
       → measure S c (pivot (sources S) (sinks S) T e) ⊕ nat 1 ≼ measure S c T
   pivot-falls c u v tight h = let l : measure S c T′ ≺ measure S c T =
-      lowers (measure S c T) (measure S c T′) step-value (c (e .row) (e .col) ⊖ u (e .row) ⊖ v (e .col)) (pivot-measure c u v tight) (omega (arith, step-value-positive)) (omega arith) in omega arith
+      lowers (measure S c T) (measure S c T′) (stepValue m n T e) (c (e .row) (e .col) ⊖ u (e .row) ⊖ v (e .col)) (pivot-measure c u v tight) (omega (arith, stepValue-positive)) (omega arith) in omega arith
