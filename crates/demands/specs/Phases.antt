@@ -1,14 +1,14 @@
 -- Phases of settling over tableaux: rounds with the cost −1 on one lane and 0 elsewhere, in which only allowed lanes enter.
-use mathlib.Core.Path.{_≡_, refl}
+use mathlib.Core.Path.{_≡_, refl, sym, _∙_}
 use mathlib.Core.Logic.{_↔_, _⊎_, inl, inr, ⊎-elim, by-cases}
 use mathlib.Core.Bool.{Bool, true, false, _&&_, cond, Bool-discrete}
 use mathlib.Core.List.{List}
-use Prim.Native.Nat.{ℕ, zero, suc, _+_, _*_, _-_, _<_}
+use Prim.Native.Nat.{ℕ, zero, suc, _+_, _-_, _<_}
 use native.Mathlib.Omega.{arith}
 use native.Mathlib.Decide.{ℕ-discrete}
 use borrow.Author.Tests.{eq-eqb, ne-eqb}
 use lib.IntN.{ℤ, pos, negsuc, _-ℤ_}
-use Rattle.integers.specs.Integer.{Z, _≈_, _≼_, _≺_, ≼-dec, _⊕_, nat, neg}
+use Rattle.integers.specs.Integer.{Z, _≈_, _≼_, _≺_, ≼-dec, _⊕_, _⊖_, nat, neg}
 use Rattle.integers.specs.Bridge.{toZ, z-eq, eq-z, z-ev, !, _-'_}
 use Rattle.integers.specs.Sum.{point}
 use Rattle.integers.specs.SumLaws.{point-at, point-off}
@@ -29,8 +29,8 @@ use Rattle.transport.specs.Statements.{Basic, Belongs}
 use Rattle.tableaux.specs.PlanView.{supplies, demands}
 use Rattle.tableaux.specs.Striking.{has-basic}
 use Rattle.tableaux.specs.Potentials.{potential-tight}
-use Rattle.tableaux.specs.Belonging.{bags-flow, fits-of, spans-of}
-use Rattle.tableaux.specs.TableauView.{bagsAt, basic-in, cells-many}
+use Rattle.tableaux.specs.Belonging.{fits-of, spans-of}
+use Rattle.tableaux.specs.TableauView.{bagsAt, basic-flow}
 use Rattle.tableaux.specs.PivotView.{pivot-basic}
 use Rattle.tableaux.specs.Pivoting.{measure, pivot-belongs, pivot-falls}
 use Rattle.tableaux.specs.Ending.{allValue, measure-low}
@@ -38,7 +38,7 @@ use Rattle.tableaux.specs.Ending.{allValue, measure-low}
 -- ---- a search
 
 -- Below n one of them has P, or each has R.
-pub some-or-all : (n : ℕ) (P R : ℕ → Type 0) → ((k : ℕ) → k < n → P k ⊎ R k) → ((k : ℕ) × (k < n) × P k) ⊎ ((k : ℕ) → k < n → R k)
+some-or-all : (n : ℕ) (P R : ℕ → Type 0) → ((k : ℕ) → k < n → P k ⊎ R k) → ((k : ℕ) × (k < n) × P k) ⊎ ((k : ℕ) → k < n → R k)
 some-or-all zero P R h = inr (λ k l. absurd (omega arith))
 some-or-all (suc n) P R h = ⊎-elim
     (λ s. inl (s .0, omega arith, s .2))
@@ -48,7 +48,7 @@ some-or-all (suc n) P R h = ⊎-elim
     all : ((k : ℕ) → k < n → R k) → R n → (k : ℕ) → k < suc n → R k
     all s t k l = by-cases (ℕ-discrete k n) (λ e. rw e t) (λ e. s k (omega arith))
 
--- ---- reduced costs
+-- ---- the cost of a phase
 
 -- The cost that asks for as much as can be on lane l: −1 there, 0 elsewhere.
 unfoldable pub mostOn : Lane → Lane → ℤ
@@ -70,17 +70,8 @@ most-low p q i j = rw (← most-on p q i j) (go (sameLane (lane i j) (lane p q))
     go true = omega arith
     go false = omega arith
 
--- A reduced cost of whole numbers is 0 exactly if the lane is tight.
-pub reduced-zero : (c u v : ℤ) → (eqZ (c -ℤ u -ℤ v) (pos 0) ≡ true) ↔ (toZ u ⊕ toZ v ≈ toZ c)
-reduced-zero c u v = (
-  (λ e. omega (arith, z-ev (! c -' ! u -' ! v), z-eq (eqZ-true (c -ℤ u -ℤ v) (pos 0) e))),
-  (λ h. rw (eq-z (c -ℤ u -ℤ v) (pos 0) (omega (arith, z-ev (! c -' ! u -' ! v)))) (eqZ-same (pos 0))),
-)
-
--- ---- bags on basic lanes
-
-pub basic-flow : {S : Sheet} {T : List Cell} → Checked S → Belongs S T → Flow (sources S) (sinks S) (Basic T) (bagsAt T) (supplies S) (demands S)
-basic-flow {S} {T} ok w = flow-on (λ i j hi hj s. basic-in T (suc (sources S + sinks S - 2)) i j (cells-many ok T (w .count)) .1 s) (bags-flow ok w)
+pub eqZ-zero : (x : ℤ) → (eqZ x (pos 0) ≡ true) ↔ (toZ x ≈ nat 0)
+eqZ-zero x = ((λ e. z-eq (eqZ-true x (pos 0) e)), (λ h. rw (eq-z x (pos 0) h) (eqZ-same (pos 0))))
 
 -- ---- allowed lanes
 
@@ -92,6 +83,16 @@ pub record Restricted (S : Sheet) (allowed : ℕ → ℕ → Bool) (T : List Cel
   pub belongs : Belongs S T
   pub basics : (i j : ℕ) → Basic T i j → Allowed allowed i j
 
+-- Only lanes on the sheet matter.
+pub restricted-cong : {S : Sheet} {allowed allowed′ : ℕ → ℕ → Bool} {T : List Cell} → ((i j : ℕ) → i < sources S → j < sinks S → allowed i j ≡ allowed′ i j)
+    → Restricted S allowed T → Restricted S allowed′ T
+restricted-cong e r = record {
+  belongs = r .belongs;
+  basics = λ i j b. sym
+      (e i j (rw (b .row) at (r .belongs .onSheet (b .index) (b .below) .0)) (rw (b .column) at (r .belongs .onSheet (b .index) (b .below) .1)))
+      ∙ r .basics i j b;
+}
+
 -- The potential of each node in the phase for lane (p, q).
 abbrev pub phasePotential : Sheet → ℕ → ℕ → List Cell → ℕ → ℤ
 phasePotential S p q T = potentialBy (mostOn (lane p q)) (strikes (sources S) (sinks S) (basisOf T))
@@ -102,7 +103,15 @@ phaseRow S p q T i = toZ (phasePotential S p q T i)
 abbrev pub phaseColumn : Sheet → ℕ → ℕ → List Cell → ℕ → Z
 phaseColumn S p q T j = toZ (phasePotential S p q T (sources S + j))
 
--- An allowed lane whose reduced cost in that phase is negative.
+-- The reduced cost of a lane in that phase.
+abbrev pub phaseReduced : Sheet → ℕ → ℕ → List Cell → ℕ → ℕ → ℤ
+phaseReduced S p q T i j = mostOn (lane p q) (lane i j) -ℤ phasePotential S p q T i -ℤ phasePotential S p q T (sources S + j)
+
+pub phase-reduced : (S : Sheet) (p q : ℕ) (T : List Cell) (i j : ℕ) → toZ (phaseReduced S p q T i j) ≈ most p q i j ⊖ phaseRow S p q T i ⊖ phaseColumn S p q T j
+phase-reduced S p q T i j =
+    rw (← most-on p q i j) (z-ev (! (mostOn (lane p q) (lane i j)) -' ! (phasePotential S p q T i) -' ! (phasePotential S p q T (sources S + j))))
+
+-- An allowed lane whose reduced cost is negative.
 pub record Improving (S : Sheet) (allowed : ℕ → ℕ → Bool) (p q : ℕ) (T : List Cell) (i j : ℕ) : Type 0 where
   pub row : i < sources S
   pub col : j < sinks S
@@ -119,8 +128,7 @@ phaseLeft S p q T = let x = measure S (most p q) T in x .up + allValue S - x .dn
 
 -- The allowed lanes that the phase keeps: those with reduced cost 0.
 unfoldable pub keptLanes : Sheet → (ℕ → ℕ → Bool) → ℕ → ℕ → List Cell → ℕ → ℕ → Bool
-keptLanes S allowed p q T i j =
-    allowed i j && eqZ (mostOn (lane p q) (lane i j) -ℤ phasePotential S p q T i -ℤ phasePotential S p q T (sources S + j)) (pos 0)
+keptLanes S allowed p q T i j = allowed i j && eqZ (phaseReduced S p q T i j) (pos 0)
 
 module _ {S : Sheet} (ok : Checked S) (allowed : ℕ → ℕ → Bool) {p q : ℕ} (row : p < sources S) (col : q < sinks S) where
   phase-tight : (T : List Cell) → Belongs S T → (i j : ℕ) → Basic T i j → Tight (most p q) (phaseRow S p q T) (phaseColumn S p q T) i j
@@ -194,13 +202,9 @@ module _ {S : Sheet} (ok : Checked S) (allowed : ℕ → ℕ → Bool) {p q : �
   pub kept-iff : (T : List Cell) (i j : ℕ) → Allowed (keptLanes S allowed p q T) i j ↔ Kept (Allowed allowed) p q (phaseRow S p q T) (phaseColumn S p q T) i j
   unfolding keptLanes
   kept-iff T i j = (
-    (λ e. (and-left (allowed i j) _ e, rw most-on at (zero .0 (and-right (allowed i j) _ e)))),
-    (λ k. rw (k .0) (zero .1 (rw most-on (k .1)))),
+    (λ e. (and-left (allowed i j) _ e, omega (arith, phase-reduced S p q T i j, eqZ-zero (phaseReduced S p q T i j) .0 (and-right (allowed i j) _ e)))),
+    (λ k. rw (k .0) (eqZ-zero (phaseReduced S p q T i j) .1 (omega (arith, phase-reduced S p q T i j, k .1)))),
   )
-    where
-      zero : (eqZ (mostOn (lane p q) (lane i j) -ℤ phasePotential S p q T i -ℤ phasePotential S p q T (sources S + j)) (pos 0) ≡ true)
-          ↔ (phaseRow S p q T i ⊕ phaseColumn S p q T j ≈ toZ (mostOn (lane p q) (lane i j)))
-      zero = reduced-zero (mostOn (lane p q) (lane i j)) (phasePotential S p q T i) (phasePotential S p q T (sources S + j))
 
   module _ (T : List Cell) (r : Restricted S allowed T) where
     -- Basic lanes are tight, so they are kept.

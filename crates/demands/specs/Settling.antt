@@ -1,5 +1,5 @@
 -- Settling over tableaux: the lanes of a finished tableau are decided in sheet order, and the bags that are left are the settled plan.
-use mathlib.Core.Path.{_≡_, refl, sym, ap, _∙_}
+use mathlib.Core.Path.{_≡_, refl, sym, _∙_}
 use mathlib.Core.Logic.{_↔_, by-cases, Iff·rfl, Iff·symm}
 use mathlib.Core.Bool.{Bool, true, Bool-discrete}
 use mathlib.Core.List.{List, [], _∷_}
@@ -7,29 +7,29 @@ use Prim.Native.Nat.{ℕ, zero, suc, _+_, _*_, _-_, _≤_, _<_}
 use native.Mathlib.Omega.{arith}
 use native.Mathlib.Nat.{mul-zero}
 use lib.IntN.{pos}
-use lib.ListN.{length, length-map}
-use Rattle.integers.specs.Integer.{Z, _≈_, _≺_, _⊗_, nat}
+use lib.ListN.{length-map}
+use Rattle.integers.specs.Integer.{Z, _≈_, _⊗_, nat}
 use Rattle.integers.specs.IntegerLaws.{⊗-cong}
-use Rattle.network.specs.Flow.{Flow, Plan, cost, Feasible, Tight}
+use Rattle.network.specs.Flow.{Plan, cost, Feasible, Tight}
 use Rattle.network.specs.FlowLaws.{flow-on}
 use Rattle.network.specs.Duality.{least}
 use Rattle.network.specs.Round.{bags-nonneg}
-use Rattle.network.specs.Settling.{Agree, Decided, decided-cong, decided-start, decided-phase, decided-skip, decided-rest, settled-least}
+use Rattle.network.specs.Settling.{Decided, decided-cong, decided-start, decided-phase, decided-skip, decided-rest, settled-least}
 use Rattle.transport.specs.Lists.{at}
-use Rattle.transport.specs.Sheet.{Sheet, sources, sinks, place, laneCost}
+use Rattle.transport.specs.Sheet.{Sheet, sources, sinks, place}
 use Rattle.transport.specs.SheetLaws.{Checked, lane, place-of}
 use Rattle.transport.specs.Amount.{eqZ}
 use Rattle.transport.specs.declared.Cell.{Cell}
-use Rattle.transport.specs.Potential.{potential, reducedCost, isFinished}
+use Rattle.transport.specs.Potential.{reducedCost, isFinished}
 use Rattle.transport.specs.Plan.{planCost, settled}
 use Rattle.transport.specs.Statements.{Basic, Belongs, Meets, FirstDifference, Best, scaled}
 use Rattle.plans.specs.Settled.{best-settled}
 use Rattle.tableaux.specs.Belonging.{basis-of}
-use Rattle.tableaux.specs.TableauView.{bagsAt, basic-in, cells-many, belongs-seen}
+use Rattle.tableaux.specs.TableauView.{bagsAt, basic-in, cells-many, belongs-seen, basic-flow}
 use Rattle.tableaux.specs.Entering.{potentials-tight}
 use Rattle.tableaux.specs.PlanView.{carried, supplies, demands, costs, meets-plan, cost-planCost}
-use Rattle.tableaux.specs.Least.{bagsOf, bags-carried, bags-meet, rowPotential, columnPotential, feasible}
-use Rattle.demands.specs.Phases.{reduced-zero, basic-flow, Allowed, Restricted, Ended, phase-ends, keptLanes, kept-iff, kept-restricted, kept-flow}
+use Rattle.tableaux.specs.Least.{bagsOf, bags-carried, bags-meet, rowPotential, columnPotential, reduced-parts, finished-feasible}
+use Rattle.demands.specs.Phases.{eqZ-zero, Allowed, Restricted, restricted-cong, Ended, phase-ends, keptLanes, kept-iff, kept-restricted, kept-flow}
 
 -- The lanes of least cost: those with reduced cost 0.
 unfoldable pub tightLanes : Sheet → List Cell → ℕ → ℕ → Bool
@@ -40,6 +40,14 @@ tightLanes S T i j = eqZ (reducedCost S T (lane i j)) (pos 0)
 pub record DecidedTo (S : Sheet) (T₀ : List Cell) (t : ℕ) (allowed : ℕ → ℕ → Bool) (T : List Cell) : Type 1 where
   pub restricted : Restricted S allowed T
   pub decided : Decided (sources S) (sinks S) (supplies S) (demands S) (Tight (costs S) (rowPotential S T₀) (columnPotential S T₀)) t (Allowed allowed) (bagsAt T)
+
+-- Only lanes on the sheet matter.
+pub decidedTo-cong : {S : Sheet} {T₀ : List Cell} {t : ℕ} {allowed allowed′ : ℕ → ℕ → Bool} {T : List Cell}
+    → ((i j : ℕ) → i < sources S → j < sinks S → allowed i j ≡ allowed′ i j) → DecidedTo S T₀ t allowed T → DecidedTo S T₀ t allowed′ T
+decidedTo-cong e d = record {
+  restricted = restricted-cong e (d .restricted);
+  decided = decided-cong (λ i j hi hj. ((λ a. sym (e i j hi hj) ∙ a), (λ a. e i j hi hj ∙ a))) (λ i j hi hj. omega arith) (d .decided);
+}
 
 scaled-at : (k : ℕ) (xs : List ℕ) (l : ℕ) → at (scaled k xs) l ≡ k * at xs l
 unfolding scaled at
@@ -57,7 +65,7 @@ module _ {S : Sheet} (ok : Checked S) (T₀ : List Cell) (belongs : Belongs S T�
   -- ---- lane by lane
 
   pub settling-start : DecidedTo S T₀ 0 (tightLanes S T₀) T₀
-  unfolding tightLanes reducedCost potential
+  unfolding tightLanes
   settling-start = record {
     restricted = record { belongs = belongs; basics = λ i j b. zero i j .1 (potentials-tight ok belongs i j b) };
     decided = decided-cong (λ i j hi hj. Iff·symm (zero i j)) (λ i j hi hj. omega arith)
@@ -65,7 +73,10 @@ module _ {S : Sheet} (ok : Checked S) (T₀ : List Cell) (belongs : Belongs S T�
   }
     where
       zero : (i j : ℕ) → Allowed (tightLanes S T₀) i j ↔ Tight (costs S) u v i j
-      zero i j = reduced-zero (laneCost S (lane i j)) (potential S T₀ i) (potential S T₀ (sources S + j))
+      zero i j = (
+        (λ e. omega (arith, reduced-parts S T₀ i j, eqZ-zero (reducedCost S T₀ (lane i j)) .0 e)),
+        (λ h. eqZ-zero (reducedCost S T₀ (lane i j)) .1 (omega (arith, reduced-parts S T₀ i j))),
+      )
 
   module _ {p q : ℕ} (row : p < sources S) (col : q < sinks S) {allowed : ℕ → ℕ → Bool} {T : List Cell} (d : DecidedTo S T₀ (place (sinks S) p q) allowed T) where
     -- an allowed lane, by the tableau at which its phase ends
@@ -92,6 +103,7 @@ module _ {S : Sheet} (ok : Checked S) (T₀ : List Cell) (belongs : Belongs S T�
         (λ i j hi hj a. basic-in T (suc (sources S + sinks S - 2)) i j (cells-many ok T (d .restricted .belongs .count)) .0 (h i j hi hj a));
   }
 
+  -- Lane after lane, a phase or nothing to do: in the end all lanes are decided.
   pub settles-to : (t : ℕ) → t ≤ sources S * sinks S → (allowed : ℕ → ℕ → Bool) × (T : List Cell) × DecidedTo S T₀ t allowed T
   settles-to zero l = (tightLanes S T₀, T₀, settling-start)
   settles-to (suc t) l = go (settles-to t (omega arith))
@@ -115,12 +127,8 @@ module _ {S : Sheet} (ok : Checked S) (T₀ : List Cell) (belongs : Belongs S T�
     abbrev plan : List ℕ
     plan = bagsOf S T
 
-    all-feasible : (i j : ℕ) → i < sources S → j < sinks S → Feasible (costs S) u v i j
-    unfolding potential
-    all-feasible = feasible S ok T₀ belongs (basic-flow ok belongs) (potentials-tight ok belongs) done
-
     theirs : (k : ℕ) (Q : List ℕ) → Meets S k Q → Plan (sources S) (sinks S) (Feasible (costs S) u v) k (carried (sinks S) Q) (supplies S) (demands S)
-    theirs k Q = meets-plan (λ i j hi hj e. all-feasible i j hi hj)
+    theirs k Q = meets-plan (λ i j hi hj e. finished-feasible S T₀ done i j hi hj)
 
     times : (k : ℕ) → nat k ⊗ cost (sources S) (sinks S) (costs S) (carried (sinks S) plan) ≈ nat (k * planCost S plan)
     times k = omega (arith, ⊗-cong (nat k) (cost (sources S) (sinks S) (costs S) (carried (sinks S) plan)) (nat (planCost S plan)) (cost-planCost S plan (ok .costLength)))

@@ -92,6 +92,16 @@ pub reduced-parts : (S : Sheet) (T : List Cell) (i j : ℕ) → toZ (reducedCost
 unfolding reducedCost
 reduced-parts S T i j = z-ev (! (laneCost S (lane i j)) -' ! (potential S T i) -' ! (potential S T (sources S + j)))
 
+-- Where the tableau is finished, no reduced cost is negative.
+pub finished-feasible : (S : Sheet) (T : List Cell) → isFinished S T ≡ true → (i j : ℕ) → i < sources S → j < sinks S
+    → Feasible (costs S) (rowPotential S T) (columnPotential S T) i j
+unfolding isFinished
+finished-feasible S T done i j k l = omega (
+  arith,
+  reduced-parts S T i j,
+  nonNeg-true (reducedCost S T (lane i j)) (all-lanes-at (λ x. nonNeg (reducedCost S T x)) (sources S) (sinks S) i j done k l),
+)
+
 -- The plan carries nothing on lanes whose reduced cost is not 0.
 abbrev pub OnTight : Sheet → List Cell → List ℕ → Type 0
 OnTight S T Q = (i j : ℕ) → i < sources S → j < sinks S → ¬ (reducedCost S T (lane i j) ≡ pos 0) → at Q (place (sinks S) i j) ≡ 0
@@ -100,15 +110,6 @@ module _ (S : Sheet) (ok : Checked S) (T : List Cell) (belongs : Belongs S T)
     (flow : Flow (sources S) (sinks S) (Basic T) (λ i j. bags (amountAt T i j)) (supplies S) (demands S))
     (tight : (i j : ℕ) → Basic T i j → Tight (costs S) (rowPotential S T) (columnPotential S T) i j)
     (done : isFinished S T ≡ true) where
-  pub feasible : (i j : ℕ) → i < sources S → j < sinks S → Feasible (costs S) (rowPotential S T) (columnPotential S T) i j
-  unfolding isFinished
-  feasible i j k l =
-      omega (
-        arith,
-        reduced-parts S T i j,
-        nonNeg-true (reducedCost S T (lane i j)) (all-lanes-at (λ x. nonNeg (reducedCost S T x)) (sources S) (sinks S) i j done k l),
-      )
-
   ours : Flow (sources S) (sinks S) (Tight (costs S) (rowPotential S T) (columnPotential S T)) (carried (sinks S) (bagsOf S T)) (supplies S) (demands S)
   ours = flow-on (λ i j k l b. tight i j b) (bagsOf-flow S T belongs flow)
 
@@ -117,7 +118,7 @@ module _ (S : Sheet) (ok : Checked S) (T : List Cell) (belongs : Belongs S T)
 
   module _ (k : ℕ) (Q : List ℕ) (meets : Meets S k Q) where
     theirs : Plan (sources S) (sinks S) (Feasible (costs S) (rowPotential S T) (columnPotential S T)) k (carried (sinks S) Q) (supplies S) (demands S)
-    theirs = meets-plan (λ i j h l e. feasible i j h l) meets
+    theirs = meets-plan (λ i j h l e. finished-feasible S T done i j h l) meets
 
     times : nat k ⊗ cost (sources S) (sinks S) (costs S) (carried (sinks S) (bagsOf S T)) ≈ nat (k * planCost S (bagsOf S T))
     times = omega (arith, ⊗-cong (nat k) (cost (sources S) (sinks S) (costs S) (carried (sinks S) (bagsOf S T))) (nat (planCost S (bagsOf S T))) our-cost)

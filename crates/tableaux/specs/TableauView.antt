@@ -1,7 +1,6 @@
 -- A tableau of a sheet as one of the theory of networks.
-use mathlib.Core.Path.{_≡_, refl, sym, _∙_}
+use mathlib.Core.Path.{_≡_, refl}
 use mathlib.Core.Logic.{by-cases, _↔_}
-use mathlib.Core.Bool.{true}
 use mathlib.Core.List.{List, List·Memᴰ}
 use Prim.Native.Nat.{ℕ, suc, _+_, _-_, _<_}
 use native.Mathlib.Omega.{arith}
@@ -11,6 +10,8 @@ use lib.ListN.{length, getD}
 use Rattle.integers.specs.Integer.{Z, _≈_, _≼_, nat, Within}
 use Rattle.integers.specs.Sum.{point}
 use Rattle.integers.specs.SumLaws.{sum-each, point-at, point-off}
+use Rattle.network.specs.Flow.{Flow}
+use Rattle.network.specs.FlowLaws.{flow-on}
 use Rattle.network.specs.Basis.{In}
 use Rattle.network.specs.Marks.{marks-within}
 use Rattle.network.specs.Round.{Tableau, bags-nonneg}
@@ -19,7 +20,7 @@ use Rattle.transport.specs.ListLaws.{member-place}
 use Rattle.transport.specs.Sheet.{Sheet, sources, sinks}
 use Rattle.transport.specs.SheetLaws.{Checked}
 use Rattle.transport.specs.declared.Cell.{Cell}
-use Rattle.transport.specs.Amount.{nothing, add, less, pairedSupply, pairedDemand}
+use Rattle.transport.specs.Amount.{nothing, add, pairedSupply, pairedDemand}
 use Rattle.transport.specs.Tableau.{noCell, basisSize, rowTotal, columnTotal}
 use Rattle.transport.specs.Statements.{Basic, Belongs}
 use Rattle.tableaux.specs.View.{rowOf, colOf, Distinct, Inside, amountAt, amount-at, row-sum, column-sum}
@@ -95,6 +96,10 @@ belongs-seen {S} {T} ok w = record {
       let l : k < length T = omega (arith, cells-many ok T (w .count)) in
       rw (amount-at T (distinct-of ok w) k l) (less-true nothing (getD T k noCell .amount) (w .above k l));
 }
+
+-- Its bags are a flow on its basic lanes.
+pub basic-flow : {S : Sheet} {T : List Cell} → Checked S → Belongs S T → Flow (sources S) (sinks S) (Basic T) (bagsAt T) (supplies S) (demands S)
+basic-flow {S} {T} ok w = flow-on (λ i j hi hj s. basic-in T (suc (sources S + sinks S - 2)) i j (cells-many ok T (w .count)) .1 s) (bags-flow ok w)
 
 -- ---- bounds
 
