@@ -2,3 +2,4 @@ pub mod Mask
 pub mod Layout
 pub mod PotentialLaws
 pub mod SignLaws
+pub mod StepLaws

@@ -20,7 +20,7 @@ use Rattle.transport.specs.Tableau.{sameLane}
 use Rattle.transport.specs.Leaf.{Strike}
 use Rattle.transport.specs.Round.{takeFrom, flow, sign}
 use Rattle.transport.specs.RangeLaws.{abs-diff}
-use Rattle.basis.specs.Layout.{nodeRoom, laneAt, placeOf, place-laneAt, strikeOf, strikesOf, strikesFrom, strikesFrom-cons, getD-set, Struck}
+use Rattle.basis.specs.Layout.{nodeRoom, laneAt, placeOf, place-laneAt, strikeOf, strikesOf, strikesFrom, strikesFrom-cons, getD-set, Distinct, Struck}
 
 -- ---- one strike
 
@@ -236,7 +236,7 @@ module _ (leaf other lane : List ℕ) (count row sink : ℕ) (need : List ℤ) (
       ∙ (rw (strikesFrom-cons leaf other lane count k p))
       ∙ flow-here (weightsOf need) (strikeOf leaf other lane k) (strikesFrom leaf other lane count (suc k)) l (sameLane-self l)
 
-  pub needed-step : ((i k : ℕ) → i < k → k < count → getD lane k 0 ≡ getD lane i 0 → ⊥)
+  pub needed-step : Distinct lane count
       → let mid = set need (getD leaf k 0) (pos 0) in
       Needed leaf other lane count row sink (set mid (getD other k 0) (getD mid (getD other k 0) (pos 0) -ℤ y)) (k + 1)
   needed-step n =

@@ -3,6 +3,7 @@
 pub mod mask;
 pub mod potential;
 pub mod signs;
+pub mod step;
 
 // The room for nodes, and for lanes.
 pub const NODES: usize = 2 * transport::MAX_SIDE;

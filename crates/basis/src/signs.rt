@@ -1,9 +1,9 @@
 // The loop that an entering lane closes with the basic lanes, by its signs.
 use crate::NODES;
 ghost use mathlib.Core.Path.{_≡_};
-ghost use Prim.Native.Nat.{ℕ, _<_, _≤_};
-ghost use lib.ListN.{length, getD};
-ghost use Rattle.basis.specs.Layout.{nodeRoom, Struck};
+ghost use Prim.Native.Nat.{_<_};
+ghost use lib.ListN.{length};
+ghost use Rattle.basis.specs.Layout.{nodeRoom, Distinct, Struck};
 ghost use Rattle.basis.specs.SignLaws.{LoopLanes};
 
 // How many lanes of the loop lose the step, and how many gain it (the entering lane not counted).
@@ -25,7 +25,7 @@ pub fn loop_signs(
     plus: &mut [usize; NODES],
 ) -> Loop
     requires { ⌜ Struck (now leaf) (now other) (now lane) count ⌝ }
-    requires { ⌜ ((i k : ℕ) → i < k → k < count → getD (now lane) k 0 ≡ getD (now lane) i 0 → ⊥) ⌝ }
+    requires { ⌜ Distinct (now lane) count ⌝ }
     requires { ⌜ (row < sink) × (sink < nodeRoom) ⌝ }
     requires { ⌜ (length (now minus) ≡ nodeRoom) × (length (now plus) ≡ nodeRoom) ⌝ }
     ensures { λ r. ⌜ LoopLanes (now (leaf .entry)) (now (other .entry)) (now (lane .entry)) count row sink (now (minus .exit)) (now (plus .exit)) (r .minus) (r .plus) count ⌝ }
