@@ -1,0 +1,46 @@
+// The step round the loop: the lane that leaves, and the amounts after it.
+use crate::LANES;
+use crate::NODES;
+use transport::Pair;
+ghost use mathlib.Core.Path.{_≡_};
+ghost use Prim.Native.Nat.{ℕ, _+_, _<_, _≤_, _^_};
+ghost use lib.IntN.{pos, natAbs, _+ℤ_};
+ghost use lib.ListN.{length, getD, take};
+ghost use Rattle.transport.specs.Lists.{firstLeast};
+ghost use Rattle.basis.specs.Layout.{nodeRoom, laneRoom, Distinct};
+ghost use Rattle.basis.specs.StepLaws.{lessAt, Changed};
+
+// Of the first `count` lanes, the one with the smallest pair; the first among equals.
+pub fn least_lane(q: &[i64; LANES], e: &[i64; LANES], lanes: &[usize; NODES], count: usize) -> usize
+    requires { ⌜ (1 ≤ count) × (count ≤ nodeRoom) × (length (now lanes) ≡ nodeRoom) ⌝ }
+    requires { ⌜ ((k : ℕ) → k < count → getD (now lanes) k 0 < laneRoom) ⌝ }
+    ensures { λ r. ⌜ r ≡ firstLeast (lessAt (now (q .entry)) (now (e .entry))) 0 (take count (now (lanes .entry))) ⌝ }
+{
+    let mut at = lanes[0];
+    let mut k = 1;
+    while k < count {
+        let l = lanes[k];
+        let x = Pair { q: q[l], e: e[l] };
+        let least = Pair { q: q[at], e: e[at] };
+        if x.less(least) {
+            at = l;
+        }
+        k += 1;
+    }
+    at
+}
+
+// Adds x to the numbers at the first `count` lanes.
+pub fn add_to(q: &mut [i64; LANES], lanes: &[usize; NODES], count: usize, x: i64)
+    requires { ⌜ (length (now q) ≡ laneRoom) × (length (now lanes) ≡ nodeRoom) × (count ≤ nodeRoom) ⌝ }
+    requires { ⌜ Distinct (now lanes) count ⌝ }
+    requires { ⌜ ((k : ℕ) → k < count → (getD (now lanes) k 0 < laneRoom) × (natAbs (getD (now q) (getD (now lanes) k 0) (pos 0)) + natAbs x < 2 ^ 63)) ⌝ }
+    ensures { λ _. ⌜ Changed (λ z. z +ℤ x) (now (q .entry)) (take count (now (lanes .entry))) (now (q .exit)) ⌝ }
+{
+    let mut k = 0;
+    while k < count {
+        let l = lanes[k];
+        q[l] = q[l] + x;
+        k += 1;
+    }
+}
