@@ -1,4 +1,6 @@
 pub mod View
+pub mod Lanes
+pub mod Leaves
 pub mod Striking
 pub mod Bases
 pub mod Flows

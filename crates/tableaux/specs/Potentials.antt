@@ -20,7 +20,8 @@ use Rattle.transport.specs.Tableau.{basisSize, basisOf}
 use Rattle.transport.specs.Leaf.{Strike, strikes, spans}
 use Rattle.transport.specs.Potential.{potentialBy, potential}
 use Rattle.network.specs.Joined.{potentials-unique}
-use Rattle.tableaux.specs.Striking.{Fits, Ends, row-struck, column-struck, Peeled, bare, peel, struck-of, ends-differ, step-of, root-no-leaf, spans-iff}
+use Rattle.tableaux.specs.Leaves.{Fits, Ends, row-struck, column-struck, ends-differ}
+use Rattle.tableaux.specs.Striking.{Peeled, bare, peel, struck-of, step-of, root-no-leaf, spans-iff}
 
 -- ---- sizes
 
