@@ -13,7 +13,7 @@ use Rattle.transport.specs.Tableau.{basisSize}
 use Rattle.transport.specs.Leaf.{spans}
 use Rattle.transport.specs.Statements.{Joined}
 use Rattle.network.specs.Basis.{In, Basis}
-use Rattle.tableaux.specs.Leaves.{Has, Fits}
+use Rattle.tableaux.specs.Lanes.{Has, Fits}
 use Rattle.tableaux.specs.Striking.{spans-iff}
 
 -- The row and the column of the lane at place k.

@@ -31,7 +31,7 @@ use Rattle.network.specs.Flow.{On, Flow, Tight}
 use Rattle.network.specs.FlowLaws.{flow-on}
 use Rattle.network.specs.Basis.{In, Basis, distinct}
 use Rattle.tableaux.specs.View.{rowOf, colOf, Distinct, Inside, basic-later, amountAt, amount-later, row-sum, column-sum}
-use Rattle.tableaux.specs.Leaves.{Fits, has-basic}
+use Rattle.tableaux.specs.Lanes.{Fits, has-basic}
 use Rattle.tableaux.specs.Striking.{spans-iff}
 use Rattle.tableaux.specs.Bases.{joined-on}
 use Rattle.tableaux.specs.Flows.{signs-of}

@@ -21,9 +21,9 @@ use Rattle.transport.specs.Round.{takeFrom, flow, sign}
 use Rattle.network.specs.Flow.{Flow}
 use Rattle.network.specs.FlowLaws.{flow-on}
 use Rattle.network.specs.Basis.{In, unit, flow-unique}
-use Rattle.tableaux.specs.Lanes.{member-dec, lane-same, lane-other, lane-dec, on-lane, on-lane-at, on-lane-off, on-lane-row, on-lane-column}
-use Rattle.tableaux.specs.Leaves.{Has, Fits, Ends, row-struck, column-struck, ends-differ}
-use Rattle.tableaux.specs.Striking.{Step, Peeled, bare, peel, IsLeaf, Struck, struck-of, lane-once, step-of, spans-iff}
+use Rattle.tableaux.specs.Lanes.{Has, Fits, member-dec, lane-same, lane-other, lane-dec, on-lane, on-lane-at, on-lane-off, on-lane-row, on-lane-column}
+use Rattle.tableaux.specs.Leaves.{Ends, row-struck, column-struck, ends-differ}
+use Rattle.tableaux.specs.Striking.{Step, Peeled, bare, peel, IsLeaf, Struck, struck-of, lane-once, spans-iff}
 use Rattle.tableaux.specs.Bases.{rowAt, colAt, has-in, spans-basis}
 
 -- ---- points
@@ -90,7 +90,7 @@ flow-splits {m} {n} w {s} {later} st rest i j = by-cases (lane-dec (lane i j) (s
     (λ e. rw (flow-later w s later (lane i j) e) (omega (arith, on-lane-off (s .lane) (toZ (w (s .leaf))) i j e)))
   where
     gone : flow (after w s) later (s .lane) ≡ pos 0
-    gone = flow-off (after w s) later (s .lane) (λ t h. let (ts, step) = step-of rest t h in lane-once st t h (step .ends))
+    gone = flow-off (after w s) later (s .lane) (lane-once st rest)
 
     here : (i j : ℕ) → i ≡ s .lane .row → j ≡ s .lane .col
         → toZ (flow w (s ∷ later) (lane i j)) ≈ on-lane (s .lane) (toZ (w (s .leaf))) i j ⊕ toZ (flow (after w s) later (lane i j))
@@ -166,8 +166,8 @@ left-leaf {m} {n} w (peel {s} {later} st rest) k (t, h, e) = ⊎-elim
 
 -- ---- the flow
 
--- The flow of the weights has them as its margins. Every node but row 0 is a leaf, so it has nothing left and has got its weight. What all rows get is what all columns get, so
--- where the totals agree, row 0 has got its weight too.
+-- The flow of the weights has them as its margins. Every node but row 0 is a leaf, so it has nothing left and has got its weight. What all rows get is what
+-- all columns get, so where the totals agree, row 0 has got its weight too.
 pub struck-flow : {m n : ℕ} {B : List Lane} {ss : List Strike} → 1 ≤ m → Struck m n B ss → (w : ℕ → ℤ) → sum m (λ i. toZ (w i)) ≈ sum n (λ j. toZ (w (m + j)))
     → Flow m n (Has B) (λ i j. toZ (flow w ss (lane i j))) (λ i. toZ (w i)) (λ j. toZ (w (m + j)))
 struck-flow {m} {n} {B} {ss} p st w even = record {
@@ -196,7 +196,8 @@ struck-flow {m} {n} {B} {ss} p st w even = record {
 -- ---- the signs
 
 -- the same flow by margins that are equal numbers
-flow-margins : {m n : ℕ} {T : ℕ → ℕ → Type 0} {x : ℕ → ℕ → Z} {a b a′ b′ : ℕ → Z} → ((i : ℕ) → i < m → a i ≈ a′ i) → ((j : ℕ) → j < n → b j ≈ b′ j) → Flow m n T x a b → Flow m n T x a′ b′
+flow-margins : {m n : ℕ} {T : ℕ → ℕ → Type 0} {x : ℕ → ℕ → Z} {a b a′ b′ : ℕ → Z} → ((i : ℕ) → i < m → a i ≈ a′ i) → ((j : ℕ) → j < n → b j ≈ b′ j)
+    → Flow m n T x a b → Flow m n T x a′ b′
 flow-margins h k f = record { on = f .on; rows = λ i l. omega (arith, f .rows i l, h i l); cols = λ j l. omega (arith, f .cols j l, k j l) }
 
 -- What the entering lane takes from both its nodes.
@@ -284,4 +285,6 @@ module _ {m n : ℕ} {B : List Lane} (p : 1 ≤ m) (h : Fits m n B) (s : spans m
     sign-unit enter hr hc l = by-cases (member-dec l B) (λ d. here (has-in B (l .row) (l .col) .0 d)) (λ d. off (sign-off enter l d))
       where
         here : In (rowAt B) (colAt B) (length B) (l .row) (l .col) → Signed (sign m (strikes m n B) enter l)
-        here (k, d, a, b) = signed (sign m (strikes m n B) enter l) (rw (← a, ← b) (unit (spans-basis p q h s) hr hc (on-basis (signs-of enter hr hc)) k (omega (arith, spans-iff p h .0 s .0))))
+        here (k, d, a, b) =
+            let one = unit (spans-basis p q h s) hr hc (on-basis (signs-of enter hr hc)) k (omega (arith, spans-iff p h .0 s .0)) in
+            signed (sign m (strikes m n B) enter l) (rw (← a, ← b) one)

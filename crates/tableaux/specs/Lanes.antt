@@ -1,8 +1,8 @@
--- Lanes: whether two are the same, whether one is in a list, and an amount on one lane alone.
+-- Lanes: those in a list, whether two are the same, and an amount on one lane alone.
 use mathlib.Core.Path.{_≡_, refl, ap, sym, _∙_}
-use mathlib.Core.Logic.{_≢_, ⊎-elim, by-cases}
+use mathlib.Core.Logic.{_↔_, _≢_, ⊎-elim, by-cases}
 use mathlib.Core.Bool.{Bool, true, false, true≢false}
-use mathlib.Core.List.{List, [], _∷_, List·Memᴰ, List·Memᴰ·head, List·Memᴰ·tail, List·Memᴰ·not-nil, List·Memᴰ·cases-cons}
+use mathlib.Core.List.{List, [], _∷_, map, Memᴰ·cast, List·Memᴰ, List·Memᴰ·head, List·Memᴰ·tail, List·Memᴰ·not-nil, List·Memᴰ·cases-cons}
 use Prim.Native.Nat.{ℕ, _<_}
 use native.Mathlib.Omega.{arith}
 use native.Mathlib.Decide.{ℕ-discrete}
@@ -11,11 +11,42 @@ use lib.Dec.{eqb}
 use Rattle.integers.specs.Integer.{Z, _≈_, _⊗_, nat}
 use Rattle.integers.specs.Sum.{sum, point}
 use Rattle.integers.specs.SumLaws.{sum-cong, sum-point, point-at, point-off}
-use Rattle.transport.specs.ListLaws.{and-left, and-right}
+use Rattle.transport.specs.ListLaws.{member-at, member-place, member-map, map-member, and-left, and-right}
 use Rattle.transport.specs.Sheet.{Lane}
 use Rattle.transport.specs.SheetLaws.{lane}
-use Rattle.transport.specs.Tableau.{sameLane}
+use Rattle.transport.specs.declared.Cell.{Cell}
+use Rattle.transport.specs.Tableau.{noCell, laneOf, basisOf, sameLane}
+use Rattle.transport.specs.Statements.{Basic}
 use Rattle.tableaux.specs.View.{point-one}
+
+-- ---- lanes of a list
+
+-- The lane of row i and column j is in the list.
+abbrev pub Has : List Lane → ℕ → ℕ → Type 0
+Has B i j = List·Memᴰ (lane i j) B
+
+-- Every lane is inside the sheet.
+abbrev pub Fits : ℕ → ℕ → List Lane → Type 0
+Fits m n B = (l : Lane) → List·Memᴰ l B → (l .row < m) × (l .col < n)
+
+-- The cells of a tableau stand on the lanes of its basis.
+pub has-basic : (T : List Cell) (i j : ℕ) → Has (basisOf T) i j ↔ Basic T i j
+unfolding basisOf laneOf
+has-basic T i j = (to, from)
+  where
+    to : Has (map laneOf T) i j → Basic T i j
+    to h =
+        let (c, m, e) = map-member laneOf T h in
+        let (k, p, q) = member-place noCell m in
+        record {
+          index = k;
+          below = p;
+          row = cc (ap (λ (d : Cell). d .row) q, ap (λ (l : Lane). l .row) e);
+          column = cc (ap (λ (d : Cell). d .col) q, ap (λ (l : Lane). l .col) e);
+        }
+
+    from : Basic T i j → Has (map laneOf T) i j
+    from b = Memᴰ·cast (λ t. lane (sym (b .row) t) (sym (b .column) t)) (member-map laneOf (member-at T noCell (b .index) (b .below)))
 
 -- ---- the same lane
 

@@ -1,8 +1,8 @@
--- Leaves: while lanes that join the nodes left are left, some node but the root has a single one, and the others join the nodes left after striking it off.
+-- Leaves: while any of the lanes that join the nodes left is there, a node but the root has a single one; and after striking it off the lanes join the nodes left.
 use mathlib.Core.Path.{_≡_, refl, ap, sym, _∙_}
 use mathlib.Core.Logic.{_↔_, _≢_, _⊎_, inl, inr, by-cases}
 use mathlib.Core.Bool.{Bool, true, false, not, _&&_, _||_, cond, true≢false}
-use mathlib.Core.List.{List, [], _∷_, map, List·Memᴰ, List·Memᴰ·head, List·Memᴰ·tail, List·Memᴰ·not-nil, List·Memᴰ·cases-cons, List·Memᴰ·eq-of-singleton, Memᴰ·cast}
+use mathlib.Core.List.{List, [], _∷_, List·Memᴰ, List·Memᴰ·head, List·Memᴰ·tail, List·Memᴰ·not-nil, List·Memᴰ·cases-cons, List·Memᴰ·eq-of-singleton}
 use mathlib.Core.Option.{Option, none, some}
 use Prim.Native.Nat.{ℕ, zero, suc, _+_, _*_, _≤_, _<_}
 use native.Mathlib.Omega.{arith}
@@ -11,37 +11,12 @@ use borrow.Author.Tests.{eqb-true, eqb-false, eq-eqb, ne-eqb, not-true}
 use lib.Dec.{eqb}
 use lib.ListN.{length}
 use Rattle.transport.specs.Lists.{keep, sumTo}
-use Rattle.transport.specs.ListLaws.{keep-yes, keep-no, keep-member, member-keep, member-at, member-place, member-map, map-member, and-left, and-right, sumTo-cong, sumTo-none, sumTo-add, sumTo-le, sumTo-scale}
+use Rattle.transport.specs.ListLaws.{keep-yes, keep-no, keep-member, member-keep, and-left, and-right, sumTo-cong, sumTo-none, sumTo-add, sumTo-le, sumTo-scale}
 use Rattle.transport.specs.Sheet.{Lane}
 use Rattle.transport.specs.SheetLaws.{lane}
-use Rattle.transport.specs.declared.Cell.{Cell}
-use Rattle.transport.specs.Tableau.{laneOf, basisOf, noCell}
 use Rattle.transport.specs.Leaf.{Strike, touches, strikeAt, onlyOne, firstLeaf}
-use Rattle.transport.specs.Statements.{Basic}
-
--- ---- lanes of a list
-
--- The lane of row i and column j is in the list.
-abbrev pub Has : List Lane → ℕ → ℕ → Type 0
-Has B i j = List·Memᴰ (lane i j) B
-
--- Every lane is inside the sheet.
-abbrev pub Fits : ℕ → ℕ → List Lane → Type 0
-Fits m n B = (l : Lane) → List·Memᴰ l B → (l .row < m) × (l .col < n)
-
--- The cells of a tableau stand on the lanes of its basis.
-pub has-basic : (T : List Cell) (i j : ℕ) → Has (basisOf T) i j ↔ Basic T i j
-unfolding basisOf laneOf
-has-basic T i j = (to, from)
-  where
-    to : Has (map laneOf T) i j → Basic T i j
-    to h =
-        let (c, m, e) = map-member laneOf T h in
-        let (k, p, q) = member-place noCell m in
-        record { index = k; below = p; row = cc (ap (λ (d : Cell). d .row) q, ap (λ (l : Lane). l .row) e); column = cc (ap (λ (d : Cell). d .col) q, ap (λ (l : Lane). l .col) e) }
-
-    from : Basic T i j → Has (map laneOf T) i j
-    from b = Memᴰ·cast (λ t. lane (sym (b .row) t) (sym (b .column) t)) (member-map laneOf (member-at T noCell (b .index) (b .below)))
+use Rattle.network.specs.Cut.{bit-le}
+use Rattle.tableaux.specs.Lanes.{Fits}
 
 -- ---- the nodes that a lane touches
 
@@ -178,7 +153,8 @@ degrees m n (l ∷ ls) h =
     let inside = h l (List·Memᴰ·head refl) in
     omega (
       arith,
-      sumTo-cong (m + n) (degree m (l ∷ ls)) (λ k. one-at (l .row) k + one-at (m + l .col) k + degree m ls k) (λ k q. omega (arith, degree-cons m k l ls, touches-bits m k l (inside .0))),
+      sumTo-cong (m + n) (degree m (l ∷ ls)) (λ k. one-at (l .row) k + one-at (m + l .col) k + degree m ls k)
+          (λ k q. omega (arith, degree-cons m k l ls, touches-bits m k l (inside .0))),
       sumTo-add (m + n) (λ k. one-at (l .row) k + one-at (m + l .col) k) (degree m ls),
       sumTo-add (m + n) (one-at (l .row)) (one-at (m + l .col)),
       sum-one-at (m + n) (l .row) (omega (arith, inside)),
@@ -211,10 +187,6 @@ pub record Linked (m n : ℕ) (left : ℕ → Bool) (B : List Lane) : Type 0 whe
 -- The nodes to be struck: all but the root.
 abbrev pub Others : ℕ → ℕ → List ℕ → Type 0
 Others m n nodes = (k : ℕ) → List·Memᴰ k nodes ↔ ((k ≢ 0) × (k < m + n))
-
-pub bit-le : (b : Bool) → cond {A = ℕ} b 1 0 ≤ 1
-bit-le true = omega arith
-bit-le false = omega arith
 
 not-eqb : (a b : ℕ) → not (eqb a b) ≡ true → a ≢ b
 not-eqb a b e = eqb-false a b (not-true (eqb a b) e)
@@ -324,7 +296,8 @@ leaf-struck {m} {n} {left} {nodes} {B} {s} w others f = record {
       (rw (w .ends l p .0, ne-eqb (s .leaf) (l .row) (λ e. a (sym e))), rw (w .ends l p .1, ne-eqb (s .leaf) (m + l .col) (λ e. b (sym e))));
   joined = λ side z closed k l e.
       let apart = not-eqb (s .leaf) k (and-right (left k) (not (eqb (s .leaf) k)) e) in
-      sym (moved-off side k apart) ∙ w .joined (moved side) (moved-off side 0 (others (s .leaf) .0 (f .listed) .0) ∙ z) (all-closed side closed) k l (and-left (left k) (not (eqb (s .leaf) k)) e);
+      let first = moved-off side 0 (others (s .leaf) .0 (f .listed) .0) ∙ z in
+      sym (moved-off side k apart) ∙ w .joined (moved side) first (all-closed side closed) k l (and-left (left k) (not (eqb (s .leaf) k)) e);
   count = omega (
     arith,
     w .count,

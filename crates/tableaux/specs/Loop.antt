@@ -20,9 +20,9 @@ use Rattle.transport.specs.Leaf.{Strike, strikes, spans}
 use Rattle.transport.specs.Round.{sign}
 use Rattle.transport.specs.Statements.{Basic, Belongs}
 use Rattle.network.specs.Flow.{Flow}
-use Rattle.tableaux.specs.Lanes.{member-dec, on-lane, on-lane-at, on-lane-off, on-lane-row, on-lane-column}
-use Rattle.tableaux.specs.Leaves.{Has, Fits, has-basic, Ends, row-struck, column-struck}
-use Rattle.tableaux.specs.Striking.{Peeled, bare, peel, Struck, struck-of, step-of, lane-once, Live, live-later, Hung, hung-later, hung-first, struck-live, struck-hung}
+use Rattle.tableaux.specs.Lanes.{Has, Fits, has-basic, member-dec, on-lane, on-lane-at, on-lane-off, on-lane-row, on-lane-column}
+use Rattle.tableaux.specs.Leaves.{Ends, row-struck, column-struck}
+use Rattle.tableaux.specs.Striking.{Peeled, bare, peel, Struck, struck-of, lane-once, Live, live-later, Hung, hung-later, hung-first, struck-live, struck-hung}
 use Rattle.tableaux.specs.Flows.{point-neg, signs-of, sign-off, flow-only}
 use Rattle.tableaux.specs.Belonging.{fits-of, spans-of}
 
@@ -112,7 +112,7 @@ walked {m} bare hang a b la lb = record { lanes = []; walk = stay (root la ∙ s
 walked {m} {n} (peel {s} {later} st rest) hang a b la lb = go (walked rest (hung-later st hang))
   where
     new : (l : Lane) → (t : Strike) × List·Memᴰ t later × (t .lane ≡ l) → l ≢ s .lane
-    new l (t, h, e) q = let (ts, step) = step-of rest t h in lane-once st t h (step .ends) (e ∙ q)
+    new l (t, h, e) q = lane-once st rest t h (e ∙ q)
 
     on : {ls : List Lane} → ((l : Lane) → List·Memᴰ l ls → (t : Strike) × List·Memᴰ t later × (t .lane ≡ l))
         → (l : Lane) → List·Memᴰ l ls → (t : Strike) × List·Memᴰ t (s ∷ later) × (t .lane ≡ l)
@@ -144,13 +144,15 @@ walked {m} {n} (peel {s} {later} st rest) hang a b la lb = go (walked rest (hung
         (λ f. let v = again a b (live-later e la) (live-later f lb) in record { lanes = v .lanes; walk = v .walk; apart = v .apart; used = on (v .used) })))
 
 -- A walk from a row to the entering lane's column is a way round.
-walk-way : {m : ℕ} {enter : Lane} {ls : List Lane} (k : Lane) → k .row < m → ((l : Lane) → List·Memᴰ l ls → l .row < m) → Walk m (m + enter .col) (k .row) ls → Way enter k ls
+walk-way : {m : ℕ} {enter : Lane} {ls : List Lane} (k : Lane) → k .row < m → ((l : Lane) → List·Memᴰ l ls → l .row < m)
+    → Walk m (m + enter .col) (k .row) ls → Way enter k ls
 walk-way k h in-rows (stay e) = absurd (omega arith)
 walk-way k h in-rows (up e rest) = absurd (omega arith)
 walk-way k h in-rows (down {l} e (stay f)) = closes {l = l} (sym e) (omega arith)
 walk-way k h in-rows (down e (down {l} f rest)) = absurd (omega (arith, in-rows l (List·Memᴰ·tail (List·Memᴰ·head refl))))
 walk-way k h in-rows (down {l = g} e (up {l} f rest)) =
-    goes {l = g} {p = l} (sym e) (omega arith) (walk-way l (in-rows l (List·Memᴰ·tail (List·Memᴰ·head refl))) (λ q r. in-rows q (List·Memᴰ·tail (List·Memᴰ·tail r))) rest)
+    let in-row = in-rows l (List·Memᴰ·tail (List·Memᴰ·head refl)) in
+    goes {l = g} {p = l} (sym e) (omega arith) (walk-way l in-row (λ q r. in-rows q (List·Memᴰ·tail (List·Memᴰ·tail r))) rest)
 
 -- ---- the signs round a loop
 
@@ -203,8 +205,8 @@ turn-column {m} {n} h (goes {l} {p} {ls} a b rest) j = omega (
     same-column = rw b (omega arith)
 
 -- Signs that agree with them alternate.
-turn-alternate : {signOf : Lane → ℤ} {enter k : Lane} {ls : List Lane} → Way enter k ls → Apart ls → ((l : Lane) → List·Memᴰ l ls → turn ls (l .row) (l .col) ≈ toZ (signOf l))
-    → Alternate signOf ls
+turn-alternate : {signOf : Lane → ℤ} {enter k : Lane} {ls : List Lane} → Way enter k ls → Apart ls
+    → ((l : Lane) → List·Memᴰ l ls → turn ls (l .row) (l .col) ≈ toZ (signOf l)) → Alternate signOf ls
 unfolding turn
 turn-alternate {signOf} (closes {l} a b) s h = single (eq-z (signOf l) (negsuc 0) (omega (arith, h l (List·Memᴰ·head refl), on-lane-at l (neg (nat 1)))))
 turn-alternate {signOf} (goes {l} {p} {ls} a b rest) (fresh d (fresh e s)) h = pair
@@ -289,8 +291,8 @@ module _ {m n : ℕ} {B : List Lane} (p : 1 ≤ m) (q : 1 ≤ n) (h : Fits m n B
   loop-one w v l k = loop-signs v .all l (alternate-sign (loop-signs w .alternate) l k)
 
 -- The sentence of the paper: with the basic cells of a tableau the entering lane closes one loop, and going round it, signs alternate.
-pub loop-of : {S : Sheet} {T : List Cell} → Checked S → Belongs S T → {enter : Lane} → enter .row < sources S → enter .col < sinks S → ¬ Basic T (enter .row) (enter .col)
-    → (others : List Lane) × Loop (basisOf T) enter others × Signs (sign (sources S) (strikes (sources S) (sinks S) (basisOf T)) enter) others
-loop-of {S} {T} c b {enter} hr hc new =
+pub loop-of : {S : Sheet} {T : List Cell} {enter : Lane} → Checked S → Belongs S T → enter .row < sources S → enter .col < sinks S
+    → ¬ Basic T (enter .row) (enter .col) → (others : List Lane) × Loop (basisOf T) enter others × Signs (sign (sources S) (strikes (sources S) (sinks S) (basisOf T)) enter) others
+loop-of {S} {T} {enter} c b hr hc new =
     let (others, w) = loop-exists (c .sourcesLow) (c .sinksLow) (fits-of c b) (spans-of c b) hr hc (λ h. new (has-basic T (enter .row) (enter .col) .0 h)) in
     (others, w, loop-signs (c .sourcesLow) (c .sinksLow) (fits-of c b) (spans-of c b) hr hc w)

@@ -17,7 +17,9 @@ use Rattle.transport.specs.SheetLaws.{lane}
 use Rattle.transport.specs.Tableau.{basisSize}
 use Rattle.transport.specs.Leaf.{Strike, touches, firstLeaf, strikeOff, strikes, spans}
 use Rattle.transport.specs.Statements.{Joined, Closed}
-use Rattle.tableaux.specs.Leaves.{Has, Fits, one-at, one-off, sum-one-at, sum-ones, bit-le, touches-false, at-node, without, Ends, row-struck, column-struck, Leaf, none-some, found, Linked, Others, leaf-exists, without-member, member-without, leaf-member, leaf-lane, length-without, ends-differ, leaf-struck}
+use Rattle.network.specs.Cut.{bit-le}
+use Rattle.tableaux.specs.Lanes.{Has, Fits}
+use Rattle.tableaux.specs.Leaves.{one-at, one-off, sum-one-at, sum-ones, touches-false, at-node, without, Ends, row-struck, column-struck, Leaf, none-some, found, Linked, Others, leaf-exists, without-member, member-without, leaf-member, leaf-lane, length-without, ends-differ, leaf-struck}
 
 -- ---- striking off leaf after leaf
 
@@ -171,7 +173,8 @@ leaf-below {m} {n} {s} st = go (st .ends)
 times-total : {m n : ℕ} {ss : List Strike} → Peeled m n ss → sumTo (m + n) (times ss) ≡ length ss
 unfolding times
 times-total {m} {n} bare = sumTo-none (m + n)
-times-total {m} {n} (peel {s} {later} st rest) = omega (arith, sumTo-add (m + n) (one-at (s .leaf)) (times later), sum-one-at (m + n) (s .leaf) (leaf-below st), times-total rest)
+times-total {m} {n} (peel {s} {later} st rest) =
+    omega (arith, sumTo-add (m + n) (one-at (s .leaf)) (times later), sum-one-at (m + n) (s .leaf) (leaf-below st), times-total rest)
 
 pub root-no-leaf : {m n : ℕ} {ss : List Strike} → Peeled m n ss → (s : Strike) → List·Memᴰ s ss → s .leaf ≢ 0
 root-no-leaf bare s h = absurd (List·Memᴰ·not-nil h)
@@ -209,8 +212,8 @@ step-of bare s h = absurd (List·Memᴰ·not-nil h)
 step-of {m} {n} (peel {s} {later} st rest) t h = ⊎-elim (λ e. (later, rw e st)) (step-of rest t) (List·Memᴰ·cases-cons h)
 
 -- No later strike has the lane of an earlier one.
-pub lane-once : {m n : ℕ} {s : Strike} {later : List Strike} → Step m n s later → (t : Strike) → List·Memᴰ t later → Ends m t → t .lane ≢ s .lane
-lane-once {m} {n} {s} {later} st t h ends e = go (st .ends) ends (st .clear t h)
+pub lane-once : {m n : ℕ} {s : Strike} {later : List Strike} → Step m n s later → Peeled m n later → (t : Strike) → List·Memᴰ t later → t .lane ≢ s .lane
+lane-once {m} {n} {s} {later} st rest t h e = let (ts, step) = step-of rest t h in go (st .ends) (step .ends) (st .clear t h)
   where
     go : Ends m s → Ends m t → (t .leaf ≢ s .leaf) × (t .other ≢ s .leaf) → ⊥
     go (row-struck p q) (row-struck p′ q′) d = d .0 (p′ ∙ ap (λ (l : Lane). l .row) e ∙ sym p)
@@ -222,17 +225,14 @@ strike-once : {m n : ℕ} {ss : List Strike} → Peeled m n ss → (s t : Strike
 strike-once bare s t h k e = absurd (List·Memᴰ·not-nil h)
 strike-once {m} {n} (peel {s = r} {later} st rest) s t h k e = go (List·Memᴰ·cases-cons h) (List·Memᴰ·cases-cons k) (strike-once rest s t)
   where
-    differ : (u : Strike) → List·Memᴰ u later → u .lane ≢ r .lane
-    differ u q = let (us, step) = step-of rest u q in lane-once st u q (step .ends)
-
     go : (s ≡ r) ⊎ List·Memᴰ s later → (t ≡ r) ⊎ List·Memᴰ t later → (List·Memᴰ s later → List·Memᴰ t later → s .lane ≡ t .lane → s ≡ t) → s ≡ t
     go (inl p) (inl q) again = p ∙ sym q
-    go (inl p) (inr q) again = absurd (differ t q (sym e ∙ ap (λ (v : Strike). v .lane) p))
-    go (inr p) (inl q) again = absurd (differ s p (e ∙ ap (λ (v : Strike). v .lane) q))
+    go (inl p) (inr q) again = absurd (lane-once st rest t q (sym e ∙ ap (λ (v : Strike). v .lane) p))
+    go (inr p) (inl q) again = absurd (lane-once st rest s p (e ∙ ap (λ (v : Strike). v .lane) q))
     go (inr p) (inr q) again = again p q e
 
--- What the strikes of B are where all of B is struck off: each lane of B is that of one strike, and the other way round, no strike touches the leaf of an earlier one, and every node
--- but the root is the leaf of one.
+-- What the strikes of B are where all of B is struck off: each lane of B is that of one strike, and the other way round; no strike touches the leaf of an
+-- earlier one; and every node but the root is the leaf of one.
 pub record Struck (m n : ℕ) (B : List Lane) (ss : List Strike) : Type 0 where
   pub peels : Peeled m n ss
   pub struck : (l : Lane) → List·Memᴰ l B → (s : Strike) × List·Memᴰ s ss × (s .lane ≡ l)
@@ -264,7 +264,7 @@ module _ {m n : ℕ} {B : List Lane} (p : 1 ≤ m) (h : Fits m n B) where
   unfolding spans strikes basisSize
   struck-of e = record {
     peels = peels;
-    struck = λ l q. all-struck m nodes (length B) B l same q;
+    struck = λ l q. all-struck m nodes (length B) B l (all ∙ sym count) q;
     once = strike-once peels;
     lanes = λ s q. strike-of m nodes (length B) B s q .member;
     leaves = every-leaf peels size;
@@ -274,14 +274,20 @@ module _ {m n : ℕ} {B : List Lane} (p : 1 ≤ m) (h : Fits m n B) where
       nodes : List ℕ
       nodes = table (m + n - 1) suc
 
-      peels : Peeled m n (strikeOff m nodes (length B) B)
+      ss : List Strike
+      ss = strikeOff m nodes (length B) B
+
+      peels : Peeled m n ss
       peels = peeled (length B) (nodes-others m n p) h
 
-      same : length (strikeOff m nodes (length B) B) ≡ length B
-      same = omega (arith, eqb-true (length B) (m + n - 1) (and-left (eqb (length B) (m + n - 1)) (eqb (length (strikeOff m nodes (length B) B)) (m + n - 1)) e), eqb-true (length (strikeOff m nodes (length B) B)) (m + n - 1) (and-right (eqb (length B) (m + n - 1)) (eqb (length (strikeOff m nodes (length B) B)) (m + n - 1)) e))
+      count : length B ≡ m + n - 1
+      count = eqb-true (length B) (m + n - 1) (and-left (eqb (length B) (m + n - 1)) (eqb (length ss) (m + n - 1)) e)
 
-      size : suc (length (strikeOff m nodes (length B) B)) ≡ m + n
-      size = omega (arith, eqb-true (length (strikeOff m nodes (length B) B)) (m + n - 1) (and-right (eqb (length B) (m + n - 1)) (eqb (length (strikeOff m nodes (length B) B)) (m + n - 1)) e))
+      all : length ss ≡ m + n - 1
+      all = eqb-true (length ss) (m + n - 1) (and-right (eqb (length B) (m + n - 1)) (eqb (length ss) (m + n - 1)) e)
+
+      size : suc (length ss) ≡ m + n
+      size = omega (arith, all)
 
 -- ---- spanning is joining
 
@@ -370,12 +376,18 @@ joined-linked {m} {n} {B} p h e w = record {
   count = omega (arith, sum-ones (m + n));
 }
 
--- Lanes span exactly if they are m + n − 1 and join all rows and columns.
+-- Lanes span exactly if they are m + n − 1 and join all rows and columns. If all are struck off, each leaf hangs on one struck later or on the root, so from the
+-- last strike back all nodes are on the root's side of a split that no lane crosses. And of lanes that join all nodes there is a leaf to strike, again and again.
 pub spans-iff : {m n : ℕ} {B : List Lane} → 1 ≤ m → Fits m n B → (spans m n B ≡ true) ↔ ((length B ≡ basisSize m n) × Joined m n (Has B))
 unfolding spans strikes
 spans-iff {m} {n} {B} p h = (
-  (λ e. (eqb-true (length B) (basisSize m n) (and-left (eqb (length B) (basisSize m n)) (eqb (length (strikes m n B)) (basisSize m n)) e), struck-joined p (struck-of p h e))),
-  (λ (e, w). rw (eq-eqb (length B) (basisSize m n) e, eq-eqb (length (strikes m n B)) (basisSize m n) (linked-struck (length B) p (nodes-others m n p) (joined-linked p h e w) (omega arith) ∙ e))),
+  (λ e. (
+    eqb-true (length B) (basisSize m n) (and-left (eqb (length B) (basisSize m n)) (eqb (length (strikes m n B)) (basisSize m n)) e),
+    struck-joined p (struck-of p h e),
+  )),
+  (λ (e, w).
+      let all = linked-struck (length B) p (nodes-others m n p) (joined-linked p h e w) (omega arith) in
+      rw (eq-eqb (length B) (basisSize m n) e, eq-eqb (length (strikes m n B)) (basisSize m n) (all ∙ e))),
 )
 
 -- While lanes are left, some row or column has a single one; and so again after striking it off.
@@ -389,7 +401,8 @@ linked-leaves {m} zero B p w q = empty B q
     empty : (B : List Lane) → length B ≤ 0 → Strikable m B
     empty [] q = none-left
     empty (l ∷ ls) q = absurd (omega arith)
-linked-leaves {m} {n} {left} (suc size) B p w q = go B refl (λ s f. linked-leaves size (without m (s .leaf) B) p (leaf-struck w (nodes-others m n p) f) (omega (arith, length-without f)))
+linked-leaves {m} {n} {left} (suc size) B p w q =
+    go B refl (λ s f. linked-leaves size (without m (s .leaf) B) p (leaf-struck w (nodes-others m n p) f) (omega (arith, length-without f)))
   where
     nodes : List ℕ
     nodes = table (basisSize m n) suc
@@ -401,6 +414,6 @@ linked-leaves {m} {n} {left} (suc size) B p w q = go B refl (λ s f. linked-leav
         let f = found m nodes B s o in
         leaf (s .leaf) (s .lane) (f .only) (rest s f)
 
--- The sentence of the paper.
+-- The sentence of the paper: there is a row or column with a single basic cell, and again after striking it off.
 pub leaf-again : {m n : ℕ} {B : List Lane} → 1 ≤ m → Fits m n B → length B ≡ basisSize m n → Joined m n (Has B) → Strikable m B
 leaf-again {m} {n} {B} p h e w = linked-leaves (length B) B p (joined-linked p h e w) (omega arith)
