@@ -26,7 +26,7 @@ use Rattle.transport.specs.Statements.{Basic, Belongs, Meets, FirstDifference, 
 use Rattle.plans.specs.Settled.{best-settled}
 use Rattle.tableaux.specs.Belonging.{basis-of}
 use Rattle.tableaux.specs.TableauView.{bagsAt, basic-in, cells-many, belongs-seen, basic-flow}
-use Rattle.tableaux.specs.Entering.{potentials-tight}
+use Rattle.tableaux.specs.Belonging.{prices-tight}
 use Rattle.tableaux.specs.PlanView.{carried, supplies, demands, costs, meets-plan, cost-planCost}
 use Rattle.tableaux.specs.Least.{bagsOf, bags-carried, bags-meet, rowPotential, columnPotential, reduced-parts, finished-feasible}
 use Rattle.demands.specs.Phases.{eqZ-zero, Allowed, Restricted, restricted-cong, Ended, phase-ends, keptLanes, kept-iff, kept-restricted, kept-flow}
@@ -67,9 +67,9 @@ module _ {S : Sheet} (ok : Checked S) (T₀ : List Cell) (belongs : Belongs S T�
   pub settling-start : DecidedTo S T₀ 0 (tightLanes S T₀) T₀
   unfolding tightLanes
   settling-start = record {
-    restricted = record { belongs = belongs; basics = λ i j b. zero i j .1 (potentials-tight ok belongs i j b) };
+    restricted = record { belongs = belongs; basics = λ i j b. zero i j .1 (prices-tight ok belongs i j b) };
     decided = decided-cong (λ i j hi hj. Iff·symm (zero i j)) (λ i j hi hj. omega arith)
-        (decided-start (flow-on (λ i j hi hj b. potentials-tight ok belongs i j b) (basic-flow ok belongs)));
+        (decided-start (flow-on (λ i j hi hj b. prices-tight ok belongs i j b) (basic-flow ok belongs)));
   }
     where
       zero : (i j : ℕ) → Allowed (tightLanes S T₀) i j ↔ Tight (costs S) u v i j

@@ -13,7 +13,8 @@ use Rattle.transport.specs.Tableau.{basisSize}
 use Rattle.transport.specs.Leaf.{spans}
 use Rattle.transport.specs.Statements.{Joined}
 use Rattle.network.specs.Basis.{In, Basis}
-use Rattle.tableaux.specs.Striking.{Has, Fits, spans-iff}
+use Rattle.tableaux.specs.Lanes.{Has, Fits}
+use Rattle.tableaux.specs.Striking.{spans-iff}
 
 -- The row and the column of the lane at place k.
 abbrev pub rowAt : List Lane → ℕ → ℕ

@@ -16,7 +16,7 @@ use Rattle.integers.specs.Sum.{sum, point}
 use Rattle.integers.specs.SumLaws.{point-at, point-off}
 use Rattle.transport.specs.Lists.{all, at, below}
 use Rattle.transport.specs.ListLaws.{and-left, and-right, all-at, all-of, all-below, all-below-at, map-member, member-place}
-use Rattle.transport.specs.Sheet.{Sheet, sources, sinks, Lane, place}
+use Rattle.transport.specs.Sheet.{Sheet, sources, sinks, Lane, laneCost, place}
 use Rattle.transport.specs.SheetLaws.{Checked, lane}
 use Rattle.transport.specs.declared.Pair.{Pair}
 use Rattle.transport.specs.declared.Cell.{Cell}
@@ -24,15 +24,18 @@ use Rattle.transport.specs.Amount.{nothing, add, same, pairedSupply, pairedDema
 use Rattle.transport.specs.AmountLaws.{same-true, same-self}
 use Rattle.transport.specs.Tableau.{noCell, laneOf, basisOf, basisSize, onSheet, inOrder, aboveZero, rowTotal, columnTotal, balanced}
 use Rattle.transport.specs.Leaf.{strikes, spans, cellsBelong}
+use Rattle.transport.specs.Potential.{potential}
 use Rattle.transport.specs.Round.{sign}
 use Rattle.transport.specs.Statements.{Basic, Belongs}
-use Rattle.network.specs.Flow.{On, Flow}
+use Rattle.network.specs.Flow.{On, Flow, Tight}
 use Rattle.network.specs.FlowLaws.{flow-on}
 use Rattle.network.specs.Basis.{In, Basis, distinct}
 use Rattle.tableaux.specs.View.{rowOf, colOf, Distinct, Inside, basic-later, amountAt, amount-later, row-sum, column-sum}
-use Rattle.tableaux.specs.Striking.{Fits, has-basic, spans-iff}
+use Rattle.tableaux.specs.Lanes.{Fits, has-basic}
+use Rattle.tableaux.specs.Striking.{spans-iff}
 use Rattle.tableaux.specs.Bases.{joined-on}
 use Rattle.tableaux.specs.Flows.{signs-of}
+use Rattle.tableaux.specs.Potentials.{potential-tight}
 
 -- ---- each test, and what it says
 
@@ -206,3 +209,8 @@ module _ {S : Sheet} {T : List Cell} (c : Checked S) (b : Belongs S T) where
       → Flow (sources S) (sinks S) (In (rowOf T) (colOf T) (suc (sources S + sinks S - 2)))
       (λ i j. toZ (sign (sources S) (strikes (sources S) (sinks S) (basisOf T)) enter (lane i j))) (point (enter .row) (neg (nat 1))) (point (enter .col) (neg (nat 1)))
   signs-flow enter hr hc = flow-on (λ i j hi hj w. basic-in i j (has-basic T i j .0 w)) (signs-of (c .sourcesLow) fits-of spans-of enter hr hc)
+
+  -- The prices add up to the cost on every basic cell.
+  pub prices-tight : (i j : ℕ) → Basic T i j → Tight (λ i j. toZ (laneCost S (lane i j))) (λ i. toZ (potential S T i)) (λ j. toZ (potential S T (sources S + j))) i j
+  unfolding potential
+  prices-tight i j w = potential-tight (c .sourcesLow) fits-of spans-of (laneCost S) (lane i j) (has-basic T i j .1 w)

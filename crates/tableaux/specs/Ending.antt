@@ -24,7 +24,8 @@ use Rattle.transport.specs.Statements.{Belongs}
 use Rattle.tableaux.specs.PlanView.{supplies, costs, sum-sumTo}
 use Rattle.tableaux.specs.Starting.{start-belongs}
 use Rattle.tableaux.specs.Least.{rowPotential, columnPotential}
-use Rattle.tableaux.specs.Entering.{potentials-tight, entering-inside, entering-below, entering-new}
+use Rattle.tableaux.specs.Belonging.{prices-tight}
+use Rattle.tableaux.specs.Entering.{entering-inside, entering-below, entering-new}
 use Rattle.tableaux.specs.TableauView.{belongs-seen}
 use Rattle.tableaux.specs.Pivoting.{measure, pivot-belongs, pivot-falls}
 use Rattle.tableaux.specs.Running.{Reached, after, reached-now, reached-later, reached-or, run-reached, run-spent, run-done-iff, run-finished, run-rounds}
@@ -74,7 +75,7 @@ module _ {S : Sheet} (ok : Checked S) where
     unfolding next
     next-falls =
         pivot-falls ok w (entering-inside ok T .0) (entering-inside ok T .1) (entering-new ok T unfinished w)
-        (costs S) (rowPotential S T) (columnPotential S T) (potentials-tight ok w) (entering-below ok T unfinished)
+        (costs S) (rowPotential S T) (columnPotential S T) (prices-tight ok w) (entering-below ok T unfinished)
 
   -- Every run ends. The measure is a natural number that falls by 1 or more in each round, so no more rounds than it says are made before a tableau is finished.
   pub ends : (k : ℕ) (T : List Cell) → Belongs S T → measure S (costs S) T ≼ nat k → (h : ℕ) × (h ≤ k) × Reached S T h

@@ -22,18 +22,8 @@ use Rattle.transport.specs.Round.{entering}
 use Rattle.transport.specs.Statements.{Basic, Belongs}
 use Rattle.tableaux.specs.PairLaws.{ltZ-true, ltZ-false}
 use Rattle.tableaux.specs.PlanView.{costs}
-use Rattle.tableaux.specs.Striking.{has-basic}
-use Rattle.tableaux.specs.Potentials.{potential-tight}
-use Rattle.tableaux.specs.Belonging.{fits-of, spans-of}
+use Rattle.tableaux.specs.Belonging.{prices-tight}
 use Rattle.tableaux.specs.Least.{rowPotential, columnPotential, reduced-parts}
-
--- The potentials meet the cost on the basic lanes.
-abbrev pub TightOn : Sheet → List Cell → Type 0
-TightOn S T = (i j : ℕ) → Basic T i j → Tight (costs S) (rowPotential S T) (columnPotential S T) i j
-
-pub potentials-tight : {S : Sheet} {T : List Cell} → Checked S → Belongs S T → TightOn S T
-unfolding potential
-potentials-tight {S} {T} ok w i j b = potential-tight (ok .sourcesLow) (fits-of ok w) (spans-of ok w) (laneCost S) (lane i j) (has-basic T i j .1 b)
 
 not-negative : (x y : ℤ) → ltZ x (pos 0) ≡ false → ltZ y x ≡ false → nonNeg y ≡ true
 not-negative x (pos b) p q = refl
@@ -82,4 +72,4 @@ module _ {S : Sheet} (ok : Checked S) (T : List Cell) where
 
     -- On basic lanes it is 0.
     pub entering-new : Belongs S T → ¬ Basic T (entering S T .row) (entering S T .col)
-    entering-new w b = omega (arith, entering-below, potentials-tight ok w (entering S T .row) (entering S T .col) b)
+    entering-new w b = omega (arith, entering-below, prices-tight ok w (entering S T .row) (entering S T .col) b)

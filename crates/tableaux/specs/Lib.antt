@@ -1,13 +1,16 @@
 pub mod View
-pub mod PairLaws
-pub mod Starting
-pub mod PlanView
-pub mod Least
+pub mod Lanes
+pub mod Leaves
 pub mod Striking
 pub mod Bases
 pub mod Flows
 pub mod Potentials
 pub mod Belonging
+pub mod Loop
+pub mod PairLaws
+pub mod Starting
+pub mod PlanView
+pub mod Least
 pub mod Entering
 pub mod Order
 pub mod TableauView
@@ -15,4 +18,3 @@ pub mod PivotView
 pub mod Pivoting
 pub mod Running
 pub mod Ending
-pub mod Loop

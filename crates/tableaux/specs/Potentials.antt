@@ -20,7 +20,9 @@ use Rattle.transport.specs.Tableau.{basisSize, basisOf}
 use Rattle.transport.specs.Leaf.{Strike, strikes, spans}
 use Rattle.transport.specs.Potential.{potentialBy, potential}
 use Rattle.network.specs.Joined.{potentials-unique}
-use Rattle.tableaux.specs.Striking.{Fits, Ends, row-struck, column-struck, Peeled, bare, peel, struck-of, ends-differ, step-of, root-no-leaf, spans-iff}
+use Rattle.tableaux.specs.Lanes.{Fits}
+use Rattle.tableaux.specs.Leaves.{Ends, row-struck, column-struck, ends-differ}
+use Rattle.tableaux.specs.Striking.{Peeled, bare, peel, struck-of, step-of, root-no-leaf, spans-iff}
 
 -- ---- sizes
 
@@ -71,7 +73,12 @@ module _ (cost : Lane → ℤ) where
   unfolding potentialBy
   potential-bound C [] h k = omega arith
   potential-bound C (s ∷ ss) h k = by-cases (ℕ-discrete k (s .leaf))
-      (λ e. rw (e, potential-leaf s ss) (omega (arith, size-difference (cost (s .lane)) (potentialBy cost ss (s .other)), h s (List·Memᴰ·head refl), potential-bound C ss (λ t q. h t (List·Memᴰ·tail q)) (s .other))))
+      (λ e. rw (e, potential-leaf s ss) (omega (
+        arith,
+        size-difference (cost (s .lane)) (potentialBy cost ss (s .other)),
+        h s (List·Memᴰ·head refl),
+        potential-bound C ss (λ t q. h t (List·Memᴰ·tail q)) (s .other),
+      )))
       (λ e. rw (potential-later s ss k e) (omega (arith, potential-bound C ss (λ t q. h t (List·Memᴰ·tail q)) k)))
 
 module _ {m n : ℕ} {B : List Lane} (p : 1 ≤ m) (h : Fits m n B) (e : spans m n B ≡ true) (cost : Lane → ℤ) where
@@ -101,7 +108,8 @@ module _ {m n : ℕ} {B : List Lane} (p : 1 ≤ m) (h : Fits m n B) (e : spans m
       eq-z (q k) (solution k) (omega (arith, same .1 (k - m) (omega arith), z-eq (ap q place), z-eq (ap solution place))))
     where
       same : ((i : ℕ) → i < m → toZ (q i) ≈ toZ (solution i)) × ((j : ℕ) → j < n → toZ (q (m + j)) ≈ toZ (solution (m + j)))
-      same = potentials-unique (spans-iff p h .0 e .1) (λ i j. toZ (cost (lane i j))) (λ i. toZ (q i)) (λ j. toZ (q (m + j))) (λ i. toZ (solution i)) (λ j. toZ (solution (m + j)))
+      same = potentials-unique (spans-iff p h .0 e .1) (λ i j. toZ (cost (lane i j)))
+          (λ i. toZ (q i)) (λ j. toZ (q (m + j))) (λ i. toZ (solution i)) (λ j. toZ (solution (m + j)))
           (λ i j hi hj s. tight (lane i j) s)
           (λ i j hi hj s. potential-tight (lane i j) s)
           (z-eq (z ∙ sym potential-root))
