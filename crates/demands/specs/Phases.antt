@@ -27,7 +27,7 @@ use Rattle.transport.specs.Potential.{potentialBy}
 use Rattle.transport.specs.Round.{pivot}
 use Rattle.transport.specs.Statements.{Basic, Belongs}
 use Rattle.tableaux.specs.PlanView.{supplies, demands}
-use Rattle.tableaux.specs.Striking.{has-basic}
+use Rattle.tableaux.specs.Lanes.{has-basic}
 use Rattle.tableaux.specs.Potentials.{potential-tight}
 use Rattle.tableaux.specs.Belonging.{fits-of, spans-of}
 use Rattle.tableaux.specs.TableauView.{bagsAt, basic-flow}
