@@ -19,7 +19,7 @@ abbrev μ-loop : tie.MeasureT-loop
 μ-loop q₀ lanes count x k₀ q k = count - k
 
 loop-holds : tie.Need-loop-holds Inv-loop μ-loop
-loop-holds c = (omega arith, changed-none _ (c .args .q .now) (c .pre .0 .0))
+loop-holds c = (omega arith, changed-none _ (c .args .q .now) (c .pre .1 .0))
 
 mul-l : tie.Need-mul-l Inv-loop μ-loop
 mul-l c = omega arith
@@ -28,7 +28,7 @@ element-copy-out-l : tie.Need-element-copy-out-l Inv-loop μ-loop
 element-copy-out-l c = omega arith
 
 element-copy-out-q : tie.Need-element-copy-out-q Inv-loop μ-loop
-element-copy-out-q c = c .before .before .before .pre .1 .1 (c .before .before .loop .k) (omega arith) .0
+element-copy-out-q c = c .before .before .before .pre .0 .inside (c .before .before .loop .k) (omega arith)
 
 mul-q : tie.Need-mul-q Inv-loop μ-loop
 mul-q c = omega (arith, element-copy-out-q c)
@@ -42,19 +42,19 @@ still c =
     let s = c .before .before .before .before in
     let a = s .args in
     let i = c .before .before .before .loop in
-    changed-still (λ z. z +ℤ toZ w64 (ofZ w64 (a .x))) (a .q .now) (i .q) (a .lanes .now) (i .k) (a .count) (i .inv .1) (s .pre .1 .0) (omega arith) (omega arith) (s .pre .1 .1 (i .k) (omega arith) .0)
+    changed-still (λ z. z +ℤ toZ w64 (ofZ w64 (a .x))) (a .q .now) (i .q) (a .lanes .now) (i .k) (a .count) (i .inv .1) (s .pre .0 .distinct) (omega arith) (omega arith) (s .pre .0 .inside (i .k) (omega arith))
 
 room : (c : tie.After-q Inv-loop μ-loop)
     → let a = c .before .before .before .before .args in
     let i = c .before .before .before .loop in
     natAbs (getD (i .q) (getD (a .lanes .now) (i .k) 0) (pos 0)) + natAbs (a .x) < 2 ^ 63
-room c = rw (still c) (c .before .before .before .before .pre .1 .1 (c .before .before .before .loop .k) (omega arith) .1)
+room c = rw (still c) (c .before .before .before .before .pre .1 .1 (c .before .before .before .loop .k) (omega arith))
 
 add-q : tie.Need-add-q Inv-loop μ-loop
 add-q c = search (needs, sum-in, room c)
 
 element-set-from-q : tie.Need-element-set-from-q Inv-loop μ-loop
-element-set-from-q c = c .before .before .before .before .pre .1 .1 (c .before .before .before .loop .k) (omega arith) .0
+element-set-from-q c = c .before .before .before .before .pre .0 .inside (c .before .before .before .loop .k) (omega arith)
 
 mul-t11 : tie.Need-mul-t11 Inv-loop μ-loop
 mul-t11 c = omega (arith, element-set-from-q c)
@@ -73,7 +73,7 @@ loop-again c =
     let l = getD (a .lanes .now) (i .k) 0 in
     let v : toZ w64 (ofZ w64 (a .x)) ≡ a .x = search needs in
     let u = sum-back w64 (getD (i .q) l (pos 0)) (a .x) (room c) in
-    let m = changed-more (λ z. z +ℤ a .x) (a .q .now) (i .q) (a .lanes .now) (i .k) (a .count) (rw v at (i .inv .1)) (s .pre .1 .0) (omega arith) (omega arith) (s .pre .1 .1 (i .k) (omega arith) .0) in
+    let m = changed-more (λ z. z +ℤ a .x) (a .q .now) (i .q) (a .lanes .now) (i .k) (a .count) (rw v at (i .inv .1)) (s .pre .0 .distinct) (omega arith) (omega arith) (s .pre .0 .inside (i .k) (omega arith)) in
     (omega arith, rw (u, v, still c) m)
 
 returns : tie.Need-returns Inv-loop μ-loop

@@ -26,7 +26,7 @@ element-copy-out-at c = omega arith
 loop-holds : tie.Need-loop-holds Inv-loop μ-loop
 loop-holds c =
     let s = c .before in
-    (omega arith, omega arith, s .pre .1 0 (omega arith), sym (firstLeast-first _ 0 (s .args .lanes .now) (omega arith)))
+    (omega arith, omega arith, s .pre .0 .inside 0 (omega arith), sym (firstLeast-first _ 0 (s .args .lanes .now) (omega arith)))
 
 mul-l : tie.Need-mul-l Inv-loop μ-loop
 mul-l c = omega arith
@@ -35,16 +35,16 @@ element-copy-out-l : tie.Need-element-copy-out-l Inv-loop μ-loop
 element-copy-out-l c = omega arith
 
 mul-t14 : tie.Need-mul-t14 Inv-loop μ-loop
-mul-t14 c = omega (arith, c .before .before .before .before .pre .1 (c .before .before .loop .k) (omega arith))
+mul-t14 c = omega (arith, c .before .before .before .before .pre .0 .inside (c .before .before .loop .k) (omega arith))
 
 element-copy-out-t20 : tie.Need-element-copy-out-t20 Inv-loop μ-loop
-element-copy-out-t20 c = c .before .before .before .before .pre .1 (c .before .before .loop .k) (omega arith)
+element-copy-out-t20 c = c .before .before .before .before .pre .0 .inside (c .before .before .loop .k) (omega arith)
 
 mul-t17 : tie.Need-mul-t17 Inv-loop μ-loop
-mul-t17 c = omega (arith, c .before .before .before .before .before .pre .1 (c .before .before .before .loop .k) (omega arith))
+mul-t17 c = omega (arith, c .before .before .before .before .before .pre .0 .inside (c .before .before .before .loop .k) (omega arith))
 
 element-copy-out-t23 : tie.Need-element-copy-out-t23 Inv-loop μ-loop
-element-copy-out-t23 c = c .before .before .before .before .before .pre .1 (c .before .before .before .loop .k) (omega arith)
+element-copy-out-t23 c = c .before .before .before .before .before .pre .0 .inside (c .before .before .before .loop .k) (omega arith)
 
 mul-t14-2 : tie.Need-mul-t14-2 Inv-loop μ-loop
 mul-t14-2 c = omega arith
@@ -80,7 +80,7 @@ loop-again c =
     let h : c .before .less .result ≡ lessAt (a .q .now) (a .e .now) l (i .at) = c .before .less .ensures ∙ rw (vq, ve, vq', ve') in
     let m = firstLeast-more (lessAt (a .q .now) (a .e .now)) 0 (a .lanes .now) (i .k) (i .inv .0) (omega arith) in
     ⊎-elim
-    (λ w. (omega arith, omega arith, rw (w .1) (s .pre .1 (i .k) (omega arith)), w .1 ∙ sym (m ∙ rw (← i .inv .3, sym h ∙ w .0 .taken))))
+    (λ w. (omega arith, omega arith, rw (w .1) (s .pre .0 .inside (i .k) (omega arith)), w .1 ∙ sym (m ∙ rw (← i .inv .3, sym h ∙ w .0 .taken))))
     (λ w. (omega arith, omega arith, rw (w .1) (i .inv .2), w .1 ∙ sym (m ∙ rw (← i .inv .3, sym h ∙ w .0 .left))))
     (c .if1 .came)
 
