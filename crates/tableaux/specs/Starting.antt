@@ -11,7 +11,7 @@ use lib.Dec.{eqb}
 use lib.ListN.{length, getD, drop}
 use lib.Seq.{drop-cons}
 use Rattle.integers.specs.Integer.{_≈_, _≼_, ≼-dec, _⊕_, nat}
-use Rattle.network.specs.Basis.{Basis, In}
+use Rattle.network.specs.Basis.{Basis}
 use Rattle.network.specs.Staircase.{Step, staircase}
 use Rattle.transport.specs.Lists.{keep, sumTo, at, total}
 use Rattle.transport.specs.ListLaws.{sumTo-part}
@@ -22,8 +22,8 @@ use Rattle.transport.specs.declared.Cell.{Cell}
 use Rattle.transport.specs.Amount.{nothing, add, subtract, less, same, smaller, addUp, pairedSupply, pairedDemand}
 use Rattle.transport.specs.AmountLaws.{same-true, same-self, less-weak}
 use Rattle.transport.specs.Tableau.{noCell, basisSize, corner, start, rowTotal, columnTotal}
-use Rattle.transport.specs.Statements.{Basic, Belongs}
-use Rattle.tableaux.specs.View.{rowOf, colOf}
+use Rattle.transport.specs.Statements.{Belongs}
+use Rattle.tableaux.specs.View.{rowOf, colOf, basic-in}
 use Rattle.tableaux.specs.PairLaws.{bags, marks, Less, pair-eq, nothing-parts, subtract-parts, add-nothing, add-subtract, subtract-self, subtract-nothing, less-true, less-false, true-less, subtract-above, pairedSupply-parts, pairedDemand-bags, pairedDemand-last, pairedDemand-early}
 
 -- ---- one step of the rule
@@ -302,9 +302,6 @@ unfolding place
 later n i j h k l (inl e) = rw (e .0, e .1) (omega arith)
 later n i j h k l (inr e) = rw (e .0, e .1) (omega arith)
 
-in-basic : (T : List Cell) (K i j : ℕ) → K ≡ length T → In (rowOf T) (colOf T) K i j → Basic T i j
-in-basic T K i j e (k, l, p, q) = record { index = k; below = omega arith; row = p; column = q }
-
 -- The start belongs to its sheet. While the rule runs, the rows so far have given as much as the columns so far have taken. The marks of the rows so far are 1 to m,
 -- and those of the columns so far are 0 or, from the last column on, m; so the present row and column are not empty together before the last cell. Each cell
 -- therefore takes a pair above (0, 0), and the rule moves by one row or one column m + n − 2 times and ends in the last row and column. That is a staircase,
@@ -316,8 +313,8 @@ start-belongs S ok = record {
   onSheet = λ k l. (basis .rows k (omega arith), basis .cols k (omega arith));
   order = λ k l. later (sinks S) _ _ _ _ (ok .sinksLow) (stairs-step t k l);
   joined = record {
-    rows = λ A B z h. basis .joined .rows A B z (λ i j k l w. h i j k l (in-basic T (suc K) i j many w));
-    cols = λ A B z h. basis .joined .cols A B z (λ i j k l w. h i j k l (in-basic T (suc K) i j many w));
+    rows = λ A B z h. basis .joined .rows A B z (λ i j k l w. h i j k l (basic-in T (suc K) i j many .1 w));
+    cols = λ A B z h. basis .joined .cols A B z (λ i j k l w. h i j k l (basic-in T (suc K) i j many .1 w));
   };
   above = stairs-above t;
   rows = λ i l. by-cases (ℕ-discrete 0 i) (λ e. rw (← e) (row-here t)) (λ e. rows-after t i (omega arith) l);
