@@ -1,0 +1,4 @@
+pub mod Links
+pub mod Queue
+pub mod Strip
+pub mod State
