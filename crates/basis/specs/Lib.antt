@@ -1,3 +1,5 @@
 pub mod Mask
 pub mod Layout
 pub mod PotentialLaws
+pub mod SignLaws
+pub mod StepLaws

@@ -1,1 +1,4 @@
 pub mod Refusing
+pub mod Phases
+pub mod Settling
+pub mod Demand3

@@ -7,7 +7,7 @@ use borrow.Author.Tests.{eq-eqb, ne-eqb, le-ltb}
 use Rattle.transport.specs.Lists.{total}
 use Rattle.transport.specs.Sheet.{Sheet, sources, sinks, sheetTests, numberTests, badSides, badLength, badAmount, badCost, unbalanced, refusal}
 use Rattle.transport.specs.SheetLaws.{refusal-yes, refusal-no}
-use Rattle.transport.specs.Calls.{refused, given, refusedBy, tooShort, solution, solveCall}
+use Rattle.transport.specs.Calls.{given, refusedBy, tooShort, solution, solveCall}
 use Rattle.transport.specs.CallLaws.{unless-given, unless-refused}
 use Rattle.transport.specs.Statements.{WithinLimits}
 

@@ -15,7 +15,7 @@ use Rattle.transport.specs.SheetLaws.{lane}
 use Rattle.transport.specs.ListLaws.{and-left, and-right}
 use Rattle.basis.specs.Mask.{has, put, cut, has-put, has-cut, has-zero}
 use Rattle.basis.specs.Layout.{stride}
-use Rattle.tableaux.specs.Striking.{Has, Fits}
+use Rattle.tableaux.specs.Lanes.{Has, Fits}
 use Rattle.elimination.specs.Links.{Links, Masks, tied, iff-same}
 
 -- Bit j of row i's mask, and bit i of column j's, is set exactly if B has the lane.

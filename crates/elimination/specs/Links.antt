@@ -16,7 +16,7 @@ use Rattle.transport.specs.SheetLaws.{lane}
 use Rattle.transport.specs.ListLaws.{and-left, and-right}
 use Rattle.basis.specs.Mask.{bit, has, cut, has-cut, has-zero, bit-suc, first-in, ones-zero}
 use Rattle.basis.specs.Layout.{stride, nodeRoom}
-use Rattle.tableaux.specs.Striking.{Has, Fits}
+use Rattle.tableaux.specs.Lanes.{Has, Fits}
 
 -- The node at the other end of lane y of node x, the bit of x there, and the place of the lane.
 abbrev pub otherEnd : ℕ → ℕ → ℕ → ℕ

@@ -15,7 +15,7 @@ use Rattle.transport.specs.Lists.{sumTo}
 use Rattle.transport.specs.ListLaws.{and-left, and-right, sumTo-cong, sumTo-add, sumTo-each}
 use Rattle.basis.specs.Mask.{bit, has, cut, has-cut, has-zero, ones-zero, only}
 use Rattle.basis.specs.Layout.{nodeRoom}
-use Rattle.tableaux.specs.Striking.{one-at, sum-one-at, sum-ones, unless, unless-bits}
+use Rattle.tableaux.specs.Leaves.{one-at, sum-one-at, sum-ones, unless, unless-bits}
 use Rattle.elimination.specs.Links.{Links, otherEnd, ownBit, joins, tied, ones-some, end-below, end-back, without-lane, at-leaf, at-end, at-rest, gone-from}
 
 -- The queue holds nodes below N, and every leaf that P says.

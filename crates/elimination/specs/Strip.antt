@@ -18,7 +18,9 @@ use Rattle.transport.specs.Tableau.{basisSize}
 use Rattle.transport.specs.Leaf.{Strike, touches, spans}
 use Rattle.basis.specs.Mask.{has, has-zero}
 use Rattle.basis.specs.Layout.{nodeRoom}
-use Rattle.tableaux.specs.Striking.{Has, Ends, row-struck, column-struck, Leaf, Linked, Others, at-node, without, unless, found, leaf-exists, leaf-struck, leaf-member, leaf-lane, length-without, has-lane, no-members, nodes-others, touches-true, touches-false, Step, Peeled, bare, peel, Struck, every-leaf, struck-joined, joined-linked, spans-iff}
+use Rattle.tableaux.specs.Lanes.{Has}
+use Rattle.tableaux.specs.Leaves.{Ends, row-struck, column-struck, Leaf, Linked, Others, at-node, without, unless, found, leaf-exists, leaf-struck, leaf-member, leaf-lane, length-without, has-lane, touches-true, touches-false}
+use Rattle.tableaux.specs.Striking.{no-members, nodes-others, Step, Peeled, bare, peel, Struck, every-leaf, strike-once, struck-joined, joined-linked, spans-iff}
 use Rattle.elimination.specs.Links.{Links, Masks, otherEnd, ownBit, tied, single, iff-same, end-row, end-col, end-back, Seen, of-row, of-col, seen, without-lane, gone-from, gone-to}
 use Rattle.elimination.specs.Queue.{Queue, leaf-low, leaf-few}
 
@@ -62,8 +64,8 @@ peeled-last {m} {n} {ss} {s} (peel {s = t} {later} u rest) st clear =
 abbrev pub nodeLane : ℕ → ℕ → ℕ → Lane
 nodeLane m x y = cond (ltb x m) (lane x y) (lane y (x - m))
 
-abbrev pub strikeOff : ℕ → ℕ → ℕ → Strike
-strikeOff m x y = record { leaf = x; other = otherEnd m x y; lane = nodeLane m x y }
+abbrev pub nodeStrike : ℕ → ℕ → ℕ → Strike
+nodeStrike m x y = record { leaf = x; other = otherEnd m x y; lane = nodeLane m x y }
 
 -- The masks have the lane.
 abbrev pub alive : List ℕ → Lane → Bool
@@ -86,7 +88,7 @@ record Laid (m n : ℕ) (live : List ℕ) (x y : ℕ) : Type 0 where
   col : nodeLane m x y .col < n
   lives : alive live (nodeLane m x y) ≡ true
   touch : touches m x (nodeLane m x y) ≡ true
-  ends : Ends m (strikeOff m x y)
+  ends : Ends m (nodeStrike m x y)
 
 module _ {m n : ℕ} {live : List ℕ} (w : Links m n live) where
   laid : (x y : ℕ) → x < m + n → tied live x y ≡ true → Laid m n live x y
@@ -176,7 +178,7 @@ module _ {m n : ℕ} {B : List Lane} {adj live leaf : List ℕ} {k tail : ℕ} (
   next = without-lane m live now b
 
   abbrev strike : Strike
-  strike = strikeOff m now b
+  strike = nodeStrike m now b
 
   low : now < m + n
   low = leaf-low w len size q waits b e
@@ -268,6 +270,7 @@ module _ {m n : ℕ} {B : List Lane} {adj live leaf : List ℕ} {ss : List Strik
   all-struck z r = record {
     peels = S .peels;
     struck = λ l h. ⊎-elim (λ a. absurd (omega (arith, S .count, member-place l (member-keep (alive live) a h) .1))) (λ s. s) (S .struck l h);
+    once = strike-once (S .peels);
     lanes = S .lanes;
     leaves = every-leaf (S .peels) (omega (arith, w .rowsLow));
     size = omega (arith, w .rowsLow);

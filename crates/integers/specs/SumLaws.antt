@@ -95,6 +95,9 @@ module _ (m n : ℕ) where
   pub sum₂-cong : (f g : ℕ → ℕ → Z) → ((i j : ℕ) → i < m → j < n → f i j ≈ g i j) → sum₂ m n f ≈ sum₂ m n g
   sum₂-cong f g h = sum-cong m (λ i. sum n (f i)) (λ i. sum n (g i)) (λ i k. sum-cong n (f i) (g i) (λ j l. h i j k l))
 
+  pub sum₂-le : (f g : ℕ → ℕ → Z) → ((i j : ℕ) → i < m → j < n → f i j ≼ g i j) → sum₂ m n f ≼ sum₂ m n g
+  sum₂-le f g h = sum-le m (λ i. sum n (f i)) (λ i. sum n (g i)) (λ i k. sum-le n (f i) (g i) (λ j l. h i j k l))
+
   pub sum₂-zero : (f : ℕ → ℕ → Z) → ((i j : ℕ) → i < m → j < n → f i j ≈ nat 0) → sum₂ m n f ≈ nat 0
   sum₂-zero f h = sum-zero m (λ i. sum n (f i)) (λ i k. sum-zero n (f i) (λ j l. h i j k l))
 

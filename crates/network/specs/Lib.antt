@@ -9,3 +9,4 @@ pub mod Pivot
 pub mod Round
 pub mod Staircase
 pub mod Settling
+pub mod Measure

@@ -9,7 +9,7 @@ use Rattle.integers.specs.IntegerLaws.{⊗-cong}
 use Rattle.integers.specs.Sum.{point}
 use Rattle.integers.specs.SumLaws.{sum-negative, point-at, sum₂-cong}
 use Rattle.network.specs.Flow.{Flow, Circulation, Nonneg, cost, Tight}
-use Rattle.network.specs.FlowLaws.{on-zero}
+use Rattle.network.specs.FlowLaws.{flow-cong, on-zero}
 use Rattle.network.specs.Basis.{Basis, In, in-cells, Replaces, distinct, unit, replaced}
 use Rattle.network.specs.Marks.{marks-within, no-zero-pair}
 use Rattle.network.specs.Pivot.{loop, loop-at, loop-off, loop-circulation, step, step-cost, pivot-flow, keeps-sign, lowers, valued, value-step, PairLess, value-less, value-positive, value-zero}
@@ -20,6 +20,19 @@ pub record Tableau (m n K : ℕ) (r c : ℕ → ℕ) (q e : ℕ → ℕ → Z) (
   pub bags : Flow m n (In r c (suc K)) q a b
   pub marks : Flow m n (In r c (suc K)) e (λ i. nat 1) (point z (nat m))
   pub above : (k : ℕ) → k < suc K → PairLess (nat 0) (nat 0) (q (r k) (c k)) (e (r k) (c k))
+
+-- the same amounts, written otherwise
+pub tableau-cong : {m n K z : ℕ} {r c : ℕ → ℕ} {q e q₂ e₂ : ℕ → ℕ → Z} {a b : ℕ → Z}
+    → ((i j : ℕ) → i < m → j < n → q₂ i j ≈ q i j) → ((i j : ℕ) → i < m → j < n → e₂ i j ≈ e i j)
+    → Tableau m n K r c q e a b z → Tableau m n K r c q₂ e₂ a b z
+tableau-cong {r = r} {c = c} h h′ t = record {
+  basis = t .basis;
+  bags = flow-cong h (t .bags);
+  marks = flow-cong h′ (t .marks);
+  above = λ k l. let x = h (r k) (c k) (t .basis .rows k l) (t .basis .cols k l) in
+      let y = h′ (r k) (c k) (t .basis .rows k l) (t .basis .cols k l) in
+      ⊎-elim (λ s. inl (omega arith)) (λ s. inr (omega arith)) (t .above k l);
+}
 
 -- no bags are negative, so they are a plan
 pub bags-nonneg : {m n K z : ℕ} {r c : ℕ → ℕ} {q e : ℕ → ℕ → Z} {a b : ℕ → Z} → Tableau m n K r c q e a b z → Nonneg m n q
@@ -49,6 +62,27 @@ pub record Choice (m n K : ℕ) (r c : ℕ → ℕ) (q e : ℕ → ℕ → Z) (p
 -- bags or marks x after the round: the leaving cell's amount is moved round the loop
 abbrev pub after : (ℕ → ℕ) → (ℕ → ℕ) → ℕ → (ℕ → ℕ → Z) → ℕ → ℕ → (ℕ → ℕ → Z) → ℕ → ℕ → Z
 after r c ℓ σ p s x = step x (x (r ℓ) (c ℓ)) (loop σ p s)
+
+-- ---- the values of a tableau
+module _ {m n K z : ℕ} {r c : ℕ → ℕ} {q e : ℕ → ℕ → Z} {a b : ℕ → Z} (hz : z < n) (t : Tableau m n K r c q e a b z) where
+  small : (k : ℕ) → k < suc K → Within m (e (r k) (c k))
+  small = marks-within (t .basis) hz (t .marks)
+
+  -- the value of a basic cell is positive ..
+  pub value-above : (k : ℕ) → k < suc K → nat 0 ≺ valued m q e (r k) (c k)
+  value-above k l = value-positive m (q (r k) (c k)) (e (r k) (c k)) (small k l) .0 (t .above k l)
+
+  -- .. and no value is negative
+  pub value-nonneg : Nonneg m n (valued m q e)
+  value-nonneg i j hi hj = go (≈-dec (q i j) (nat 0)) (≈-dec (e i j) (nat 0))
+    where
+      cell : In r c (suc K) i j → nat 0 ≼ valued m q e i j
+      cell = in-cells (λ i j. nat 0 ≼ valued m q e i j) (λ k l. omega (arith, value-above k l))
+
+      go : Dec (q i j ≈ nat 0) → Dec (e i j ≈ nat 0) → nat 0 ≼ valued m q e i j
+      go (yes x) (yes y) = omega (arith, ⊗-cong (nat (2 * m + 1)) (q i j) (nat 0) x)
+      go (yes x) (no y) = cell (t .marks .on i j hi hj y)
+      go (no x) y = cell (t .bags .on i j hi hj x)
 
 module _ {m n K z : ℕ} {r c : ℕ → ℕ} {q e : ℕ → ℕ → Z} {a b : ℕ → Z} (hz : z < n) (pos : (j : ℕ) → j < n → nat 0 ≺ b j) (t : Tableau m n K r c q e a b z)
     {p s ℓ : ℕ} {σ : ℕ → ℕ → Z} (ch : Choice m n K r c q e p s σ ℓ) where
@@ -92,23 +126,6 @@ module _ {m n K z : ℕ} {r c : ℕ → ℕ} {q e : ℕ → ℕ → Z} {a b : �
   abbrev val : ℕ → ℕ → Z
   val = valued m q e
 
-  small : (k : ℕ) → k < suc K → Within m (e (r k) (c k))
-  small = marks-within (t .basis) hz (t .marks)
-
-  val-pos : (k : ℕ) → k < suc K → nat 0 ≺ val (r k) (c k)
-  val-pos k l = value-positive m (q (r k) (c k)) (e (r k) (c k)) (small k l) .0 (t .above k l)
-
-  val-nonneg : (i j : ℕ) → i < m → j < n → nat 0 ≼ val i j
-  val-nonneg i j hi hj = go (≈-dec (q i j) (nat 0)) (≈-dec (e i j) (nat 0))
-    where
-      cell : In r c (suc K) i j → nat 0 ≼ val i j
-      cell = in-cells (λ i j. nat 0 ≼ val i j) (λ k l. omega (arith, val-pos k l))
-
-      go : Dec (q i j ≈ nat 0) → Dec (e i j ≈ nat 0) → nat 0 ≼ val i j
-      go (yes x) (yes y) = omega (arith, ⊗-cong (nat (2 * m + 1)) (q i j) (nat 0) x)
-      go (yes x) (no y) = cell (t .marks .on i j hi hj y)
-      go (no x) y = cell (t .bags .on i j hi hj x)
-
   val-least : (i j : ℕ) → i < m → j < n → loop σ p s i j ≺ nat 0 → val (r ℓ) (c ℓ) ≼ val i j
   val-least i j hi hj h = by-cases (here i j)
       (λ d. absurd (entering i j d h))
@@ -118,29 +135,32 @@ module _ {m n K z : ℕ} {r c : ℕ → ℕ} {q e : ℕ → ℕ → Z} {a b : �
       entering i j d = rw (d .0, d .1) (λ h. omega (arith, enters))
 
       cell : In r c (suc K) i j → σ i j ≺ nat 0 → val (r ℓ) (c ℓ) ≼ val i j
-      cell = in-cells (λ i j. σ i j ≺ nat 0 → val (r ℓ) (c ℓ) ≼ val i j) (λ k l u. let above : ¬ (val (r k) (c k) ≺ val (r ℓ) (c ℓ)) = λ v. ch .least k l u (value-less m (q (r k) (c k)) (e (r k) (c k)) (q (r ℓ) (c ℓ)) (e (r ℓ) (c ℓ)) (small k l) (small ℓ (ch .leaves)) .1 v) in omega arith)
+      cell = in-cells (λ i j. σ i j ≺ nat 0 → val (r ℓ) (c ℓ) ≼ val i j) (λ k l u. let above : ¬ (val (r k) (c k) ≺ val (r ℓ) (c ℓ)) = λ v. ch .least k l u (value-less m (q (r k) (c k)) (e (r k) (c k)) (q (r ℓ) (c ℓ)) (e (r ℓ) (c ℓ)) (small hz t k l) (small hz t ℓ (ch .leaves)) .1 v) in omega arith)
 
   val-after : (i j : ℕ) → i < m → j < n → nat 0 ≼ val′ i j
   val-after i j hi hj = omega (
     arith,
     value-step m (q i j) (e i j) (q (r ℓ) (c ℓ)) (e (r ℓ) (c ℓ)) (loop σ p s i j),
-    keeps-sign (val i j) (loop σ p s i j) (val (r ℓ) (c ℓ)) (val-nonneg i j hi hj) (omega (arith, val-pos ℓ (ch .leaves))) (low i j hi hj) (val-least i j hi hj),
+    keeps-sign (val i j) (loop σ p s i j) (val (r ℓ) (c ℓ)) (value-nonneg hz t i j hi hj) (omega (arith, value-above hz t ℓ (ch .leaves))) (low i j hi hj) (val-least i j hi hj),
   )
+
+  -- The valued cost changes by the step's value times the reduced cost of the entering cell.
+  pub round-cost : (f : ℕ → ℕ → Z) (u v : ℕ → Z) → ((k : ℕ) → k < suc K → Tight f u v (r k) (c k))
+      → cost m n f (valued m (after r c ℓ σ p s q) (after r c ℓ σ p s e)) ≈ cost m n f (valued m q e) ⊕ valued m q e (r ℓ) (c ℓ) ⊗ (f p s ⊖ u p ⊖ v s)
+  round-cost f u v tight = omega (
+    arith,
+    sum₂-cong m n (λ i j. val′ i j ⊗ f i j) (λ i j. step val (val (r ℓ) (c ℓ)) (loop σ p s) i j ⊗ f i j)
+        (λ i j hi hj. times (f i j) (val′ i j) (step val (val (r ℓ) (c ℓ)) (loop σ p s) i j) (value-step m (q i j) (e i j) (q (r ℓ) (c ℓ)) (e (r ℓ) (c ℓ)) (loop σ p s i j))),
+    step-cost circ (val (r ℓ) (c ℓ)) f u v val (ch .row) (ch .col) (λ i j hi hj y. ⊎-elim (λ x. inr (in-cells (Tight f u v) tight x)) inl (circ .on i j hi hj y)) enters,
+  )
+    where
+      times : (k x y : Z) → x ≈ y → x ⊗ k ≈ y ⊗ k
+      times k x y h = omega (arith, ⊗-cong k x y h)
 
   -- Every round lowers the valued cost: the step's value is positive, and the entering cell's reduced cost is negative.
   pub round-lowers : (f : ℕ → ℕ → Z) (u v : ℕ → Z) → ((k : ℕ) → k < suc K → Tight f u v (r k) (c k)) → f p s ≺ u p ⊕ v s
       → cost m n f (valued m (after r c ℓ σ p s q) (after r c ℓ σ p s e)) ≺ cost m n f (valued m q e)
-  round-lowers f u v tight neg-cost = lowers (cost m n f val) (cost m n f val′) (val (r ℓ) (c ℓ)) (f p s ⊖ u p ⊖ v s)
-      (omega (
-        arith,
-        sum₂-cong m n (λ i j. val′ i j ⊗ f i j) (λ i j. step val (val (r ℓ) (c ℓ)) (loop σ p s) i j ⊗ f i j)
-            (λ i j hi hj. times (f i j) (val′ i j) (step val (val (r ℓ) (c ℓ)) (loop σ p s) i j) (value-step m (q i j) (e i j) (q (r ℓ) (c ℓ)) (e (r ℓ) (c ℓ)) (loop σ p s i j))),
-        step-cost circ (val (r ℓ) (c ℓ)) f u v val (ch .row) (ch .col) (λ i j hi hj y. ⊎-elim (λ x. inr (in-cells (Tight f u v) tight x)) inl (circ .on i j hi hj y)) enters,
-      ))
-      (val-pos ℓ (ch .leaves)) (omega arith)
-    where
-      times : (k x y : Z) → x ≈ y → x ⊗ k ≈ y ⊗ k
-      times k x y h = omega (arith, ⊗-cong k x y h)
+  round-lowers f u v tight neg-cost = lowers (cost m n f val) (cost m n f val′) (val (r ℓ) (c ℓ)) (f p s ⊖ u p ⊖ v s) (round-cost f u v tight) (value-above hz t ℓ (ch .leaves)) (omega arith)
 
   -- r′, c′ are the cells after the round, in any order
   module _ {r′ c′ : ℕ → ℕ} (hr : (k : ℕ) → k < suc K → r′ k < m) (hc : (k : ℕ) → k < suc K → c′ k < n)

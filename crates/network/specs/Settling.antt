@@ -12,7 +12,7 @@ use Rattle.integers.specs.SumLaws.{sum₂-one, point-at, point-off}
 use Rattle.transport.specs.Sheet.{place}
 use Rattle.transport.specs.SheetLaws.{place-below, place-injective}
 use Rattle.network.specs.Flow.{On, Flow, Nonneg, Plan, cost, Feasible, Tight}
-use Rattle.network.specs.FlowLaws.{on-zero, flow-on, flow-scale, plan-whole, plan-on, plan-restrict}
+use Rattle.network.specs.FlowLaws.{on-zero, flow-on, flow-cong, flow-scale, plan-whole, plan-on, plan-restrict}
 use Rattle.network.specs.Duality.{least, least-tight}
 use Rattle.network.specs.Basis.{Basis, In, flow-unique}
 
@@ -94,6 +94,34 @@ pub record Decided (m n : ℕ) (a b : ℕ → Z) (P₀ : ℕ → ℕ → Type 0)
   pub flow : Flow m n P x a b
   pub kept : (k : ℕ) (y : ℕ → ℕ → Z) → Plan m n P k y a b → Agree m n t k x y
   pub rest : (k : ℕ) (y : ℕ → ℕ → Z) → Plan m n P₀ k y a b → On m n P y ⊎ FirstLess m n t k x y
+
+-- The same lanes and the same amounts, written otherwise.
+pub decided-cong : {m n t : ℕ} {a b : ℕ → Z} {P₀ P P′ : ℕ → ℕ → Type 0} {x x′ : ℕ → ℕ → Z}
+    → ((i j : ℕ) → i < m → j < n → P i j ↔ P′ i j) → ((i j : ℕ) → i < m → j < n → x′ i j ≈ x i j)
+    → Decided m n a b P₀ t P x → Decided m n a b P₀ t P′ x′
+decided-cong {m} {n} {t} {a} {b} {P₀} {P} {P′} {x} {x′} h e d = record {
+  inside = λ i j hi hj s. d .inside i j hi hj (h i j hi hj .1 s);
+  flow = flow-cong e (flow-on (λ i j hi hj s. h i j hi hj .0 s) (d .flow));
+  kept = λ k y g. again k y t (d .kept k y (plan-on (λ i j hi hj s. h i j hi hj .1 s) g));
+  rest = λ k y g. ⊎-elim
+      (λ on. inl (λ i j hi hj z. h i j hi hj .0 (on i j hi hj z)))
+      (λ w. inr (record {
+        i = w .i;
+        j = w .j;
+        row = w .row;
+        col = w .col;
+        before = w .before;
+        less = omega (arith, w .less, times k (w .i) (w .j) (w .row) (w .col));
+        agree = again k y (w .i * n + w .j) (w .agree);
+      }))
+      (d .rest k y g);
+}
+  where
+    times : (k i j : ℕ) → i < m → j < n → nat k ⊗ x′ i j ≈ nat k ⊗ x i j
+    times k i j hi hj = ⊗-cong (nat k) (x′ i j) (x i j) (e i j hi hj)
+
+    again : (k : ℕ) (y : ℕ → ℕ → Z) (s : ℕ) → Agree m n s k x y → Agree m n s k x′ y
+    again k y s w i j hi hj l = omega (arith, w i j hi hj l, times k i j hi hj)
 
 module _ {m n : ℕ} {a b : ℕ → Z} {P₀ : ℕ → ℕ → Type 0} where
   pub decided-start : {x : ℕ → ℕ → Z} → Flow m n P₀ x a b → Decided m n a b P₀ 0 P₀ x

@@ -1,9 +1,9 @@
 -- Lanes that span are a basis, in the sense of the theory of networks.
-use mathlib.Core.Path.{_≡_, refl, ap, sym, _∙_}
+use mathlib.Core.Path.{_≡_, ap, sym}
 use mathlib.Core.Logic.{_↔_}
 use mathlib.Core.Bool.{true}
 use mathlib.Core.List.{List, Memᴰ·cast}
-use Prim.Native.Nat.{ℕ, suc, _+_, _-_, _≤_, _<_}
+use Prim.Native.Nat.{ℕ, _+_, _-_, _≤_}
 use native.Mathlib.Omega.{arith}
 use lib.ListN.{length, getD}
 use Rattle.transport.specs.ListLaws.{member-at, member-place}
@@ -13,7 +13,8 @@ use Rattle.transport.specs.Tableau.{basisSize}
 use Rattle.transport.specs.Leaf.{spans}
 use Rattle.transport.specs.Statements.{Joined}
 use Rattle.network.specs.Basis.{In, Basis}
-use Rattle.tableaux.specs.Striking.{Has, Fits, spans-iff}
+use Rattle.tableaux.specs.Lanes.{Has, Fits}
+use Rattle.tableaux.specs.Striking.{spans-iff}
 
 -- The row and the column of the lane at place k.
 abbrev pub rowAt : List Lane → ℕ → ℕ

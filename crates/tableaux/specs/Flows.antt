@@ -1,51 +1,30 @@
 -- Flows through the strikes have the margins asked for; and so the loop's signs are the flow of −1 at the two nodes of the entering lane.
 use mathlib.Core.Path.{_≡_, refl, ap, sym, _∙_}
-use mathlib.Core.Logic.{_≢_, _⊎_, inl, inr, ⊎-elim, by-cases, Dec·and}
-use mathlib.Core.Bool.{Bool, true, false, _&&_, true≢false}
+use mathlib.Core.Logic.{_≢_, _⊎_, ⊎-elim, by-cases}
+use mathlib.Core.Bool.{true}
 use mathlib.Core.List.{List, [], _∷_, List·Memᴰ, List·Memᴰ·head, List·Memᴰ·tail, List·Memᴰ·not-nil, List·Memᴰ·cases-cons}
 use Prim.Native.Nat.{ℕ, zero, suc, _+_, _-_, _≤_, _<_}
 use native.Mathlib.Omega.{arith}
 use native.Mathlib.Decide.{ℕ-discrete}
-use borrow.Author.Tests.{eq-eqb, ne-eqb, eqb-true}
-use lib.Dec.{eqb}
+use borrow.Author.Tests.{eq-eqb, ne-eqb}
 use lib.IntN.{ℤ, pos, negsuc, negℤ, _-ℤ_}
 use lib.ListN.{length}
-use Rattle.integers.specs.Integer.{Z, _≈_, ≈-dec, _⊕_, _⊖_, _⊗_, neg, nat, Within}
-use Rattle.integers.specs.Bridge.{toZ, z-add, z-neg, z-eq, eq-z}
+use Rattle.integers.specs.Integer.{Z, _≈_, _⊕_, _⊖_, _⊗_, neg, nat, Within}
+use Rattle.integers.specs.Bridge.{toZ, z-add, z-neg, z-eq}
 use Rattle.integers.specs.Sum.{sum, point}
 use Rattle.integers.specs.SumLaws.{sum-zero, sum-cong, sum-add, sum-change, sum-swap, sum-point, point-at, point-off}
-use Rattle.transport.specs.ListLaws.{and-left, and-right}
 use Rattle.transport.specs.Sheet.{Lane}
 use Rattle.transport.specs.SheetLaws.{lane}
-use Rattle.transport.specs.Tableau.{sameLane, basisSize}
+use Rattle.transport.specs.Tableau.{basisSize}
 use Rattle.transport.specs.Leaf.{Strike, strikes, spans}
 use Rattle.transport.specs.Round.{takeFrom, flow, sign}
 use Rattle.network.specs.Flow.{Flow}
 use Rattle.network.specs.FlowLaws.{flow-on}
-use Rattle.network.specs.Basis.{In, Basis, unit}
-use Rattle.tableaux.specs.View.{point-one}
-use Rattle.tableaux.specs.Striking.{Has, Fits, Ends, row-struck, column-struck, Step, Peeled, bare, peel, IsLeaf, Struck, struck-of, lane-once, step-of, ends-differ, spans-iff}
+use Rattle.network.specs.Basis.{In, unit, flow-unique}
+use Rattle.tableaux.specs.Lanes.{Has, Fits, member-dec, lane-same, lane-other, lane-dec, on-lane, on-lane-at, on-lane-off, on-lane-row, on-lane-column}
+use Rattle.tableaux.specs.Leaves.{Ends, row-struck, column-struck, ends-differ}
+use Rattle.tableaux.specs.Striking.{Step, Peeled, bare, peel, IsLeaf, Struck, struck-of, lane-once, spans-iff}
 use Rattle.tableaux.specs.Bases.{rowAt, colAt, has-in, spans-basis}
-
--- ---- the same lane
-
-pub same-lane : (k l : Lane) → sameLane k l ≡ true → k ≡ l
-unfolding sameLane
-same-lane k l e =
-    let p : k .row ≡ l .row = eqb-true (k .row) (l .row) (and-left (eqb (k .row) (l .row)) (eqb (k .col) (l .col)) e) in
-    let q : k .col ≡ l .col = eqb-true (k .col) (l .col) (and-right (eqb (k .row) (l .row)) (eqb (k .col) (l .col)) e) in
-    λ t. lane (p t) (q t)
-
-pub lane-same : (l : Lane) → sameLane l l ≡ true
-unfolding sameLane
-lane-same l = rw (eq-eqb (l .row) (l .row) refl, eq-eqb (l .col) (l .col) refl)
-
-pub lane-other : (k l : Lane) → k ≢ l → sameLane k l ≡ false
-lane-other k l d = go (sameLane k l) refl
-  where
-    go : (b : Bool) → sameLane k l ≡ b → sameLane k l ≡ false
-    go true e = absurd (d (same-lane k l e))
-    go false e = e
 
 -- ---- points
 
@@ -61,7 +40,7 @@ point-up m p y j = by-cases (ℕ-discrete j p)
 -- ---- the weights after a strike
 
 -- The strike's lane carries what its leaf has left, which is taken from both ends.
-abbrev pub after : (ℕ → ℤ) → Strike → ℕ → ℤ
+abbrev after : (ℕ → ℤ) → Strike → ℕ → ℤ
 after w s = takeFrom (takeFrom w (s .leaf) (w (s .leaf))) (s .other) (w (s .leaf))
 
 take-at : (w : ℕ → ℤ) (p : ℕ) (y : ℤ) → takeFrom w p y p ≡ w p -ℤ y
@@ -97,26 +76,25 @@ unfolding flow
 flow-later w s ss l e = rw (lane-other l (s .lane) e, flow)
 
 -- nothing, where it is the lane of no strike
-pub flow-off : (w : ℕ → ℤ) (ss : List Strike) (l : Lane) → ((s : Strike) → List·Memᴰ s ss → s .lane ≢ l) → flow w ss l ≡ pos 0
+flow-off : (w : ℕ → ℤ) (ss : List Strike) (l : Lane) → ((s : Strike) → List·Memᴰ s ss → s .lane ≢ l) → flow w ss l ≡ pos 0
 unfolding flow
 flow-off w [] l d = refl
 flow-off w (s ∷ ss) l d =
     flow-later w s ss l (λ e. d s (List·Memᴰ·head refl) (sym e)) ∙ flow-off (after w s) ss l (λ t h. d t (List·Memᴰ·tail h))
 
--- A strike adds what its lane carries at the lane's row and column.
+-- A strike adds what its lane carries.
 flow-splits : {m n : ℕ} (w : ℕ → ℤ) {s : Strike} {later : List Strike} → Step m n s later → Peeled m n later → (i j : ℕ)
-    → toZ (flow w (s ∷ later) (lane i j)) ≈ point (s .lane .row) (nat 1) i ⊗ point (s .lane .col) (toZ (w (s .leaf))) j ⊕ toZ (flow (after w s) later (lane i j))
-flow-splits {m} {n} w {s} {later} st rest i j = by-cases (Dec·and (ℕ-discrete i (s .lane .row)) (ℕ-discrete j (s .lane .col)))
-    (λ e. rw (e .0, e .1, flow-here w s later, gone, point-at (s .lane .row) (nat 1), point-at (s .lane .col) (toZ (w (s .leaf)))) (omega arith))
-    (λ e. rw (flow-later w s later (lane i j) (λ q. e (ap (λ (l : Lane). l .row) q, ap (λ (l : Lane). l .col) q))) (omega (arith, off e)))
+    → toZ (flow w (s ∷ later) (lane i j)) ≈ on-lane (s .lane) (toZ (w (s .leaf))) i j ⊕ toZ (flow (after w s) later (lane i j))
+flow-splits {m} {n} w {s} {later} st rest i j = by-cases (lane-dec (lane i j) (s .lane))
+    (λ e. here i j (ap (λ (l : Lane). l .row) e) (ap (λ (l : Lane). l .col) e))
+    (λ e. rw (flow-later w s later (lane i j) e) (omega (arith, on-lane-off (s .lane) (toZ (w (s .leaf))) i j e)))
   where
     gone : flow (after w s) later (s .lane) ≡ pos 0
-    gone = flow-off (after w s) later (s .lane) (λ t h. let (ts, step) = step-of rest t h in lane-once st t h (step .ends))
+    gone = flow-off (after w s) later (s .lane) (lane-once st rest)
 
-    off : ¬ ((i ≡ s .lane .row) × (j ≡ s .lane .col)) → point (s .lane .row) (nat 1) i ⊗ point (s .lane .col) (toZ (w (s .leaf))) j ≈ nat 0
-    off e = by-cases (ℕ-discrete i (s .lane .row))
-        (λ f. rw (point-off (s .lane .col) (toZ (w (s .leaf))) j (λ g. e (f, g))) (omega arith))
-        (λ f. rw (point-off (s .lane .row) (nat 1) i f) (omega arith))
+    here : (i j : ℕ) → i ≡ s .lane .row → j ≡ s .lane .col
+        → toZ (flow w (s ∷ later) (lane i j)) ≈ on-lane (s .lane) (toZ (w (s .leaf))) i j ⊕ toZ (flow (after w s) later (lane i j))
+    here i j e f = rw (e, f, flow-here w s later, gone) (omega (arith, on-lane-at (s .lane) (toZ (w (s .leaf)))))
 
 -- ---- what the nodes have left in the end
 
@@ -128,30 +106,34 @@ left w (s ∷ ss) k = left (after w s) ss k
 row-weight : {m n : ℕ} (w : ℕ → ℤ) {ss : List Strike} → Peeled m n ss → (i : ℕ) → i < m → sum n (λ j. toZ (flow w ss (lane i j))) ⊕ toZ (left w ss i) ≈ toZ (w i)
 unfolding flow left
 row-weight {m} {n} w bare i l = omega (arith, sum-zero n (λ j. nat 0) (λ j q. omega arith))
-row-weight {m} {n} w (peel {s} {later} st rest) i l = omega (
-  arith,
-  sum-cong n (λ j. toZ (flow w (s ∷ later) (lane i j))) (λ j. point (s .lane .row) (nat 1) i ⊗ point (s .lane .col) (toZ (w (s .leaf))) j ⊕ toZ (flow (after w s) later (lane i j))) (λ j q. flow-splits w st rest i j),
-  sum-add n (λ j. point (s .lane .row) (nat 1) i ⊗ point (s .lane .col) (toZ (w (s .leaf))) j) (λ j. toZ (flow (after w s) later (lane i j))),
-  sum-point n (λ j. point (s .lane .row) (nat 1) i) (s .lane .col) (toZ (w (s .leaf))) (st .col),
-  point-one (s .lane .row) (toZ (w (s .leaf))) i,
-  row-weight (after w s) rest i l,
-  after-z w (st .ends) i,
-  point-zero (m + s .lane .col) (toZ (w (s .leaf))) i (omega arith),
-)
+row-weight {m} {n} w (peel {s} {later} st rest) i l =
+    let y = toZ (w (s .leaf)) in
+    omega (
+      arith,
+      sum-cong n (λ j. toZ (flow w (s ∷ later) (lane i j))) (λ j. on-lane (s .lane) y i j ⊕ toZ (flow (after w s) later (lane i j))) (λ j q. flow-splits w st rest i j),
+      sum-add n (on-lane (s .lane) y i) (λ j. toZ (flow (after w s) later (lane i j))),
+      on-lane-row (s .lane) y n (st .col) i,
+      row-weight (after w s) rest i l,
+      after-z w (st .ends) i,
+      point-zero (m + s .lane .col) y i (omega arith),
+    )
 
+-- And so for a column.
 column-weight : {m n : ℕ} (w : ℕ → ℤ) {ss : List Strike} → Peeled m n ss → (j : ℕ) → sum m (λ i. toZ (flow w ss (lane i j))) ⊕ toZ (left w ss (m + j)) ≈ toZ (w (m + j))
 unfolding flow left
 column-weight {m} {n} w bare j = omega (arith, sum-zero m (λ i. nat 0) (λ i q. omega arith))
-column-weight {m} {n} w (peel {s} {later} st rest) j = omega (
-  arith,
-  sum-cong m (λ i. toZ (flow w (s ∷ later) (lane i j))) (λ i. point (s .lane .col) (toZ (w (s .leaf))) j ⊗ point (s .lane .row) (nat 1) i ⊕ toZ (flow (after w s) later (lane i j))) (λ i q. omega (arith, flow-splits w st rest i j)),
-  sum-add m (λ i. point (s .lane .col) (toZ (w (s .leaf))) j ⊗ point (s .lane .row) (nat 1) i) (λ i. toZ (flow (after w s) later (lane i j))),
-  sum-point m (λ i. point (s .lane .col) (toZ (w (s .leaf))) j) (s .lane .row) (nat 1) (st .row),
-  column-weight (after w s) rest j,
-  after-z w (st .ends) (m + j),
-  point-zero (s .lane .row) (toZ (w (s .leaf))) (m + j) (omega (arith, st .row)),
-  point-up m (s .lane .col) (toZ (w (s .leaf))) j,
-)
+column-weight {m} {n} w (peel {s} {later} st rest) j =
+    let y = toZ (w (s .leaf)) in
+    omega (
+      arith,
+      sum-cong m (λ i. toZ (flow w (s ∷ later) (lane i j))) (λ i. on-lane (s .lane) y i j ⊕ toZ (flow (after w s) later (lane i j))) (λ i q. flow-splits w st rest i j),
+      sum-add m (λ i. on-lane (s .lane) y i j) (λ i. toZ (flow (after w s) later (lane i j))),
+      on-lane-column (s .lane) y m (st .row) j,
+      column-weight (after w s) rest j,
+      after-z w (st .ends) (m + j),
+      point-zero (s .lane .row) y (m + j) (omega (arith, st .row)),
+      point-up m (s .lane .col) y j,
+    )
 
 left-clear : (w : ℕ → ℤ) (ss : List Strike) (k : ℕ) → ((t : Strike) → List·Memᴰ t ss → (t .leaf ≢ k) × (t .other ≢ k)) → left w ss k ≡ w k
 unfolding left
@@ -184,25 +166,12 @@ left-leaf {m} {n} w (peel {s} {later} st rest) k (t, h, e) = ⊎-elim
 
 -- ---- the flow
 
-lane-or : (ss : List Strike) (l : Lane) → ((s : Strike) × List·Memᴰ s ss × (s .lane ≡ l)) ⊎ ((s : Strike) → List·Memᴰ s ss → s .lane ≢ l)
-lane-or [] l = inr (λ s h. absurd (List·Memᴰ·not-nil h))
-lane-or (s ∷ ss) l = go (sameLane (s .lane) l) refl (lane-or ss l)
-  where
-    go : (b : Bool) → sameLane (s .lane) l ≡ b → ((t : Strike) × List·Memᴰ t ss × (t .lane ≡ l)) ⊎ ((t : Strike) → List·Memᴰ t ss → t .lane ≢ l)
-        → ((t : Strike) × List·Memᴰ t (s ∷ ss) × (t .lane ≡ l)) ⊎ ((t : Strike) → List·Memᴰ t (s ∷ ss) → t .lane ≢ l)
-    go true e rest = inl (s, List·Memᴰ·head refl, same-lane (s .lane) l e)
-    go false e (inl (t, h, q)) = inl (t, List·Memᴰ·tail h, q)
-    go false e (inr d) = inr (λ t h. ⊎-elim (λ q r. true≢false (sym (lane-same l) ∙ ap (λ (v : Lane). sameLane v l) (sym r) ∙ ap (λ (v : Strike). sameLane (v .lane) l) q ∙ e)) (d t) (List·Memᴰ·cases-cons h))
-
--- The flow of the weights has them as its margins. Every node but row 0 is a leaf, so it has nothing left and has got its weight. What all rows get is what all columns get, so
--- where the totals agree, row 0 has got its weight too.
+-- The flow of the weights has them as its margins. Every node but row 0 is a leaf, so it has nothing left and has got its weight. What all rows get is what
+-- all columns get, so where the totals agree, row 0 has got its weight too.
 pub struck-flow : {m n : ℕ} {B : List Lane} {ss : List Strike} → 1 ≤ m → Struck m n B ss → (w : ℕ → ℤ) → sum m (λ i. toZ (w i)) ≈ sum n (λ j. toZ (w (m + j)))
     → Flow m n (Has B) (λ i j. toZ (flow w ss (lane i j))) (λ i. toZ (w i)) (λ j. toZ (w (m + j)))
 struck-flow {m} {n} {B} {ss} p st w even = record {
-  on = λ i j hi hj e. ⊎-elim
-      (λ (s, h, q). rw q at (st .lanes s h))
-      (λ d. absurd (e (rw (flow-off w ss (lane i j) d) (omega arith))))
-      (lane-or ss (lane i j));
+  on = λ i j hi hj e. by-cases (member-dec (lane i j) B) (λ d. d) (λ d. absurd (e (z-eq (flow-off w ss (lane i j) (λ t q f. d (rw f at (st .lanes t q)))))));
   rows = λ i l. by-cases (ℕ-discrete i 0) (λ e. rw e root) (row i l);
   cols = column;
 }
@@ -227,14 +196,15 @@ struck-flow {m} {n} {B} {ss} p st w even = record {
 -- ---- the signs
 
 -- the same flow by margins that are equal numbers
-flow-margins : {m n : ℕ} {T : ℕ → ℕ → Type 0} {x : ℕ → ℕ → Z} {a b a′ b′ : ℕ → Z} → ((i : ℕ) → i < m → a i ≈ a′ i) → ((j : ℕ) → j < n → b j ≈ b′ j) → Flow m n T x a b → Flow m n T x a′ b′
+flow-margins : {m n : ℕ} {T : ℕ → ℕ → Type 0} {x : ℕ → ℕ → Z} {a b a′ b′ : ℕ → Z} → ((i : ℕ) → i < m → a i ≈ a′ i) → ((j : ℕ) → j < n → b j ≈ b′ j)
+    → Flow m n T x a b → Flow m n T x a′ b′
 flow-margins h k f = record { on = f .on; rows = λ i l. omega (arith, f .rows i l, h i l); cols = λ j l. omega (arith, f .cols j l, k j l) }
 
 -- What the entering lane takes from both its nodes.
 abbrev owed : ℕ → Lane → ℕ → ℤ
 owed m enter = takeFrom (takeFrom (λ k. pos 0) (enter .row) (pos 1)) (m + enter .col) (pos 1)
 
-point-neg : (p k : ℕ) → point p (neg (nat 1)) k ≈ neg (point p (nat 1) k)
+pub point-neg : (p k : ℕ) → point p (neg (nat 1)) k ≈ neg (point p (nat 1) k)
 point-neg p k = by-cases (ℕ-discrete k p)
     (λ e. rw (e, point-at p (neg (nat 1)), point-at p (nat 1)) (omega arith))
     (λ e. rw (point-off p (neg (nat 1)) k e, point-off p (nat 1) k e) (omega arith))
@@ -295,19 +265,26 @@ module _ {m n : ℕ} {B : List Lane} (p : 1 ≤ m) (h : Fits m n B) (s : spans m
       → Flow m n (Has B) (λ i j. toZ (sign m (strikes m n B) enter (lane i j))) (point (enter .row) (neg (nat 1))) (point (enter .col) (neg (nat 1)))
   signs-of enter hr hc = struck-signs hr hc p (struck-of p h s)
 
-  -- Each sign is −1, 0 or 1, for the lanes are a basis.
-  pub sign-unit : 1 ≤ n → (enter : Lane) → enter .row < m → enter .col < n → (l : Lane) → Signed (sign m (strikes m n B) enter l)
-  unfolding sign basisSize
-  sign-unit q enter hr hc l = ⊎-elim
-      (λ (t, k, e). here (has-in B (l .row) (l .col) .0 (rw e at (struck-of p h s .lanes t k))))
-      (λ d. off (flow-off _ (strikes m n B) l d))
-      (lane-or (strikes m n B) l)
-    where
-      count : length B ≡ basisSize m n
-      count = spans-iff p h .0 s .0
+  -- A lane off the list has no sign.
+  pub sign-off : (enter l : Lane) → ¬ List·Memᴰ l B → sign m (strikes m n B) enter l ≡ pos 0
+  unfolding sign
+  sign-off enter l d = flow-off (owed m enter) (strikes m n B) l (λ t q e. d (rw e at (struck-of p h s .lanes t q)))
 
-      on-basis : Flow m n (In (rowAt B) (colAt B) (suc (m + n - 2))) (λ i j. toZ (sign m (strikes m n B) enter (lane i j))) (point (enter .row) (neg (nat 1))) (point (enter .col) (neg (nat 1)))
-      on-basis = flow-on (λ i j hi hj u. let (k, d, a, b) = has-in B i j .0 u in (k, omega (arith, count), a, b)) (signs-of enter hr hc)
+  module _ (q : 1 ≤ n) where
+    on-basis : {x : ℕ → ℕ → Z} {a b : ℕ → Z} → Flow m n (Has B) x a b → Flow m n (In (rowAt B) (colAt B) (suc (m + n - 2))) x a b
+    unfolding basisSize
+    on-basis = flow-on (λ i j hi hj u. let (k, d, a, b) = has-in B i j .0 u in (k, omega (arith, spans-iff p h .0 s .0), a, b))
 
-      here : In (rowAt B) (colAt B) (length B) (l .row) (l .col) → Signed (sign m (strikes m n B) enter l)
-      here (k, d, a, b) = signed (sign m (strikes m n B) enter l) (rw (← a, ← b) (unit (spans-basis p q h s) hr hc on-basis k (omega (arith, count))))
+    -- No other amounts on these lanes have the same margins.
+    pub flow-only : {x y : ℕ → ℕ → Z} {a b : ℕ → Z} → Flow m n (Has B) x a b → Flow m n (Has B) y a b → (i j : ℕ) → i < m → j < n → x i j ≈ y i j
+    flow-only f g = flow-unique (spans-basis p q h s) (on-basis f) (on-basis g)
+
+    -- Each sign is −1, 0 or 1, for the lanes are a basis.
+    pub sign-unit : (enter : Lane) → enter .row < m → enter .col < n → (l : Lane) → Signed (sign m (strikes m n B) enter l)
+    unfolding basisSize
+    sign-unit enter hr hc l = by-cases (member-dec l B) (λ d. here (has-in B (l .row) (l .col) .0 d)) (λ d. off (sign-off enter l d))
+      where
+        here : In (rowAt B) (colAt B) (length B) (l .row) (l .col) → Signed (sign m (strikes m n B) enter l)
+        here (k, d, a, b) =
+            let one = unit (spans-basis p q h s) hr hc (on-basis (signs-of enter hr hc)) k (omega (arith, spans-iff p h .0 s .0)) in
+            signed (sign m (strikes m n B) enter l) (rw (← a, ← b) one)

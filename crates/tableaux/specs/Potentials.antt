@@ -1,16 +1,16 @@
 -- Potentials through the strikes: tight on every lane, 0 at the root, the only such numbers, and bounded.
 use mathlib.Core.Path.{_≡_, refl, ap, sym, _∙_}
-use mathlib.Core.Logic.{_≢_, _⊎_, inl, inr, ⊎-elim, by-cases}
-use mathlib.Core.Bool.{Bool, true, false}
+use mathlib.Core.Logic.{_≢_, _⊎_, ⊎-elim, by-cases}
+use mathlib.Core.Bool.{true}
 use mathlib.Core.List.{List, [], _∷_, List·Memᴰ, List·Memᴰ·head, List·Memᴰ·tail, List·Memᴰ·not-nil, List·Memᴰ·cases-cons}
-use Prim.Native.Nat.{ℕ, zero, suc, _+_, _*_, _-_, _≤_, _<_}
+use Prim.Native.Nat.{ℕ, _+_, _*_, _-_, _≤_, _<_}
 use native.Mathlib.Omega.{arith}
 use native.Mathlib.Nat.{mul-le-mul-right}
 use native.Mathlib.Decide.{ℕ-discrete, decLt}
 use borrow.Author.Tests.{eq-eqb, ne-eqb}
 use lib.IntN.{ℤ, pos, negsuc, negℤ, natAbs, _-ℤ_}
 use lib.ListN.{length}
-use Rattle.integers.specs.Integer.{Z, _≈_, _⊕_, _⊖_, neg, nat, Within}
+use Rattle.integers.specs.Integer.{_≈_, _⊕_, Within}
 use Rattle.integers.specs.Bridge.{toZ, z-add, z-neg, z-eq, eq-z}
 use Rattle.transport.specs.Limits.{maxSide, maxCost, maxCells}
 use Rattle.transport.specs.Sheet.{Sheet, sources, sinks, Lane, place, laneCost}
@@ -19,10 +19,10 @@ use Rattle.transport.specs.declared.Cell.{Cell}
 use Rattle.transport.specs.Tableau.{basisSize, basisOf}
 use Rattle.transport.specs.Leaf.{Strike, strikes, spans}
 use Rattle.transport.specs.Potential.{potentialBy, potential}
-use Rattle.transport.specs.Statements.{Joined}
-use Rattle.network.specs.Flow.{Tight}
 use Rattle.network.specs.Joined.{potentials-unique}
-use Rattle.tableaux.specs.Striking.{Has, Fits, Ends, row-struck, column-struck, Step, Peeled, bare, peel, Struck, struck-of, ends-differ, step-of, root-no-leaf, spans-iff}
+use Rattle.tableaux.specs.Lanes.{Fits}
+use Rattle.tableaux.specs.Leaves.{Ends, row-struck, column-struck, ends-differ}
+use Rattle.tableaux.specs.Striking.{Peeled, bare, peel, struck-of, step-of, root-no-leaf, spans-iff}
 
 -- ---- sizes
 
@@ -73,7 +73,12 @@ module _ (cost : Lane → ℤ) where
   unfolding potentialBy
   potential-bound C [] h k = omega arith
   potential-bound C (s ∷ ss) h k = by-cases (ℕ-discrete k (s .leaf))
-      (λ e. rw (e, potential-leaf s ss) (omega (arith, size-difference (cost (s .lane)) (potentialBy cost ss (s .other)), h s (List·Memᴰ·head refl), potential-bound C ss (λ t q. h t (List·Memᴰ·tail q)) (s .other))))
+      (λ e. rw (e, potential-leaf s ss) (omega (
+        arith,
+        size-difference (cost (s .lane)) (potentialBy cost ss (s .other)),
+        h s (List·Memᴰ·head refl),
+        potential-bound C ss (λ t q. h t (List·Memᴰ·tail q)) (s .other),
+      )))
       (λ e. rw (potential-later s ss k e) (omega (arith, potential-bound C ss (λ t q. h t (List·Memᴰ·tail q)) k)))
 
 module _ {m n : ℕ} {B : List Lane} (p : 1 ≤ m) (h : Fits m n B) (e : spans m n B ≡ true) (cost : Lane → ℤ) where
@@ -103,7 +108,8 @@ module _ {m n : ℕ} {B : List Lane} (p : 1 ≤ m) (h : Fits m n B) (e : spans m
       eq-z (q k) (solution k) (omega (arith, same .1 (k - m) (omega arith), z-eq (ap q place), z-eq (ap solution place))))
     where
       same : ((i : ℕ) → i < m → toZ (q i) ≈ toZ (solution i)) × ((j : ℕ) → j < n → toZ (q (m + j)) ≈ toZ (solution (m + j)))
-      same = potentials-unique (spans-iff p h .0 e .1) (λ i j. toZ (cost (lane i j))) (λ i. toZ (q i)) (λ j. toZ (q (m + j))) (λ i. toZ (solution i)) (λ j. toZ (solution (m + j)))
+      same = potentials-unique (spans-iff p h .0 e .1) (λ i j. toZ (cost (lane i j)))
+          (λ i. toZ (q i)) (λ j. toZ (q (m + j))) (λ i. toZ (solution i)) (λ j. toZ (solution (m + j)))
           (λ i j hi hj s. tight (lane i j) s)
           (λ i j hi hj s. potential-tight (lane i j) s)
           (z-eq (z ∙ sym potential-root))

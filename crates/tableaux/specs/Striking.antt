@@ -1,378 +1,25 @@
--- Striking off leaves: lanes join all nodes without a loop exactly if all of them are struck off, and what the list of strikes then is.
+-- Striking off leaf after leaf: lanes join all nodes without a loop exactly if all of them are struck off, and what the list of strikes then is.
 use mathlib.Core.Path.{_≡_, refl, ap, sym, _∙_}
 use mathlib.Core.Logic.{_↔_, _≢_, _⊎_, inl, inr, ⊎-elim, by-cases}
-use mathlib.Core.Bool.{Bool, true, false, not, _&&_, _||_, cond, true≢false, false≢true}
-use mathlib.Core.List.{List, [], _∷_, map, List·Memᴰ, List·Memᴰ·head, List·Memᴰ·tail, List·Memᴰ·not-nil, List·Memᴰ·cases-cons, List·Memᴰ·eq-of-singleton, Memᴰ·cast}
+use mathlib.Core.Bool.{Bool, true, false, cond}
+use mathlib.Core.List.{List, [], _∷_, List·Memᴰ, List·Memᴰ·head, List·Memᴰ·tail, List·Memᴰ·not-nil, List·Memᴰ·cases-cons, Memᴰ·cast}
 use mathlib.Core.Option.{Option, none, some}
-use Prim.Native.Nat.{ℕ, zero, suc, _+_, _*_, _-_, _≤_, _<_}
+use Prim.Native.Nat.{ℕ, zero, suc, _+_, _-_, _≤_, _<_}
 use native.Mathlib.Omega.{arith}
 use native.Mathlib.Decide.{ℕ-discrete, decLt}
-use borrow.Author.Tests.{lt-ltb, le-ltb, eqb-true, eqb-false, eq-eqb, ne-eqb, not-true}
+use borrow.Author.Tests.{lt-ltb, le-ltb, eqb-true, eq-eqb}
 use lib.Dec.{eqb, ltb}
-use lib.ListN.{length, getD}
-use Rattle.transport.specs.Lists.{keep, table, sumTo}
-use Rattle.transport.specs.ListLaws.{keep-yes, keep-no, keep-member, member-keep, member-at, member-place, member-map, map-member, getD-table, length-table, and-left, and-right, sumTo-cong, sumTo-none, sumTo-add, sumTo-le, sumTo-scale}
+use lib.ListN.{length}
+use Rattle.transport.specs.Lists.{table, sumTo}
+use Rattle.transport.specs.ListLaws.{member-at, member-place, getD-table, length-table, and-left, and-right, sumTo-none, sumTo-add, sumTo-le}
 use Rattle.transport.specs.Sheet.{Lane}
 use Rattle.transport.specs.SheetLaws.{lane}
-use Rattle.transport.specs.declared.Cell.{Cell}
-use Rattle.transport.specs.Tableau.{basisSize, laneOf, basisOf, noCell}
-use Rattle.transport.specs.Leaf.{Strike, touches, strikeAt, onlyOne, firstLeaf, strikeOff, strikes, spans}
-use Rattle.transport.specs.Statements.{Joined, Closed, Basic}
-
--- ---- lanes of a list
-
--- The lane of row i and column j is in the list.
-abbrev pub Has : List Lane → ℕ → ℕ → Type 0
-Has B i j = List·Memᴰ (lane i j) B
-
--- Every lane is inside the sheet.
-abbrev pub Fits : ℕ → ℕ → List Lane → Type 0
-Fits m n B = (l : Lane) → List·Memᴰ l B → (l .row < m) × (l .col < n)
-
--- The cells of a tableau stand on the lanes of its basis.
-pub has-basic : (T : List Cell) (i j : ℕ) → Has (basisOf T) i j ↔ Basic T i j
-unfolding basisOf laneOf
-has-basic T i j = (to, from)
-  where
-    to : Has (map laneOf T) i j → Basic T i j
-    to h =
-        let (c, m, e) = map-member laneOf T h in
-        let (k, p, q) = member-place noCell m in
-        record { index = k; below = p; row = cc (ap (λ (d : Cell). d .row) q, ap (λ (l : Lane). l .row) e); column = cc (ap (λ (d : Cell). d .col) q, ap (λ (l : Lane). l .col) e) }
-
-    from : Basic T i j → Has (map laneOf T) i j
-    from b = Memᴰ·cast (λ t. lane (sym (b .row) t) (sym (b .column) t)) (member-map laneOf (member-at T noCell (b .index) (b .below)))
-
--- ---- the nodes that a lane touches
-
-pub touches-true : (m k : ℕ) (l : Lane) → touches m k l ≡ true → (l .row ≡ k) ⊎ (m + l .col ≡ k)
-unfolding touches
-touches-true m k l e = go (eqb (l .row) k) refl e
-  where
-    go : (b : Bool) → eqb (l .row) k ≡ b → b || eqb (m + l .col) k ≡ true → (l .row ≡ k) ⊎ (m + l .col ≡ k)
-    go true p e = inl (eqb-true (l .row) k p)
-    go false p e = inr (eqb-true (m + l .col) k e)
-
-pub touches-false : (m k : ℕ) (l : Lane) → touches m k l ≡ false → (l .row ≢ k) × (m + l .col ≢ k)
-unfolding touches
-touches-false m k l e = go (eqb (l .row) k) refl e
-  where
-    go : (b : Bool) → eqb (l .row) k ≡ b → b || eqb (m + l .col) k ≡ false → (l .row ≢ k) × (m + l .col ≢ k)
-    go true p e = absurd (true≢false e)
-    go false p e = (eqb-false (l .row) k p, eqb-false (m + l .col) k e)
-
--- ---- sums of ones
-
--- 1 at p, 0 elsewhere.
-abbrev pub one-at : ℕ → ℕ → ℕ
-one-at p k = cond (eqb p k) 1 0
-
-pub one-here : (p : ℕ) → one-at p p ≡ 1
-one-here p = rw (eq-eqb p p refl)
-
-pub one-off : (p k : ℕ) → p ≢ k → one-at p k ≡ 0
-one-off p k e = rw (ne-eqb p k e)
-
-pub sum-one-at : (N p : ℕ) → p < N → sumTo N (one-at p) ≡ 1
-unfolding sumTo
-sum-one-at zero p l = absurd (omega arith)
-sum-one-at (suc N) p l = by-cases (ℕ-discrete p N)
-    (λ e. omega (arith, sumTo-cong N (one-at p) (λ k. 0) (λ k q. one-off p k (omega arith)), sumTo-none N, one-here p, ap (one-at p) e))
-    (λ e. omega (arith, sum-one-at N p (omega arith), one-off p N e))
-
-pub sum-ones : (N : ℕ) → sumTo N (λ k. 1) ≡ N
-unfolding sumTo
-sum-ones zero = refl
-sum-ones (suc N) = omega (arith, sum-ones N)
-
--- ---- the first leaf
-
--- The lanes that node k has, and the others.
-abbrev pub at-node : ℕ → ℕ → List Lane → List Lane
-at-node m k B = keep (touches m k) B
-
-abbrev pub without : ℕ → ℕ → List Lane → List Lane
-without m k B = keep (λ l. not (touches m k l)) B
-
--- The leaf and the other node are the two nodes of the lane.
-pub data Ends (m : ℕ) (s : Strike) : Type 0 where
-  row-struck : s .leaf ≡ s .lane .row → s .other ≡ m + s .lane .col → Ends m s
-  column-struck : s .leaf ≡ m + s .lane .col → s .other ≡ s .lane .row → Ends m s
-
--- The strike's leaf is one of the nodes, and its lane the only one there.
-pub record Leaf (m : ℕ) (nodes : List ℕ) (B : List Lane) (s : Strike) : Type 0 where
-  pub only : at-node m (s .leaf) B ≡ s .lane ∷ []
-  pub ends : Ends m s
-  pub listed : List·Memᴰ (s .leaf) nodes
-
-first-single : (m k : ℕ) (ks : List ℕ) (B : List Lane) (l : Lane) → at-node m k B ≡ l ∷ [] → firstLeaf m (k ∷ ks) B ≡ some (strikeAt m k l)
-unfolding firstLeaf onlyOne
-first-single m k ks B l e = rw (e, firstLeaf)
-
-first-later : (m k : ℕ) (ks : List ℕ) (B : List Lane) → onlyOne (at-node m k B) ≡ none → firstLeaf m (k ∷ ks) B ≡ firstLeaf m ks B
-unfolding firstLeaf
-first-later m k ks B e = rw (e, firstLeaf)
-
-ends-at : (m k : ℕ) (l : Lane) → touches m k l ≡ true → Ends m (strikeAt m k l)
-unfolding touches strikeAt
-ends-at m k l h = go (eqb (l .row) k) refl h
-  where
-    go : (b : Bool) → eqb (l .row) k ≡ b → b || eqb (m + l .col) k ≡ true → Ends m (strikeAt m k l)
-    go true e h = row-struck (sym (eqb-true (l .row) k e)) (rw e)
-    go false e h = column-struck (sym (eqb-true (m + l .col) k h)) (rw e)
-
-some-some : {A : Type 0} {x y : A} → some x ≡ some y → x ≡ y
-some-some e = cc
-
-none-some : {A : Type 0} {x : A} → none ≡ some x → ⊥
-none-some e = let z : _≡_ {A = ℕ} 0 1 = cc in omega arith
-
--- A leaf that is found ..
-pub found : (m : ℕ) (nodes : List ℕ) (B : List Lane) (s : Strike) → firstLeaf m nodes B ≡ some s → Leaf m nodes B s
-unfolding firstLeaf onlyOne strikeAt
-found m [] B s e = absurd (none-some e)
-found m (k ∷ ks) B s e = go (at-node m k B) refl (found m ks B s)
-  where
-    later : onlyOne (at-node m k B) ≡ none → (firstLeaf m ks B ≡ some s → Leaf m ks B s) → Leaf m (k ∷ ks) B s
-    later q rest = let f = rest (sym (first-later m k ks B q) ∙ e) in record { only = f .only; ends = f .ends; listed = List·Memᴰ·tail (f .listed) }
-
-    go : (ls : List Lane) → at-node m k B ≡ ls → (firstLeaf m ks B ≡ some s → Leaf m ks B s) → Leaf m (k ∷ ks) B s
-    go [] q rest = later (rw q) rest
-    go (l ∷ []) q rest =
-        let p : strikeAt m k l ≡ s = some-some (sym (first-single m k ks B l q) ∙ e) in
-        let t : touches m k l ≡ true = keep-member (touches m k) {x = l} B (rw q (List·Memᴰ·head refl)) .1 in
-        rw (← p) (record { only = q; ends = ends-at m k l t; listed = List·Memᴰ·head refl })
-    go (l ∷ h ∷ ls) q rest = later (rw q) rest
-
--- .. and none found means that no node of the list has a single lane.
-pub missed : (m : ℕ) (nodes : List ℕ) (B : List Lane) → firstLeaf m nodes B ≡ none → (k : ℕ) → List·Memᴰ k nodes → length (at-node m k B) ≢ 1
-unfolding firstLeaf onlyOne
-missed m [] B e k h = absurd (List·Memᴰ·not-nil h)
-missed m (j ∷ ks) B e k h = go (at-node m j B) refl (missed m ks B) (List·Memᴰ·cases-cons h)
-  where
-    later : onlyOne (at-node m j B) ≡ none → length (at-node m j B) ≢ 1 → (firstLeaf m ks B ≡ none → (k : ℕ) → List·Memᴰ k ks → length (at-node m k B) ≢ 1)
-        → (k ≡ j) ⊎ List·Memᴰ k ks → length (at-node m k B) ≢ 1
-    later q d rest (inl p) = rw p d
-    later q d rest (inr p) = rest (sym (first-later m j ks B q) ∙ e) k p
-
-    go : (ls : List Lane) → at-node m j B ≡ ls → (firstLeaf m ks B ≡ none → (k : ℕ) → List·Memᴰ k ks → length (at-node m k B) ≢ 1)
-        → (k ≡ j) ⊎ List·Memᴰ k ks → length (at-node m k B) ≢ 1
-    go [] q rest p = later (rw q) (λ r. omega (arith, ap length q)) rest p
-    go (l ∷ []) q rest p = absurd (none-some (sym e ∙ first-single m j ks B l q))
-    go (l ∷ h ∷ ls) q rest p = later (rw q) (λ r. omega (arith, ap length q)) rest p
-
--- ---- degrees: they add up to twice the lanes
-
-abbrev pub degree : ℕ → List Lane → ℕ → ℕ
-degree m B k = length (at-node m k B)
-
-touches-bits : (m k : ℕ) (l : Lane) → l .row < m → cond (touches m k l) 1 0 ≡ one-at (l .row) k + one-at (m + l .col) k
-unfolding touches
-touches-bits m k l h = by-cases (ℕ-discrete (l .row) k)
-    (λ e. rw (eq-eqb (l .row) k e, ne-eqb (m + l .col) k (omega arith)))
-    (λ e. rw (ne-eqb (l .row) k e) (omega arith))
-
-degree-cons : (m k : ℕ) (l : Lane) (ls : List Lane) → degree m (l ∷ ls) k ≡ cond (touches m k l) 1 0 + degree m ls k
-degree-cons m k l ls = go (touches m k l) refl
-  where
-    go : (b : Bool) → touches m k l ≡ b → degree m (l ∷ ls) k ≡ cond (touches m k l) 1 0 + degree m ls k
-    go true e = rw (keep-yes (touches m k) l ls e, e) (omega arith)
-    go false e = rw (keep-no (touches m k) l ls e, e) (omega arith)
-
-degrees : (m n : ℕ) (B : List Lane) → Fits m n B → sumTo (m + n) (degree m B) ≡ 2 * length B
-unfolding keep
-degrees m n [] h = sumTo-none (m + n)
-degrees m n (l ∷ ls) h =
-    let inside = h l (List·Memᴰ·head refl) in
-    omega (
-      arith,
-      sumTo-cong (m + n) (degree m (l ∷ ls)) (λ k. one-at (l .row) k + one-at (m + l .col) k + degree m ls k) (λ k q. omega (arith, degree-cons m k l ls, touches-bits m k l (inside .0))),
-      sumTo-add (m + n) (λ k. one-at (l .row) k + one-at (m + l .col) k) (degree m ls),
-      sumTo-add (m + n) (one-at (l .row)) (one-at (m + l .col)),
-      sum-one-at (m + n) (l .row) (omega (arith, inside)),
-      sum-one-at (m + n) (m + l .col) (omega (arith, inside)),
-      degrees m n ls (λ k p. h k (List·Memᴰ·tail p)),
-    )
-
-degree-member : (m k : ℕ) (B : List Lane) → degree m B k ≡ 0 → (l : Lane) → List·Memᴰ l B → touches m k l ≡ false
-degree-member m k B e l h = go (touches m k l) refl
-  where
-    some-member : {ls : List Lane} → List·Memᴰ l ls → 0 < length ls
-    some-member (List·Memᴰ·head q) = omega arith
-    some-member (List·Memᴰ·tail q) = omega arith
-
-    go : (b : Bool) → touches m k l ≡ b → touches m k l ≡ false
-    go true q = absurd (omega (arith, some-member (member-keep (touches m k) q h)))
-    go false q = q
-
--- ---- the nodes left
-
--- The lanes join the nodes left, and are one fewer than these.
-pub record Linked (m n : ℕ) (left : ℕ → Bool) (B : List Lane) : Type 0 where
-  pub root : left 0 ≡ true
-  pub inside : Fits m n B
-  pub ends : (l : Lane) → List·Memᴰ l B → (left (l .row) ≡ true) × (left (m + l .col) ≡ true)
-  pub joined : (side : ℕ → Bool) → side 0 ≡ true → ((l : Lane) → List·Memᴰ l B → side (l .row) ≡ side (m + l .col))
-      → (k : ℕ) → k < m + n → left k ≡ true → side k ≡ true
-  pub count : suc (length B) ≡ sumTo (m + n) (λ k. cond (left k) 1 0)
-
--- The nodes to be struck: all but the root.
-abbrev pub Others : ℕ → ℕ → List ℕ → Type 0
-Others m n nodes = (k : ℕ) → List·Memᴰ k nodes ↔ ((k ≢ 0) × (k < m + n))
-
-bit-le : (b : Bool) → cond {A = ℕ} b 1 0 ≤ 1
-bit-le true = omega arith
-bit-le false = omega arith
-
-not-eqb : (a b : ℕ) → not (eqb a b) ≡ true → a ≢ b
-not-eqb a b e = eqb-false a b (not-true (eqb a b) e)
-
--- A leaf exists. A node that is left, but the root, has a lane, for else the split of this node from all others would have no lane across; the root has
--- one for the same reason. If no other node had a single lane, all of them had two or more, and the degrees would add up to more than twice the lanes.
-module _ {m n : ℕ} {left : ℕ → Bool} {B : List Lane} (w : Linked m n left B) where
-  pub has-lane : (k : ℕ) → k ≢ 0 → k < m + n → left k ≡ true → degree m B k ≢ 0
-  has-lane k z l e d = true≢false (sym (w .joined (λ j. not (eqb j k)) (rw (ne-eqb 0 k (λ q. z (sym q)))) closed k l e) ∙ rw (eq-eqb k k refl))
-    where
-      closed : (l : Lane) → List·Memᴰ l B → not (eqb (l .row) k) ≡ not (eqb (m + l .col) k)
-      closed l h =
-          let t = touches-false m k l (degree-member m k B d l h) in
-          rw (ne-eqb (l .row) k (t .0), ne-eqb (m + l .col) k (t .1))
-
-  root-has-lane : 1 ≤ m → (l : Lane) → List·Memᴰ l B → degree m B 0 ≢ 0
-  root-has-lane p l h d =
-      let e : eqb (m + l .col) 0 ≡ true = w .joined (λ j. eqb j 0) (eq-eqb 0 0 refl) closed (m + l .col) (omega (arith, w .inside l h)) (w .ends l h .1) in
-      omega (arith, eqb-true (m + l .col) 0 e)
-    where
-      closed : (l : Lane) → List·Memᴰ l B → eqb (l .row) 0 ≡ eqb (m + l .col) 0
-      closed l h =
-          let t = touches-false m 0 l (degree-member m 0 B d l h) in
-          rw (ne-eqb (l .row) 0 (t .0), ne-eqb (m + l .col) 0 (t .1))
-
-  pub leaf-exists : {nodes : List ℕ} → 1 ≤ m → Others m n nodes → (l : Lane) → List·Memᴰ l B → (s : Strike) × (firstLeaf m nodes B ≡ some s)
-  leaf-exists {nodes} p others l h = go (firstLeaf m nodes B) refl
-    where
-      enough : firstLeaf m nodes B ≡ none → (k : ℕ) → k < m + n → 2 * cond (left k) 1 0 ≤ degree m B k + one-at 0 k
-      enough e k q = by-cases (ℕ-discrete k 0)
-          (λ z. rw z (omega (arith, bit-le (left 0), root-has-lane p l h, one-here 0)))
-          (λ z. at (left k) refl z)
-        where
-          at : (b : Bool) → left k ≡ b → k ≢ 0 → 2 * cond (left k) 1 0 ≤ degree m B k + one-at 0 k
-          at true t z = rw t (omega (arith, has-lane k z q t, missed m nodes B e k (others k .1 (z, q))))
-          at false t z = rw t (omega arith)
-
-      go : (o : Option Strike) → firstLeaf m nodes B ≡ o → (s : Strike) × (firstLeaf m nodes B ≡ some s)
-      go (some s) e = (s, e)
-      go none e = absurd (omega (
-        arith,
-        sumTo-le (m + n) (λ k. 2 * cond (left k) 1 0) (λ k. degree m B k + one-at 0 k) (enough e),
-        sumTo-scale (m + n) 2 (λ k. cond (left k) 1 0),
-        sumTo-add (m + n) (degree m B) (one-at 0),
-        sum-one-at (m + n) 0 (omega arith),
-        degrees m n B (w .inside),
-        w .count,
-      ))
-
--- ---- after a strike
-
-keep-split : {A : Type 0} (p : A → Bool) (xs : List A) → length (keep p xs) + length (keep (λ x. not (p x)) xs) ≡ length xs
-unfolding keep
-keep-split p [] = refl
-keep-split p (x ∷ xs) = go (p x) refl (keep-split p xs)
-  where
-    go : (b : Bool) → p x ≡ b → length (keep p xs) + length (keep (λ x. not (p x)) xs) ≡ length xs
-        → length (keep p (x ∷ xs)) + length (keep (λ x. not (p x)) (x ∷ xs)) ≡ suc (length xs)
-    go true e h = rw e (omega arith)
-    go false e h = rw e (omega arith)
-
--- A lane is left exactly if it is there and does not touch the leaf.
-pub without-member : (m k : ℕ) (B : List Lane) (l : Lane) → List·Memᴰ l (without m k B) → List·Memᴰ l B × (touches m k l ≡ false)
-without-member m k B l h = let (p, q) = keep-member (λ l. not (touches m k l)) B h in (p, not-true (touches m k l) q)
-
-pub member-without : (m k : ℕ) (B : List Lane) (l : Lane) → List·Memᴰ l B → touches m k l ≡ false → List·Memᴰ l (without m k B)
-member-without m k B l h e = member-keep (λ l. not (touches m k l)) (rw e) h
-
-module _ {m : ℕ} {nodes : List ℕ} {B : List Lane} {s : Strike} (f : Leaf m nodes B s) where
-  pub leaf-member : List·Memᴰ (s .lane) B × (touches m (s .leaf) (s .lane) ≡ true)
-  leaf-member = keep-member (touches m (s .leaf)) B (rw (f .only) (List·Memᴰ·head refl))
-
-  -- The strike's lane is the only one that touches the leaf ..
-  pub leaf-lane : (l : Lane) → List·Memᴰ l B → touches m (s .leaf) l ≡ true → l ≡ s .lane
-  leaf-lane l h e = List·Memᴰ·eq-of-singleton (rw (f .only) at (member-keep (touches m (s .leaf)) e h))
-
-  -- .. and is the only one struck off.
-  pub length-without : suc (length (without m (s .leaf) B)) ≡ length B
-  length-without = omega (arith, keep-split (touches m (s .leaf)) B, ap length (f .only))
-
-pub ends-differ : {m : ℕ} {s : Strike} → Ends m s → s .lane .row < m → s .leaf ≢ s .other
-ends-differ (row-struck p q) h = omega arith
-ends-differ (column-struck p q) h = omega arith
-
--- The nodes left without node k.
-abbrev pub unless : ℕ → (ℕ → Bool) → ℕ → Bool
-unless k left j = left j && not (eqb k j)
-
-pub unless-bits : (k : ℕ) (left : ℕ → Bool) (j : ℕ) → left k ≡ true → cond (left j) 1 0 ≡ cond (unless k left j) 1 0 + one-at k j
-unless-bits k left j e = by-cases (ℕ-discrete k j)
-    (λ p. rw (eq-eqb k j p, ← p, e) (omega arith))
-    (λ p. go (left j) p)
-  where
-    go : (b : Bool) → k ≢ j → cond {A = ℕ} b 1 0 ≡ cond (b && not (eqb k j)) 1 0 + one-at k j
-    go true p = rw (ne-eqb k j p) (omega arith)
-    go false p = rw (ne-eqb k j p) (omega arith)
-
--- Striking a leaf leaves lanes that join the nodes left: a split of these is one of all nodes, with the leaf on its neighbour's side.
-pub leaf-struck : {m n : ℕ} {left : ℕ → Bool} {nodes : List ℕ} {B : List Lane} {s : Strike} → Linked m n left B → Others m n nodes → Leaf m nodes B s
-    → Linked m n (unless (s .leaf) left) (without m (s .leaf) B)
-leaf-struck {m} {n} {left} {nodes} {B} {s} w others f = record {
-  root = rw (w .root, ne-eqb (s .leaf) 0 (others (s .leaf) .0 (f .listed) .0));
-  inside = λ l h. w .inside l (without-member m (s .leaf) B l h .0);
-  ends = λ l h.
-      let (p, q) = without-member m (s .leaf) B l h in
-      let (a, b) = touches-false m (s .leaf) l q in
-      (rw (w .ends l p .0, ne-eqb (s .leaf) (l .row) (λ e. a (sym e))), rw (w .ends l p .1, ne-eqb (s .leaf) (m + l .col) (λ e. b (sym e))));
-  joined = λ side z closed k l e.
-      let apart = not-eqb (s .leaf) k (and-right (left k) (not (eqb (s .leaf) k)) e) in
-      sym (moved-off side k apart) ∙ w .joined (moved side) (moved-off side 0 (others (s .leaf) .0 (f .listed) .0) ∙ z) (all-closed side closed) k l (and-left (left k) (not (eqb (s .leaf) k)) e);
-  count = omega (
-    arith,
-    w .count,
-    length-without f,
-    sumTo-cong (m + n) (λ k. cond (left k) 1 0) (λ k. cond (unless (s .leaf) left k) 1 0 + one-at (s .leaf) k) (λ k l. unless-bits (s .leaf) left k (there (f .ends))),
-    sumTo-add (m + n) (λ k. cond (unless (s .leaf) left k) 1 0) (one-at (s .leaf)),
-    sum-one-at (m + n) (s .leaf) (others (s .leaf) .0 (f .listed) .1),
-  );
-}
-  where
-    apart : s .leaf ≢ s .other
-    apart = ends-differ (f .ends) (w .inside (s .lane) (leaf-member f .0) .0)
-
-    there : Ends m s → left (s .leaf) ≡ true
-    there (row-struck p q) = ap left p ∙ w .ends (s .lane) (leaf-member f .0) .0
-    there (column-struck p q) = ap left p ∙ w .ends (s .lane) (leaf-member f .0) .1
-
-    -- the split with the leaf moved to its neighbour's side
-    moved : (ℕ → Bool) → ℕ → Bool
-    moved side j = cond (eqb (s .leaf) j) (side (s .other)) (side j)
-
-    moved-leaf : (side : ℕ → Bool) → moved side (s .leaf) ≡ side (s .other)
-    moved-leaf side = rw (eq-eqb (s .leaf) (s .leaf) refl)
-
-    moved-off : (side : ℕ → Bool) (j : ℕ) → s .leaf ≢ j → moved side j ≡ side j
-    moved-off side j e = rw (ne-eqb (s .leaf) j e)
-
-    own : (side : ℕ → Bool) → Ends m s → moved side (s .lane .row) ≡ moved side (m + s .lane .col)
-    own side (row-struck p q) = rw (← p, ← q) (moved-leaf side ∙ sym (moved-off side (s .other) apart))
-    own side (column-struck p q) = rw (← p, ← q) (moved-off side (s .other) apart ∙ sym (moved-leaf side))
-
-    all-closed : (side : ℕ → Bool) → ((l : Lane) → List·Memᴰ l (without m (s .leaf) B) → side (l .row) ≡ side (m + l .col))
-        → (l : Lane) → List·Memᴰ l B → moved side (l .row) ≡ moved side (m + l .col)
-    all-closed side closed l h = go (touches m (s .leaf) l) refl
-      where
-        go : (b : Bool) → touches m (s .leaf) l ≡ b → moved side (l .row) ≡ moved side (m + l .col)
-        go true e = rw (leaf-lane f l h e) (own side (f .ends))
-        go false e =
-            let (a, b) = touches-false m (s .leaf) l e in
-            moved-off side (l .row) (λ p. a (sym p)) ∙ closed l (member-without m (s .leaf) B l h e) ∙ sym (moved-off side (m + l .col) (λ p. b (sym p)))
+use Rattle.transport.specs.Tableau.{basisSize}
+use Rattle.transport.specs.Leaf.{Strike, touches, firstLeaf, strikeOff, strikes, spans}
+use Rattle.transport.specs.Statements.{Joined, Closed}
+use Rattle.network.specs.Cut.{bit-le}
+use Rattle.tableaux.specs.Lanes.{Has, Fits}
+use Rattle.tableaux.specs.Leaves.{one-at, one-off, sum-one-at, sum-ones, touches-false, at-node, without, Ends, row-struck, column-struck, Leaf, none-some, found, Linked, Others, leaf-exists, without-member, member-without, leaf-member, leaf-lane, length-without, ends-differ, leaf-struck}
 
 -- ---- striking off leaf after leaf
 
@@ -441,7 +88,7 @@ pub data Peeled (m n : ℕ) : List Strike → Type 0 where
   bare : Peeled m n []
   peel : {s : Strike} {later : List Strike} → Step m n s later → Peeled m n later → Peeled m n (s ∷ later)
 
-pub ends-clear : {m k : ℕ} {t : Strike} → Ends m t → touches m k (t .lane) ≡ false → (t .leaf ≢ k) × (t .other ≢ k)
+ends-clear : {m k : ℕ} {t : Strike} → Ends m t → touches m k (t .lane) ≡ false → (t .leaf ≢ k) × (t .other ≢ k)
 ends-clear {m} {k} {t} (row-struck p q) e = let (a, b) = touches-false m k (t .lane) e in (rw p a, rw q b)
 ends-clear {m} {k} {t} (column-struck p q) e = let (a, b) = touches-false m k (t .lane) e in (rw p b, rw q a)
 
@@ -526,7 +173,8 @@ leaf-below {m} {n} {s} st = go (st .ends)
 times-total : {m n : ℕ} {ss : List Strike} → Peeled m n ss → sumTo (m + n) (times ss) ≡ length ss
 unfolding times
 times-total {m} {n} bare = sumTo-none (m + n)
-times-total {m} {n} (peel {s} {later} st rest) = omega (arith, sumTo-add (m + n) (one-at (s .leaf)) (times later), sum-one-at (m + n) (s .leaf) (leaf-below st), times-total rest)
+times-total {m} {n} (peel {s} {later} st rest) =
+    omega (arith, sumTo-add (m + n) (one-at (s .leaf)) (times later), sum-one-at (m + n) (s .leaf) (leaf-below st), times-total rest)
 
 pub root-no-leaf : {m n : ℕ} {ss : List Strike} → Peeled m n ss → (s : Strike) → List·Memᴰ s ss → s .leaf ≢ 0
 root-no-leaf bare s h = absurd (List·Memᴰ·not-nil h)
@@ -558,24 +206,40 @@ every-leaf {m} {n} {ss} peels e k z l = go (leaf-or ss k)
 
 -- ---- the strikes of lanes that span
 
--- What the strikes of B are where all of B is struck off: the lanes of the strikes are those of B, no strike touches the leaf of an earlier one, and every node
--- but the root is the leaf of one.
-pub record Struck (m n : ℕ) (B : List Lane) (ss : List Strike) : Type 0 where
-  pub peels : Peeled m n ss
-  pub struck : (l : Lane) → List·Memᴰ l B → (s : Strike) × List·Memᴰ s ss × (s .lane ≡ l)
-  pub lanes : (s : Strike) → List·Memᴰ s ss → List·Memᴰ (s .lane) B
-  pub leaves : (k : ℕ) → k ≢ 0 → k < m + n → IsLeaf ss k
-  pub size : suc (length ss) ≡ m + n
+-- Each strike has its place in the list.
+pub step-of : {m n : ℕ} {ss : List Strike} → Peeled m n ss → (s : Strike) → List·Memᴰ s ss → (later : List Strike) × Step m n s later
+step-of bare s h = absurd (List·Memᴰ·not-nil h)
+step-of {m} {n} (peel {s} {later} st rest) t h = ⊎-elim (λ e. (later, rw e st)) (step-of rest t) (List·Memᴰ·cases-cons h)
 
--- A lane is that of one strike only.
-pub lane-once : {m n : ℕ} {s : Strike} {later : List Strike} → Step m n s later → (t : Strike) → List·Memᴰ t later → Ends m t → t .lane ≢ s .lane
-lane-once {m} {n} {s} {later} st t h ends e = go (st .ends) ends (st .clear t h)
+-- No later strike has the lane of an earlier one.
+pub lane-once : {m n : ℕ} {s : Strike} {later : List Strike} → Step m n s later → Peeled m n later → (t : Strike) → List·Memᴰ t later → t .lane ≢ s .lane
+lane-once {m} {n} {s} {later} st rest t h e = let (ts, step) = step-of rest t h in go (st .ends) (step .ends) (st .clear t h)
   where
     go : Ends m s → Ends m t → (t .leaf ≢ s .leaf) × (t .other ≢ s .leaf) → ⊥
     go (row-struck p q) (row-struck p′ q′) d = d .0 (p′ ∙ ap (λ (l : Lane). l .row) e ∙ sym p)
     go (row-struck p q) (column-struck p′ q′) d = d .1 (q′ ∙ ap (λ (l : Lane). l .row) e ∙ sym p)
     go (column-struck p q) (row-struck p′ q′) d = d .1 (q′ ∙ ap (λ (l : Lane). m + l .col) e ∙ sym p)
     go (column-struck p q) (column-struck p′ q′) d = d .0 (p′ ∙ ap (λ (l : Lane). m + l .col) e ∙ sym p)
+
+pub strike-once : {m n : ℕ} {ss : List Strike} → Peeled m n ss → (s t : Strike) → List·Memᴰ s ss → List·Memᴰ t ss → s .lane ≡ t .lane → s ≡ t
+strike-once bare s t h k e = absurd (List·Memᴰ·not-nil h)
+strike-once {m} {n} (peel {s = r} {later} st rest) s t h k e = go (List·Memᴰ·cases-cons h) (List·Memᴰ·cases-cons k) (strike-once rest s t)
+  where
+    go : (s ≡ r) ⊎ List·Memᴰ s later → (t ≡ r) ⊎ List·Memᴰ t later → (List·Memᴰ s later → List·Memᴰ t later → s .lane ≡ t .lane → s ≡ t) → s ≡ t
+    go (inl p) (inl q) again = p ∙ sym q
+    go (inl p) (inr q) again = absurd (lane-once st rest t q (sym e ∙ ap (λ (v : Strike). v .lane) p))
+    go (inr p) (inl q) again = absurd (lane-once st rest s p (e ∙ ap (λ (v : Strike). v .lane) q))
+    go (inr p) (inr q) again = again p q e
+
+-- What the strikes of B are where all of B is struck off: each lane of B is that of one strike, and the other way round; no strike touches the leaf of an
+-- earlier one; and every node but the root is the leaf of one.
+pub record Struck (m n : ℕ) (B : List Lane) (ss : List Strike) : Type 0 where
+  pub peels : Peeled m n ss
+  pub struck : (l : Lane) → List·Memᴰ l B → (s : Strike) × List·Memᴰ s ss × (s .lane ≡ l)
+  pub once : (s t : Strike) → List·Memᴰ s ss → List·Memᴰ t ss → s .lane ≡ t .lane → s ≡ t
+  pub lanes : (s : Strike) → List·Memᴰ s ss → List·Memᴰ (s .lane) B
+  pub leaves : (k : ℕ) → k ≢ 0 → k < m + n → IsLeaf ss k
+  pub size : suc (length ss) ≡ m + n
 
 pub nodes-others : (m n : ℕ) → 1 ≤ m → Others m n (table (basisSize m n) suc)
 unfolding basisSize
@@ -600,7 +264,8 @@ module _ {m n : ℕ} {B : List Lane} (p : 1 ≤ m) (h : Fits m n B) where
   unfolding spans strikes basisSize
   struck-of e = record {
     peels = peels;
-    struck = λ l q. all-struck m nodes (length B) B l same q;
+    struck = λ l q. all-struck m nodes (length B) B l (all ∙ sym count) q;
+    once = strike-once peels;
     lanes = λ s q. strike-of m nodes (length B) B s q .member;
     leaves = every-leaf peels size;
     size = size;
@@ -609,39 +274,62 @@ module _ {m n : ℕ} {B : List Lane} (p : 1 ≤ m) (h : Fits m n B) where
       nodes : List ℕ
       nodes = table (m + n - 1) suc
 
-      peels : Peeled m n (strikeOff m nodes (length B) B)
+      ss : List Strike
+      ss = strikeOff m nodes (length B) B
+
+      peels : Peeled m n ss
       peels = peeled (length B) (nodes-others m n p) h
 
-      same : length (strikeOff m nodes (length B) B) ≡ length B
-      same = omega (arith, eqb-true (length B) (m + n - 1) (and-left (eqb (length B) (m + n - 1)) (eqb (length (strikeOff m nodes (length B) B)) (m + n - 1)) e), eqb-true (length (strikeOff m nodes (length B) B)) (m + n - 1) (and-right (eqb (length B) (m + n - 1)) (eqb (length (strikeOff m nodes (length B) B)) (m + n - 1)) e))
+      count : length B ≡ m + n - 1
+      count = eqb-true (length B) (m + n - 1) (and-left (eqb (length B) (m + n - 1)) (eqb (length ss) (m + n - 1)) e)
 
-      size : suc (length (strikeOff m nodes (length B) B)) ≡ m + n
-      size = omega (arith, eqb-true (length (strikeOff m nodes (length B) B)) (m + n - 1) (and-right (eqb (length B) (m + n - 1)) (eqb (length (strikeOff m nodes (length B) B)) (m + n - 1)) e))
+      all : length ss ≡ m + n - 1
+      all = eqb-true (length ss) (m + n - 1) (and-right (eqb (length B) (m + n - 1)) (eqb (length ss) (m + n - 1)) e)
+
+      size : suc (length ss) ≡ m + n
+      size = omega (arith, all)
 
 -- ---- spanning is joining
 
--- A strike's other node is the root or the leaf of a later strike. So from the last strike back, each leaf is on the root's side of a split without a lane across.
-all-sides : {m n : ℕ} {ss : List Strike} → Peeled m n ss → ((s : Strike) → List·Memᴰ s ss → (s .other ≡ 0) ⊎ IsLeaf ss (s .other))
-    → (side : ℕ → Bool) → side 0 ≡ true → ((s : Strike) → List·Memᴰ s ss → side (s .leaf) ≡ side (s .other)) → (s : Strike) → List·Memᴰ s ss → side (s .leaf) ≡ true
+-- A node that is not struck off yet: the root, or the leaf of a strike to come.
+abbrev pub Live : List Strike → ℕ → Type 0
+Live ss k = (k ≡ 0) ⊎ IsLeaf ss k
+
+pub live-later : {s : Strike} {later : List Strike} {k : ℕ} → s .leaf ≢ k → Live (s ∷ later) k → Live later k
+live-later d (inl z) = inl z
+live-later d (inr (t, h, e)) = ⊎-elim (λ q. absurd (d (ap (λ (v : Strike). v .leaf) (sym q) ∙ e))) (λ q. inr (t, q, e)) (List·Memᴰ·cases-cons h)
+
+-- Every strike hangs on a node that is not struck off before it.
+abbrev pub Hung : List Strike → Type 0
+Hung ss = (s : Strike) → List·Memᴰ s ss → Live ss (s .other)
+
+pub hung-later : {m n : ℕ} {s : Strike} {later : List Strike} → Step m n s later → Hung (s ∷ later) → Hung later
+hung-later st hang t h = live-later (λ e. st .clear t h .1 (sym e)) (hang t (List·Memᴰ·tail h))
+
+pub hung-first : {m n : ℕ} {s : Strike} {later : List Strike} → Step m n s later → Hung (s ∷ later) → Live later (s .other)
+hung-first {m} {n} {s} st hang = live-later (ends-differ (st .ends) (st .row)) (hang s (List·Memᴰ·head refl))
+
+-- From the last strike back, each leaf is on the root's side of a split without a lane across: so is the node that it hangs on.
+all-sides : {m n : ℕ} {ss : List Strike} → Peeled m n ss → Hung ss → (side : ℕ → Bool) → side 0 ≡ true
+    → ((s : Strike) → List·Memᴰ s ss → side (s .leaf) ≡ side (s .other)) → (s : Strike) → List·Memᴰ s ss → side (s .leaf) ≡ true
 all-sides bare hang side z closed s h = absurd (List·Memᴰ·not-nil h)
-all-sides {m} {n} {ss} (peel {s} {later} st rest) hang side z closed t h = go (all-sides rest hang′ side z (λ r q. closed r (List·Memᴰ·tail q)))
+all-sides {m} {n} (peel {s} {later} st rest) hang side z closed t h = go (all-sides rest (hung-later st hang) side z (λ r q. closed r (List·Memᴰ·tail q)))
   where
-    hang′ : (r : Strike) → List·Memᴰ r later → (r .other ≡ 0) ⊎ IsLeaf later (r .other)
-    hang′ r q = ⊎-elim inl (λ (x, y, e). ⊎-elim (λ w. absurd (st .clear r q .1 (sym e ∙ ap (λ (v : Strike). v .leaf) w))) (λ w. inr (x, w, e)) (List·Memᴰ·cases-cons y)) (hang r (List·Memᴰ·tail q))
-
-    head : ((r : Strike) → List·Memᴰ r later → side (r .leaf) ≡ true) → side (s .leaf) ≡ true
-    head back = closed s (List·Memᴰ·head refl) ∙ ⊎-elim
-        (λ e. ap side e ∙ z)
-        (λ (x, y, e). ap side (sym e) ∙ ⊎-elim (λ w. absurd (ends-differ (st .ends) (st .row) (ap (λ (v : Strike). v .leaf) (sym w) ∙ e))) (back x) (List·Memᴰ·cases-cons y))
-        (hang s (List·Memᴰ·head refl))
-
     go : ((r : Strike) → List·Memᴰ r later → side (r .leaf) ≡ true) → side (t .leaf) ≡ true
-    go back = ⊎-elim (λ e. rw e (head back)) (back t) (List·Memᴰ·cases-cons h)
+    go back = ⊎-elim
+        (λ e. rw e (closed s (List·Memᴰ·head refl) ∙ ⊎-elim (λ q. ap side q ∙ z) (λ (r, q, f). ap side (sym f) ∙ back r q) (hung-first st hang)))
+        (back t)
+        (List·Memᴰ·cases-cons h)
 
--- Each strike has its place in the list.
-pub step-of : {m n : ℕ} {ss : List Strike} → Peeled m n ss → (s : Strike) → List·Memᴰ s ss → (later : List Strike) × Step m n s later
-step-of bare s h = absurd (List·Memᴰ·not-nil h)
-step-of {m} {n} (peel {s} {later} st rest) t h = ⊎-elim (λ e. (later, rw e st)) (step-of rest t) (List·Memᴰ·cases-cons h)
+pub struck-live : {m n : ℕ} {B : List Lane} {ss : List Strike} → Struck m n B ss → (k : ℕ) → k < m + n → Live ss k
+struck-live w k l = by-cases (ℕ-discrete k 0) inl (λ e. inr (w .leaves k e l))
+
+pub struck-hung : {m n : ℕ} {B : List Lane} {ss : List Strike} → Struck m n B ss → Hung ss
+struck-hung {m} {n} {B} {ss} w s h = let (later, st) = step-of (w .peels) s h in struck-live w (s .other) (below st (st .ends))
+  where
+    below : {later : List Strike} → Step m n s later → Ends m s → s .other < m + n
+    below st (row-struck a b) = omega (arith, st .col)
+    below st (column-struck a b) = omega (arith, st .row)
 
 pub struck-joined : {m n : ℕ} {B : List Lane} {ss : List Strike} → 1 ≤ m → Struck m n B ss → Joined m n (Has B)
 struck-joined {m} {n} {B} {ss} p w = record {
@@ -658,17 +346,10 @@ struck-joined {m} {n} {B} {ss} p w = record {
     side-col : (A C : ℕ → Bool) (j : ℕ) → side A C (m + j) ≡ C j
     side-col A C j = let e : m + j - m ≡ j = omega arith in rw (le-ltb (m + j) m (omega arith), e)
 
-    hang : (s : Strike) → List·Memᴰ s ss → (s .other ≡ 0) ⊎ IsLeaf ss (s .other)
-    hang s h = let (later, st) = step-of (w .peels) s h in by-cases (ℕ-discrete (s .other) 0) inl (λ e. inr (w .leaves (s .other) e (below st (st .ends))))
-      where
-        below : {later : List Strike} → Step m n s later → Ends m s → s .other < m + n
-        below st (row-struck a b) = omega (arith, st .col)
-        below st (column-struck a b) = omega (arith, st .row)
-
     all : (A C : ℕ → Bool) → A 0 ≡ true → Closed m n (Has B) A C → (k : ℕ) → k < m + n → side A C k ≡ true
     all A C z closed k l = by-cases (ℕ-discrete k 0)
         (λ e. rw e root)
-        (λ e. let (s, h, q) = w .leaves k e l in rw (← q) (all-sides (w .peels) hang (side A C) root across s h))
+        (λ e. let (s, h, q) = w .leaves k e l in rw (← q) (all-sides (w .peels) (struck-hung w) (side A C) root across s h))
       where
         root : side A C 0 ≡ true
         root = side-row A C 0 (omega arith) ∙ z
@@ -695,37 +376,44 @@ joined-linked {m} {n} {B} p h e w = record {
   count = omega (arith, sum-ones (m + n));
 }
 
--- Lanes span exactly if they are m + n − 1 and join all rows and columns.
+-- Lanes span exactly if they are m + n − 1 and join all rows and columns. If all are struck off, each leaf hangs on one struck later or on the root, so from the
+-- last strike back all nodes are on the root's side of a split that no lane crosses. And of lanes that join all nodes there is a leaf to strike, again and again.
 pub spans-iff : {m n : ℕ} {B : List Lane} → 1 ≤ m → Fits m n B → (spans m n B ≡ true) ↔ ((length B ≡ basisSize m n) × Joined m n (Has B))
 unfolding spans strikes
 spans-iff {m} {n} {B} p h = (
-  (λ e. (eqb-true (length B) (basisSize m n) (and-left (eqb (length B) (basisSize m n)) (eqb (length (strikes m n B)) (basisSize m n)) e), struck-joined p (struck-of p h e))),
-  (λ (e, w). rw (eq-eqb (length B) (basisSize m n) e, eq-eqb (length (strikes m n B)) (basisSize m n) (linked-struck (length B) p (nodes-others m n p) (joined-linked p h e w) (omega arith) ∙ e))),
+  (λ e. (
+    eqb-true (length B) (basisSize m n) (and-left (eqb (length B) (basisSize m n)) (eqb (length (strikes m n B)) (basisSize m n)) e),
+    struck-joined p (struck-of p h e),
+  )),
+  (λ (e, w).
+      let all = linked-struck (length B) p (nodes-others m n p) (joined-linked p h e w) (omega arith) in
+      rw (eq-eqb (length B) (basisSize m n) e, eq-eqb (length (strikes m n B)) (basisSize m n) (all ∙ e))),
 )
 
 -- While lanes are left, some row or column has a single one; and so again after striking it off.
-pub data Leaves (m : ℕ) : List Lane → Type 0 where
-  none-left : Leaves m []
-  leaf : {B : List Lane} (k : ℕ) (l : Lane) → at-node m k B ≡ l ∷ [] → Leaves m (without m k B) → Leaves m B
+pub data Strikable (m : ℕ) : List Lane → Type 0 where
+  none-left : Strikable m []
+  leaf : {B : List Lane} (k : ℕ) (l : Lane) → at-node m k B ≡ l ∷ [] → Strikable m (without m k B) → Strikable m B
 
-linked-leaves : {m n : ℕ} {left : ℕ → Bool} (size : ℕ) (B : List Lane) → 1 ≤ m → Linked m n left B → length B ≤ size → Leaves m B
+linked-leaves : {m n : ℕ} {left : ℕ → Bool} (size : ℕ) (B : List Lane) → 1 ≤ m → Linked m n left B → length B ≤ size → Strikable m B
 linked-leaves {m} zero B p w q = empty B q
   where
-    empty : (B : List Lane) → length B ≤ 0 → Leaves m B
+    empty : (B : List Lane) → length B ≤ 0 → Strikable m B
     empty [] q = none-left
     empty (l ∷ ls) q = absurd (omega arith)
-linked-leaves {m} {n} {left} (suc size) B p w q = go B refl (λ s f. linked-leaves size (without m (s .leaf) B) p (leaf-struck w (nodes-others m n p) f) (omega (arith, length-without f)))
+linked-leaves {m} {n} {left} (suc size) B p w q =
+    go B refl (λ s f. linked-leaves size (without m (s .leaf) B) p (leaf-struck w (nodes-others m n p) f) (omega (arith, length-without f)))
   where
     nodes : List ℕ
     nodes = table (basisSize m n) suc
 
-    go : (C : List Lane) → B ≡ C → ((s : Strike) → Leaf m nodes B s → Leaves m (without m (s .leaf) B)) → Leaves m B
+    go : (C : List Lane) → B ≡ C → ((s : Strike) → Leaf m nodes B s → Strikable m (without m (s .leaf) B)) → Strikable m B
     go [] e rest = rw e none-left
     go (l ∷ ls) e rest =
         let (s, o) = leaf-exists w p (nodes-others m n p) l (rw e (List·Memᴰ·head refl)) in
         let f = found m nodes B s o in
         leaf (s .leaf) (s .lane) (f .only) (rest s f)
 
--- The sentence of the paper.
-pub leaf-again : {m n : ℕ} {B : List Lane} → 1 ≤ m → Fits m n B → length B ≡ basisSize m n → Joined m n (Has B) → Leaves m B
+-- The sentence of the paper: there is a row or column with a single basic cell, and again after striking it off.
+pub leaf-again : {m n : ℕ} {B : List Lane} → 1 ≤ m → Fits m n B → length B ≡ basisSize m n → Joined m n (Has B) → Strikable m B
 leaf-again {m} {n} {B} p h e w = linked-leaves (length B) B p (joined-linked p h e w) (omega arith)

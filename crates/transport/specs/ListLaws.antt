@@ -1,5 +1,5 @@
 -- The laws of Lists: tables, tests of all elements, kept elements, sums, and the first least element.
-use Prim.Native.Nat.{ℕ, zero, suc, _+_, _*_, _≤_, _<_}
+use Prim.Native.Nat.{ℕ, zero, suc, _+_, _*_, _-_, _≤_, _<_}
 use native.Mathlib.Omega.{arith}
 use native.Mathlib.Numerals.{add-one}
 use native.Mathlib.Nat.{eq-or-lt-of-le, mul-add, add-suc, add-zero, suc-mul, zero-mul}
@@ -73,6 +73,11 @@ pub map-table : {A B : Type 0} (g : A → B) (n : ℕ) (f : ℕ → A) → map g
 unfolding table
 map-table g zero f = refl
 map-table g (suc n) f = rw (table-first n f, table-first n (λ k. g (f k)), map-table g n (λ k. f (suc k)))
+
+pub getD-map : {A B : Type 0} (f : A → B) (xs : List A) (k : ℕ) (d : A) (e : B) → k < length xs → getD (map f xs) k e ≡ f (getD xs k d)
+getD-map f [] k d e l = absurd (omega arith)
+getD-map f (x ∷ xs) zero d e l = refl
+getD-map f (x ∷ xs) (suc k) d e l = getD-map f xs k d e (omega arith)
 
 -- ---- below
 
@@ -390,6 +395,9 @@ pub sumTo-split : (n m : ℕ) (f : ℕ → ℕ) → sumTo (n + m) f ≡ sumTo n 
 unfolding sumTo
 sumTo-split n zero f = rw (add-zero n) (omega arith)
 sumTo-split n (suc m) f = rw (add-suc, sumTo) (omega (arith, sumTo-split n m f))
+
+pub sumTo-part : (k n : ℕ) (f : ℕ → ℕ) → k ≤ n → sumTo k f ≤ sumTo n f
+sumTo-part k n f l = let e : k + (n - k) ≡ n = omega arith in omega (arith, sumTo-split k (n - k) f, ap (λ (t : ℕ). sumTo t f) e)
 
 -- A double sum, by rows or by columns.
 pub sumTo-swap : (m n : ℕ) (f : ℕ → ℕ → ℕ) → sumTo m (λ i. sumTo n (λ j. f i j)) ≡ sumTo n (λ j. sumTo m (λ i. f i j))

@@ -1,0 +1,70 @@
+-- The digits of a number are its one decimal numeral with no leading 0, of whatever length (paper 01, "Texts").
+use mathlib.Core.Path.{_≡_, refl, sym, _∙_, ap}
+use mathlib.Core.Logic.{_↔_}
+use mathlib.Core.Bool.{Bool, true}
+use mathlib.Core.List.{List, [], _∷_, head-eq-of-cons-eq}
+use Prim.Native.Nat.{ℕ, zero, suc, _+_, _*_, _^_, _≤_, _<_}
+use native.Mathlib.Omega.{arith}
+use native.Mathlib.Decide.{decLt}
+use lib.ListN.{length}
+use Rattle.transport.specs.Text.{digits}
+use Rattle.transport.specs.SheetText.{isDigit, digitValue}
+use Rattle.grammar.specs.Digits.{digits-small, digit-value, digit-of}
+use Rattle.grammar.specs.Numeral.{value, value-digits, Follows, first-digits, numeral}
+use Rattle.grammar.specs.Every.{Every}
+
+-- Digits, at least one, and no leading 0 except 0 itself.
+pub record Decimal (ds : List ℕ) : Type 0 where
+  pub digit : Every (λ b. isDigit b ≡ true) ds
+  pub some : 1 ≤ length ds
+  pub leading : (more : List ℕ) → ds ≡ 48 ∷ more → more ≡ []
+
+follows-every : (test : ℕ → Bool) (k x : ℕ) (ds : List ℕ) → Follows test k x ds → Every (λ b. isDigit b ≡ true) ds
+follows-every test k x [] h = tt
+follows-every test zero x (b ∷ ds) h = absurd h
+follows-every test (suc k) x (b ∷ ds) h = (h .0, follows-every test k (x * 10 + digitValue b) ds (h .2))
+
+every-follows : (x : ℕ) (ds : List ℕ) → Every (λ b. isDigit b ≡ true) ds → Follows (λ y. true) (length ds) x ds
+every-follows x [] h = tt
+every-follows x (b ∷ ds) h = (h .0, refl, every-follows (x * 10 + digitValue b) ds (h .1))
+
+below-power : (n : ℕ) → n < 10 ^ suc n
+below-power zero = omega arith
+below-power (suc n) = omega (arith, below-power n)
+
+pub digits-decimal : (n : ℕ) → Decimal (digits n)
+digits-decimal zero =
+    rw
+    (digits-small 0 (omega arith))
+    (record { digit = (digit-of 0 (omega arith), tt); some = omega arith; leading = λ more e. let h : [] ≡ more = cc in sym h })
+digits-decimal (suc n) =
+    let x = numeral (λ y. true) (λ y l e. refl) (suc n) (suc n) (omega arith) (below-power (suc n)) refl in
+    rw
+    (x .written)
+    (record {
+      digit = (digit-of (x .first) (x .small), follows-every (λ y. true) (suc n) (x .first) (x .rest) (x .follows));
+      some = omega arith;
+      leading = λ more e. absurd (omega (arith, x .above, head-eq-of-cons-eq e));
+    })
+
+pub decimal-digits : (ds : List ℕ) → Decimal ds → digits (value 0 ds) ≡ ds
+unfolding value
+decimal-digits [] h = absurd (omega (arith, h .some))
+decimal-digits (b ∷ ds) h = go (decLt (digitValue b) 1)
+  where
+    v : (48 + digitValue b ≡ b) × (digitValue b < 10)
+    v = digit-value b (h .digit .0)
+
+    start : 0 * 10 + digitValue b ≡ digitValue b
+    start = omega arith
+
+    go : Dec (digitValue b < 1) → digits (value (0 * 10 + digitValue b) ds) ≡ b ∷ ds
+    go (yes z) =
+        let e : b ≡ 48 = omega (arith, v .0) in
+        let none : ds ≡ [] = h .leading ds (ap (λ (x : ℕ). x ∷ ds) e) in
+        rw (start, none) (digits-small (digitValue b) (v .1) ∙ rw (v .0))
+    go (no z) = rw start (first-digits (λ x. true) (length ds) b ds (h .digit .0) (omega arith) (every-follows (digitValue b) ds (h .digit .1)))
+
+-- Numbers are decimal, with no leading 0 except 0 itself.
+pub digits-iff : (n : ℕ) (ds : List ℕ) → (ds ≡ digits n) ↔ Decimal ds × (value 0 ds ≡ n)
+digits-iff n ds = (λ e. rw e (digits-decimal n, value-digits n), λ h. sym (decimal-digits ds (h .0)) ∙ ap digits (h .1))

@@ -1,0 +1,87 @@
+-- The longest sheet text has 8,732 bytes.
+use mathlib.Core.Path.{_≡_, refl}
+use mathlib.Core.List.{List, [], _∷_, flatMap}
+use Prim.Native.Nat.{ℕ, suc, _*_, _≤_}
+use native.Mathlib.Omega.{arith}
+use native.Mathlib.Nat.{mul-le-mul}
+use lib.ListN.{length, length-append, replicate}
+use Rattle.transport.specs.Lists.{within, at, all, total, sumTo}
+use Rattle.transport.specs.Limits.{maxSide, maxDigits, maxText, maxAmount, maxCost}
+use Rattle.transport.specs.Sheet.{Sheet, sources, sinks, refusal, sheetTests, numberTests, badSides, badLength, badAmount, badCost, unbalanced}
+use Rattle.transport.specs.Text.{bytes, digits, digitsUpTo, headLine, numberLine, rowLine}
+use Rattle.transport.specs.SheetText.{sheetText, rowsOf}
+use Rattle.transport.specs.Statements.{HasText, Accepted}
+use Rattle.grammar.specs.Numbers.{within-iff, Small, at-every}
+use Rattle.grammar.specs.Digits.{digits-length}
+use Rattle.grammar.specs.Every.{Every, Count}
+use Rattle.grammar.specs.Refusals.{accepted-text}
+use Rattle.grammar.specs.Rows.{rowsOf-length, rowsOf-every}
+
+-- ---- parts
+
+-- Lines of at most `most` bytes each.
+lines-length : {A : Type 0} (Good : A → Type 0) (write : A → List ℕ) (most : ℕ) → ((x : A) → Good x → length (write x) ≤ most)
+    → (xs : List A) → Every Good xs → length (flatMap write xs) ≤ length xs * most
+unfolding flatMap
+lines-length Good write most h [] e = omega arith
+lines-length Good write most h (x ∷ xs) e =
+    simp length-append (omega (arith, h x (e .0), lines-length Good write most h xs (e .1)))
+
+number-length : (x : ℕ) → Small x → length (digits x) ≤ 7
+unfolding maxDigits
+number-length x h = digits-length 6 x .1 h
+
+numberLine-length : (x : ℕ) → Small x → length (numberLine x) ≤ 8
+unfolding numberLine bytes
+numberLine-length x h = simp length-append (omega (arith, number-length x h))
+
+rowLine-length : (x : ℕ) (xs : List ℕ) → Every Small (x ∷ xs) → length (rowLine (x ∷ xs)) ≤ suc (length xs) * 8
+unfolding rowLine bytes
+rowLine-length x [] h = numberLine-length x (h .0)
+rowLine-length x (y ∷ ys) h = simp length-append (omega (arith, number-length x (h .0), rowLine-length y ys (h .1)))
+
+row-length : (n : ℕ) → 1 ≤ n → (xs : List ℕ) → Count Small n xs → length (rowLine xs) ≤ n * 8
+row-length n l [] h = absurd (omega arith)
+row-length n l (x ∷ xs) h = omega (arith, rowLine-length x xs (h .1))
+
+side-length : (m : ℕ) → m ≤ 32 → length (digits m) ≤ 2
+side-length m h = digits-length 1 m .1 (omega arith)
+
+-- ---- the whole
+
+-- No sheet text is longer: 10 bytes for each of the first two heads and 8 for the third, 8 for each supply and demand, and 8 for each cost.
+pub text-length : (S : Sheet) → HasText S → length (sheetText S) ≤ maxText
+unfolding sheetText headLine bytes sources sinks maxSide maxText
+text-length S h =
+    let m : ℕ = sources S in
+    let n : ℕ = sinks S in
+    let ms : (1 ≤ m) × (m ≤ 32) = within-iff 1 32 m .0 (h .sides .0) in
+    let ns : (1 ≤ n) × (n ≤ 32) = within-iff 1 32 n .0 (h .sides .1) in
+    let rows : List (List ℕ) = rowsOf m n (S .cost) in
+    let costs : Every (Count Small n) rows = rowsOf-every Small n m (S .cost) (h .lengths) (at-every (S .cost) (λ k. h .numbers k .2)) in
+    let supplies : length (flatMap numberLine (S .supply)) ≤ m * 8 =
+    lines-length Small numberLine 8 numberLine-length (S .supply) (at-every (S .supply) (λ k. h .numbers k .0))
+    in
+    let demands : length (flatMap numberLine (S .demand)) ≤ n * 8 =
+    lines-length Small numberLine 8 numberLine-length (S .demand) (at-every (S .demand) (λ k. h .numbers k .1))
+    in
+    let lanes : length (flatMap rowLine rows) ≤ m * (n * 8) =
+    rw (rowsOf-length n m (S .cost)) at (lines-length (Count Small n) rowLine (n * 8) (row-length n (ns .0)) rows costs)
+    in
+    let most : m * n ≤ 32 * 32 = mul-le-mul (ms .1) (ns .1) in
+    simp length-append (omega (arith, side-length m (ms .1), side-length n (ns .1)))
+
+-- The bound is met, and by a sheet that the sheet check accepts: 32 sources and 32 sinks, and 1,000,000 everywhere.
+unfoldable pub largest : Sheet
+largest = record { supply = replicate 32 1_000_000; demand = replicate 32 1_000_000; cost = replicate 1024 1_000_000 }
+
+pub largest-length : length (sheetText largest) ≡ maxText
+unfolding largest sheetText sources sinks headLine bytes digits digitsUpTo flatMap numberLine rowsOf rowLine maxText
+largest-length = refl
+
+pub largest-accepted : Accepted largest
+unfolding largest sources sinks refusal sheetTests numberTests badSides badLength badAmount badCost unbalanced within all total sumTo at maxSide maxAmount maxCost
+largest-accepted = record { accepted = refl }
+
+pub largest-text : HasText largest
+largest-text = accepted-text largest largest-accepted

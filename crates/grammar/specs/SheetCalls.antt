@@ -1,0 +1,147 @@
+-- Read sheet and write sheet: when they succeed, that they undo each other, and what refusal 9 says.
+use mathlib.Core.Path.{_≡_, refl, sym, _∙_, ap}
+use mathlib.Core.Logic.{_↔_}
+use mathlib.Core.Bool.{Bool, false, _||_}
+use mathlib.Core.List.{List, []}
+use mathlib.Core.Option.{none, some}
+use Prim.Native.Nat.{ℕ, suc, _*_, _-_, _≤_}
+use native.Mathlib.Omega.{arith}
+use native.Mathlib.Nat.{mul-le-mul}
+use native.Mathlib.Decide.{decLe}
+use lib.ListN.{length, take}
+use lib.Seq.{take-all}
+use Rattle.transport.specs.Limits.{maxSide, maxText}
+use Rattle.transport.specs.Sheet.{Sheet, sources, sinks, refusal, sheetTests, numberTests}
+use Rattle.transport.specs.Calls.{Refusal, refused, given, unless, tooShort}
+use Rattle.transport.specs.SheetText.{Reading, stuck, got, sheetText, sheetReader, writeSheetCall, readWith, readTests, readSheetCall}
+use Rattle.transport.specs.Statements.{Accepted, SheetTextOf, Place, Undo}
+use Rattle.grammar.specs.Numbers.{within-iff}
+use Rattle.grammar.specs.Exact.{stuck≢got}
+use Rattle.grammar.specs.Place.{reader-iff, place, place-unique, place-cut}
+use Rattle.grammar.specs.Longest.{text-length}
+use Rattle.transport.specs.CallLaws.{refusal-last, unless-given-iff, unless-placeless, room-iff, rooms-iff, some≢none, refused≢given}
+use Rattle.grammar.specs.Refusals.{text-accepted, accepted-text}
+
+-- ---- write sheet
+
+-- Write sheet succeeds exactly if the sheet check accepts the sheet and the output is no shorter than the text, which it then gives.
+pub writeSheet-iff : (S : Sheet) (room : ℕ) (text : List ℕ)
+    → (writeSheetCall S room ≡ given text) ↔ Accepted S × (length (sheetText S) ≤ room) × (text ≡ sheetText S)
+unfolding writeSheetCall
+writeSheet-iff S room text = (
+  λ e.
+      let h = unless-given-iff _ (sheetText S) text .0 e in
+      let k = refusal-last (sheetTests S) short .0 (h .0) in
+      (record { accepted = k .0 }, fits .0 (k .1), h .1),
+  λ h. unless-given-iff _ (sheetText S) text .1 (refusal-last (sheetTests S) short .1 (h .0 .accepted, fits .1 (h .1)), h .2),
+)
+  where
+    short : Bool × ℕ
+    short = (tooShort room (length (sheetText S)), 8)
+
+    fits : (tooShort room (length (sheetText S)) ≡ false) ↔ (length (sheetText S) ≤ room)
+    fits = room-iff room (length (sheetText S))
+
+-- ---- read sheet
+
+module _ (tests : Sheet → List (Bool × ℕ)) (text : List ℕ) where
+  read-got : (S : Sheet) (rest : List ℕ) → sheetReader text ≡ got S rest → readWith tests text ≡ unless (tests S) S
+  unfolding readWith
+  read-got S rest e = rw (e, readWith)
+
+  read-stuck : (rest : List ℕ) → sheetReader text ≡ stuck rest
+      → readWith tests text ≡ refused (record { number = 9; position = some (length text - length rest) })
+  unfolding readWith
+  read-stuck rest e = rw (e, readWith)
+
+  -- Of a sheet text, reading gives what the tests say of its sheet.
+  pub read-text : (S : Sheet) → SheetTextOf S text → readWith tests text ≡ unless (tests S) S
+  read-text S h = read-got S [] (reader-iff text S [] .1 (refl, h))
+
+  -- Reading succeeds exactly on the text of a sheet that no test refuses.
+  pub read-iff : (S : Sheet) → (readWith tests text ≡ given S) ↔ SheetTextOf S text × (refusal (tests S) ≡ none)
+  read-iff S = (there (sheetReader text) refl, λ h. read-text S (h .0) ∙ unless-given-iff (tests S) S S .1 (h .1, refl))
+    where
+      there : (o : Reading Sheet) → sheetReader text ≡ o → readWith tests text ≡ given S → SheetTextOf S text × (refusal (tests S) ≡ none)
+      there (stuck rest) e f = absurd (refused≢given (sym (read-stuck rest e) ∙ f))
+      there (got R rest) e f =
+          let h = unless-given-iff (tests R) R S .0 (sym (read-got R rest e) ∙ f) in
+          rw (h .1) (reader-iff text R rest .0 e .1, h .0)
+
+  -- Reading gives refusal 9 exactly on a text that is no sheet text, and with it the place: the length of the longest beginning that some sheet text also has.
+  pub nine-iff : (p : ℕ)
+      → (readWith tests text ≡ refused (record { number = 9; position = some p })) ↔ ((S : Sheet) → SheetTextOf S text → ⊥) × Place text p
+  nine-iff p = (there (sheetReader text) refl, λ h. back (sheetReader text) refl (h .0) (h .1))
+    where
+      there : (o : Reading Sheet) → sheetReader text ≡ o → readWith tests text ≡ refused (record { number = 9; position = some p })
+          → ((S : Sheet) → SheetTextOf S text → ⊥) × Place text p
+      there (stuck rest) e f =
+          let r : _≡_ {A = Refusal} (record { number = 9; position = some (length text - length rest) }) (record { number = 9; position = some p }) =
+          cc (read-stuck rest e)
+          in
+          let q : some (length text - length rest) ≡ some p = ap (λ (x : Refusal). x .position) r in
+          let same : length text - length rest ≡ p = cc in
+          (λ S h. stuck≢got (sym e ∙ reader-iff text S [] .1 (refl, h)), rw same at (place text rest e))
+      there (got R rest) e f =
+          let h : some p ≡ none = unless-placeless (tests R) R _ (sym (read-got R rest e) ∙ f) in
+          absurd (some≢none h)
+
+      back : (o : Reading Sheet) → sheetReader text ≡ o → ((S : Sheet) → SheetTextOf S text → ⊥) → Place text p
+          → readWith tests text ≡ refused (record { number = 9; position = some p })
+      back (stuck rest) e other h = rw (← place-unique text _ p (place text rest e) h) (read-stuck rest e)
+      back (got R rest) e other h = absurd (other R (reader-iff text R rest .0 e .1))
+
+-- A text is read exactly if it is a sheet text, of a sheet within the limits and balanced, and the lent lists are long enough.
+pub readSheet-iff : (text : List ℕ) (a b c : ℕ) (S : Sheet)
+    → (readSheetCall text a b c ≡ given S)
+    ↔ SheetTextOf S text × Accepted S × (sources S ≤ a) × (sinks S ≤ b) × (sources S * sinks S ≤ c)
+unfolding readSheetCall readTests
+readSheet-iff text a b c S = (
+  λ e.
+      let h = read-iff (readTests a b c) text S .0 e in
+      let k = refusal-last (numberTests S) short .0 (h .1) in
+      let r = rooms .0 (k .1) in
+      (h .0, text-accepted S (h .0 .sheet) .0 (k .0), r .0, r .1, r .2),
+  λ h.
+      read-iff (readTests a b c) text S .1
+      (h .0, refusal-last (numberTests S) short .1 (text-accepted S (h .0 .sheet) .1 (h .1), rooms .1 (h .2, h .3, h .4))),
+)
+  where
+    short : Bool × ℕ
+    short = (tooShort a (sources S) || tooShort b (sinks S) || tooShort c (sources S * sinks S), 8)
+
+    rooms : (short .0 ≡ false) ↔ (sources S ≤ a) × (sinks S ≤ b) × (sources S * sinks S ≤ c)
+    rooms = rooms-iff a (sources S) b (sinks S) c (sources S * sinks S)
+
+-- ---- both ways round
+
+-- Writing and reading undo each other, with room for any sheet text and any sheet.
+pub undo : Undo (λ S. writeSheetCall S maxText) (λ text. readSheetCall text maxSide maxSide (maxSide * maxSide))
+undo = record {
+  readWritten = λ S text e.
+      let h = writeSheet-iff S maxText text .0 e in
+      let t = accepted-text S (h .0) in
+      let m = within-iff 1 maxSide (sources S) .0 (t .sides .0) .1 in
+      let n = within-iff 1 maxSide (sinks S) .0 (t .sides .1) .1 in
+      readSheet-iff text maxSide maxSide (maxSide * maxSide) S .1
+      (record { sheet = t; written = h .2 }, h .0, m, n, mul-le-mul m n);
+  writeRead = λ text S e.
+      let h = readSheet-iff text maxSide maxSide (maxSide * maxSide) S .0 e in
+      writeSheet-iff S maxText text .1 (h .1, text-length S (h .0 .sheet), h .0 .written);
+}
+
+-- ---- the first 8,733 bytes
+
+-- What a text that is longer than any sheet text is refused by stands in its first 8,733 bytes: reading those gives the same answer as reading the whole.
+pub read-cut : (tests : Sheet → List (Bool × ℕ)) (text : List ℕ) → readWith tests (take (suc maxText) text) ≡ readWith tests text
+read-cut tests text = go (decLe (length text) (suc maxText)) (sheetReader text) refl
+  where
+    go : Dec (length text ≤ suc maxText) → (o : Reading Sheet) → sheetReader text ≡ o
+        → readWith tests (take (suc maxText) text) ≡ readWith tests text
+    go (yes l) o e = rw (take-all (suc maxText) text l)
+    go (no l) (got S rest) e =
+        let h = reader-iff text S rest .0 e .1 in
+        absurd (omega (arith, ap length (h .written), text-length S (h .sheet)))
+    go (no l) (stuck rest) e =
+        let h = place-cut text rest e (omega arith) in
+        read-stuck tests (take (suc maxText) text) (h .0) (h .1) ∙ rw (h .2) (sym (read-stuck tests text rest e))

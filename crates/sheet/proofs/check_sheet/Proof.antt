@@ -1,0 +1,71 @@
+-- Each way out is a case of `refusal`; what is left of the tests is check_numbers.
+use mathlib.Core.Path.{_≡_, refl, sym, ap, _∙_}
+use mathlib.Core.Bool.{Bool, true, false}
+use Prim.Native.Nat.{ℕ, _*_, _≤_}
+use native.Mathlib.Omega.{arith}
+use lib.ListN.{length}
+use borrow.Author.Tests.{not-true, not-false, eq-eqb, ne-eqb}
+use Rattle.transport.specs.Lists.{within}
+use Rattle.transport.specs.Limits.{maxSide}
+use Rattle.sheet.specs.Check.{sheetOf, check-none, check-some}
+use Rattle.sheet.specs.Laws.{within-above, side-limit, sides-product}
+use Rattle.sheet.specs.Refusals.{refused-sources, refused-sinks, refused-length, sheet-numbers}
+use borrow.Author.Needs.{needs}
+use Rattle.sheet.proofs.check_sheet.Statement.{statement}
+use Rattle.sheet.proofs.check_sheet.Tie as tie
+
+sources-fit : (c : tie.Else1) → within 1 maxSide (length (c .before .before .before .before .before .args .supply .now)) ≡ true
+sources-fit c = sym (c .before .side-fits .ensures) ∙ not-false _ (c .if1 .left)
+
+sinks-fit : (c : tie.Else2) → within 1 maxSide (length (c .before .before .before .before .before .before .before .args .demand .now)) ≡ true
+sinks-fit c = sym (c .before .side-fits2 .ensures) ∙ not-false _ (c .if2 .left)
+
+side-fits-requires : tie.Need-side-fits-requires
+side-fits-requires c κs = search needs
+
+returns : tie.Need-returns
+returns c =
+    let a = c .before .before .before .before .before .args in
+    let S = sheetOf (a .supply .now) (a .demand .now) (a .cost .now) in
+    rw (refused-sources S (sym (c .before .side-fits .ensures) ∙ not-true _ (c .if1 .taken)), check-some)
+
+side-fits-requires-2 : tie.Need-side-fits-requires-2
+side-fits-requires-2 c κs = search needs
+
+returns-2 : tie.Need-returns-2
+returns-2 c =
+    let a = c .before .before .before .before .before .before .before .args in
+    let S = sheetOf (a .supply .now) (a .demand .now) (a .cost .now) in
+    rw (refused-sinks S (sources-fit (c .before .before)) (sym (c .before .side-fits2 .ensures) ∙ not-true _ (c .if2 .taken)), check-some)
+
+mul-if3 : tie.Need-mul-if3
+mul-if3 c =
+    record { fits = sides-product _ _ (within-above 1 maxSide _ (sources-fit (c .before .before))) (within-above 1 maxSide _ (sinks-fit c)) }
+
+returns-3 : tie.Need-returns-3
+returns-3 c =
+    let a = c .before .before .before .before .before .before .before .before .args in
+    let S = sheetOf (a .supply .now) (a .demand .now) (a .cost .now) in
+    rw (refused-length S (sources-fit (c .before .before .before)) (sinks-fit (c .before)) (ne-eqb _ _ (c .if3 .taken)), check-some)
+
+check-numbers-requires : tie.Need-check-numbers-requires
+check-numbers-requires c κs = (within-above 1 maxSide _ (sources-fit (c .before .before .before)), within-above 1 maxSide _ (sinks-fit (c .before)))
+
+returns-4 : tie.Need-returns-4
+returns-4 c =
+    let a = c .before .before .before .before .before .before .before .before .before .args in
+    let S = sheetOf (a .supply .now) (a .demand .now) (a .cost .now) in
+    rw (sheet-numbers S (sources-fit (c .before .before .before .before)) (sinks-fit (c .before .before)) (eq-eqb _ _ (c .before .if3 .left))) (c .check-numbers .ensures)
+
+pub check-sheet-spec : {M : Type 1} → statement M
+check-sheet-spec =
+    tie.close
+    (tie.spec
+    side-fits-requires
+    returns
+    side-fits-requires-2
+    returns-2
+    mul-if3
+    returns-3
+    check-numbers-requires
+    returns-4)

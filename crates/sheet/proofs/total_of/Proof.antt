@@ -1,0 +1,68 @@
+-- The loop's invariant: the sum of the first i amounts, each of which is at most 1,000,000.
+use borrow.Author.Needs.{needs}
+use mathlib.Core.Path.{_≡_, refl, sym, ap, _∙_}
+use Prim.Native.Nat.{_≤_, _-_, _*_}
+use native.Mathlib.Omega.{arith}
+use lib.ListN.{length, getD}
+use Rattle.transport.specs.Lists.{sumTo, at, within}
+use Rattle.transport.specs.Limits.{maxAmount, maxSide}
+use Rattle.sheet.specs.Laws.{within-above, all-at, sumTo-zero, sumTo-one, total-sum, side-limit, amount-limit}
+use Rattle.sheet.proofs.total_of.Statement.{statement}
+use Rattle.sheet.proofs.total_of.Tie as tie
+
+abbrev Inv-loop : tie.InvT-loop
+Inv-loop amounts sum₀ i₀ sum i = (i ≤ length amounts) × (sum ≤ i * 1000000) × (sum ≡ sumTo i (at amounts))
+
+abbrev μ-loop : tie.MeasureT-loop
+μ-loop amounts sum₀ i₀ sum i = length amounts - i
+
+loop-holds : tie.Need-loop-holds Inv-loop μ-loop
+loop-holds c = (omega arith, omega arith, rw sumTo-zero)
+
+mul-sum : tie.Need-mul-sum Inv-loop μ-loop
+mul-sum c = search needs
+
+shared-slice-read-sum : tie.Need-shared-slice-read-sum Inv-loop μ-loop
+shared-slice-read-sum c = search needs
+
+small : (c : tie.In-loop Inv-loop μ-loop) → getD (c .before .before .args .amounts .now) (c .before .loop .i) 0 ≤ 1000000
+small c =
+    let s = c .before .before .args .amounts .now in
+    let i = c .before .loop .i in
+    omega (arith, amount-limit, within-above 1 maxAmount (getD s i 0) (all-at (within 1 maxAmount) s i (c .before .before .pre .1) (omega arith)))
+
+add-sum : tie.Need-add-sum Inv-loop μ-loop
+add-sum c = omega (arith, small (c .before), side-limit)
+
+add-i : tie.Need-add-i Inv-loop μ-loop
+add-i c = search needs
+
+loop-less : tie.Need-loop-less Inv-loop μ-loop
+loop-less c = search needs
+
+loop-again : tie.Need-loop-again Inv-loop μ-loop
+loop-again c =
+    let s = c .before .before .before .args .amounts .now in
+    let i = c .before .before .loop in
+    (omega arith, omega (arith, small (c .before)), omega (arith, sumTo-one s (i .i)))
+
+returns : tie.Need-returns Inv-loop μ-loop
+returns c =
+    let s = c .before .before .args .amounts .now in
+    let i = c .before .loop in
+    i .inv .2 ∙ sym (total-sum s (i .i) (omega arith))
+
+pub total-of-spec : {M : Type 1} → statement M
+total-of-spec =
+    tie.close
+    (tie.spec
+    Inv-loop
+    μ-loop
+    loop-holds
+    mul-sum
+    shared-slice-read-sum
+    add-sum
+    add-i
+    loop-less
+    loop-again
+    returns)

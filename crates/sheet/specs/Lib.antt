@@ -1,0 +1,4 @@
+pub mod Check
+pub mod Laws
+pub mod Refusals
+pub mod Calls

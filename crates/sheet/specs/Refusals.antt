@@ -1,0 +1,131 @@
+-- What the sheet check refuses, case by case, and what an accepted sheet is known to be.
+use mathlib.Core.Path.{_≡_, refl, sym, _∙_}
+use mathlib.Core.Bool.{Bool, true, false, not, _&&_, true≢false}
+use mathlib.Core.List.{List, [], _∷_}
+use mathlib.Core.Option.{Option, none, some}
+use Prim.Native.Nat.{ℕ, _*_, _≤_}
+use native.Mathlib.Omega.{arith}
+use native.Mathlib.Nat.{mul-le-mul}
+use lib.Dec.{eqb}
+use borrow.Author.Tests.{eqb-true, not-false}
+use lib.ListN.{length}
+use Rattle.transport.specs.Lists.{all, within, total}
+use Rattle.transport.specs.Limits.{maxSide, maxAmount, maxCost}
+use Rattle.transport.specs.Sheet.{Sheet, sources, sinks, badSides, badLength, badAmount, badCost, unbalanced, numberTests, sheetTests, refusal}
+use Rattle.sheet.specs.Laws.{within-below, within-above, refusal-next, side-limit}
+
+module _ (S : Sheet) where
+  abbrev supplies : Bool
+  supplies = all (within 1 maxAmount) (S .supply)
+
+  abbrev demands : Bool
+  demands = all (within 1 maxAmount) (S .demand)
+
+  abbrev costs : Bool
+  costs = all (within 0 maxCost) (S .cost)
+
+  abbrev even : Bool
+  even = eqb (total (S .supply)) (total (S .demand))
+
+  pub refused-supply : supplies ≡ false → refusal (numberTests S) ≡ some 3
+  unfolding refusal numberTests badAmount
+  refused-supply s = rw s
+
+  pub refused-demand : supplies ≡ true → demands ≡ false → refusal (numberTests S) ≡ some 3
+  unfolding refusal numberTests badAmount
+  refused-demand s d = rw (s, d)
+
+  pub refused-cost : supplies ≡ true → demands ≡ true → costs ≡ false → refusal (numberTests S) ≡ some 4
+  unfolding refusal numberTests badAmount badCost
+  refused-cost s d c = rw (s, d, c)
+
+  pub refused-totals : supplies ≡ true → demands ≡ true → costs ≡ true → even ≡ false → refusal (numberTests S) ≡ some 5
+  unfolding refusal numberTests badAmount badCost unbalanced
+  refused-totals s d c t = rw (s, d, c, t)
+
+  pub numbers-accepted : supplies ≡ true → demands ≡ true → costs ≡ true → even ≡ true → refusal (numberTests S) ≡ none
+  unfolding refusal numberTests badAmount badCost unbalanced
+  numbers-accepted s d c t = rw (s, d, c, t)
+
+  pub refused-sources : within 1 maxSide (length (S .supply)) ≡ false → refusal (sheetTests S) ≡ some 1
+  unfolding refusal sheetTests badSides sources
+  refused-sources m = rw m
+
+  pub refused-sinks : within 1 maxSide (length (S .supply)) ≡ true → within 1 maxSide (length (S .demand)) ≡ false → refusal (sheetTests S) ≡ some 1
+  unfolding refusal sheetTests badSides sources sinks
+  refused-sinks m n = rw (m, n)
+
+  module _ (m : within 1 maxSide (length (S .supply)) ≡ true) (n : within 1 maxSide (length (S .demand)) ≡ true) where
+    pub refused-length : eqb (length (S .cost)) (length (S .supply) * length (S .demand)) ≡ false → refusal (sheetTests S) ≡ some 2
+    unfolding refusal sheetTests badSides badLength sources sinks
+    refused-length l = rw (m, n, l)
+
+    pub sheet-numbers : eqb (length (S .cost)) (length (S .supply) * length (S .demand)) ≡ true → refusal (sheetTests S) ≡ refusal (numberTests S)
+    unfolding refusal sheetTests badSides badLength sources sinks
+    sheet-numbers l = rw (m, n, l)
+
+-- ---- what nothing refused says
+
+module _ (b : Bool) (k : ℕ) (ts : List (Bool × ℕ)) where
+  none-here : refusal ((b, k) ∷ ts) ≡ none → b ≡ false
+  unfolding refusal
+  none-here e = go b e
+    where
+      go : (b : Bool) → refusal ((b, k) ∷ ts) ≡ none → b ≡ false
+      go false e = refl
+      go true e = let z : _≡_ {A = ℕ} 0 1 = cc in absurd (omega arith)
+
+  none-next : refusal ((b, k) ∷ ts) ≡ none → refusal ts ≡ none
+  none-next e = sym (refusal-next k ts b (none-here e)) ∙ e
+
+not-both : (a b : Bool) → not (a && b) ≡ false → (a ≡ true) × (b ≡ true)
+not-both true true e = (refl, refl)
+not-both true false e = absurd (true≢false e)
+not-both false b e = absurd (true≢false e)
+
+-- A sheet that the sheet check accepts, or whose numbers are accepted: each test in the form that code and proofs use.
+module _ (S : Sheet) where
+  pub record Passed : Type 0 where
+    pub sourcesFit : within 1 maxSide (length (S .supply)) ≡ true
+    pub sinksFit : within 1 maxSide (length (S .demand)) ≡ true
+    pub costLength : length (S .cost) ≡ length (S .supply) * length (S .demand)
+    pub suppliesFit : all (within 1 maxAmount) (S .supply) ≡ true
+    pub demandsFit : all (within 1 maxAmount) (S .demand) ≡ true
+    pub costsFit : all (within 0 maxCost) (S .cost) ≡ true
+    pub evenTotals : total (S .supply) ≡ total (S .demand)
+
+  pub passed : refusal (sheetTests S) ≡ none → Passed
+  unfolding sheetTests numberTests badSides badLength badAmount badCost unbalanced sources sinks
+  passed e =
+      let e2 = none-next _ _ _ e in
+      let e3 = none-next _ _ _ e2 in
+      let e4 = none-next _ _ _ e3 in
+      let e5 = none-next _ _ _ e4 in
+      let sides = not-both _ _ (none-here _ _ _ e) in
+      let amounts = not-both _ _ (none-here _ _ _ e3) in
+      record {
+        sourcesFit = sides .0;
+        sinksFit = sides .1;
+        costLength = eqb-true _ _ (not-false _ (none-here _ _ _ e2));
+        suppliesFit = amounts .0;
+        demandsFit = amounts .1;
+        costsFit = not-false _ (none-here _ _ _ e4);
+        evenTotals = eqb-true _ _ (not-false _ (none-here _ _ _ e5));
+      }
+
+  -- .. and in numbers.
+  module _ (p : Passed) where
+    pub sources-some : 1 ≤ length (S .supply)
+    sources-some = within-below 1 maxSide _ (p .sourcesFit)
+
+    pub sources-few : length (S .supply) ≤ 32
+    sources-few = rw side-limit at (within-above 1 maxSide _ (p .sourcesFit))
+
+    pub sinks-some : 1 ≤ length (S .demand)
+    sinks-some = within-below 1 maxSide _ (p .sinksFit)
+
+    pub sinks-few : length (S .demand) ≤ 32
+    sinks-few = rw side-limit at (within-above 1 maxSide _ (p .sinksFit))
+
+    pub costs-few : length (S .cost) ≤ 1024
+    costs-few = rw (p .costLength) (mul-le-mul sources-few sinks-few)

@@ -1,0 +1,94 @@
+// The sheet check, part of every call that takes a sheet as lists: refusals 1 to 5, of several the first.
+ghost use mathlib.Core.Path.{_≡_};
+ghost use mathlib.Core.Bool.{true};
+ghost use Prim.Native.Nat.{_≤_};
+ghost use lib.ListN.{length};
+ghost use Rattle.transport.specs.Lists.{all, within, total};
+ghost use Rattle.transport.specs.Limits.{maxSide, maxAmount};
+ghost use Rattle.transport.specs.Sheet.{refusal, numberTests, sheetTests};
+ghost use Rattle.sheet.specs.Check.{sheetOf, checkAnswer};
+use transport::MAX_AMOUNT;
+use transport::MAX_COST;
+use transport::MAX_SIDE;
+
+pub enum SheetCheck {
+    Accepted,
+    Refused(u8),
+}
+
+// Whether a sheet may have so many sources, or so many sinks.
+fn side_fits(count: usize) -> bool
+    ensures { λ r. ⌜ r ≡ within 1 maxSide count ⌝ }
+{
+    1 <= count && count <= MAX_SIDE
+}
+
+// Whether every number is within `low` to `high`.
+fn all_within(numbers: &[u64], low: u64, high: u64) -> bool
+    ensures { λ r. ⌜ r ≡ all (within low high) (now (numbers .entry)) ⌝ }
+{
+    let mut i: usize = 0;
+    while i < numbers.len() {
+        let x = numbers[i];
+        if x < low {
+            return false;
+        }
+        if high < x {
+            return false;
+        }
+        i += 1;
+    }
+    true
+}
+
+// The total of supplies or demands that are within their limits, so that it fits.
+fn total_of(amounts: &[u64]) -> u64
+    requires { ⌜ (length (now amounts) ≤ maxSide) × (all (within 1 maxAmount) (now amounts) ≡ true) ⌝ }
+    ensures { λ r. ⌜ r ≡ total (now (amounts .entry)) ⌝ }
+{
+    let mut sum: u64 = 0;
+    let mut i: usize = 0;
+    while i < amounts.len() {
+        sum += amounts[i];
+        i += 1;
+    }
+    sum
+}
+
+// Refusals 3, 4 and 5 of a sheet whose sides are within their limits. A total is taken once its parts are known to be.
+pub fn check_numbers(supply: &[u64], demand: &[u64], cost: &[u64]) -> SheetCheck
+    requires { ⌜ (length (now supply) ≤ maxSide) × (length (now demand) ≤ maxSide) ⌝ }
+    ensures { λ r. ⌜ r ≡ checkAnswer (refusal (numberTests (sheetOf (now (supply .entry)) (now (demand .entry)) (now (cost .entry))))) ⌝ }
+{
+    if !all_within(supply, 1, MAX_AMOUNT) {
+        return SheetCheck::Refused(3);
+    }
+    if !all_within(demand, 1, MAX_AMOUNT) {
+        return SheetCheck::Refused(3);
+    }
+    if !all_within(cost, 0, MAX_COST) {
+        return SheetCheck::Refused(4);
+    }
+    if total_of(supply) != total_of(demand) {
+        return SheetCheck::Refused(5);
+    }
+    SheetCheck::Accepted
+}
+
+// The sheet check.
+pub fn check_sheet(supply: &[u64], demand: &[u64], cost: &[u64]) -> SheetCheck
+    ensures { λ r. ⌜ r ≡ checkAnswer (refusal (sheetTests (sheetOf (now (supply .entry)) (now (demand .entry)) (now (cost .entry))))) ⌝ }
+{
+    let m = supply.len();
+    let n = demand.len();
+    if !side_fits(m) {
+        return SheetCheck::Refused(1);
+    }
+    if !side_fits(n) {
+        return SheetCheck::Refused(1);
+    }
+    if cost.len() != m * n {
+        return SheetCheck::Refused(2);
+    }
+    check_numbers(supply, demand, cost)
+}

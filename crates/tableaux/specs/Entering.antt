@@ -1,0 +1,73 @@
+-- The entering lane: it is on the sheet, and on an unfinished tableau its reduced cost is negative, so that it is not basic.
+use mathlib.Core.Path.{_≡_, refl, ap, sym, _∙_}
+use mathlib.Core.Bool.{Bool, true, false, true≢false}
+use mathlib.Core.List.{List}
+use Prim.Native.Nat.{ℕ, _<_}
+use native.Mathlib.Omega.{arith}
+use native.Mathlib.Nat.{mul-le-mul-right}
+use lib.IntN.{ℤ, pos, negsuc}
+use lib.Signed.{ltZ, nonNeg}
+use lib.ListN.{getD}
+use Rattle.integers.specs.Integer.{_≺_, _⊕_}
+use Rattle.transport.specs.ListLaws.{by-key, FirstLeast, firstLeast-is}
+use Rattle.transport.specs.AmountLaws.{ltZ-weak}
+use Rattle.transport.specs.Sheet.{Sheet, sources, sinks, Lane, lanes, place}
+use Rattle.transport.specs.SheetLaws.{lane, Checked, place-below, Placed, place-of, length-lanes, getD-lanes, all-lanes}
+use Rattle.transport.specs.declared.Cell.{Cell}
+use Rattle.transport.specs.Tableau.{laneOf, noCell}
+use Rattle.transport.specs.Potential.{reducedCost, isFinished}
+use Rattle.transport.specs.Round.{entering}
+use Rattle.transport.specs.Statements.{Basic, Belongs}
+use Rattle.tableaux.specs.PairLaws.{ltZ-true, ltZ-false}
+use Rattle.tableaux.specs.PlanView.{costs}
+use Rattle.tableaux.specs.Belonging.{prices-tight}
+use Rattle.tableaux.specs.Least.{rowPotential, columnPotential, reduced-parts}
+
+not-negative : (x y : ℤ) → ltZ x (pos 0) ≡ false → ltZ y x ≡ false → nonNeg y ≡ true
+not-negative x (pos b) p q = refl
+not-negative x (negsuc b) p q = absurd (omega (arith, ltZ-false x (pos 0) p, ltZ-false (negsuc b) x q))
+
+module _ {S : Sheet} (ok : Checked S) (T : List Cell) where
+  abbrev m : ℕ
+  m = sources S
+
+  abbrev n : ℕ
+  n = sinks S
+
+  abbrev less : Lane → Lane → Bool
+  less k l = ltZ (reducedCost S T k) (reducedCost S T l)
+
+  chosen : (k : ℕ) × FirstLeast less (laneOf noCell) (lanes m n) (entering S T) k
+  unfolding entering
+  chosen = firstLeast-is less (by-key (reducedCost S T) ltZ-weak) (laneOf noCell) (lanes m n) (omega (arith, length-lanes m n, mul-le-mul-right n (ok .sourcesLow), ok .sinksLow))
+
+  -- It is on the sheet.
+  pub entering-inside : (entering S T .row < sources S) × (entering S T .col < sinks S)
+  entering-inside =
+      let (k, f) = chosen in
+      let w : Placed m n k = place-of m n k (omega (arith, f .inside, length-lanes m n)) in
+      let e : entering S T ≡ lane (w .row) (w .col) = sym (f .stands) ∙ ap (λ x. getD (lanes m n) x (laneOf noCell)) (sym (w .placed)) ∙ getD-lanes m n (w .row) (w .col) (laneOf noCell) (w .rowBelow) (w .colBelow) in
+      rw e (w .rowBelow, w .colBelow)
+
+  -- No lane has a smaller reduced cost.
+  pub entering-least : (i j : ℕ) → i < sources S → j < sinks S → ltZ (reducedCost S T (lane i j)) (reducedCost S T (entering S T)) ≡ false
+  entering-least i j hi hj =
+      ap (λ l. ltZ (reducedCost S T l) (reducedCost S T (entering S T))) (sym (getD-lanes m n i j (laneOf noCell) hi hj))
+      ∙ chosen .1 .least (place n i j) (omega (arith, place-below m n i j hi hj, length-lanes m n))
+
+  module _ (unfinished : isFinished S T ≡ false) where
+    -- If it were not negative, none would be.
+    pub entering-negative : ltZ (reducedCost S T (entering S T)) (pos 0) ≡ true
+    unfolding isFinished
+    entering-negative = go (ltZ (reducedCost S T (entering S T)) (pos 0)) refl
+      where
+        go : (b : Bool) → ltZ (reducedCost S T (entering S T)) (pos 0) ≡ b → ltZ (reducedCost S T (entering S T)) (pos 0) ≡ true
+        go true p = p
+        go false p = absurd (true≢false (sym (all-lanes (λ l. nonNeg (reducedCost S T l)) m n (λ i j hi hj. not-negative (reducedCost S T (entering S T)) (reducedCost S T (lane i j)) p (entering-least i j hi hj))) ∙ unfinished))
+
+    pub entering-below : costs S (entering S T .row) (entering S T .col) ≺ rowPotential S T (entering S T .row) ⊕ columnPotential S T (entering S T .col)
+    entering-below = omega (arith, reduced-parts S T (entering S T .row) (entering S T .col), ltZ-true (reducedCost S T (entering S T)) (pos 0) entering-negative)
+
+    -- On basic lanes it is 0.
+    pub entering-new : Belongs S T → ¬ Basic T (entering S T .row) (entering S T .col)
+    entering-new w b = omega (arith, entering-below, prices-tight ok w (entering S T .row) (entering S T .col) b)

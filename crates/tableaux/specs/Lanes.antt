@@ -1,0 +1,109 @@
+-- Lanes: those in a list, whether two are the same, and an amount on one lane alone.
+use mathlib.Core.Path.{_≡_, refl, ap, sym, _∙_}
+use mathlib.Core.Logic.{_↔_, _≢_, ⊎-elim, by-cases}
+use mathlib.Core.Bool.{Bool, true, false, true≢false}
+use mathlib.Core.List.{List, [], _∷_, map, Memᴰ·cast, List·Memᴰ, List·Memᴰ·head, List·Memᴰ·tail, List·Memᴰ·not-nil, List·Memᴰ·cases-cons}
+use Prim.Native.Nat.{ℕ, _<_}
+use native.Mathlib.Omega.{arith}
+use native.Mathlib.Decide.{ℕ-discrete}
+use borrow.Author.Tests.{eq-eqb, eqb-true}
+use lib.Dec.{eqb}
+use Rattle.integers.specs.Integer.{Z, _≈_, _⊗_, nat}
+use Rattle.integers.specs.Sum.{sum, point}
+use Rattle.integers.specs.SumLaws.{sum-cong, sum-point, point-at, point-off}
+use Rattle.transport.specs.ListLaws.{member-at, member-place, member-map, map-member, and-left, and-right}
+use Rattle.transport.specs.Sheet.{Lane}
+use Rattle.transport.specs.SheetLaws.{lane}
+use Rattle.transport.specs.declared.Cell.{Cell}
+use Rattle.transport.specs.Tableau.{noCell, laneOf, basisOf, sameLane}
+use Rattle.transport.specs.Statements.{Basic}
+use Rattle.tableaux.specs.View.{point-one}
+
+-- ---- lanes of a list
+
+-- The lane of row i and column j is in the list.
+abbrev pub Has : List Lane → ℕ → ℕ → Type 0
+Has B i j = List·Memᴰ (lane i j) B
+
+-- Every lane is inside the sheet.
+abbrev pub Fits : ℕ → ℕ → List Lane → Type 0
+Fits m n B = (l : Lane) → List·Memᴰ l B → (l .row < m) × (l .col < n)
+
+-- The cells of a tableau stand on the lanes of its basis.
+pub has-basic : (T : List Cell) (i j : ℕ) → Has (basisOf T) i j ↔ Basic T i j
+unfolding basisOf laneOf
+has-basic T i j = (to, from)
+  where
+    to : Has (map laneOf T) i j → Basic T i j
+    to h =
+        let (c, m, e) = map-member laneOf T h in
+        let (k, p, q) = member-place noCell m in
+        record {
+          index = k;
+          below = p;
+          row = cc (ap (λ (d : Cell). d .row) q, ap (λ (l : Lane). l .row) e);
+          column = cc (ap (λ (d : Cell). d .col) q, ap (λ (l : Lane). l .col) e);
+        }
+
+    from : Basic T i j → Has (map laneOf T) i j
+    from b = Memᴰ·cast (λ t. lane (sym (b .row) t) (sym (b .column) t)) (member-map laneOf (member-at T noCell (b .index) (b .below)))
+
+-- ---- the same lane
+
+same-lane : (k l : Lane) → sameLane k l ≡ true → k ≡ l
+unfolding sameLane
+same-lane k l e =
+    let p : k .row ≡ l .row = eqb-true (k .row) (l .row) (and-left (eqb (k .row) (l .row)) (eqb (k .col) (l .col)) e) in
+    let q : k .col ≡ l .col = eqb-true (k .col) (l .col) (and-right (eqb (k .row) (l .row)) (eqb (k .col) (l .col)) e) in
+    λ t. lane (p t) (q t)
+
+pub lane-same : (l : Lane) → sameLane l l ≡ true
+unfolding sameLane
+lane-same l = rw (eq-eqb (l .row) (l .row) refl, eq-eqb (l .col) (l .col) refl)
+
+pub lane-other : (k l : Lane) → k ≢ l → sameLane k l ≡ false
+lane-other k l d = go (sameLane k l) refl
+  where
+    go : (b : Bool) → sameLane k l ≡ b → sameLane k l ≡ false
+    go true e = absurd (d (same-lane k l e))
+    go false e = e
+
+pub lane-dec : (k l : Lane) → Dec (k ≡ l)
+lane-dec k l = go (sameLane k l) refl
+  where
+    go : (b : Bool) → sameLane k l ≡ b → Dec (k ≡ l)
+    go true e = yes (same-lane k l e)
+    go false e = no (λ q. true≢false (sym (lane-same l) ∙ ap (λ (v : Lane). sameLane v l) (sym q) ∙ e))
+
+pub member-dec : (l : Lane) (ls : List Lane) → Dec (List·Memᴰ l ls)
+member-dec l [] = no List·Memᴰ·not-nil
+member-dec l (k ∷ ls) = by-cases (lane-dec l k) (λ e. yes (List·Memᴰ·head e)) (λ e. go e (member-dec l ls))
+  where
+    go : l ≢ k → Dec (List·Memᴰ l ls) → Dec (List·Memᴰ l (k ∷ ls))
+    go e (yes h) = yes (List·Memᴰ·tail h)
+    go e (no d) = no (λ h. ⊎-elim e d (List·Memᴰ·cases-cons h))
+
+-- ---- an amount on one lane
+
+abbrev pub on-lane : Lane → Z → ℕ → ℕ → Z
+on-lane l v i j = point (l .row) (nat 1) i ⊗ point (l .col) v j
+
+module _ (l : Lane) (v : Z) where
+  pub on-lane-at : on-lane l v (l .row) (l .col) ≈ v
+  on-lane-at = rw (point-at (l .row) (nat 1), point-at (l .col) v) (omega arith)
+
+  pub on-lane-off : (i j : ℕ) → lane i j ≢ l → on-lane l v i j ≈ nat 0
+  on-lane-off i j d = by-cases (ℕ-discrete i (l .row))
+      (λ e. rw (point-off (l .col) v j (λ f. d (λ t. lane (e t) (f t)))) (omega arith))
+      (λ e. rw (point-off (l .row) (nat 1) i e) (omega arith))
+
+  -- its row's and its column's sum
+  pub on-lane-row : (n : ℕ) → l .col < n → (i : ℕ) → sum n (on-lane l v i) ≈ point (l .row) v i
+  on-lane-row n h i = omega (arith, sum-point n (λ j. point (l .row) (nat 1) i) (l .col) v h, point-one (l .row) v i)
+
+  pub on-lane-column : (m : ℕ) → l .row < m → (j : ℕ) → sum m (λ i. on-lane l v i j) ≈ point (l .col) v j
+  on-lane-column m h j = omega (
+    arith,
+    sum-cong m (λ i. on-lane l v i j) (λ i. point (l .col) v j ⊗ point (l .row) (nat 1) i) (λ i q. omega arith),
+    sum-point m (λ i. point (l .col) v j) (l .row) (nat 1) h,
+  )

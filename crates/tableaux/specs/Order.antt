@@ -1,0 +1,176 @@
+-- Cells in sheet order, said of members instead of indices: each cell stands before all that come after it in the list.
+use mathlib.Core.Path.{_≡_, refl, ap, sym, _∙_}
+use mathlib.Core.Logic.{_⊎_, inl, inr, ⊎-elim, Dec·and}
+use mathlib.Core.Bool.{Bool, true, false, cond}
+use mathlib.Core.List.{List, [], _∷_, map, List·Memᴰ, List·Memᴰ·head, List·Memᴰ·tail, List·Memᴰ·not-nil, List·Memᴰ·cases-cons}
+use Prim.Native.Nat.{ℕ, zero, suc, _<_}
+use native.Mathlib.Omega.{arith}
+use native.Mathlib.Decide.{ℕ-discrete}
+use borrow.Author.Tests.{ltb-true, ltb-false}
+use lib.Dec.{ltb}
+use lib.ListN.{length, getD}
+use Rattle.transport.specs.Lists.{keep}
+use Rattle.transport.specs.ListLaws.{member-at, member-place, map-member, keep-member}
+use Rattle.transport.specs.Sheet.{place}
+use Rattle.transport.specs.declared.Cell.{Cell}
+use Rattle.transport.specs.Tableau.{noCell}
+use Rattle.transport.specs.Round.{insert}
+use Rattle.transport.specs.Statements.{Basic}
+use Rattle.tableaux.specs.View.{rowOf, colOf, Distinct, amountAt, amount-at}
+
+-- ---- members and basic lanes
+
+pub basic-member : {c : Cell} {T : List Cell} → List·Memᴰ c T → Basic T (c .row) (c .col)
+basic-member m = let (k, l, e) = member-place noCell m in record { index = k; below = l; row = ap (λ c. c .row) e; column = ap (λ c. c .col) e }
+
+-- The cell of a basic lane.
+pub record CellAt (T : List Cell) (i j : ℕ) : Type 0 where
+  pub cell : Cell
+  pub member : List·Memᴰ cell T
+  pub row : cell .row ≡ i
+  pub col : cell .col ≡ j
+
+pub cell-at : {T : List Cell} {i j : ℕ} → Basic T i j → CellAt T i j
+cell-at {T} b = record { cell = getD T (b .index) noCell; member = member-at T noCell (b .index) (b .below); row = b .row; col = b .column }
+
+pub basic-dec : (T : List Cell) (i j : ℕ) → Dec (Basic T i j)
+basic-dec [] i j = no (λ b. omega (arith, b .below))
+basic-dec (c ∷ cs) i j = go (Dec·and (ℕ-discrete (c .row) i) (ℕ-discrete (c .col) j)) (basic-dec cs i j)
+  where
+    go : Dec ((c .row ≡ i) × (c .col ≡ j)) → Dec (Basic cs i j) → Dec (Basic (c ∷ cs) i j)
+    go (yes e) d = yes (record { index = 0; below = omega arith; row = e .0; column = e .1 })
+    go (no e) (yes b) = yes (record { index = suc (b .index); below = omega (arith, b .below); row = b .row; column = b .column })
+    go (no e) (no d) = no (λ b. back (cell-at b))
+      where
+        back : CellAt (c ∷ cs) i j → ⊥
+        back x = ⊎-elim
+            (λ s. e (ap (λ y. y .row) (sym s) ∙ x .row, ap (λ y. y .col) (sym s) ∙ x .col))
+            (λ k. d (at (x .cell) k (x .row) (x .col)))
+            (List·Memᴰ·cases-cons (x .member))
+          where
+            at : (y : Cell) → List·Memᴰ y cs → y .row ≡ i → y .col ≡ j → Basic cs i j
+            at y k p q = rw (← p, ← q) (basic-member k)
+
+pub amount-member : {c : Cell} {T : List Cell} → Distinct T → List·Memᴰ c T → amountAt T (c .row) (c .col) ≡ c .amount
+amount-member {c} {T} d m =
+    let (k, l, e) = member-place noCell m in
+    ap (λ x. amountAt T (x .row) (x .col)) (sym e) ∙ amount-at T d k l ∙ ap (λ x. x .amount) e
+
+-- ---- order
+
+abbrev pub placeOf : ℕ → Cell → ℕ
+placeOf n c = place n (c .row) (c .col)
+
+-- Every cell of the list stands after place p.
+abbrev pub After : ℕ → ℕ → List Cell → Type 0
+After n p T = (c : Cell) → List·Memᴰ c T → p < placeOf n c
+
+abbrev pub Ordered : ℕ → List Cell → Type 0
+Ordered n [] = Unit {0}
+Ordered n (c ∷ cs) = After n (placeOf n c) cs × Ordered n cs
+
+module _ (n : ℕ) where
+  -- The two ways to say it agree.
+  pub ordered-by : (T : List Cell) → ((k : ℕ) → suc k < length T → placeOf n (getD T k noCell) < placeOf n (getD T (suc k) noCell)) → Ordered n T
+  ordered-by [] h = tt
+  ordered-by (c ∷ []) h = ((λ d m. absurd (List·Memᴰ·not-nil m)), tt)
+  ordered-by (c ∷ d ∷ ds) h = go (ordered-by (d ∷ ds) (λ k l. h (suc k) (omega arith)))
+    where
+      go : Ordered n (d ∷ ds) → Ordered n (c ∷ d ∷ ds)
+      go (later, rest) = (after, (later, rest))
+        where
+          after : After n (placeOf n c) (d ∷ ds)
+          after x m = ⊎-elim (λ e. rw e (h 0 (omega arith))) (λ k. omega (arith, h 0 (omega arith), later x k)) (List·Memᴰ·cases-cons m)
+
+  pub ordered-at : (T : List Cell) → Ordered n T → (k : ℕ) → suc k < length T → placeOf n (getD T k noCell) < placeOf n (getD T (suc k) noCell)
+  ordered-at [] o k l = absurd (omega arith)
+  ordered-at (c ∷ cs) (after, o) zero l = after (getD cs 0 noCell) (member-at cs noCell 0 (omega arith))
+  ordered-at (c ∷ cs) (after, o) (suc k) l = ordered-at cs o k (omega arith)
+
+  apart : (c : Cell) (cs : List Cell) → After n (placeOf n c) cs → (l : ℕ) → l < length cs → c .row ≡ rowOf cs l → c .col ≡ colOf cs l → ⊥
+  apart c cs after l hl e f =
+      let s : placeOf n c ≡ placeOf n (getD cs l noCell) = rw (e, f) in
+      omega (arith, after (getD cs l noCell) (member-at cs noCell l hl))
+
+  pub ordered-distinct : (T : List Cell) → Ordered n T → Distinct T
+  ordered-distinct [] o k l hk hl e f = absurd (omega arith)
+  ordered-distinct (c ∷ cs) (after, o) zero zero hk hl e f = refl
+  ordered-distinct (c ∷ cs) (after, o) zero (suc l) hk hl e f = absurd (apart c cs after l (omega arith) e f)
+  ordered-distinct (c ∷ cs) (after, o) (suc k) zero hk hl e f = absurd (apart c cs after k (omega arith) (sym e) (sym f))
+  ordered-distinct (c ∷ cs) (after, o) (suc k) (suc l) hk hl e f = ap suc (ordered-distinct cs o k l (omega arith) (omega arith) e f)
+
+  pub ordered-keep : (p : Cell → Bool) (T : List Cell) → Ordered n T → Ordered n (keep p T)
+  unfolding keep
+  ordered-keep p [] o = tt
+  ordered-keep p (c ∷ cs) (after, o) = go (p c) (ordered-keep p cs o)
+    where
+      go : (b : Bool) → Ordered n (keep p cs) → Ordered n (cond b (c ∷ keep p cs) (keep p cs))
+      go true o′ = ((λ d m. after d (keep-member p cs m .0)), o′)
+      go false o′ = o′
+
+  pub ordered-map : (f : Cell → Cell) → ((c : Cell) → placeOf n (f c) ≡ placeOf n c) → (T : List Cell) → Ordered n T → Ordered n (map f T)
+  ordered-map f same [] o = tt
+  ordered-map f same (c ∷ cs) (after, o) = (later, ordered-map f same cs o)
+    where
+      later : After n (placeOf n (f c)) (map f cs)
+      later y m = let (x, k, e) = map-member f cs m in rw e (omega (arith, same c, same x, after x k))
+
+  -- ---- a cell put into its place
+
+  pub insert-here : (c : Cell) (T : List Cell) → List·Memᴰ c (insert n c T)
+  unfolding insert
+  insert-here c [] = List·Memᴰ·head refl
+  insert-here c (d ∷ ds) = go (ltb (placeOf n c) (placeOf n d)) (insert-here c ds)
+    where
+      go : (b : Bool) → List·Memᴰ c (insert n c ds) → List·Memᴰ c (cond b (c ∷ d ∷ ds) (d ∷ insert n c ds))
+      go true m = List·Memᴰ·head refl
+      go false m = List·Memᴰ·tail m
+
+  pub insert-keeps : (c : Cell) {x : Cell} (T : List Cell) → List·Memᴰ x T → List·Memᴰ x (insert n c T)
+  unfolding insert
+  insert-keeps c [] m = absurd (List·Memᴰ·not-nil m)
+  insert-keeps c {x} (d ∷ ds) m = go (ltb (placeOf n c) (placeOf n d)) (insert-keeps c ds) (List·Memᴰ·cases-cons m)
+    where
+      go : (b : Bool) → (List·Memᴰ x ds → List·Memᴰ x (insert n c ds)) → (x ≡ d) ⊎ List·Memᴰ x ds → List·Memᴰ x (cond b (c ∷ d ∷ ds) (d ∷ insert n c ds))
+      go true rest k = List·Memᴰ·tail m
+      go false rest (inl e) = List·Memᴰ·head e
+      go false rest (inr k) = List·Memᴰ·tail (rest k)
+
+  pub insert-member : (c : Cell) {x : Cell} (T : List Cell) → List·Memᴰ x (insert n c T) → (x ≡ c) ⊎ List·Memᴰ x T
+  unfolding insert
+  insert-member c [] m = List·Memᴰ·cases-cons m
+  insert-member c {x} (d ∷ ds) m = go (ltb (placeOf n c) (placeOf n d)) (insert-member c ds) m
+    where
+      step : (List·Memᴰ x (insert n c ds) → (x ≡ c) ⊎ List·Memᴰ x ds) → (x ≡ d) ⊎ List·Memᴰ x (insert n c ds) → (x ≡ c) ⊎ List·Memᴰ x (d ∷ ds)
+      step rest (inl e) = inr (List·Memᴰ·head e)
+      step rest (inr k) = ⊎-elim inl (λ l. inr (List·Memᴰ·tail l)) (rest k)
+
+      go : (b : Bool) → (List·Memᴰ x (insert n c ds) → (x ≡ c) ⊎ List·Memᴰ x ds) → List·Memᴰ x (cond b (c ∷ d ∷ ds) (d ∷ insert n c ds)) → (x ≡ c) ⊎ List·Memᴰ x (d ∷ ds)
+      go true rest m = List·Memᴰ·cases-cons m
+      go false rest m = step rest (List·Memᴰ·cases-cons m)
+
+  pub length-insert : (c : Cell) (T : List Cell) → length (insert n c T) ≡ suc (length T)
+  unfolding insert
+  length-insert c [] = refl
+  length-insert c (d ∷ ds) = go (ltb (placeOf n c) (placeOf n d)) (length-insert c ds)
+    where
+      go : (b : Bool) → length (insert n c ds) ≡ suc (length ds) → length (cond b (c ∷ d ∷ ds) (d ∷ insert n c ds)) ≡ suc (suc (length ds))
+      go true e = refl
+      go false e = omega arith
+
+  -- It keeps the order, where its place is free.
+  pub ordered-insert : (c : Cell) (T : List Cell) → ((d : Cell) → List·Memᴰ d T → ¬ (placeOf n d ≡ placeOf n c)) → Ordered n T → Ordered n (insert n c T)
+  unfolding insert
+  ordered-insert c [] free o = ((λ d m. absurd (List·Memᴰ·not-nil m)), tt)
+  ordered-insert c (d ∷ ds) free (after, o) =
+      go (ltb (placeOf n c) (placeOf n d)) refl (ordered-insert c ds (λ x m. free x (List·Memᴰ·tail m)) o)
+    where
+      go : (b : Bool) → ltb (placeOf n c) (placeOf n d) ≡ b → Ordered n (insert n c ds) → Ordered n (cond b (c ∷ d ∷ ds) (d ∷ insert n c ds))
+      go true e o′ = (before, (after, o))
+        where
+          before : After n (placeOf n c) (d ∷ ds)
+          before x m = ⊎-elim (λ q. rw q (ltb-true (placeOf n c) (placeOf n d) e)) (λ k. omega (arith, ltb-true (placeOf n c) (placeOf n d) e, after x k)) (List·Memᴰ·cases-cons m)
+      go false e o′ = (behind, o′)
+        where
+          behind : After n (placeOf n d) (insert n c ds)
+          behind x m = ⊎-elim (λ q. rw q (omega (arith, ltb-false (placeOf n c) (placeOf n d) e, free d (List·Memᴰ·head refl)))) (λ k. after x k) (insert-member c ds m)

@@ -1,0 +1,147 @@
+-- Pairs over the integers of the theory: their parts, their sums and differences, and their order as `PairLess`; and those of paired supplies and demands.
+use Prim.Native.Nat.{ℕ, suc, _-_, _<_}
+use native.Mathlib.Omega.{arith}
+use native.Mathlib.Decide.{ℕ-discrete}
+use mathlib.Core.Path.{_≡_, refl, ap, sym, _∙_}
+use mathlib.Core.Logic.{_⊎_, inl, inr, ⊎-elim, by-cases}
+use mathlib.Core.Bool.{true, false, true≢false}
+use borrow.Author.Tests.{ltb-true, ltb-false, lt-ltb, eq-eqb, ne-eqb}
+use lib.IntN.{ℤ, pos, negsuc}
+use lib.Signed.{ltZ}
+use Rattle.integers.specs.Integer.{Z, _≈_, _≼_, _≺_, _⊕_, _⊖_, nat}
+use Rattle.integers.specs.Bridge.{toZ, z-eq, eq-z, z-add, z-ev, !, _-'_}
+use Rattle.integers.specs.Sum.{point}
+use Rattle.integers.specs.SumLaws.{point-at, point-off}
+use Rattle.network.specs.Pivot.{PairLess}
+use Rattle.transport.specs.Lists.{at}
+use Rattle.transport.specs.Sheet.{Sheet, sources, sinks}
+use Rattle.transport.specs.declared.Pair.{Pair}
+use Rattle.transport.specs.Amount.{nothing, add, subtract, less, pairedSupply, pairedDemand}
+use Rattle.transport.specs.AmountLaws.{less-q, less-e, less-no, Compared, fewer, equal, more, compared}
+
+-- ---- parts
+
+abbrev pub bags : Pair → Z
+bags a = toZ (a .q)
+
+abbrev pub marks : Pair → Z
+marks a = toZ (a .e)
+
+pub pair-eq : (a b : Pair) → bags a ≈ bags b → marks a ≈ marks b → a ≡ b
+pair-eq a b p r =
+    let s : a .q ≡ b .q = eq-z (a .q) (b .q) p in
+    let t : a .e ≡ b .e = eq-z (a .e) (b .e) r in
+    λ i. record { q = s i; e = t i }
+
+pub nothing-parts : (bags nothing ≈ nat 0) × (marks nothing ≈ nat 0)
+unfolding nothing
+nothing-parts = omega arith
+
+pub add-parts : (a b : Pair) → (bags (add a b) ≈ bags a ⊕ bags b) × (marks (add a b) ≈ marks a ⊕ marks b)
+unfolding add
+add-parts a b = (z-add (a .q) (b .q), z-add (a .e) (b .e))
+
+pub subtract-parts : (a b : Pair) → (bags (subtract a b) ≈ bags a ⊖ bags b) × (marks (subtract a b) ≈ marks a ⊖ marks b)
+unfolding subtract
+subtract-parts a b = (z-ev (! (a .q) -' ! (b .q)), z-ev (! (a .e) -' ! (b .e)))
+
+-- ---- sums and differences
+
+pub add-nothing : (a : Pair) → add a nothing ≡ a
+add-nothing a = pair-eq (add a nothing) a (omega (arith, add-parts a nothing, nothing-parts)) (omega (arith, add-parts a nothing, nothing-parts))
+
+pub add-subtract : (a b : Pair) → add a (subtract b a) ≡ b
+add-subtract a b =
+    pair-eq (add a (subtract b a)) b
+    (omega (arith, add-parts a (subtract b a), subtract-parts b a))
+    (omega (arith, add-parts a (subtract b a), subtract-parts b a))
+
+pub subtract-self : (a : Pair) → subtract a a ≡ nothing
+subtract-self a = pair-eq (subtract a a) nothing (omega (arith, subtract-parts a a, nothing-parts)) (omega (arith, subtract-parts a a, nothing-parts))
+
+pub subtract-nothing : (a b : Pair) → subtract a b ≡ nothing → a ≡ b
+subtract-nothing a b e =
+    let p : bags (subtract a b) ≈ bags nothing = z-eq (ap (λ (x : Pair). x .q) e) in
+    let r : marks (subtract a b) ≈ marks nothing = z-eq (ap (λ (x : Pair). x .e) e) in
+    pair-eq a b (omega (arith, subtract-parts a b, nothing-parts)) (omega (arith, subtract-parts a b, nothing-parts))
+
+-- ---- order
+
+pub ltZ-true : (x y : ℤ) → ltZ x y ≡ true → toZ x ≺ toZ y
+ltZ-true (pos a) (pos b) e = omega (arith, ltb-true a b e)
+ltZ-true (pos a) (negsuc b) e = absurd (true≢false (sym e))
+ltZ-true (negsuc a) (pos b) e = omega arith
+ltZ-true (negsuc a) (negsuc b) e = omega (arith, ltb-true b a e)
+
+pub ltZ-false : (x y : ℤ) → ltZ x y ≡ false → toZ y ≼ toZ x
+ltZ-false (pos a) (pos b) e = omega (arith, ltb-false a b e)
+ltZ-false (pos a) (negsuc b) e = omega arith
+ltZ-false (negsuc a) (pos b) e = absurd (true≢false e)
+ltZ-false (negsuc a) (negsuc b) e = omega (arith, ltb-false b a e)
+
+pub true-ltZ : (x y : ℤ) → toZ x ≺ toZ y → ltZ x y ≡ true
+true-ltZ (pos a) (pos b) l = lt-ltb a b (omega arith)
+true-ltZ (pos a) (negsuc b) l = absurd (omega arith)
+true-ltZ (negsuc a) (pos b) l = refl
+true-ltZ (negsuc a) (negsuc b) l = lt-ltb b a (omega arith)
+
+-- By bags first, then by marks.
+abbrev pub Less : Pair → Pair → Type 0
+Less a b = PairLess (bags a) (marks a) (bags b) (marks b)
+
+abbrev pub AtMost : Pair → Pair → Type 0
+AtMost a b = (bags a ≺ bags b) ⊎ ((bags a ≈ bags b) × (marks a ≼ marks b))
+
+pub less-true : (a b : Pair) → less a b ≡ true → Less a b
+less-true a b p = go (compared (a .q) (b .q))
+  where
+    go : Compared (a .q) (b .q) → Less a b
+    go (fewer s) = inl (ltZ-true (a .q) (b .q) s)
+    go (equal s) = inr (z-eq s, ltZ-true (a .e) (b .e) (sym (less-e a b s) ∙ p))
+    go (more s) = absurd (true≢false (sym p ∙ less-no a b s))
+
+pub less-false : (a b : Pair) → less a b ≡ false → AtMost b a
+less-false a b p = go (compared (a .q) (b .q))
+  where
+    go : Compared (a .q) (b .q) → AtMost b a
+    go (fewer s) = absurd (true≢false (sym (less-q a b s) ∙ p))
+    go (equal s) = inr (z-eq (sym s), ltZ-false (a .e) (b .e) (sym (less-e a b s) ∙ p))
+    go (more s) = inl (ltZ-true (b .q) (a .q) s)
+
+pub true-less : (a b : Pair) → Less a b → less a b ≡ true
+true-less a b (inl s) = less-q a b (true-ltZ (a .q) (b .q) s)
+true-less a b (inr s) = less-e a b (eq-z (a .q) (b .q) (s .0)) ∙ true-ltZ (a .e) (b .e) (s .1)
+
+-- What is left of a greater pair is above (0, 0).
+pub subtract-above : (a b : Pair) → less a b ≡ true → less nothing (subtract b a) ≡ true
+subtract-above a b p =
+    true-less nothing (subtract b a)
+    (⊎-elim
+    (λ s. inl (omega (arith, subtract-parts b a, nothing-parts)))
+    (λ s. inr (omega (arith, subtract-parts b a, nothing-parts)))
+    (less-true a b p))
+
+-- ---- paired supplies and demands
+
+pub pairedSupply-parts : (S : Sheet) (i : ℕ) → (bags (pairedSupply S i) ≈ nat (at (S .supply) i)) × (marks (pairedSupply S i) ≈ nat 1)
+unfolding pairedSupply
+pairedSupply-parts S i = omega arith
+
+pub pairedDemand-bags : (S : Sheet) (j : ℕ) → bags (pairedDemand S j) ≈ nat (at (S .demand) j)
+unfolding pairedDemand
+pairedDemand-bags S j = omega arith
+
+pub pairedDemand-last : (S : Sheet) (j : ℕ) → suc j ≡ sinks S → marks (pairedDemand S j) ≈ nat (sources S)
+unfolding pairedDemand
+pairedDemand-last S j e = rw (eq-eqb j (sinks S - 1) (omega arith)) (omega arith)
+
+pub pairedDemand-early : (S : Sheet) (j : ℕ) → suc j < sinks S → marks (pairedDemand S j) ≈ nat 0
+unfolding pairedDemand
+pairedDemand-early S j l = rw (ne-eqb j (sinks S - 1) (omega arith)) (omega arith)
+
+-- All marks go to the last sink.
+pub demand-marks : (S : Sheet) (j : ℕ) → point (sinks S - 1) (nat (sources S)) j ≈ marks (pairedDemand S j)
+unfolding pairedDemand
+demand-marks S j = by-cases (ℕ-discrete j (sinks S - 1))
+    (λ e. rw (e, point-at (sinks S - 1) (nat (sources S)), eq-eqb (sinks S - 1) (sinks S - 1) refl) (omega arith))
+    (λ e. rw (point-off (sinks S - 1) (nat (sources S)) j e, ne-eqb j (sinks S - 1) e) (omega arith))

@@ -1,0 +1,288 @@
+-- The pivot of a tableau that belongs to a sheet belongs to it: the abstract round, read off the lists.
+use mathlib.Core.Path.{_≡_, refl, ap, sym, _∙_, subst}
+use mathlib.Core.Logic.{inl, inr, Dec·and}
+use mathlib.Core.Bool.{true, false, true≢false}
+use mathlib.Core.List.{List, List·Memᴰ}
+use Prim.Native.Nat.{ℕ, zero, suc, _+_, _*_, _-_, _<_}
+use native.Mathlib.Omega.{arith}
+use native.Mathlib.Decide.{ℕ-discrete}
+use lib.IntN.{ℤ, pos, negsuc}
+use lib.Signed.{ltZ}
+use lib.ListN.{length, getD}
+use Rattle.integers.specs.Integer.{Z, _≈_, _≼_, _≺_, _⊕_, _⊖_, _⊗_, neg, nat, Within}
+use Rattle.integers.specs.IntegerLaws.{⊗-cong}
+use Rattle.integers.specs.Bridge.{toZ, z-eq}
+use Rattle.integers.specs.Sum.{point}
+use Rattle.integers.specs.SumLaws.{sum₂-cong}
+use Rattle.network.specs.Flow.{Flow, Tight, cost}
+use Rattle.network.specs.FlowLaws.{on-zero}
+use Rattle.network.specs.Basis.{In, in-cells, Replaces, unit}
+use Rattle.network.specs.Pivot.{loop, loop-at, loop-off, lowers, value, valued}
+use Rattle.network.specs.Round.{Tableau, Choice, after, some-minus, tableau-cong, value-above, round-cost, round, no-tie}
+use Rattle.transport.specs.Lists.{at}
+use Rattle.transport.specs.ListLaws.{member-at, member-place}
+use Rattle.transport.specs.Sheet.{Sheet, sources, sinks, Lane}
+use Rattle.transport.specs.SheetLaws.{Checked, lane}
+use Rattle.transport.specs.declared.Pair.{Pair}
+use Rattle.transport.specs.declared.Cell.{Cell}
+use Rattle.transport.specs.Amount.{nothing, less}
+use Rattle.transport.specs.Tableau.{noCell, laneOf, basisSize}
+use Rattle.transport.specs.Round.{gain, pivot}
+use Rattle.transport.specs.Statements.{Basic, Belongs}
+use Rattle.tableaux.specs.View.{rowOf, colOf, basic-in, Inside, amountAt, amount-at, amount-none}
+use Rattle.tableaux.specs.PairLaws.{bags, marks, nothing-parts, add-parts, subtract-parts, true-less, ltZ-true, true-ltZ}
+use Rattle.tableaux.specs.PlanView.{supplies, demands}
+use Rattle.tableaux.specs.Belonging.{distinct-of, signs-flow}
+use Rattle.tableaux.specs.Order.{Ordered, ordered-by, basic-member, basic-dec, amount-member}
+use Rattle.tableaux.specs.TableauView.{bagsAt, marksAt, Seen, cells-many, seen-belongs, belongs-seen}
+use Rattle.tableaux.specs.PivotView.{Stands, stands-dec, Leaves, leaving-is, signs, leaver, step, pivot-basic, pivot-ordered, length-pivot, pivot-inside, amount-enters, amount-stays, amount-leaves, amount-elsewhere}
+
+-- The loop's signs as integers of the theory.
+abbrev pub signAt : ℕ → ℕ → List Cell → Lane → ℕ → ℕ → Z
+signAt m n T e i j = toZ (signs m n T e (lane i j))
+
+-- The measure of rounds: the valued cost of the tableau.
+abbrev pub measure : Sheet → (ℕ → ℕ → Z) → List Cell → Z
+measure S c T = cost (sources S) (sinks S) c (valued (sources S) (bagsAt T) (marksAt T))
+
+measure-cong : (m n : ℕ) (c q e q₂ e₂ : ℕ → ℕ → Z) → ((i j : ℕ) → i < m → j < n → q i j ≈ q₂ i j) → ((i j : ℕ) → i < m → j < n → e i j ≈ e₂ i j)
+    → cost m n c (valued m q e) ≈ cost m n c (valued m q₂ e₂)
+measure-cong m n c q e q₂ e₂ h h′ = sum₂-cong m n (λ i j. valued m q e i j ⊗ c i j) (λ i j. valued m q₂ e₂ i j ⊗ c i j)
+    (λ i j hi hj. times (q i j) (e i j) (q₂ i j) (e₂ i j) (c i j) (h i j hi hj) (h′ i j hi hj))
+  where
+    times : (q e q₂ e₂ c : Z) → q ≈ q₂ → e ≈ e₂ → value m q e ⊗ c ≈ value m q₂ e₂ ⊗ c
+    times q e q₂ e₂ c h h′ = let same : value m q e ≈ value m q₂ e₂ = omega (arith, ⊗-cong (nat (2 * m + 1)) q q₂ h) in
+        omega (arith, ⊗-cong c (value m q e) (value m q₂ e₂) same)
+
+-- The value of the step.
+abbrev pub stepValue : ℕ → ℕ → List Cell → Lane → Z
+stepValue m n T e = value m (bags (step m n T e)) (marks (step m n T e))
+
+-- The pair y comes of x by the step θ, taken d times.
+abbrev pub Moves : Pair → Pair → Pair → Z → Type 0
+Moves y x θ d = (bags y ≈ bags x ⊕ bags θ ⊗ d) × (marks y ≈ marks x ⊕ marks θ ⊗ d)
+
+-- The step, added or taken away, is the step times the sign.
+gain-moves : (s : ℤ) (θ x : Pair) (d : Z) → Within 1 (toZ s) → d ≈ toZ s → Moves (gain s θ x) x θ d
+unfolding gain
+gain-moves s θ x d h e = go s h (⊗-cong (bags θ) d (toZ s) e) (⊗-cong (marks θ) d (toZ s) e)
+  where
+    go : (s : ℤ) → Within 1 (toZ s) → bags θ ⊗ d ≈ bags θ ⊗ toZ s → marks θ ⊗ d ≈ marks θ ⊗ toZ s → Moves (gain s θ x) x θ d
+    go (pos zero) h p q = omega arith
+    go (pos (suc zero)) h p q = omega (arith, add-parts x θ)
+    go (pos (suc (suc k))) h p q = absurd (omega arith)
+    go (negsuc zero) h p q = omega (arith, subtract-parts x θ)
+    go (negsuc (suc k)) h p q = absurd (omega arith)
+
+enters-moves : (θ : Pair) (d : Z) → d ≈ nat 1 → Moves θ nothing θ d
+enters-moves θ d e = omega (arith, nothing-parts, ⊗-cong (bags θ) d (nat 1) e, ⊗-cong (marks θ) d (nat 1) e)
+
+leaves-moves : (θ : Pair) (d : Z) → d ≈ neg (nat 1) → Moves nothing θ θ d
+leaves-moves θ d e = omega (arith, nothing-parts, ⊗-cong (bags θ) d (neg (nat 1)) e, ⊗-cong (marks θ) d (neg (nat 1)) e)
+
+empty-moves : (θ : Pair) (d : Z) → d ≈ nat 0 → Moves nothing nothing θ d
+empty-moves θ d e = omega (arith, nothing-parts, ⊗-cong (bags θ) d (nat 0) e, ⊗-cong (marks θ) d (nat 0) e)
+
+module _ {S : Sheet} (ok : Checked S) {T : List Cell} (w : Belongs S T) {e : Lane} (row : e .row < sources S) (col : e .col < sinks S)
+    (new : ¬ Basic T (e .row) (e .col)) where
+  -- m rows and n columns; the basic cells 0 to K; the signs; the leaving cell; the tableau after the pivot
+  abbrev m : ℕ
+  m = sources S
+
+  abbrev n : ℕ
+  n = sinks S
+
+  abbrev K : ℕ
+  K = sources S + sinks S - 2
+
+  abbrev σ : ℕ → ℕ → Z
+  σ = signAt (sources S) (sinks S) T e
+
+  abbrev out : Cell
+  out = leaver (sources S) (sinks S) T e
+
+  abbrev T′ : List Cell
+  T′ = pivot (sources S) (sinks S) T e
+
+  t : Seen S T
+  t = belongs-seen ok w
+
+  f : Flow m n (In (rowOf T) (colOf T) (suc K)) σ (point (e .row) (neg (nat 1))) (point (e .col) (neg (nat 1)))
+  f = signs-flow ok w e row col
+
+  many : suc K ≡ length T
+  many = cells-many ok T (w .count)
+
+  order : Ordered n T
+  order = ordered-by n T (w .order)
+
+  -- ---- the leaving cell
+
+  -- There is a minus cell, so there is a smallest one.
+  pub pivot-leaves : Leaves (signs (sources S) (sinks S) T e) T (leaver (sources S) (sinks S) T e)
+  unfolding laneOf
+  pivot-leaves =
+      let (k, l, s) = some-minus row f in
+      leaving-is (signs m n T e) T (member-at T noCell k (omega (arith, many))) (true-ltZ (signs m n T e (lane (rowOf T k) (colOf T k))) (pos 0) s)
+
+  -- It stands at index ℓ.
+  indexed : (ℓ : ℕ) × (ℓ < length T) × (getD T ℓ noCell ≡ out)
+  indexed = member-place noCell (pivot-leaves .member)
+
+  abbrev ℓ : ℕ
+  ℓ = indexed .0
+
+  at-out : amountAt T (rowOf T ℓ) (colOf T ℓ) ≡ out .amount
+  at-out = amount-at T (distinct-of ok w) ℓ (indexed .1) ∙ ap (λ c. c .amount) (indexed .2)
+
+  pub step-positive : less nothing (step (sources S) (sinks S) T e) ≡ true
+  step-positive = ap (λ c. less nothing (c .amount)) (sym (indexed .2)) ∙ w .above ℓ (indexed .1)
+
+  choice : Choice m n K (rowOf T) (colOf T) (bagsAt T) (marksAt T) (e .row) (e .col) σ ℓ
+  unfolding laneOf
+  choice = record {
+    row = row;
+    col = col;
+    off = λ i. new (basic-in T (suc K) (e .row) (e .col) many .1 i);
+    signs = f;
+    leaves = omega (arith, indexed .1, many);
+    minus = subst (λ (c : Cell). toZ (signs m n T e (lane (c .row) (c .col))) ≺ nat 0) (sym (indexed .2)) (ltZ-true (signs m n T e (laneOf out)) (pos 0) (pivot-leaves .minus));
+    least = λ k l s p. true≢false
+        (sym (true-less (getD T k noCell .amount) (out .amount) (rw (amount-at T (distinct-of ok w) k (omega (arith, many)), at-out) at p))
+        ∙ pivot-leaves .least (getD T k noCell) (member-at T noCell k (omega (arith, many))) (true-ltZ (signs m n T e (lane (rowOf T k) (colOf T k))) (pos 0) s));
+  }
+
+  -- ---- the cells after the pivot
+
+  length-after : length T′ ≡ basisSize m n
+  length-after = length-pivot order (w .onSheet) col new (pivot-leaves .member) ∙ w .count
+
+  many-after : suc K ≡ length T′
+  many-after = cells-many ok T′ length-after
+
+  inside-after : Inside m n T′
+  inside-after = pivot-inside order (w .onSheet) col new row
+
+  replaces : Replaces m n (In (rowOf T) (colOf T) (suc K)) (rowOf T ℓ) (colOf T ℓ) (In (rowOf T′) (colOf T′) (suc K)) (e .row) (e .col)
+  replaces = record {
+    keeps = λ i j hi hj s d. basic-in T′ (suc K) i j many-after .0 (pivot-basic m n T e i j .1 (inr (basic-in T (suc K) i j many .1 s, (λ r. d (r .0 ∙ ap (λ c. c .row) (sym (indexed .2)), r .1 ∙ ap (λ c. c .col) (sym (indexed .2)))))));
+    enters = basic-in T′ (suc K) (e .row) (e .col) many-after .0 (pivot-basic m n T e (e .row) (e .col) .1 (inl (refl, refl)));
+  }
+
+  -- ---- the amounts after the pivot
+
+  sign-unit : (i j : ℕ) → Basic T i j → Within 1 (σ i j)
+  sign-unit i j b = in-cells (λ i j. Within 1 (σ i j)) (unit (t .basis) row col f) (basic-in T (suc K) i j many .0 b)
+
+  off-basis : (i j : ℕ) → i < m → j < n → ¬ Basic T i j → σ i j ≈ nat 0
+  off-basis i j hi hj d = on-zero σ (f .on) i j hi hj (λ s. d (basic-in T (suc K) i j many .1 s))
+
+  abbrev round-loop : ℕ → ℕ → Z
+  round-loop = loop (signAt (sources S) (sinks S) T e) (e .row) (e .col)
+
+  out-basic : Basic T (out .row) (out .col)
+  out-basic = basic-member (pivot-leaves .member)
+
+  entering-moves : Moves (amountAt T′ (e .row) (e .col)) (amountAt T (e .row) (e .col)) (out .amount) (round-loop (e .row) (e .col))
+  entering-moves = rw (amount-enters order (w .onSheet) col new, amount-none T (e .row) (e .col) new)
+      (enters-moves (out .amount) (round-loop (e .row) (e .col)) (loop-at σ (e .row) (e .col) (off-basis (e .row) (e .col) row col new)))
+
+  leaving-moves : Moves (amountAt T′ (out .row) (out .col)) (amountAt T (out .row) (out .col)) (out .amount) (round-loop (out .row) (out .col))
+  unfolding laneOf
+  leaving-moves = rw (amount-leaves order (w .onSheet) col new (pivot-leaves .member), amount-member (distinct-of ok w) (pivot-leaves .member))
+      (leaves-moves (out .amount) (round-loop (out .row) (out .col)) (omega (
+        arith,
+        loop-off σ (e .row) (e .col) (out .row) (out .col) (λ s. new (rw (s .0, s .1) at out-basic)),
+        sign-unit (out .row) (out .col) out-basic,
+        ltZ-true (signs m n T e (lane (out .row) (out .col))) (pos 0) (pivot-leaves .minus),
+      )))
+
+  -- Every amount changes by the step times the loop.
+  pub pivot-moves : (i j : ℕ) → i < sources S → j < sinks S
+      → Moves (amountAt (pivot (sources S) (sinks S) T e) i j) (amountAt T i j) (step (sources S) (sinks S) T e) (loop (signAt (sources S) (sinks S) T e) (e .row) (e .col) i j)
+  pivot-moves i j hi hj = go (Dec·and (ℕ-discrete i (e .row)) (ℕ-discrete j (e .col))) (basic-dec T i j) (stands-dec out i j)
+    where
+      d : Z
+      d = round-loop i j
+
+      go : Dec ((i ≡ e .row) × (j ≡ e .col)) → Dec (Basic T i j) → Dec (Stands out i j) → Moves (amountAt T′ i j) (amountAt T i j) (out .amount) d
+      go (yes s) b o = rw (s .0, s .1) entering-moves
+      go (no s) (no b) o = rw (amount-elsewhere order (w .onSheet) col new i j b s, amount-none T i j b)
+          (empty-moves (out .amount) d (omega (arith, loop-off σ (e .row) (e .col) i j s, off-basis i j hi hj b)))
+      go (no s) (yes b) (yes o) = rw (o .0, o .1) leaving-moves
+      go (no s) (yes b) (no o) = rw (amount-stays order (w .onSheet) col new i j b o)
+          (gain-moves (signs m n T e (lane i j)) (out .amount) (amountAt T i j) d (sign-unit i j b) (loop-off σ (e .row) (e .col) i j s))
+
+  -- ---- the tableau after the pivot
+
+  hz : n - 1 < n
+  hz = omega (arith, ok .sinksLow)
+
+  wanted : (j : ℕ) → j < n → nat 0 ≺ demands S j
+  wanted j l = omega (arith, ok .demandLow j l)
+
+  round-after : Tableau m n K (rowOf T′) (colOf T′) (after (rowOf T) (colOf T) ℓ σ (e .row) (e .col) (bagsAt T)) (after (rowOf T) (colOf T) ℓ σ (e .row) (e .col) (marksAt T)) (supplies S) (demands S) (n - 1)
+  round-after = round hz wanted t choice (λ k l. inside-after k (omega (arith, many-after)) .0) (λ k l. inside-after k (omega (arith, many-after)) .1) replaces
+
+  bags-after : (i j : ℕ) → i < m → j < n → bagsAt T′ i j ≈ after (rowOf T) (colOf T) ℓ σ (e .row) (e .col) (bagsAt T) i j
+  bags-after i j hi hj = rw at-out (pivot-moves i j hi hj .0)
+
+  marks-after : (i j : ℕ) → i < m → j < n → marksAt T′ i j ≈ after (rowOf T) (colOf T) ℓ σ (e .row) (e .col) (marksAt T) i j
+  marks-after i j hi hj = rw at-out (pivot-moves i j hi hj .1)
+
+  pub pivot-seen : Seen S (pivot (sources S) (sinks S) T e)
+  pivot-seen = tableau-cong bags-after marks-after round-after
+
+  -- The pivot belongs to the sheet. Every amount changes by the step times the sign of its lane on the loop, so rows and columns add up as before; and a basis with
+  -- the step, its smallest minus pair, moved round the loop is a tableau again (network's `round`).
+  pub pivot-belongs : Belongs S (pivot (sources S) (sinks S) T e)
+  pivot-belongs = seen-belongs ok T′ length-after (pivot-ordered order (w .onSheet) col new) pivot-seen
+
+  -- Two minus cells never tie for the step: another one with it would be left with (0, 0).
+  pub pivot-no-tie : {c : Cell} → List·Memᴰ c T → ltZ (signs (sources S) (sinks S) T e (laneOf c)) (pos 0) ≡ true → c .amount ≡ step (sources S) (sinks S) T e
+      → c ≡ leaver (sources S) (sinks S) T e
+  unfolding laneOf
+  pivot-no-tie {c} mem minus same = go (member-place noCell mem)
+    where
+      go : (k : ℕ) × (k < length T) × (getD T k noCell ≡ c) → c ≡ out
+      go (k, l, s) = sym s ∙ ap (λ i. getD T i noCell) tie ∙ indexed .2
+        where
+          amounts : amountAt T (rowOf T k) (colOf T k) ≡ amountAt T (rowOf T ℓ) (colOf T ℓ)
+          amounts = amount-at T (distinct-of ok w) k l ∙ ap (λ x. x .amount) s ∙ same ∙ sym at-out
+
+          tie : k ≡ ℓ
+          tie = no-tie hz wanted t choice (λ k l. inside-after k (omega (arith, many-after)) .0) (λ k l. inside-after k (omega (arith, many-after)) .1) replaces
+              k (omega (arith, many)) (subst (λ (x : Cell). toZ (signs m n T e (lane (x .row) (x .col))) ≺ nat 0) (sym s) (ltZ-true (signs m n T e (laneOf c)) (pos 0) minus))
+              (z-eq (ap (λ x. x .q) amounts)) (z-eq (ap (λ x. x .e) amounts))
+
+  -- ---- the valued cost
+
+  at-step : valued m (bagsAt T) (marksAt T) (rowOf T ℓ) (colOf T ℓ) ≡ stepValue m n T e
+  at-step = ap (λ x. value m (bags x) (marks x)) at-out
+
+  pub stepValue-positive : nat 1 ≼ stepValue (sources S) (sinks S) T e
+  stepValue-positive = let h : nat 0 ≺ stepValue m n T e = subst (λ (x : Z). nat 0 ≺ x) at-step (value-above hz t ℓ (omega (arith, many, indexed .1))) in omega arith
+
+  -- The valued cost changes by the value of the step times the reduced cost of the entering lane.
+  pub pivot-measure : (c : ℕ → ℕ → Z) (u v : ℕ → Z) → ((i j : ℕ) → Basic T i j → Tight c u v i j)
+      → measure S c (pivot (sources S) (sinks S) T e) ≈ measure S c T ⊕ stepValue (sources S) (sinks S) T e ⊗ (c (e .row) (e .col) ⊖ u (e .row) ⊖ v (e .col))
+  pivot-measure c u v tight = omega (arith, same, change)
+    where
+      q′ : ℕ → ℕ → Z
+      q′ = after (rowOf T) (colOf T) ℓ σ (e .row) (e .col) (bagsAt T)
+
+      e′ : ℕ → ℕ → Z
+      e′ = after (rowOf T) (colOf T) ℓ σ (e .row) (e .col) (marksAt T)
+
+      same : measure S c T′ ≈ cost m n c (valued m q′ e′)
+      same = measure-cong m n c (bagsAt T′) (marksAt T′) q′ e′ bags-after marks-after
+
+      change : cost m n c (valued m q′ e′) ≈ measure S c T ⊕ stepValue (sources S) (sinks S) T e ⊗ (c (e .row) (e .col) ⊖ u (e .row) ⊖ v (e .col))
+      change = subst (λ (x : Z). cost m n c (valued m q′ e′) ≈ measure S c T ⊕ x ⊗ (c (e .row) (e .col) ⊖ u (e .row) ⊖ v (e .col))) at-step
+          (round-cost hz wanted t choice c u v (λ k l. tight (rowOf T k) (colOf T k) (record { index = k; below = omega (arith, many); row = refl; column = refl })))
+
+  -- So where that reduced cost is negative it falls by 1 or more, for the step's value is positive.
+  pub pivot-falls : (c : ℕ → ℕ → Z) (u v : ℕ → Z) → ((i j : ℕ) → Basic T i j → Tight c u v i j) → c (e .row) (e .col) ≺ u (e .row) ⊕ v (e .col)
+      → measure S c (pivot (sources S) (sinks S) T e) ⊕ nat 1 ≼ measure S c T
+  pivot-falls c u v tight h = let l : measure S c T′ ≺ measure S c T =
+      lowers (measure S c T) (measure S c T′) (stepValue m n T e) (c (e .row) (e .col) ⊖ u (e .row) ⊖ v (e .col)) (pivot-measure c u v tight) (omega (arith, stepValue-positive)) (omega arith) in omega arith

@@ -1,0 +1,67 @@
+-- The lengths of the three sections.
+use mathlib.Core.Path.{_≡_, refl, sym, ap, _∙_}
+use native.Mathlib.Omega.{arith}
+use mathlib.Core.List.{_++_}
+use lib.ListN.{length, length-append}
+use Rattle.transport.specs.Text.{bytes}
+use Rattle.sheet.specs.Check.{sheetOf}
+use Rattle.sheet.specs.Refusals.{sources-few, sinks-few, sinks-some, costs-few}
+use Rattle.text.specs.Lines.{supplySection, demandSection, costSection, length-section, sheet-sections}
+use borrow.Author.Needs.{needs}
+use Rattle.text.proofs.writer.text_len.Statement.{statement}
+use Rattle.text.proofs.writer.text_len.Tie as tie
+
+slice-aggregate-section-len : tie.Need-slice-aggregate-section-len
+slice-aggregate-section-len c = search needs
+
+section-len-requires : tie.Need-section-len-requires
+section-len-requires c κs =
+    let a = c .before .before .before .before .args in
+    let S = sheetOf (a .supply .now) (a .demand .now) (a .cost .now) in
+    omega (arith, sources-few S (c .before .before .before .before .pre))
+
+slice-aggregate-section-len-2 : tie.Need-slice-aggregate-section-len-2
+slice-aggregate-section-len-2 c = search needs
+
+section-len-requires-2 : tie.Need-section-len-requires-2
+section-len-requires-2 c κs =
+    let a = c .before .before .before .before .before .before .args in
+    let S = sheetOf (a .supply .now) (a .demand .now) (a .cost .now) in
+    omega (arith, sinks-few S (c .before .before .before .before .before .before .pre))
+
+add-result : tie.Need-add-result
+add-result c = search needs
+
+slice-aggregate-section-len-3 : tie.Need-slice-aggregate-section-len-3
+slice-aggregate-section-len-3 c = search needs
+
+section-len-requires-3 : tie.Need-section-len-requires-3
+section-len-requires-3 c κs =
+    let a = c .before .before .before .before .before .before .before .before .args in
+    let S = sheetOf (a .supply .now) (a .demand .now) (a .cost .now) in
+    (omega arith, costs-few S (c .before .before .before .before .before .before .before .before .pre))
+
+add-result-2 : tie.Need-add-result-2
+add-result-2 c = search needs
+
+returns : tie.Need-returns
+unfolding bytes
+returns c =
+    let a = c .before .before .before .before .before .before .before .before .before .args in
+    let S = sheetOf (a .supply .now) (a .demand .now) (a .cost .now) in
+    let p = c .before .before .before .before .before .before .before .before .before .pre in
+    omega (arith, ap length (sheet-sections S (sinks-some S p) (p .costLength)), length-append (supplySection S ++ demandSection S) (costSection S), length-append (supplySection S) (demandSection S), c .before .before .before .before .section-len .ensures .0, c .before .before .section-len2 .ensures .0, c .section-len3 .ensures .0, length-section (bytes "supply ") (length (a .supply .now)) 1 (a .supply .now), length-section (bytes "demand ") (length (a .demand .now)) 1 (a .demand .now), length-section (bytes "cost ") (length (a .supply .now)) (length (a .demand .now)) (a .cost .now))
+
+pub text-len-spec : {M : Type 1} → statement M
+text-len-spec =
+    tie.close
+    (tie.spec
+    slice-aggregate-section-len
+    section-len-requires
+    slice-aggregate-section-len-2
+    section-len-requires-2
+    add-result
+    slice-aggregate-section-len-3
+    section-len-requires-3
+    add-result-2
+    returns)
