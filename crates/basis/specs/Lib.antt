@@ -3,3 +3,4 @@ pub mod Layout
 pub mod PotentialLaws
 pub mod SignLaws
 pub mod StepLaws
+pub mod ScanLaws
