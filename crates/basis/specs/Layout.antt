@@ -1,13 +1,13 @@
 -- How a round's numbers lie in the flat arrays, and what the arrays stand for.
-use mathlib.Core.Path.{_≡_, refl, sym, ap, _∙_}
+use mathlib.Core.Path.{_≡_, refl, ap}
 use mathlib.Core.Bool.{Bool, true, false, cond}
 use mathlib.Core.List.{List, [], _∷_}
-use Prim.Native.Nat.{ℕ, suc, _+_, _*_, _/_, _%_, _<_, _≤_}
+use Prim.Native.Nat.{ℕ, zero, suc, _+_, _*_, _/_, _%_, _<_, _≤_}
 use native.Mathlib.Omega.{arith}
 use native.Mathlib.Nat.{div-add-mod'}
 use lib.IntN.{ℤ, pos}
 use lib.Dec.{eqb}
-use lib.ListN.{length, drop, getD, set, drop-of-length-le}
+use lib.ListN.{length, drop, getD, set, replicate, drop-of-length-le}
 use lib.Seq.{drop-cons, getD-set-same, getD-set-other}
 use borrow.Author.Tests.{eqb-true, eqb-false}
 use Rattle.transport.specs.Limits.{maxSide}
@@ -85,9 +85,16 @@ getD-set xs i k v d p = go (eqb k i) refl
     go true e = let s : k ≡ i = eqb-true k i e in rw s (getD-set-same xs i v d p)
     go false e = getD-set-other xs i k v d (eqb-false k i e)
 
--- Nodes and lanes are within the room.
+-- An array of one number, also past its end.
+pub getD-all : {A : Type 0} (n k : ℕ) (d : A) → getD (replicate n d) k d ≡ d
+getD-all zero k d = refl
+getD-all (suc n) zero d = refl
+getD-all (suc n) (suc k) d = getD-all n k d
+
+-- Nodes and lanes are within the room. (Of an array that is lent the logic knows no length: where one counts, contracts say it.)
 pub record Struck (leaf other lane : List ℕ) (count : ℕ) : Type 0 where
   pub few : count ≤ nodeRoom
+  pub laneLong : length lane ≡ nodeRoom
   pub leafIn : (k : ℕ) → k < count → getD leaf k 0 < nodeRoom
   pub otherIn : (k : ℕ) → k < count → getD other k 0 < nodeRoom
   pub laneIn : (k : ℕ) → k < count → getD lane k 0 < laneRoom

@@ -1,3 +1,4 @@
 pub mod Mask
 pub mod Layout
 pub mod PotentialLaws
+pub mod SignLaws

@@ -8,8 +8,8 @@ use mathlib.Core.Bool.{Bool, true, false, not, _&&_, _||_}
 use borrow.Author.Tests.{eqb-true, eqb-false}
 use mathlib.Core.Logic.{⊎-elim, _⊎_, inl, inr}
 use lib.Dec.{eqb}
-use lib.Bits.{bitAnd, bitOr, bitXor, differ, or-shr, or-step, and-shr, and-step, xor-shr, xor-step, and-mask}
-use native.Mathlib.Numerals.{one-add, add-one}
+use lib.Bits.{bitAnd, bitOr, bitXor, differ, or-shr, or-step, and-shr, and-step, xor-shr, xor-step}
+use native.Mathlib.Numerals.{one-add}
 use lib.Pow.{shr-shr, shl-shr, shl-exact, pow-lt, pow-add}
 use lib.Count.{trailing-le, onesIn, ones, ones-step, trailingZeros, under}
 use Rattle.transport.specs.Lists.{sumTo}

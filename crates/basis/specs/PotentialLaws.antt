@@ -1,13 +1,13 @@
 -- The laws of potentials by strikes: the step back through one strike, and a bound on their size.
-use Prim.Native.Nat.{ℕ, zero, suc, _+_, _*_, _-_, _<_, _≤_}
+use Prim.Native.Nat.{ℕ, suc, _+_, _*_, _-_, _<_, _≤_}
 use native.Mathlib.Omega.{arith}
 use native.Mathlib.Nat.{suc-mul, mul-le-mul-right}
-use mathlib.Core.Path.{_≡_, refl, sym, ap, _∙_}
+use mathlib.Core.Path.{_≡_, refl, ap, _∙_}
 use mathlib.Core.Bool.{Bool, true, false, cond}
 use mathlib.Core.List.{List, [], _∷_}
 use lib.Dec.{eqb}
 use lib.IntN.{ℤ, pos, natAbs, _-ℤ_}
-use lib.ListN.{length, drop, getD, set, length-drop}
+use lib.ListN.{length, getD, set, length-drop}
 use lib.Seq.{getD-drop}
 use Rattle.transport.specs.Sheet.{Lane}
 use Rattle.transport.specs.Leaf.{Strike}

@@ -1,6 +1,6 @@
 -- `basis::potential::potentials` meets its contract. The loop's invariant: each node has its potential by the strikes from number k on; the measure is k.
-use Prim.Native.Nat.{ℕ, suc, _+_, _-_, _*_, _≤_, _<_, _^_}
-use mathlib.Core.Path.{_≡_, refl, sym, ap, _∙_}
+use Prim.Native.Nat.{suc, _+_, _-_, _≤_, _<_, _^_}
+use mathlib.Core.Path.{_≡_, refl, _∙_}
 use native.Mathlib.Omega.{arith}
 use borrow.Author.Needs.{needs}
 use lib.ListN.{length, getD, getD-replicate, length-set}
@@ -96,7 +96,7 @@ loop-again c =
 
 returns : tie.Need-returns Inv-loop μ-loop
 unfolding Priced
-returns c = let e : c .before .loop .k ≡ 0 = omega arith in rw e at (c .before .loop .inv .2)
+returns c = let e : c .before .loop .k ≡ 0 = omega arith in (c .before .loop .inv .1, rw e at (c .before .loop .inv .2))
 
 pub potentials-spec : {M : Type 1} → statement M
 potentials-spec =
