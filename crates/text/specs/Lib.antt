@@ -3,3 +3,5 @@ pub mod Front
 pub mod Whole
 pub mod Lines
 pub mod WriteCall
+pub mod Reading
+pub mod LinesRead
