@@ -5,3 +5,5 @@ pub mod Lines
 pub mod WriteCall
 pub mod Reading
 pub mod LinesRead
+pub mod SheetRead
+pub mod ReadCall

@@ -34,6 +34,15 @@ abbrev pub valueOf : Taken → ℕ
 valueOf (Got value next) = value
 valueOf (Stuck place) = 0
 
+-- A value that was read is k.
+abbrev pub valueIs : ℕ → Taken → Type 0
+valueIs k (Got value next) = value ≡ k
+valueIs k (Stuck place) = Unit {0}
+
+pub value-le : (k : ℕ) (r : Taken) → valueIs k r → valueOf r ≤ k
+value-le k (Got value next) e = omega arith
+value-le k (Stuck place) e = omega arith
+
 -- ---- what comes next
 
 unfoldable pub byteNext : ℕ → List ℕ → Bool

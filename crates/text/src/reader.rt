@@ -4,13 +4,17 @@ ghost use mathlib.Core.List.{_++_};
 ghost use Prim.Native.Nat.{ℕ, _+_, _*_, _≤_, _<_};
 ghost use lib.ListN.{length, take, drop};
 ghost use Rattle.transport.specs.Text.{kindOf};
-ghost use Rattle.transport.specs.SheetText.{isDigit, word, moreDigits, number, side};
-ghost use Rattle.text.specs.Reading.{byteNext, digitNext, readingOf, placeOf, valueOf, always, endReading};
+ghost use Rattle.transport.specs.SheetText.{isDigit, word, moreDigits, number, side, sheetReader};
+ghost use Rattle.text.specs.Reading.{byteNext, digitNext, readingOf, placeOf, valueOf, valueIs, always, endReading};
 ghost use Rattle.text.specs.LinesRead.{readLines};
+ghost use Rattle.text.specs.SheetRead.{listReader, costReader};
+ghost use Rattle.text.specs.ReadCall.{sheetRead, readFits};
 use crate::Taken;
 use crate::lines;
+use crate::writer;
 use transport::ByteKind;
 use transport::MAX_SIDE;
+use transport::ReadAnswer;
 
 // The most digits that a number of a sheet text has.
 const MAX_DIGITS: usize = 7;
@@ -159,7 +163,7 @@ fn read_end(text: &[u8], number: Taken, end: u8) -> Taken
 // So many numbers, in lines of `width`, into the front of the list.
 fn read_lines(text: &[u8], at: usize, width: usize, count: usize, list: &mut [u64]) -> Taken
     requires { ⌜ (at ≤ length (now text)) × (1 ≤ width) × (count ≤ length (now list)) ⌝ }
-    ensures { λ r. ⌜ (readLines width width count (drop at (now (text .entry))) ≡ readingOf (now (text .entry)) (λ v. take v (now (list .exit))) r) × (placeOf r ≤ length (now (text .entry))) × (valueOf r ≤ count) ⌝ }
+    ensures { λ r. ⌜ (readLines width width count (drop at (now (text .entry))) ≡ readingOf (now (text .entry)) (λ v. take v (now (list .exit))) r) × (placeOf r ≤ length (now (text .entry))) × (valueIs count r) ⌝ }
 {
     let mut next = at;
     let mut left = width;
@@ -178,4 +182,82 @@ fn read_lines(text: &[u8], at: usize, width: usize, count: usize, list: &mut [u6
         value: count as u64,
         next,
     }
+}
+
+// A section of one list: its name, with the space after it, its count, and so many lines of one number. The value is the count.
+fn read_list(text: &[u8], at: usize, name: &[u8], list: &mut [u64]) -> Taken
+    requires { ⌜ (at ≤ length (now text)) × (32 ≤ length (now list)) ⌝ }
+    ensures { λ r. ⌜ (listReader (now (name .entry)) (drop at (now (text .entry))) ≡ readingOf (now (text .entry)) (λ v. take v (now (list .exit))) r) × (placeOf r ≤ length (now (text .entry))) × (valueOf r ≤ 32) ⌝ }
+{
+    let head = read_word(text, at, name);
+    let Taken::Got { value: _, next } = head else {
+        return head;
+    };
+    let count = read_end(text, read_side(text, next), b'\n');
+    let Taken::Got { value, next: after } = count else {
+        return count;
+    };
+    read_lines(text, after, 1, value as usize, list)
+}
+
+// The section of the costs: its head line with the count of sources, and as many lines of as many numbers as there are sinks.
+fn read_costs(text: &[u8], at: usize, m: usize, n: usize, list: &mut [u64]) -> Taken
+    requires { ⌜ (at ≤ length (now text)) × (m ≤ 32) × (1 ≤ n) × (n ≤ 32) × (m * n ≤ length (now list)) ⌝ }
+    ensures { λ r. ⌜ (costReader m n (drop at (now (text .entry))) ≡ readingOf (now (text .entry)) (λ v. take v (now (list .exit))) r) × (placeOf r ≤ length (now (text .entry))) × (valueIs (m * n) r) ⌝ }
+{
+    let mut line = [0u8; 8];
+    let len = writer::write_head(b"cost ", m, &mut line);
+    let head = read_word(text, at, &line[..len]);
+    let Taken::Got { value: _, next } = head else {
+        return head;
+    };
+    read_lines(text, next, n, m * n, list)
+}
+
+// The answer where a reader is stuck: 9, with its place.
+fn not_sheet_text(found: Taken) -> ReadAnswer
+    ensures { λ r. ⌜ r ≡ ReadAnswer.NotSheetText (placeOf found) ⌝ }
+{
+    match found {
+        Taken::Got { value: _, next } => ReadAnswer::NotSheetText(next),
+        Taken::Stuck(place) => ReadAnswer::NotSheetText(place),
+    }
+}
+
+// The whole text, into the fronts of three lists that are long enough for any sheet text. Never `Refused`.
+fn read_sections(
+    text: &[u8],
+    supply: &mut [u64],
+    demand: &mut [u64],
+    cost: &mut [u64],
+) -> ReadAnswer
+    requires { ⌜ (32 ≤ length (now supply)) × (32 ≤ length (now demand)) × (1024 ≤ length (now cost)) ⌝ }
+    ensures { λ r. ⌜ (sheetReader (now (text .entry)) ≡ sheetRead (now (text .entry)) (now (supply .exit)) (now (demand .exit)) (now (cost .exit)) r) × (readFits (now (text .entry)) r) ⌝ }
+{
+    let first = read_list(text, 0, b"supply ", supply);
+    let Taken::Got { value: m, next: at } = first else {
+        return not_sheet_text(first);
+    };
+    let second = read_list(text, at, b"demand ", demand);
+    let Taken::Got {
+        value: n,
+        next: after,
+    } = second
+    else {
+        return not_sheet_text(second);
+    };
+    let sources = m as usize;
+    let sinks = n as usize;
+    let third = read_costs(text, after, sources, sinks, cost);
+    let Taken::Got {
+        value: _,
+        next: end,
+    } = third
+    else {
+        return not_sheet_text(third);
+    };
+    if end < text.len() {
+        return ReadAnswer::NotSheetText(end);
+    }
+    ReadAnswer::Sheet { sources, sinks }
 }

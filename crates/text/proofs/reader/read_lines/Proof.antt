@@ -61,7 +61,7 @@ returns c =
     let n : endReading (ending (l .left)) (number (drop (l .next) (a .text .now))) ≡ stuck (drop (c .enum-told .given .0 .0) (a .text .now)) = found t ∙ (rw stopped) in (
       rw stopped (l .inv .4 ∙ (rw (e, read-stuck (a .width) (l .left) (a .count - (l .i + 1)) (drop (l .next) (a .text .now)) _ n) (after-stuck (take (l .i) (l .list)) _))),
       t .read-end .ensures .1,
-      rw stopped (omega arith),
+      rw stopped tt,
     )
 
 mul-list : tie.Need-mul-list Inv-loop μ-loop
@@ -104,7 +104,7 @@ returns-2 c =
     let a = c .before .before .before .before .args in
     let e : l .i ≡ a .count = omega arith in
     let z : a .count - l .i ≡ 0 = omega arith in
-    (l .inv .4 ∙ (rw (z, read-none, after-got, append-nil, e)), l .inv .3, omega arith)
+    (l .inv .4 ∙ (rw (z, read-none, after-got, append-nil, e)), l .inv .3, refl)
 
 pub read-lines-spec : {M : Type 1} → statement M
 read-lines-spec =
