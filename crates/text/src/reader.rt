@@ -4,17 +4,25 @@ ghost use mathlib.Core.List.{_++_};
 ghost use Prim.Native.Nat.{ℕ, _+_, _*_, _≤_, _<_};
 ghost use lib.ListN.{length, take, drop};
 ghost use Rattle.transport.specs.Text.{kindOf};
-ghost use Rattle.transport.specs.SheetText.{isDigit, word, moreDigits, number, side, sheetReader};
+ghost use Rattle.transport.specs.SheetText.{isDigit, word, moreDigits, number, side, sheetReader, readSheetCall};
+ghost use Rattle.transport.specs.Calls.{lentAfter};
+ghost use Rattle.transport.specs.Answers.{readAnswer};
 ghost use Rattle.text.specs.Reading.{byteNext, digitNext, readingOf, placeOf, valueOf, valueIs, always, endReading};
 ghost use Rattle.text.specs.LinesRead.{readLines};
 ghost use Rattle.text.specs.SheetRead.{listReader, costReader};
-ghost use Rattle.text.specs.ReadCall.{sheetRead, readFits};
+ghost use Rattle.text.specs.ReadCall.{sheetRead, readFits, Stored};
+ghost use Rattle.text.specs.Front.{front};
+ghost use Rattle.sheet.specs.Check.{sheetOf};
 use crate::Taken;
 use crate::lines;
 use crate::writer;
+use sheet::SheetCheck;
 use transport::ByteKind;
 use transport::MAX_SIDE;
 use transport::ReadAnswer;
+
+// The most lanes of a sheet.
+const MAX_LANES: usize = MAX_SIDE * MAX_SIDE;
 
 // The most digits that a number of a sheet text has.
 const MAX_DIGITS: usize = 7;
@@ -260,4 +268,82 @@ fn read_sections(
         return ReadAnswer::NotSheetText(end);
     }
     ReadAnswer::Sheet { sources, sinks }
+}
+
+// Copies a list to the front of a longer one.
+fn copy_list(from: &[u64], list: &mut [u64])
+    requires { ⌜ length (now from) ≤ length (now list) ⌝ }
+    ensures { λ r. ⌜ now (list .exit) ≡ front (now (from .entry)) (now (list .entry)) ⌝ }
+{
+    let mut i: usize = 0;
+    while i < from.len() {
+        list[i] = from[i];
+        i += 1;
+    }
+}
+
+// A sheet that was read goes to the lent lists, unless 3, 4, 5 or 8 refuses it.
+fn store_sheet(
+    sheet_supply: &[u64],
+    sheet_demand: &[u64],
+    sheet_cost: &[u64],
+    supply: &mut [u64],
+    demand: &mut [u64],
+    cost: &mut [u64],
+) -> ReadAnswer
+    requires { ⌜ (length (now «sheet_supply») ≤ 32) × (length (now «sheet_demand») ≤ 32) × (length (now «sheet_cost») ≡ length (now «sheet_supply») * length (now «sheet_demand»)) ⌝ }
+    ensures { λ r. ⌜ Stored (sheetOf (now («sheet_supply» .entry)) (now («sheet_demand» .entry)) (now («sheet_cost» .entry))) (now (supply .entry)) (now (demand .entry)) (now (cost .entry)) r (now (supply .exit)) (now (demand .exit)) (now (cost .exit)) ⌝ }
+{
+    let check = sheet::check_numbers(sheet_supply, sheet_demand, sheet_cost);
+    if let SheetCheck::Refused(number) = check {
+        return ReadAnswer::Refused(number);
+    }
+    if supply.len() < sheet_supply.len() {
+        return ReadAnswer::Refused(8);
+    }
+    if demand.len() < sheet_demand.len() {
+        return ReadAnswer::Refused(8);
+    }
+    if cost.len() < sheet_cost.len() {
+        return ReadAnswer::Refused(8);
+    }
+    copy_list(sheet_supply, supply);
+    copy_list(sheet_demand, demand);
+    copy_list(sheet_cost, cost);
+    ReadAnswer::Sheet {
+        sources: sheet_supply.len(),
+        sinks: sheet_demand.len(),
+    }
+}
+
+// Read sheet: the counts of sources and sinks, which then stand in the lent lists with the costs; or the refusal, and the lists are as they were.
+// The text is read into lists of the largest sheet first, so that nothing is stored before all of it is known to be good.
+pub fn read_sheet(
+    text: &[u8],
+    supply: &mut [u64],
+    demand: &mut [u64],
+    cost: &mut [u64],
+) -> ReadAnswer
+    ensures { λ r. ⌜ (r ≡ readAnswer (readSheetCall (now (text .entry)) (length (now (supply .entry))) (length (now (demand .entry))) (length (now (cost .entry))))) × (now (supply .exit) ≡ lentAfter (λ S. S .supply) (readSheetCall (now (text .entry)) (length (now (supply .entry))) (length (now (demand .entry))) (length (now (cost .entry)))) (now (supply .entry))) × (now (demand .exit) ≡ lentAfter (λ S. S .demand) (readSheetCall (now (text .entry)) (length (now (supply .entry))) (length (now (demand .entry))) (length (now (cost .entry)))) (now (demand .entry))) × (now (cost .exit) ≡ lentAfter (λ S. S .cost) (readSheetCall (now (text .entry)) (length (now (supply .entry))) (length (now (demand .entry))) (length (now (cost .entry)))) (now (cost .entry))) ⌝ }
+{
+    let mut supplies = [0u64; MAX_SIDE];
+    let mut demands = [0u64; MAX_SIDE];
+    let mut costs = [0u64; MAX_LANES];
+    let answer = read_sections(text, &mut supplies, &mut demands, &mut costs);
+    let ReadAnswer::Sheet {
+        sources: m,
+        sinks: n,
+    } = answer
+    else {
+        return answer;
+    };
+    let lanes = m * n;
+    store_sheet(
+        &supplies[..m],
+        &demands[..n],
+        &costs[..lanes],
+        supply,
+        demand,
+        cost,
+    )
 }
