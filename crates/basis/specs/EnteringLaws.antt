@@ -16,7 +16,7 @@ use Rattle.transport.specs.Lists.{all}
 use Rattle.transport.specs.ListLaws.{FirstLeast}
 use Rattle.transport.specs.Sheet.{Lane, lanes, place}
 use Rattle.transport.specs.SheetLaws.{lane, place-below, place-of, length-lanes, getD-lanes, all-lanes, all-lanes-at}
-use Rattle.basis.specs.Layout.{stride}
+use Rattle.basis.specs.Layout.{stride, maxPotential}
 use Rattle.basis.specs.ScanLaws.{padCost, reducedAt, InRange, Found}
 
 -- In every row the columns past the sheet's n hold the padding cost.
@@ -24,7 +24,7 @@ pub record Padded (cost : List ℤ) (m n : ℕ) : Type 0 where
   pub narrow : n ≤ stride
   pub pads : (i j : ℕ) → i < m → n ≤ j → j < stride → getD cost (i * stride + j) (pos 0) ≡ pos padCost
 
-pad-far : (u v : ℤ) → natAbs u ≤ 64_000_000 → natAbs v ≤ 64_000_000 → ltZ (pos padCost -ℤ u -ℤ v) (pos 0) ≡ false
+pad-far : (u v : ℤ) → natAbs u ≤ maxPotential → natAbs v ≤ maxPotential → ltZ (pos padCost -ℤ u -ℤ v) (pos 0) ≡ false
 pad-far u v p q =
     no-lt (pos padCost -ℤ u -ℤ v) (pos 0)
     (omega (arith, abs-z u, abs-z v, z-add (pos padCost -ℤ u) (negℤ v), z-neg v, z-add (pos padCost) (negℤ u), z-neg u))
