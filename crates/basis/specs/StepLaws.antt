@@ -10,7 +10,7 @@ use lib.Dec.{eqb}
 use lib.ListN.{length, take, getD, set, length-take, length-set}
 use lib.Seq.{take-suc, take-length, length-take-le, getD-take}
 use Rattle.transport.specs.Lists.{keep, leastFrom, firstLeast}
-use Rattle.transport.specs.ListLaws.{and-left, and-right, firstLeast-one, member-at, member-place, keep-member}
+use Rattle.transport.specs.ListLaws.{and-left, and-right, firstLeast-append, member-at, member-place, keep-member}
 use borrow.Author.Tests.{eqb-true, eq-eqb, ne-eqb, not-true}
 use Rattle.transport.specs.declared.Pair.{Pair}
 use Rattle.transport.specs.Amount.{add, subtract, less}
@@ -31,7 +31,7 @@ lessAt q e k l = less (pairAt q e k) (pairAt q e l)
 pub firstLeast-more : {A : Type 0} (less : A → A → Bool) (d : A) (xs : List A) (k : ℕ) → 1 ≤ k → k < length xs
     → firstLeast less d (take (k + 1) xs) ≡ cond (less (getD xs k d) (firstLeast less d (take k xs))) (getD xs k d) (firstLeast less d (take k xs))
 firstLeast-more less d xs k p q =
-    rw (add-one, take-suc xs k d q, firstLeast-one less d (take k xs) (getD xs k d) (omega (arith, length-take k xs)))
+    rw (add-one, take-suc xs k d q, firstLeast-append less d (take k xs) (getD xs k d) (omega (arith, length-take k xs)))
 
 -- The first lane alone.
 pub firstLeast-first : {A : Type 0} (less : A → A → Bool) (d : A) (xs : List A) → 1 ≤ length xs → firstLeast less d (take 1 xs) ≡ getD xs 0 d
