@@ -6,7 +6,6 @@ use mathlib.Core.Logic.{by-cases}
 use mathlib.Core.Bool.{Bool, true, false}
 use mathlib.Core.List.{List, List·Memᴰ}
 use lib.IntN.{ℤ, pos}
-use lib.Signed.{ltZ}
 use lib.ListN.{length, take, getD}
 use lib.Seq.{getD-take, length-take-le}
 use Rattle.integers.specs.Bridge.{eq-z}
@@ -28,10 +27,10 @@ use Rattle.tableaux.specs.Order.{basic-dec}
 use Rattle.tableaux.specs.PivotView.{signs}
 use Rattle.board.specs.Held.{inside-basic}
 use Rattle.basis.specs.Layout as layout
-use Rattle.basis.specs.Layout.{stride, stride-is, nodeRoom, laneRoom, laneAt, placeOf, place-laneAt, strikeOf, strikesOf, length-strikes, Distinct}
-use Rattle.basis.specs.SignLaws.{enterWeight, sign-is, LoopLanes}
-use Rattle.basis.specs.StepLaws.{among, among-keep, LaneList, minus-lanes, plus-lanes}
-use Rattle.pivoting.specs.Carry.{among-member, member-among, no-member-among, member-first}
+use Rattle.basis.specs.Layout.{stride, stride-is, nodeRoom, laneAt, placeOf, place-laneAt, strikeOf, strikesOf, length-strikes, Distinct}
+use Rattle.basis.specs.SignLaws.{enterWeight, sign-is}
+use Rattle.basis.specs.StepLaws.{among, among-keep}
+use Rattle.pivoting.specs.Carry.{member-among, no-member-among, member-first}
 
 -- The lane e, on the sheet and not basic, enters the tableau T of the sheet S, and the strikes in the arrays strike off the basis of T.
 pub record Enters (S : Sheet) (T : List Cell) (leaf other lanes : List ℕ) (count : ℕ) (e : Lane) : Type 0 where

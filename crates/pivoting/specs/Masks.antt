@@ -1,5 +1,5 @@
 -- The masks when a lane leaves, and after the exchange of two lanes.
-use Prim.Native.Nat.{ℕ, _+_, _<_, _≤_}
+use Prim.Native.Nat.{ℕ, _+_, _<_}
 use native.Mathlib.Omega.{arith}
 use native.Mathlib.Decide.{ℕ-discrete}
 use mathlib.Core.Path.{_≡_, refl, sym, ap, _∙_}
@@ -9,7 +9,7 @@ use mathlib.Core.List.{List}
 use lib.Dec.{eqb}
 use lib.ListN.{length, getD, set, length-set}
 use lib.Seq.{lt-length-set, getD-set-same, getD-set-other}
-use borrow.Author.Tests.{eqb-true, eqb-false, eq-eqb, ne-eqb}
+use borrow.Author.Tests.{eq-eqb, ne-eqb}
 use Rattle.transport.specs.Sheet.{Lane}
 use Rattle.transport.specs.declared.Cell.{Cell}
 use Rattle.transport.specs.Round.{pivot}
@@ -17,7 +17,7 @@ use Rattle.transport.specs.Statements.{Basic}
 use Rattle.tableaux.specs.Order.{basic-dec}
 use Rattle.tableaux.specs.PivotView.{Stands, stands-dec, leaver, pivot-basic}
 use Rattle.basis.specs.Mask.{has, cut, has-cut}
-use Rattle.board.specs.Held.{isBasic, isBasic-true, true-isBasic, linked, length-linked, linked-row, linked-column}
+use Rattle.board.specs.Held.{isBasic, isBasic-true, true-isBasic, linked, linked-row, linked-column}
 
 -- ---- tests of two numbers
 

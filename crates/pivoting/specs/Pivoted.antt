@@ -1,15 +1,15 @@
 -- The arrays after a pivot: the least of the minus lanes is the leaving lane, and the amounts round the loop are those of the pivot.
-use Prim.Native.Nat.{ℕ, zero, suc, _+_, _*_, _/_, _%_, _<_, _≤_, _^_}
+use Prim.Native.Nat.{ℕ, zero, suc, _+_, _*_, _/_, _%_, _<_, _≤_}
 use native.Mathlib.Omega.{arith}
 use native.Mathlib.Decide.{ℕ-discrete}
-use mathlib.Core.Path.{_≡_, refl, sym, ap, _∙_, subst}
+use mathlib.Core.Path.{_≡_, refl, sym, ap, _∙_}
 use mathlib.Core.Logic.{by-cases, Dec·and}
-use mathlib.Core.Bool.{Bool, true, false, cond, true≢false}
+use mathlib.Core.Bool.{Bool, true, false, true≢false}
 use mathlib.Core.List.{List, List·Memᴰ}
 use borrow.Author.Tests.{lt-ltb, le-ltb}
-use lib.IntN.{ℤ, pos, negsuc, natAbs, _+ℤ_, _-ℤ_}
+use lib.IntN.{ℤ, pos, negsuc, _+ℤ_, _-ℤ_}
 use lib.Signed.{ltZ}
-use lib.ListN.{length, take, getD}
+use lib.ListN.{length, getD}
 use Rattle.transport.specs.Lists.{firstLeast}
 use Rattle.transport.specs.ListLaws.{member-at, member-place, FirstLeast, firstLeast-is, by-key}
 use Rattle.transport.specs.Sheet.{Sheet, sources, sinks, Lane}
@@ -17,21 +17,21 @@ use Rattle.transport.specs.SheetLaws.{lane}
 use Rattle.transport.specs.declared.Pair.{Pair}
 use Rattle.transport.specs.declared.Cell.{Cell}
 use Rattle.transport.specs.Amount.{nothing, add, subtract, less}
-use Rattle.transport.specs.AmountLaws.{less-weak, less-q, less-e, less-no, ltZ-tie, Compared, fewer, equal, more, compared}
+use Rattle.transport.specs.AmountLaws.{less-weak, less-q, less-e, ltZ-tie, Compared, fewer, equal, more, compared}
 use Rattle.transport.specs.Tableau.{laneOf}
+use Rattle.transport.specs.Leaf.{cellsBelong}
 use Rattle.transport.specs.Round.{gain, pivot}
 use Rattle.transport.specs.Statements.{Basic, Belongs}
 use Rattle.tableaux.specs.View.{amountAt, amount-none}
-use Rattle.tableaux.specs.Belonging.{inside-of, distinct-of}
+use Rattle.tableaux.specs.Belonging.{belongs-iff, inside-of, distinct-of}
 use Rattle.tableaux.specs.PairLaws.{subtract-self}
-use Rattle.tableaux.specs.Order.{Ordered, ordered-by, CellAt, cell-at, basic-member, basic-dec, amount-member}
+use Rattle.tableaux.specs.Order.{Ordered, ordered-by, cell-at, basic-dec, amount-member}
 use Rattle.tableaux.specs.PivotView.{Stands, stands-dec, signs, leaver, step, Leaves, inside-member, amount-enters, amount-stays, amount-leaves, amount-elsewhere}
-use Rattle.tableaux.specs.Pivoting.{pivot-leaves, pivot-no-tie}
+use Rattle.tableaux.specs.Pivoting.{pivot-leaves, pivot-belongs, pivot-no-tie}
 use Rattle.basis.specs.Layout.{stride, laneAt, place-laneAt}
-use Rattle.basis.specs.StepLaws.{pairAt, lessAt, among}
-use Rattle.board.specs.Held.{inside-basic}
+use Rattle.basis.specs.StepLaws.{pairAt, lessAt}
 use Rattle.pivoting.specs.Carry.{among-member, moved, Carried}
-use Rattle.pivoting.specs.Enters.{Enters, enters-belongs, sides, sign-none, laneAt-place, signed, signed-among, signed-basic}
+use Rattle.pivoting.specs.Enters.{Enters, enters-belongs, sides, sign-none, signed, signed-among, signed-basic}
 
 -- Of two pairs, neither less than the other, both are the same.
 less-tie : (a b : Pair) → less a b ≡ false → less b a ≡ false → a ≡ b
@@ -82,6 +82,11 @@ module _ {S : Sheet} {T : List Cell} {leaf other lanes : List ℕ} {count : ℕ}
   leaves : Leaves (signs m n T e) T out
   leaves = pivot-leaves (h .checked) belongs (h .row) (h .col) (h .new)
 
+  -- The tableau after it belongs to the sheet again.
+  pub entered-belongs : cellsBelong S (pivot (sources S) (sinks S) T e) ≡ true
+  entered-belongs =
+      belongs-iff S (pivot m n T e) (h .checked .sourcesLow) (h .checked .sinksLow) .1 (pivot-belongs (h .checked) belongs (h .row) (h .col) (h .new))
+
   -- ---- the leaving lane
 
   pub out-inside : (leaver (sources S) (sinks S) T e .row < sources S) × (leaver (sources S) (sinks S) T e .col < sinks S)
@@ -103,7 +108,7 @@ module _ {S : Sheet} {T : List Cell} {leaf other lanes : List ℕ} {count : ℕ}
     pub out-holds : pairAt q x (cellPlace (leaver (sources S) (sinks S) T e)) ≡ step (sources S) (sinks S) T e
     out-holds = laid-at (leaves .member)
 
-    -- The least of the minus lanes holds the step, and no other minus cell does.
+    -- Whatever the order of the minus lanes, the least is the leaving one: it holds the step, and no other minus cell does.
     pub least-leaves : firstLeast (lessAt q x) 0 (signed h isMinus) ≡ cellPlace (leaver (sources S) (sinks S) T e)
     unfolding laneOf
     least-leaves = go (firstLeast-is (lessAt q x) (by-key (pairAt q x) less-weak) 0 (signed h isMinus) some-minus)
@@ -119,13 +124,16 @@ module _ {S : Sheet} {T : List Cell} {leaf other lanes : List ℕ} {count : ℕ}
             let same : c .amount ≡ out .amount = less-tie (c .amount) (out .amount) (leaves .least c mem minus) (ap (less (out .amount)) (sym held) ∙ least) in
             sym place ∙ ap cellPlace (pivot-no-tie (h .checked) belongs (h .row) (h .col) (h .new) mem minus same)
 
+        not-below : (k : ℕ) × (k < length (signed h isMinus)) × (getD (signed h isMinus) k 0 ≡ cellPlace out)
+            → ((k : ℕ) → k < length (signed h isMinus) → lessAt q x (getD (signed h isMinus) k 0) r ≡ false) → less (out .amount) (pairAt q x r) ≡ false
+        not-below (k, l, s) least = ap (λ a. less a (pairAt q x r)) (sym (ap (pairAt q x) s ∙ out-holds)) ∙ least k l
+
         go : (k : ℕ) × FirstLeast (lessAt q x) 0 (signed h isMinus) r k → r ≡ cellPlace out
         go (k, f) =
             let mem : List·Memᴰ r (signed h isMinus) = rw (f .stands) at (member-at (signed h isMinus) 0 k (f .inside)) in
             let (b, minus) = signed-basic h isMinus refl r mem in
             let c = cell-at b in
-            let (o, l, s) = member-place 0 out-minus in
-            at (c .cell) (c .member) (c .row) (c .col) minus (ap (λ a. less a (pairAt q x r)) (sym (ap (pairAt q x) s ∙ out-holds)) ∙ f .least o l)
+            at (c .cell) (c .member) (c .row) (c .col) minus (not-below (member-place 0 out-minus) (f .least))
 
   -- ---- the amounts
 

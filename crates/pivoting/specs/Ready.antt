@@ -1,9 +1,7 @@
 -- The arrays of a round before a pivot, and after it.
-use Prim.Native.Nat.{ℕ, _+_, _*_, _/_, _%_, _<_, _≤_, _^_}
+use Prim.Native.Nat.{ℕ, _+_, _*_, _/_, _%_, _<_, _≤_}
 use native.Mathlib.Omega.{arith}
-use native.Mathlib.Decide.{ℕ-discrete}
-use mathlib.Core.Path.{_≡_, refl, sym, ap, _∙_, subst}
-use mathlib.Core.Logic.{by-cases, Dec·and}
+use mathlib.Core.Path.{_≡_, refl, sym, ap, _∙_}
 use mathlib.Core.List.{List, List·Memᴰ}
 use mathlib.Core.Bool.{Bool, true, false}
 use lib.Seq.{length-take-le}
@@ -17,6 +15,7 @@ use Rattle.transport.specs.SheetLaws.{lane, Checked}
 use Rattle.transport.specs.declared.Cell.{Cell}
 use Rattle.transport.specs.declared.Pair.{Pair}
 use Rattle.transport.specs.Amount.{add, subtract}
+use Rattle.transport.specs.Leaf.{cellsBelong}
 use Rattle.transport.specs.Round.{pivot}
 use Rattle.transport.specs.Statements.{Basic, Belongs}
 use Rattle.tableaux.specs.View.{amountAt}
@@ -24,13 +23,13 @@ use Rattle.tableaux.specs.Order.{cell-at, amount-member}
 use Rattle.tableaux.specs.Belonging.{inside-of, distinct-of}
 use Rattle.tableaux.specs.TableauView.{cell-bounded}
 use Rattle.tableaux.specs.PivotView.{leaver, step}
-use Rattle.basis.specs.Layout.{stride, nodeRoom, place-laneAt}
+use Rattle.basis.specs.Layout.{stride, place-laneAt}
 use Rattle.basis.specs.SignLaws.{LoopLanes}
 use Rattle.basis.specs.StepLaws.{pairAt, minus-lanes, plus-lanes}
 use Rattle.board.specs.Held.{Held, inside-basic, length-linked}
 use Rattle.pivoting.specs.Carry.{Light, Carried, Turns, Turned}
 use Rattle.pivoting.specs.Enters.{Enters, enters-belongs, sides, enters-struck, enters-distinct, signed, signed-basic}
-use Rattle.pivoting.specs.Pivoted.{isMinus, isPlus, cellPlace, Laid, out-inside, some-minus, out-holds, least-leaves, carried-part}
+use Rattle.pivoting.specs.Pivoted.{isMinus, isPlus, cellPlace, Laid, entered-belongs, out-inside, some-minus, out-holds, least-leaves, carried-part}
 use Rattle.pivoting.specs.Masks.{exchanged, length-unlinked, exchanged-row, exchanged-column, isBasic-pivot}
 
 -- The arrays hold the tableau T of the sheet S, of m sources, and the lane from row to col enters it.
@@ -71,6 +70,10 @@ module _ {S : Sheet} {T : List Cell} {adj : List ℕ} {q e : List ℤ} {leaf oth
 
   pub ready-room : (row < m) × (m ≤ stride) × (col < stride)
   ready-room = (omega (arith, r .rows, h .row), omega (arith, r .rows, sides h), omega (arith, h .col, sides h))
+
+  -- So the arrays are ready for the next round, with what `held-pivot` says.
+  pub ready-belongs : cellsBelong S (pivot m (sinks S) T (lane row col)) ≡ true
+  ready-belongs = rw (r .rows) (entered-belongs h)
 
   laid : Laid (sources S) (sinks S) T q e
   laid i j hi hj t = record { q = held .bags i j hi hj t; e = held .marks i j hi hj t }

@@ -1,6 +1,5 @@
 -- `pivoting::pivot` meets its contract: what each call asks follows from `Ready`, and `held-pivot` says what the arrays then hold. Assumes nothing.
 use native.Mathlib.Omega.{arith}
-use Rattle.basis.specs.Layout.{stride}
 use Rattle.pivoting.specs.Enters.{enters-struck, enters-distinct}
 use Rattle.pivoting.specs.Ready.{ready-room, ready-turns, out-room, held-pivot}
 use Rattle.pivoting.proofs.pivot.Statement.{statement}

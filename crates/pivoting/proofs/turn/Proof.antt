@@ -1,7 +1,6 @@
 -- `pivoting::turn` meets its contract: the least lane is a minus lane, so that its pair is light, and is carried twice. Assumes nothing.
 use Prim.Native.Nat.{_<_}
 use native.Mathlib.Omega.{arith}
-use mathlib.Core.Path.{_≡_}
 use mathlib.Core.List.{List·Memᴰ}
 use lib.ListN.{take}
 use Rattle.basis.specs.Layout.{laneRoom}
