@@ -25,7 +25,8 @@ use Rattle.transport.specs.Plan.{planCost, settled}
 use Rattle.transport.specs.Statements.{Basic, Belongs, Meets, FirstDifference, Best, scaled}
 use Rattle.plans.specs.Settled.{best-settled}
 use Rattle.tableaux.specs.Belonging.{basis-of}
-use Rattle.tableaux.specs.TableauView.{bagsAt, basic-in, cells-many, belongs-seen, basic-flow}
+use Rattle.tableaux.specs.View.{basic-in}
+use Rattle.tableaux.specs.TableauView.{bagsAt, cells-many, belongs-seen, basic-flow}
 use Rattle.tableaux.specs.Belonging.{prices-tight}
 use Rattle.tableaux.specs.PlanView.{carried, supplies, demands, costs, meets-plan, cost-planCost}
 use Rattle.tableaux.specs.Least.{bagsOf, bags-carried, bags-meet, rowPotential, columnPotential, reduced-parts, finished-feasible}

@@ -1,19 +1,18 @@
 -- Belonging, as it is computed and as the paper says it; and what it gives to the theory: a basis, a flow of bags and a flow of marks.
 use mathlib.Core.Path.{_≡_, refl, ap, sym, _∙_}
 use mathlib.Core.Logic.{_↔_, _⊎_, inl, inr, ⊎-elim, by-cases, Dec·and}
-use mathlib.Core.Bool.{Bool, true, false, _&&_, cond, false≢true}
+use mathlib.Core.Bool.{Bool, true, false, _&&_, false≢true}
 use mathlib.Core.List.{List, [], _∷_}
 use Prim.Native.Nat.{ℕ, zero, suc, _+_, _-_, _≤_, _<_}
 use native.Mathlib.Omega.{arith}
 use native.Mathlib.Decide.{ℕ-discrete}
-use borrow.Author.Tests.{ltb-true, lt-ltb, eq-eqb, ne-eqb}
-use lib.Dec.{ltb, eqb}
+use borrow.Author.Tests.{ltb-true, lt-ltb}
+use lib.Dec.{ltb}
 use lib.IntN.{ℤ, pos, _+ℤ_}
 use lib.ListN.{length, length-map}
 use Rattle.integers.specs.Integer.{_≈_, nat, neg}
 use Rattle.integers.specs.Bridge.{toZ, z-eq}
 use Rattle.integers.specs.Sum.{sum, point}
-use Rattle.integers.specs.SumLaws.{point-at, point-off}
 use Rattle.transport.specs.Lists.{all, at, below}
 use Rattle.transport.specs.ListLaws.{and-left, and-right, all-at, all-of, all-below, all-below-at, map-member, member-place}
 use Rattle.transport.specs.Sheet.{Sheet, sources, sinks, Lane, laneCost, place}
@@ -30,7 +29,8 @@ use Rattle.transport.specs.Statements.{Basic, Belongs}
 use Rattle.network.specs.Flow.{On, Flow, Tight}
 use Rattle.network.specs.FlowLaws.{flow-on}
 use Rattle.network.specs.Basis.{In, Basis, distinct}
-use Rattle.tableaux.specs.View.{rowOf, colOf, Distinct, Inside, basic-later, amountAt, amount-later, row-sum, column-sum}
+use Rattle.tableaux.specs.PairLaws.{demand-marks}
+use Rattle.tableaux.specs.View.{rowOf, colOf, basic-in, Distinct, Inside, basic-later, amountAt, amount-later, row-sum, column-sum}
 use Rattle.tableaux.specs.Lanes.{Fits, has-basic}
 use Rattle.tableaux.specs.Striking.{spans-iff}
 use Rattle.tableaux.specs.Bases.{joined-on}
@@ -145,9 +145,9 @@ module _ {S : Sheet} {T : List Cell} (c : Checked S) (b : Belongs S T) where
   pub inside-of : Inside (sources S) (sinks S) T
   inside-of = b .onSheet
 
-  basic-in : (i j : ℕ) → Basic T i j → In (rowOf T) (colOf T) (suc (sources S + sinks S - 2)) i j
+  on-cells : (i j : ℕ) → Basic T i j → In (rowOf T) (colOf T) (suc (sources S + sinks S - 2)) i j
   unfolding basisSize
-  basic-in i j w = (w .index, omega (arith, w .below, b .count, c .sourcesLow, c .sinksLow), w .row, w .column)
+  on-cells i j = basic-in T (suc (sources S + sinks S - 2)) i j (omega (arith, b .count, c .sourcesLow, c .sinksLow)) .0
 
   pub basis-of : Basis (sources S) (sinks S) (sources S + sinks S - 2) (rowOf T) (colOf T)
   unfolding basisSize
@@ -155,7 +155,7 @@ module _ {S : Sheet} {T : List Cell} (c : Checked S) (b : Belongs S T) where
     size = omega (arith, c .sourcesLow, c .sinksLow);
     rows = λ k l. b .onSheet k (omega (arith, b .count)) .0;
     cols = λ k l. b .onSheet k (omega (arith, b .count)) .1;
-    joined = joined-on basic-in (b .joined);
+    joined = joined-on on-cells (b .joined);
   }
 
   pub distinct-of : Distinct T
@@ -173,7 +173,7 @@ module _ {S : Sheet} {T : List Cell} (c : Checked S) (b : Belongs S T) where
     column-of j l = rw (← b .columns j l) (column-sum part part-zero part-add (sources S) (sinks S) T distinct-of inside-of j)
 
     on-basis : On (sources S) (sinks S) (In (rowOf T) (colOf T) (suc (sources S + sinks S - 2))) (λ i j. toZ (part (amountAt T i j)))
-    on-basis i j hi hj e = ⊎-elim (basic-in i j) (λ z. absurd (e (z-eq (ap part z ∙ part-zero)))) (basic-or T i j)
+    on-basis i j hi hj e = ⊎-elim (on-cells i j) (λ z. absurd (e (z-eq (ap part z ∙ part-zero)))) (basic-or T i j)
 
   -- The bags are the flow of the supplies and demands ..
   pub bags-flow : Flow (sources S) (sinks S) (In (rowOf T) (colOf T) (suc (sources S + sinks S - 2))) (λ i j. toZ (amountAt T i j .q))
@@ -188,13 +188,8 @@ module _ {S : Sheet} {T : List Cell} (c : Checked S) (b : Belongs S T) where
   marks-flow = record {
     on = on-basis (λ a. a .e) refl (λ a b. refl);
     rows = row-of (λ a. a .e) refl (λ a b. refl);
-    cols = λ j l. omega (arith, column-of (λ a. a .e) refl (λ a b. refl) j l, last j);
+    cols = λ j l. omega (arith, column-of (λ a. a .e) refl (λ a b. refl) j l, demand-marks S j);
   }
-    where
-      last : (j : ℕ) → nat (cond (eqb j (sinks S - 1)) (sources S) 0) ≈ point (sinks S - 1) (nat (sources S)) j
-      last j = by-cases (ℕ-discrete j (sinks S - 1))
-          (λ e. rw (e, eq-eqb (sinks S - 1) (sinks S - 1) refl, point-at (sinks S - 1) (nat (sources S))) (omega arith))
-          (λ e. rw (ne-eqb j (sinks S - 1) e, point-off (sinks S - 1) (nat (sources S)) j e) (omega arith))
 
   -- The lanes of the cells are inside the sheet and span.
   pub fits-of : Fits (sources S) (sinks S) (basisOf T)
@@ -208,7 +203,7 @@ module _ {S : Sheet} {T : List Cell} (c : Checked S) (b : Belongs S T) where
   pub signs-flow : (enter : Lane) → enter .row < sources S → enter .col < sinks S
       → Flow (sources S) (sinks S) (In (rowOf T) (colOf T) (suc (sources S + sinks S - 2)))
       (λ i j. toZ (sign (sources S) (strikes (sources S) (sinks S) (basisOf T)) enter (lane i j))) (point (enter .row) (neg (nat 1))) (point (enter .col) (neg (nat 1)))
-  signs-flow enter hr hc = flow-on (λ i j hi hj w. basic-in i j (has-basic T i j .0 w)) (signs-of (c .sourcesLow) fits-of spans-of enter hr hc)
+  signs-flow enter hr hc = flow-on (λ i j hi hj w. on-cells i j (has-basic T i j .0 w)) (signs-of (c .sourcesLow) fits-of spans-of enter hr hc)
 
   -- The prices add up to the cost on every basic cell.
   pub prices-tight : (i j : ℕ) → Basic T i j → Tight (λ i j. toZ (laneCost S (lane i j))) (λ i. toZ (potential S T i)) (λ j. toZ (potential S T (sources S + j))) i j

@@ -1,24 +1,24 @@
 -- Rounds end: the valued cost falls in each of them and stays within bounds.
-use mathlib.Core.Path.{_≡_, refl, ap, sym, _∙_}
+use mathlib.Core.Path.{_≡_, refl, _∙_}
 use mathlib.Core.Logic.{⊎-elim}
 use mathlib.Core.Bool.{Bool, true, false}
 use mathlib.Core.List.{List}
 use Prim.Native.Nat.{ℕ, zero, suc, _+_, _*_, _^_, _≤_, _<_}
 use native.Mathlib.Omega.{arith}
 use native.Mathlib.Nat.{mul-le-mul-right}
-use Rattle.integers.specs.Integer.{Z, _≈_, _≼_, _≺_, _⊕_, _⊗_, neg, nat}
+use Rattle.integers.specs.Integer.{Z, _≈_, _≼_, _⊕_, _⊗_, nat}
 use Rattle.integers.specs.IntegerLaws.{⊗-cong}
 use Rattle.integers.specs.Sum.{sum}
 use Rattle.network.specs.Measure.{cost-low, cost-high}
-use Rattle.transport.specs.Lists.{at, sumTo, total}
+use Rattle.transport.specs.Lists.{at, total}
 use Rattle.transport.specs.ListLaws.{sumTo-bound}
 use Rattle.transport.specs.Limits.{maxSide, maxAmount, maxCost}
 use Rattle.transport.specs.Sheet.{Sheet, sources, sinks, place, laneCost}
-use Rattle.transport.specs.SheetLaws.{Checked, lane}
+use Rattle.transport.specs.SheetLaws.{Checked}
 use Rattle.transport.specs.declared.Cell.{Cell}
 use Rattle.transport.specs.Tableau.{start}
 use Rattle.transport.specs.Potential.{isFinished}
-use Rattle.transport.specs.Round.{entering, next, run}
+use Rattle.transport.specs.Round.{next, run}
 use Rattle.transport.specs.Calls.{roundBound}
 use Rattle.transport.specs.Statements.{Belongs}
 use Rattle.tableaux.specs.PlanView.{supplies, costs, sum-sumTo}

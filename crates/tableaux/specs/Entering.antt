@@ -2,22 +2,20 @@
 use mathlib.Core.Path.{_≡_, refl, ap, sym, _∙_}
 use mathlib.Core.Bool.{Bool, true, false, true≢false}
 use mathlib.Core.List.{List}
-use Prim.Native.Nat.{ℕ, _+_, _*_, _≤_, _<_}
+use Prim.Native.Nat.{ℕ, _<_}
 use native.Mathlib.Omega.{arith}
 use native.Mathlib.Nat.{mul-le-mul-right}
 use lib.IntN.{ℤ, pos, negsuc}
 use lib.Signed.{ltZ, nonNeg}
-use lib.ListN.{length, getD}
-use Rattle.integers.specs.Integer.{Z, _≺_, _⊕_}
-use Rattle.integers.specs.Bridge.{toZ}
-use Rattle.network.specs.Flow.{Tight}
+use lib.ListN.{getD}
+use Rattle.integers.specs.Integer.{_≺_, _⊕_}
 use Rattle.transport.specs.ListLaws.{by-key, FirstLeast, firstLeast-is}
 use Rattle.transport.specs.AmountLaws.{ltZ-weak}
-use Rattle.transport.specs.Sheet.{Sheet, sources, sinks, Lane, lanes, place, laneCost}
+use Rattle.transport.specs.Sheet.{Sheet, sources, sinks, Lane, lanes, place}
 use Rattle.transport.specs.SheetLaws.{lane, Checked, place-below, Placed, place-of, length-lanes, getD-lanes, all-lanes}
 use Rattle.transport.specs.declared.Cell.{Cell}
 use Rattle.transport.specs.Tableau.{laneOf, noCell}
-use Rattle.transport.specs.Potential.{potential, reducedCost, isFinished}
+use Rattle.transport.specs.Potential.{reducedCost, isFinished}
 use Rattle.transport.specs.Round.{entering}
 use Rattle.transport.specs.Statements.{Basic, Belongs}
 use Rattle.tableaux.specs.PairLaws.{ltZ-true, ltZ-false}

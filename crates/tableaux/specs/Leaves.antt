@@ -20,6 +20,14 @@ use Rattle.tableaux.specs.Lanes.{Fits}
 
 -- ---- the nodes that a lane touches
 
+pub touches-true : (m k : ℕ) (l : Lane) → touches m k l ≡ true → (l .row ≡ k) ⊎ (m + l .col ≡ k)
+unfolding touches
+touches-true m k l e = go (eqb (l .row) k) refl e
+  where
+    go : (b : Bool) → eqb (l .row) k ≡ b → b || eqb (m + l .col) k ≡ true → (l .row ≡ k) ⊎ (m + l .col ≡ k)
+    go true p e = inl (eqb-true (l .row) k p)
+    go false p e = inr (eqb-true (m + l .col) k e)
+
 pub touches-false : (m k : ℕ) (l : Lane) → touches m k l ≡ false → (l .row ≢ k) × (m + l .col ≢ k)
 unfolding touches
 touches-false m k l e = go (eqb (l .row) k) refl e
@@ -130,7 +138,7 @@ missed m (j ∷ ks) B e k h = go (at-node m j B) refl (missed m ks B) (List·Mem
 
 -- ---- degrees: they add up to twice the lanes
 
-abbrev degree : ℕ → List Lane → ℕ → ℕ
+abbrev pub degree : ℕ → List Lane → ℕ → ℕ
 degree m B k = length (at-node m k B)
 
 touches-bits : (m k : ℕ) (l : Lane) → l .row < m → cond (touches m k l) 1 0 ≡ one-at (l .row) k + one-at (m + l .col) k
@@ -194,7 +202,7 @@ not-eqb a b e = eqb-false a b (not-true (eqb a b) e)
 -- A leaf exists. A node that is left, but the root, has a lane, for else the split of this node from all others would have no lane across; the root has
 -- one for the same reason. If no other node had a single lane, all of them had two or more, and the degrees would add up to more than twice the lanes.
 module _ {m n : ℕ} {left : ℕ → Bool} {B : List Lane} (w : Linked m n left B) where
-  has-lane : (k : ℕ) → k ≢ 0 → k < m + n → left k ≡ true → degree m B k ≢ 0
+  pub has-lane : (k : ℕ) → k ≢ 0 → k < m + n → left k ≡ true → degree m B k ≢ 0
   has-lane k z l e d = true≢false (sym (w .joined (λ j. not (eqb j k)) (rw (ne-eqb 0 k (λ q. z (sym q)))) closed k l e) ∙ rw (eq-eqb k k refl))
     where
       closed : (l : Lane) → List·Memᴰ l B → not (eqb (l .row) k) ≡ not (eqb (m + l .col) k)
@@ -275,7 +283,7 @@ ends-differ (column-struck p q) h = omega arith
 abbrev pub unless : ℕ → (ℕ → Bool) → ℕ → Bool
 unless k left j = left j && not (eqb k j)
 
-unless-bits : (k : ℕ) (left : ℕ → Bool) (j : ℕ) → left k ≡ true → cond (left j) 1 0 ≡ cond (unless k left j) 1 0 + one-at k j
+pub unless-bits : (k : ℕ) (left : ℕ → Bool) (j : ℕ) → left k ≡ true → cond (left j) 1 0 ≡ cond (unless k left j) 1 0 + one-at k j
 unless-bits k left j e = by-cases (ℕ-discrete k j)
     (λ p. rw (eq-eqb k j p, ← p, e) (omega arith))
     (λ p. go (left j) p)

@@ -1,4 +1,5 @@
 pub mod View
+pub mod PairLaws
 pub mod Lanes
 pub mod Leaves
 pub mod Striking
@@ -7,7 +8,6 @@ pub mod Flows
 pub mod Potentials
 pub mod Belonging
 pub mod Loop
-pub mod PairLaws
 pub mod Starting
 pub mod PlanView
 pub mod Least

@@ -1,14 +1,17 @@
 -- Pairs over the integers of the theory: their parts, their sums and differences, and their order as `PairLess`; and those of paired supplies and demands.
 use Prim.Native.Nat.{ℕ, suc, _-_, _<_}
 use native.Mathlib.Omega.{arith}
+use native.Mathlib.Decide.{ℕ-discrete}
 use mathlib.Core.Path.{_≡_, refl, ap, sym, _∙_}
-use mathlib.Core.Logic.{_⊎_, inl, inr, ⊎-elim}
+use mathlib.Core.Logic.{_⊎_, inl, inr, ⊎-elim, by-cases}
 use mathlib.Core.Bool.{true, false, true≢false}
 use borrow.Author.Tests.{ltb-true, ltb-false, lt-ltb, eq-eqb, ne-eqb}
 use lib.IntN.{ℤ, pos, negsuc}
 use lib.Signed.{ltZ}
 use Rattle.integers.specs.Integer.{Z, _≈_, _≼_, _≺_, _⊕_, _⊖_, nat}
 use Rattle.integers.specs.Bridge.{toZ, z-eq, eq-z, z-add, z-ev, !, _-'_}
+use Rattle.integers.specs.Sum.{point}
+use Rattle.integers.specs.SumLaws.{point-at, point-off}
 use Rattle.network.specs.Pivot.{PairLess}
 use Rattle.transport.specs.Lists.{at}
 use Rattle.transport.specs.Sheet.{Sheet, sources, sinks}
@@ -135,3 +138,10 @@ pairedDemand-last S j e = rw (eq-eqb j (sinks S - 1) (omega arith)) (omega arith
 pub pairedDemand-early : (S : Sheet) (j : ℕ) → suc j < sinks S → marks (pairedDemand S j) ≈ nat 0
 unfolding pairedDemand
 pairedDemand-early S j l = rw (ne-eqb j (sinks S - 1) (omega arith)) (omega arith)
+
+-- All marks go to the last sink.
+pub demand-marks : (S : Sheet) (j : ℕ) → point (sinks S - 1) (nat (sources S)) j ≈ marks (pairedDemand S j)
+unfolding pairedDemand
+demand-marks S j = by-cases (ℕ-discrete j (sinks S - 1))
+    (λ e. rw (e, point-at (sinks S - 1) (nat (sources S)), eq-eqb (sinks S - 1) (sinks S - 1) refl) (omega arith))
+    (λ e. rw (point-off (sinks S - 1) (nat (sources S)) j e, ne-eqb j (sinks S - 1) e) (omega arith))

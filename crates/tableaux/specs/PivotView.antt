@@ -6,13 +6,11 @@ use mathlib.Core.List.{List, [], _∷_, map, List·Memᴰ, List·Memᴰ·not-nil
 use Prim.Native.Nat.{ℕ, suc, _≤_, _<_}
 use native.Mathlib.Omega.{arith}
 use native.Mathlib.Decide.{ℕ-discrete}
-use borrow.Author.Tests.{eqb-true, eq-eqb}
-use lib.Dec.{eqb}
 use lib.IntN.{ℤ, pos}
 use lib.Signed.{ltZ}
 use lib.ListN.{length, getD, length-map}
 use Rattle.transport.specs.Lists.{keep}
-use Rattle.transport.specs.ListLaws.{and-left, and-right, member-at, member-place, member-keep, keep-member, member-map, map-member, keep-yes, keep-no, keep-all, all-of, by-key, FirstLeast, firstLeast-is}
+use Rattle.transport.specs.ListLaws.{member-at, member-place, member-keep, keep-member, member-map, map-member, keep-yes, keep-no, keep-all, all-of, by-key, FirstLeast, firstLeast-is}
 use Rattle.transport.specs.Sheet.{Lane, place}
 use Rattle.transport.specs.SheetLaws.{lane, place-injective}
 use Rattle.transport.specs.declared.Pair.{Pair}

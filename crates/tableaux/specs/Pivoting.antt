@@ -1,7 +1,7 @@
 -- The pivot of a tableau that belongs to a sheet belongs to it: the abstract round, read off the lists.
 use mathlib.Core.Path.{_≡_, refl, ap, sym, _∙_, subst}
-use mathlib.Core.Logic.{_⊎_, inl, inr, ⊎-elim, by-cases, Dec·and}
-use mathlib.Core.Bool.{Bool, true, false, true≢false}
+use mathlib.Core.Logic.{inl, inr, Dec·and}
+use mathlib.Core.Bool.{true, false, true≢false}
 use mathlib.Core.List.{List, List·Memᴰ}
 use Prim.Native.Nat.{ℕ, zero, suc, _+_, _*_, _-_, _<_}
 use native.Mathlib.Omega.{arith}
@@ -29,12 +29,12 @@ use Rattle.transport.specs.Amount.{nothing, less}
 use Rattle.transport.specs.Tableau.{noCell, laneOf, basisSize}
 use Rattle.transport.specs.Round.{gain, pivot}
 use Rattle.transport.specs.Statements.{Basic, Belongs}
-use Rattle.tableaux.specs.View.{rowOf, colOf, Distinct, Inside, amountAt, amount-at, amount-none}
+use Rattle.tableaux.specs.View.{rowOf, colOf, basic-in, Inside, amountAt, amount-at, amount-none}
 use Rattle.tableaux.specs.PairLaws.{bags, marks, nothing-parts, add-parts, subtract-parts, true-less, ltZ-true, true-ltZ}
 use Rattle.tableaux.specs.PlanView.{supplies, demands}
 use Rattle.tableaux.specs.Belonging.{distinct-of, signs-flow}
-use Rattle.tableaux.specs.Order.{Ordered, ordered-by, ordered-distinct, basic-member, basic-dec, amount-member}
-use Rattle.tableaux.specs.TableauView.{bagsAt, marksAt, basic-in, Seen, cells-many, seen-belongs, belongs-seen}
+use Rattle.tableaux.specs.Order.{Ordered, ordered-by, basic-member, basic-dec, amount-member}
+use Rattle.tableaux.specs.TableauView.{bagsAt, marksAt, Seen, cells-many, seen-belongs, belongs-seen}
 use Rattle.tableaux.specs.PivotView.{Stands, stands-dec, Leaves, leaving-is, signs, leaver, step, pivot-basic, pivot-ordered, length-pivot, pivot-inside, amount-enters, amount-stays, amount-leaves, amount-elsewhere}
 
 -- The loop's signs as integers of the theory.

@@ -1,7 +1,7 @@
 -- Runs of rounds: a run ends at the first finished tableau, if that comes within its allowance, and else after exactly its allowance.
 use mathlib.Core.Path.{_≡_, refl, ap, sym, _∙_}
 use mathlib.Core.Logic.{_⊎_, inl, inr, ⊎-elim, _↔_}
-use mathlib.Core.Bool.{Bool, true, false, true≢false, false≢true}
+use mathlib.Core.Bool.{Bool, true, false, true≢false}
 use mathlib.Core.List.{List}
 use Prim.Native.Nat.{ℕ, zero, suc, _≤_, _<_}
 use native.Mathlib.Omega.{arith}
@@ -9,7 +9,7 @@ use native.Mathlib.Decide.{decLt}
 use Rattle.transport.specs.Sheet.{Sheet}
 use Rattle.transport.specs.declared.Cell.{Cell}
 use Rattle.transport.specs.Potential.{isFinished}
-use Rattle.transport.specs.Round.{next, Run, run}
+use Rattle.transport.specs.Round.{next, run}
 
 -- The tableau after k rounds.
 unfoldable pub after : Sheet → ℕ → List Cell → List Cell

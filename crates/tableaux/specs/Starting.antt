@@ -11,7 +11,7 @@ use lib.Dec.{eqb}
 use lib.ListN.{length, getD, drop}
 use lib.Seq.{drop-cons}
 use Rattle.integers.specs.Integer.{_≈_, _≼_, ≼-dec, _⊕_, nat}
-use Rattle.network.specs.Basis.{Basis, In}
+use Rattle.network.specs.Basis.{Basis}
 use Rattle.network.specs.Staircase.{Step, staircase}
 use Rattle.transport.specs.Lists.{keep, sumTo, at, total}
 use Rattle.transport.specs.ListLaws.{sumTo-part}
@@ -22,8 +22,8 @@ use Rattle.transport.specs.declared.Cell.{Cell}
 use Rattle.transport.specs.Amount.{nothing, add, subtract, less, same, smaller, addUp, pairedSupply, pairedDemand}
 use Rattle.transport.specs.AmountLaws.{same-true, same-self, less-weak}
 use Rattle.transport.specs.Tableau.{noCell, basisSize, corner, start, rowTotal, columnTotal}
-use Rattle.transport.specs.Statements.{Basic, Belongs}
-use Rattle.tableaux.specs.View.{rowOf, colOf}
+use Rattle.transport.specs.Statements.{Belongs}
+use Rattle.tableaux.specs.View.{rowOf, colOf, basic-in}
 use Rattle.tableaux.specs.PairLaws.{bags, marks, Less, pair-eq, nothing-parts, subtract-parts, add-nothing, add-subtract, subtract-self, subtract-nothing, less-true, less-false, true-less, subtract-above, pairedSupply-parts, pairedDemand-bags, pairedDemand-last, pairedDemand-early}
 
 -- ---- one step of the rule
@@ -31,11 +31,11 @@ use Rattle.tableaux.specs.PairLaws.{bags, marks, Less, pair-eq, nothing-
 abbrev cell : ℕ → ℕ → Pair → Cell
 cell i j x = record { row = i; col = j; amount = x }
 
-smaller-row : (s d : Pair) → less d s ≡ false → smaller s d ≡ s
+pub smaller-row : (s d : Pair) → less d s ≡ false → smaller s d ≡ s
 unfolding smaller
 smaller-row s d p = rw p
 
-smaller-column : (s d : Pair) → less d s ≡ true → smaller s d ≡ d
+pub smaller-column : (s d : Pair) → less d s ≡ true → smaller s d ≡ d
 unfolding smaller
 smaller-column s d p = rw p
 
@@ -48,7 +48,7 @@ not-empty s d p = go (same (subtract s d) nothing) refl
         absurd (true≢false (sym (subtract-above d s p) ∙ rw (same-true (subtract s d) nothing q) (less-weak .irreflexive nothing)))
     go false q = q
 
-corner-down : (S : Sheet) (left i j : ℕ) (s d : Pair) → less d s ≡ false
+pub corner-down : (S : Sheet) (left i j : ℕ) (s d : Pair) → less d s ≡ false
     → corner S (suc left) i j s d ≡ cell i j s ∷ corner S left (suc i) j (pairedSupply S (suc i)) (subtract d s)
 unfolding corner
 corner-down S left i j s d p = rw (smaller-row s d p, subtract-self s, same-self nothing, corner, smaller-row s d p)
@@ -57,7 +57,7 @@ corner-last : (S : Sheet) (i j : ℕ) (s : Pair) → corner S 1 i j s s ≡ cell
 unfolding corner
 corner-last S i j s = rw (corner-down S 0 i j s s (less-weak .irreflexive s), corner)
 
-corner-right : (S : Sheet) (left i j : ℕ) (s d : Pair) → less d s ≡ true
+pub corner-right : (S : Sheet) (left i j : ℕ) (s d : Pair) → less d s ≡ true
     → corner S (suc left) i j s d ≡ cell i j d ∷ corner S left i (suc j) (subtract s d) (pairedDemand S (suc j))
 unfolding corner
 corner-right S left i j s d p = rw (smaller-column s d p, not-empty s d p, corner, smaller-column s d p)
@@ -66,14 +66,14 @@ corner-right S left i j s d p = rw (smaller-column s d p, not-empty s d p, corne
 
 -- The rule stands at row i and column j, whose remaining pairs are s and d, and `left` cells come after this one. The rows up to i have given as much as the
 -- columns up to j have taken, in bags and in marks.
-record State (S : Sheet) (left i j : ℕ) (s d : Pair) : Type 0 where
-  row : i < sources S
-  column : j < sinks S
-  size : left + i + j + 2 ≡ sources S + sinks S
-  rowLeft : less nothing s ≡ true
-  columnLeft : less nothing d ≡ true
-  bagsEven : bags s ⊕ nat (sumTo (suc j) (at (S .demand))) ≈ bags d ⊕ nat (sumTo (suc i) (at (S .supply)))
-  marksEven : marks s ⊕ marks (pairedDemand S j) ≈ marks d ⊕ nat (suc i)
+pub record State (S : Sheet) (left i j : ℕ) (s d : Pair) : Type 0 where
+  pub row : i < sources S
+  pub column : j < sinks S
+  pub size : left + i + j + 2 ≡ sources S + sinks S
+  pub rowLeft : less nothing s ≡ true
+  pub columnLeft : less nothing d ≡ true
+  pub bagsEven : bags s ⊕ nat (sumTo (suc j) (at (S .demand))) ≈ bags d ⊕ nat (sumTo (suc i) (at (S .supply)))
+  pub marksEven : marks s ⊕ marks (pairedDemand S j) ≈ marks d ⊕ nat (suc i)
 
 module _ (S : Sheet) (ok : Checked S) where
   supply-above : (i : ℕ) → i < sources S → less nothing (pairedSupply S i) ≡ true
@@ -87,7 +87,7 @@ module _ (S : Sheet) (ok : Checked S) where
   unfolding sources sinks total
   whole = ok .balance
 
-  begin : (left : ℕ) → basisSize (sources S) (sinks S) ≡ suc left → State S left 0 0 (pairedSupply S 0) (pairedDemand S 0)
+  pub begin : (left : ℕ) → basisSize (sources S) (sinks S) ≡ suc left → State S left 0 0 (pairedSupply S 0) (pairedDemand S 0)
   unfolding basisSize sumTo
   begin left e = record {
     row = ok .sourcesLow;
@@ -136,7 +136,7 @@ module _ (S : Sheet) (ok : Checked S) where
         (omega (arith, st .marksEven, pairedDemand-last S j f))
 
   module _ (left i j : ℕ) (s d : Pair) (st : State S (suc left) i j s d) where
-    state-right : less d s ≡ true → State S left i (suc j) (subtract s d) (pairedDemand S (suc j))
+    pub state-right : less d s ≡ true → State S left i (suc j) (subtract s d) (pairedDemand S (suc j))
     unfolding sumTo
     state-right p =
         let l : suc j < sinks S = right-exists (suc left) i j s d st p in
@@ -150,7 +150,7 @@ module _ (S : Sheet) (ok : Checked S) where
           marksEven = omega (arith, st .marksEven, subtract-parts s d, pairedDemand-early S j l);
         }
 
-    state-down : less d s ≡ false → State S left (suc i) j (pairedSupply S (suc i)) (subtract d s)
+    pub state-down : less d s ≡ false → State S left (suc i) j (pairedSupply S (suc i)) (subtract d s)
     unfolding sumTo
     state-down p =
         let l : suc i < sources S = by-cases (decLt (suc i) (sources S)) (λ l. l) (λ l. absurd (omega (arith, down-exists (suc left) i j s d st p (omega (arith, st .row))))) in
@@ -188,7 +188,7 @@ corner-stairs S ok (suc left) i j s d st = go (less d s) refl (corner-stairs S o
     go true p rest = rw (corner-right S (suc left) i j s d p) (right (st .columnLeft) (rest i (suc j) _ _ (state-right S ok left i j s d st p)))
     go false p rest = rw (corner-down S (suc left) i j s d p) (down (st .rowLeft) (rest (suc i) j _ _ (state-down S ok left i j s d st p)))
 
-size-suc : (S : Sheet) → Checked S → basisSize (sources S) (sinks S) ≡ suc (basisSize (sources S) (sinks S) - 1)
+pub size-suc : (S : Sheet) → Checked S → basisSize (sources S) (sinks S) ≡ suc (basisSize (sources S) (sinks S) - 1)
 unfolding basisSize
 size-suc S ok = omega (arith, ok .sourcesLow, ok .sinksLow)
 
@@ -302,9 +302,6 @@ unfolding place
 later n i j h k l (inl e) = rw (e .0, e .1) (omega arith)
 later n i j h k l (inr e) = rw (e .0, e .1) (omega arith)
 
-in-basic : (T : List Cell) (K i j : ℕ) → K ≡ length T → In (rowOf T) (colOf T) K i j → Basic T i j
-in-basic T K i j e (k, l, p, q) = record { index = k; below = omega arith; row = p; column = q }
-
 -- The start belongs to its sheet. While the rule runs, the rows so far have given as much as the columns so far have taken. The marks of the rows so far are 1 to m,
 -- and those of the columns so far are 0 or, from the last column on, m; so the present row and column are not empty together before the last cell. Each cell
 -- therefore takes a pair above (0, 0), and the rule moves by one row or one column m + n − 2 times and ends in the last row and column. That is a staircase,
@@ -316,8 +313,8 @@ start-belongs S ok = record {
   onSheet = λ k l. (basis .rows k (omega arith), basis .cols k (omega arith));
   order = λ k l. later (sinks S) _ _ _ _ (ok .sinksLow) (stairs-step t k l);
   joined = record {
-    rows = λ A B z h. basis .joined .rows A B z (λ i j k l w. h i j k l (in-basic T (suc K) i j many w));
-    cols = λ A B z h. basis .joined .cols A B z (λ i j k l w. h i j k l (in-basic T (suc K) i j many w));
+    rows = λ A B z h. basis .joined .rows A B z (λ i j k l w. h i j k l (basic-in T (suc K) i j many .1 w));
+    cols = λ A B z h. basis .joined .cols A B z (λ i j k l w. h i j k l (basic-in T (suc K) i j many .1 w));
   };
   above = stairs-above t;
   rows = λ i l. by-cases (ℕ-discrete 0 i) (λ e. rw (← e) (row-here t)) (λ e. rows-after t i (omega arith) l);

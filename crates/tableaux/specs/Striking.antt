@@ -32,7 +32,7 @@ module _ (m : ℕ) (nodes : List ℕ) (most : ℕ) (B : List Lane) where
   unfolding strikeOff
   strike-none e = rw (e, strikeOff)
 
-no-members : {A : Type 0} (xs : List A) → ((x : A) → List·Memᴰ x xs → ⊥) → length xs ≡ 0
+pub no-members : {A : Type 0} (xs : List A) → ((x : A) → List·Memᴰ x xs → ⊥) → length xs ≡ 0
 no-members [] h = refl
 no-members (x ∷ xs) h = absurd (h x (List·Memᴰ·head refl))
 
@@ -181,7 +181,7 @@ root-no-leaf bare s h = absurd (List·Memᴰ·not-nil h)
 root-no-leaf (peel {s} {later} st rest) t h = ⊎-elim (λ q. rw q (st .proper)) (root-no-leaf rest t) (List·Memᴰ·cases-cons h)
 
 -- m + n − 1 distinct leaves, none of them the root, are all other nodes: with one missing there would be too few.
-every-leaf : {m n : ℕ} {ss : List Strike} → Peeled m n ss → suc (length ss) ≡ m + n → (k : ℕ) → k ≢ 0 → k < m + n → IsLeaf ss k
+pub every-leaf : {m n : ℕ} {ss : List Strike} → Peeled m n ss → suc (length ss) ≡ m + n → (k : ℕ) → k ≢ 0 → k < m + n → IsLeaf ss k
 every-leaf {m} {n} {ss} peels e k z l = go (leaf-or ss k)
   where
     each : ((s : Strike) → List·Memᴰ s ss → s .leaf ≢ k) → (j : ℕ) → j < m + n → times ss j + one-at 0 j + one-at k j ≤ 1
@@ -221,7 +221,7 @@ lane-once {m} {n} {s} {later} st rest t h e = let (ts, step) = step-of rest t h 
     go (column-struck p q) (row-struck p′ q′) d = d .1 (q′ ∙ ap (λ (l : Lane). m + l .col) e ∙ sym p)
     go (column-struck p q) (column-struck p′ q′) d = d .0 (p′ ∙ ap (λ (l : Lane). m + l .col) e ∙ sym p)
 
-strike-once : {m n : ℕ} {ss : List Strike} → Peeled m n ss → (s t : Strike) → List·Memᴰ s ss → List·Memᴰ t ss → s .lane ≡ t .lane → s ≡ t
+pub strike-once : {m n : ℕ} {ss : List Strike} → Peeled m n ss → (s t : Strike) → List·Memᴰ s ss → List·Memᴰ t ss → s .lane ≡ t .lane → s ≡ t
 strike-once bare s t h k e = absurd (List·Memᴰ·not-nil h)
 strike-once {m} {n} (peel {s = r} {later} st rest) s t h k e = go (List·Memᴰ·cases-cons h) (List·Memᴰ·cases-cons k) (strike-once rest s t)
   where
@@ -241,7 +241,7 @@ pub record Struck (m n : ℕ) (B : List Lane) (ss : List Strike) : Type 0 where
   pub leaves : (k : ℕ) → k ≢ 0 → k < m + n → IsLeaf ss k
   pub size : suc (length ss) ≡ m + n
 
-nodes-others : (m n : ℕ) → 1 ≤ m → Others m n (table (basisSize m n) suc)
+pub nodes-others : (m n : ℕ) → 1 ≤ m → Others m n (table (basisSize m n) suc)
 unfolding basisSize
 nodes-others m n p k = (to, from)
   where
@@ -331,7 +331,7 @@ struck-hung {m} {n} {B} {ss} w s h = let (later, st) = step-of (w .peels) s h in
     below st (row-struck a b) = omega (arith, st .col)
     below st (column-struck a b) = omega (arith, st .row)
 
-struck-joined : {m n : ℕ} {B : List Lane} {ss : List Strike} → 1 ≤ m → Struck m n B ss → Joined m n (Has B)
+pub struck-joined : {m n : ℕ} {B : List Lane} {ss : List Strike} → 1 ≤ m → Struck m n B ss → Joined m n (Has B)
 struck-joined {m} {n} {B} {ss} p w = record {
   rows = λ A C z closed i l. sym (side-row A C i l) ∙ all A C z closed i (omega arith);
   cols = λ A C z closed j l. sym (side-col A C j) ∙ all A C z closed (m + j) (omega arith);
@@ -364,7 +364,7 @@ struck-joined {m} {n} {B} {ss} p w = record {
             ends st (row-struck a b) = ap (side A C) a ∙ same st ∙ ap (side A C) (sym b)
             ends st (column-struck a b) = ap (side A C) a ∙ sym (same st) ∙ ap (side A C) (sym b)
 
-joined-linked : {m n : ℕ} {B : List Lane} → 1 ≤ m → Fits m n B → length B ≡ basisSize m n → Joined m n (Has B) → Linked m n (λ k. true) B
+pub joined-linked : {m n : ℕ} {B : List Lane} → 1 ≤ m → Fits m n B → length B ≡ basisSize m n → Joined m n (Has B) → Linked m n (λ k. true) B
 unfolding basisSize
 joined-linked {m} {n} {B} p h e w = record {
   root = refl;

@@ -1,18 +1,13 @@
 -- A tableau of a sheet as one of the theory of networks.
 use mathlib.Core.Path.{_≡_, refl}
-use mathlib.Core.Logic.{by-cases, _↔_}
 use mathlib.Core.List.{List, List·Memᴰ}
 use Prim.Native.Nat.{ℕ, suc, _+_, _-_, _<_}
 use native.Mathlib.Omega.{arith}
-use native.Mathlib.Decide.{ℕ-discrete}
-use borrow.Author.Tests.{eq-eqb, ne-eqb}
 use lib.ListN.{length, getD}
-use Rattle.integers.specs.Integer.{Z, _≈_, _≼_, nat, Within}
-use Rattle.integers.specs.Sum.{point}
-use Rattle.integers.specs.SumLaws.{sum-each, point-at, point-off}
+use Rattle.integers.specs.Integer.{Z, _≼_, nat, Within}
+use Rattle.integers.specs.SumLaws.{sum-each}
 use Rattle.network.specs.Flow.{Flow}
 use Rattle.network.specs.FlowLaws.{flow-on}
-use Rattle.network.specs.Basis.{In}
 use Rattle.network.specs.Marks.{marks-within}
 use Rattle.network.specs.Round.{Tableau, bags-nonneg}
 use Rattle.transport.specs.Lists.{at}
@@ -23,8 +18,8 @@ use Rattle.transport.specs.declared.Cell.{Cell}
 use Rattle.transport.specs.Amount.{nothing, add, pairedSupply, pairedDemand}
 use Rattle.transport.specs.Tableau.{noCell, basisSize, rowTotal, columnTotal}
 use Rattle.transport.specs.Statements.{Basic, Belongs}
-use Rattle.tableaux.specs.View.{rowOf, colOf, Distinct, Inside, amountAt, amount-at, row-sum, column-sum}
-use Rattle.tableaux.specs.PairLaws.{bags, marks, pair-eq, true-less, less-true}
+use Rattle.tableaux.specs.View.{rowOf, colOf, basic-in, Distinct, Inside, amountAt, amount-at, row-sum, column-sum}
+use Rattle.tableaux.specs.PairLaws.{bags, marks, pair-eq, true-less, less-true, demand-marks}
 use Rattle.tableaux.specs.PlanView.{supplies, demands}
 use Rattle.tableaux.specs.Belonging.{basis-of, distinct-of, bags-flow, marks-flow}
 use Rattle.tableaux.specs.Order.{Ordered, ordered-at, ordered-distinct}
@@ -34,12 +29,6 @@ bagsAt T i j = bags (amountAt T i j)
 
 abbrev pub marksAt : List Cell → ℕ → ℕ → Z
 marksAt T i j = marks (amountAt T i j)
-
-pub basic-in : (T : List Cell) (K i j : ℕ) → K ≡ length T → Basic T i j ↔ In (rowOf T) (colOf T) K i j
-basic-in T K i j e = (
-  (λ b. (b .index, omega (arith, b .below), b .row, b .column)),
-  (λ (k, l, p, q). record { index = k; below = omega arith; row = p; column = q }),
-)
 
 -- The cells are a basis with their bags and marks, the bags of supplies and demands, and the marks to the last sink.
 abbrev pub Seen : Sheet → List Cell → Type 1
@@ -71,7 +60,7 @@ module _ {S : Sheet} (ok : Checked S) (T : List Cell) (size : length T ≡ basis
     columns = λ j l.
         pair-eq (columnTotal T j) (pairedDemand S j)
         (omega (arith, column-sum (λ a. a .q) refl (λ a b. refl) (sources S) (sinks S) T distinct inside j, t .bags .cols j l))
-        (omega (arith, column-sum (λ a. a .e) refl (λ a b. refl) (sources S) (sinks S) T distinct inside j, t .marks .cols j l, delivered j));
+        (omega (arith, column-sum (λ a. a .e) refl (λ a b. refl) (sources S) (sinks S) T distinct inside j, t .marks .cols j l, demand-marks S j));
   }
     where
       distinct : Distinct T
@@ -79,11 +68,6 @@ module _ {S : Sheet} (ok : Checked S) (T : List Cell) (size : length T ≡ basis
 
       inside : Inside (sources S) (sinks S) T
       inside k l = (t .basis .rows k (omega (arith, cells-many)), t .basis .cols k (omega (arith, cells-many)))
-
-      delivered : (j : ℕ) → point (sinks S - 1) (nat (sources S)) j ≈ marks (pairedDemand S j)
-      delivered j = by-cases (ℕ-discrete j (sinks S - 1))
-          (λ e. rw (e, point-at (sinks S - 1) (nat (sources S)), eq-eqb (sinks S - 1) (sinks S - 1) refl) (omega arith))
-          (λ e. rw (point-off (sinks S - 1) (nat (sources S)) j e, ne-eqb j (sinks S - 1) e) (omega arith))
 
 -- What belongs to the sheet is such a tableau.
 pub belongs-seen : {S : Sheet} {T : List Cell} → Checked S → Belongs S T → Seen S T

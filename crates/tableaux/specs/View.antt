@@ -1,6 +1,6 @@
 -- A tableau as amounts on rows and columns: the view in which the theory of networks speaks of it.
 use mathlib.Core.Path.{_≡_, refl, sym, _∙_}
-use mathlib.Core.Logic.{by-cases, Dec·and}
+use mathlib.Core.Logic.{_↔_, by-cases, Dec·and}
 use mathlib.Core.Bool.{_&&_, cond}
 use mathlib.Core.List.{List, [], _∷_, map}
 use Prim.Native.Nat.{ℕ, zero, suc, _+_, _<_}
@@ -14,6 +14,7 @@ use Rattle.integers.specs.Integer.{Z, _≈_, _⊕_, _⊗_, nat}
 use Rattle.integers.specs.Bridge.{toZ, z-add}
 use Rattle.integers.specs.Sum.{sum, point}
 use Rattle.integers.specs.SumLaws.{sum-add, sum-zero, sum-cong, sum-point, point-at, point-off}
+use Rattle.network.specs.Basis.{In}
 use Rattle.transport.specs.Lists.{keep}
 use Rattle.transport.specs.declared.Pair.{Pair}
 use Rattle.transport.specs.declared.Cell.{Cell}
@@ -28,6 +29,13 @@ rowOf T k = getD T k noCell .row
 
 abbrev pub colOf : List Cell → ℕ → ℕ
 colOf T k = getD T k noCell .col
+
+-- The cells by index, as the theory of bases has them.
+pub basic-in : (T : List Cell) (K i j : ℕ) → K ≡ length T → Basic T i j ↔ In (rowOf T) (colOf T) K i j
+basic-in T K i j e = (
+  (λ b. (b .index, omega (arith, b .below), b .row, b .column)),
+  (λ (k, l, p, q). record { index = k; below = omega arith; row = p; column = q }),
+)
 
 -- No two cells stand on the same lane.
 abbrev pub Distinct : List Cell → Type 0

@@ -1,0 +1,4 @@
+pub mod Cells
+pub mod CellTests
+pub mod Held
+pub mod Lanes

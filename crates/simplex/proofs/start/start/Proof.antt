@@ -1,0 +1,56 @@
+-- Each way out is a case of the call; the first tableau is the start of the sheet, whatever its costs.
+use mathlib.Core.Path.{_≡_, sym, _∙_}
+use mathlib.Core.Option.{none}
+use Rattle.transport.specs.Sheet.{Sheet, refusal, sheetTests}
+use Rattle.transport.specs.SheetLaws.{checked}
+use Rattle.sheet.specs.Check.{sheetOf, accepted-none, refused-some}
+use Rattle.simplex.specs.Corner.{checked-costless, start-costless}
+use Rattle.simplex.specs.Start.{start-refused, start-given}
+use borrow.Author.Needs.{needs}
+use Rattle.simplex.proofs.start.start.Statement.{statement}
+use Rattle.simplex.proofs.start.start.Tie as tie
+
+abbrev sheetAt : (c : tie.Start) → Sheet
+sheetAt c = sheetOf (c .args .supply .now) (c .args .demand .now) (c .args .cost .now)
+
+check-sheet-requires : tie.Need-check-sheet-requires
+check-sheet-requires c κs = search needs
+
+enum-known-check : tie.Need-enum-known-check
+enum-known-check c = search needs
+
+empty-tableau-requires : tie.Need-empty-tableau-requires
+empty-tableau-requires c κs = search needs
+
+returns : tie.Need-returns
+returns c =
+    rw (c .empty-tableau .ensures)
+    (start-refused (sheetAt (c .before .before .before .before .before .before .before .before)) _ (refused-some _ _ (sym (c .before .before .before .before .check-sheet .ensures) ∙ c .before .before .check .given .1)))
+
+enum-told : tie.Need-enum-told
+enum-told c = search needs
+
+accepted : (c : tie.After-enum-told) → refusal (sheetTests (sheetAt (c .before .before .before .before .before .before))) ≡ none
+accepted c = accepted-none _ (sym (c .before .before .check-sheet .ensures) ∙ c .enum-told .given .1)
+
+first-tableau-requires : tie.Need-first-tableau-requires
+first-tableau-requires c κs =
+    let S = sheetAt (c .before .before .before .before .before .before) in
+    checked-costless S (checked S (accepted c))
+
+returns-2 : tie.Need-returns-2
+returns-2 c =
+    let S = sheetAt (c .before .before .before .before .before .before .before) in
+    rw (c .first-tableau .ensures, start-costless S) (start-given S (accepted (c .before)))
+
+pub start-spec : {M : Type 1} → statement M
+start-spec =
+    tie.close
+    (tie.spec
+    check-sheet-requires
+    enum-known-check
+    empty-tableau-requires
+    returns
+    enum-told
+    first-tableau-requires
+    returns-2)

@@ -1,0 +1,3 @@
+pub mod Corner
+pub mod Filling
+pub mod Start

@@ -1,0 +1,3 @@
+// The transportation simplex: start.
+pub mod start;
+pub mod tableau;
