@@ -27,11 +27,11 @@ use Rattle.basis.specs.PotentialLaws.{potentialBy-nil, potentialBy-cons}
 
 -- ---- the cost of a phase
 
-most-here : (l : Lane) → mostOn l l ≡ negsuc 0
+pub most-here : (l : Lane) → mostOn l l ≡ negsuc 0
 unfolding mostOn
 most-here l = rw (lane-same l)
 
-most-off : (l k : Lane) → k ≢ l → mostOn l k ≡ pos 0
+pub most-off : (l k : Lane) → k ≢ l → mostOn l k ≡ pos 0
 unfolding mostOn
 most-off l k d = rw (lane-other k l d)
 
@@ -75,6 +75,10 @@ off true true false e = let z : _≡_ {A = ℕ} 0 1 = cc in absurd (omega arith)
 off true false true e = let z : _≡_ {A = ℕ} 0 1 = cc in absurd (omega arith)
 off true false false e = let z : _≡_ {A = ℕ} 0 1 = cc in absurd (omega arith)
 off false b r e = refl
+
+pub beyond-absent : {m : ℕ} {l : Lane} {ss : List Strike} {nodes : ℕ} {fromRow : Bool} → Beyond m l ss nodes fromRow
+    → ((s : Strike) → List·Memᴰ s ss → s .lane ≢ l) → (k : ℕ) → has nodes k ≡ false
+beyond-absent {m} {l} {ss} {nodes} {fromRow} h d k = off (has nodes k) fromRow (ltb k m) (sym (h .potential k) ∙ none-beyond l ss d k)
 
 -- A strike's other end is a column if its leaf is a row, and the other way round.
 ends-kinds : {m n : ℕ} {s : Strike} {later : List Strike} → Step m n s later → ltb (s .other) m ≡ not (ltb (s .leaf) m)

@@ -1,18 +1,17 @@
 -- What the phase does with the allowed lanes, by the two sides of its cut: bit i of `rows` and bit j of `cols` make the reduced cost of lane (i, j), but for the
 -- phase's own lane, 1 − bit − bit.
-use mathlib.Core.Path.{_≡_, refl, sym, ap, _∙_}
-use mathlib.Core.Logic.{_⊎_, inl, inr, ⊎-elim, by-cases}
+use mathlib.Core.Path.{_≡_, refl, ap, _∙_}
+use mathlib.Core.Logic.{by-cases}
 use mathlib.Core.Bool.{Bool, true, false, _&&_, _||_, cond}
 use mathlib.Core.List.{List}
-use Prim.Native.Nat.{ℕ, zero, suc, _+_, _<_, _≤_, min}
+use Prim.Native.Nat.{ℕ, _+_, _<_, _≤_}
 use native.Mathlib.Omega.{arith}
-use native.Mathlib.Decide.{ℕ-discrete, decLt}
+use native.Mathlib.Decide.{ℕ-discrete}
 use borrow.Author.Tests.{eqb-true, eqb-false, eq-eqb, ne-eqb}
 use lib.Bits.{bitAnd}
 use lib.Dec.{eqb}
 use lib.ListN.{length, getD, set, length-set}
 use lib.Seq.{getD-set-same, getD-set-other}
-use Rattle.basis.specs.Layout.{stride, getD-set}
 use Rattle.basis.specs.Mask.{bit, has, put, has-put, bit-and}
 use Rattle.phase.specs.declared.lanes.Found.{Found}
 use Rattle.phase.specs.declared.lanes.Found.the-variants.{Lane, Nothing}

@@ -1,3 +1,4 @@
 pub mod MaskLaws
 pub mod Cut
 pub mod Lanes
+pub mod PhaseLaws

@@ -1,12 +1,12 @@
 -- Masks as sets: the first n bits, the bits of one mask without those of another, and where there is a bit at all.
-use mathlib.Core.Path.{_≡_, refl, sym, ap, _∙_}
+use mathlib.Core.Path.{_≡_, refl, _∙_}
 use Prim.Native.Nat.{ℕ, zero, suc, _+_, _-_, _*_, _/_, _%_, _^_, _<_, _≤_, min, max}
 use native.Mathlib.Omega.{arith}
 use native.Mathlib.Nat.{pow-suc, div-eq-of-lt}
-use lib.Bits.{bitAnd, bitOr, bitXor, differ}
+use lib.Bits.{bitOr, bitXor, differ}
 use lib.Pow.{pow-pos, pow-mono, shr-shr, shl-exact}
 use lib.Count.{trailingZeros}
-use Rattle.basis.specs.Mask.{bit, bit-or, bit-and, bit-xor, bit-suc, none, ones-zero, first-in}
+use Rattle.basis.specs.Mask.{bit, bit-or, bit-xor, bit-suc, none, ones-zero, first-in}
 
 -- ---- the first n bits
 

@@ -14,12 +14,13 @@ ghost use lib.ListN.{length};
 ghost use Rattle.basis.specs.Layout.{stride};
 ghost use Rattle.phase.specs.Lanes.{Finds, Keeps, Decided};
 
+// A lane by its row and column.
 pub enum Found {
     Lane(usize, usize),
     Nothing,
 }
 
-// An allowed lane across the cut, with reduced cost −1: the first in sheet order.
+// An allowed lane with reduced cost −1. Any will do; this is the first in sheet order.
 pub fn improving(allowed: &[u64; MAX_SIDE], cut: Cut, m: usize) -> Found
     requires { ⌜ m ≤ stride ⌝ }
     ensures { λ r. ⌜ Finds (now (allowed .entry)) (cut .rows) (cut .cols) m r ⌝ }
