@@ -5,15 +5,15 @@ use native.Mathlib.Numerals.{add-one}
 use mathlib.Core.Path.{_≡_, refl, sym, ap, _∙_}
 use mathlib.Core.Bool.{Bool, true, false, not, cond, true≢false, _&&_, _||_, or-assoc, or-false, or-true, and-false}
 use mathlib.Core.List.{List, [], _∷_, _++_}
-use lib.IntN.{ℤ, pos, natAbs, negℤ, _+ℤ_}
+use lib.IntN.{ℤ, pos, natAbs, _+ℤ_}
 use lib.Dec.{eqb}
-use lib.ListN.{length, take, getD, set, length-take, length-set}
+use lib.ListN.{length, take, getD, set, length-set}
 use lib.Seq.{take-suc, take-length, length-take-le, getD-take}
-use Rattle.transport.specs.Lists.{keep, leastFrom, firstLeast}
-use Rattle.transport.specs.ListLaws.{and-left, and-right, firstLeast-append, member-at, member-place, keep-member}
+use Rattle.transport.specs.Lists.{keep}
+use Rattle.transport.specs.ListLaws.{and-left, and-right, member-at, member-place, keep-member}
 use borrow.Author.Tests.{eqb-true, eq-eqb, ne-eqb, not-true}
 use Rattle.transport.specs.declared.Pair.{Pair}
-use Rattle.transport.specs.Amount.{add, subtract, less}
+use Rattle.transport.specs.Amount.{less}
 use Rattle.transport.specs.RangeLaws.{abs-add}
 use Rattle.basis.specs.Layout.{nodeRoom, laneRoom, Distinct, getD-set, Struck}
 use Rattle.basis.specs.SignLaws.{LoopLanes}
@@ -24,20 +24,6 @@ pairAt q e l = record { q = getD q l (pos 0); e = getD e l (pos 0) }
 
 abbrev pub lessAt : List ℤ → List ℤ → ℕ → ℕ → Bool
 lessAt q e k l = less (pairAt q e k) (pairAt q e l)
-
--- ---- the least of some lanes
-
--- One lane more is compared.
-pub firstLeast-more : {A : Type 0} (less : A → A → Bool) (d : A) (xs : List A) (k : ℕ) → 1 ≤ k → k < length xs
-    → firstLeast less d (take (k + 1) xs) ≡ cond (less (getD xs k d) (firstLeast less d (take k xs))) (getD xs k d) (firstLeast less d (take k xs))
-firstLeast-more less d xs k p q =
-    rw (add-one, take-suc xs k d q, firstLeast-append less d (take k xs) (getD xs k d) (omega (arith, length-take k xs)))
-
--- The first lane alone.
-pub firstLeast-first : {A : Type 0} (less : A → A → Bool) (d : A) (xs : List A) → 1 ≤ length xs → firstLeast less d (take 1 xs) ≡ getD xs 0 d
-unfolding firstLeast leastFrom
-firstLeast-first less d [] p = absurd (omega arith)
-firstLeast-first less d (x ∷ xs) p = refl
 
 -- ---- the lanes of a list
 
@@ -194,30 +180,3 @@ module _ (leaf other lane : List ℕ) (count row sink : ℕ) (minus plus : List 
 
   pub plus-lanes : LaneList plus b
   plus-lanes = kept-lanes _ lane plus count b (struck-lanes leaf other lane count w d) (h .plusLong) (h .fewPlus) (h .plusIs)
-
--- ---- the shift
-
--- What a pair becomes: it loses the step at a minus lane, and gains it at a plus lane.
-abbrev pub shiftedAt : List ℕ → List ℕ → Pair → ℕ → Pair → Pair
-shiftedAt minus plus step p a =
-    let x = cond (among minus p) (subtract a step) a in
-    cond (among plus p) (add x step) x
-
--- Both arrays after the step.
-pub record Shifted (minus plus : List ℕ) (step : Pair) (q e q' e' : List ℤ) : Type 0 where
-  pub bags : length q' ≡ laneRoom
-  pub marks : length e' ≡ laneRoom
-  pub each : (p : ℕ) → pairAt q' e' p ≡ shiftedAt minus plus step p (pairAt q e p)
-
-pub shifted-by : (minus plus : List ℕ) (step : Pair) (q e q₁ e₁ q₂ e₂ : List ℤ) (nq ne : ℤ) → nq ≡ negℤ (step .q) → ne ≡ negℤ (step .e)
-    → Changed (λ z. z +ℤ nq) q minus q₁ → Changed (λ z. z +ℤ ne) e minus e₁ → Changed (λ z. z +ℤ step .q) q₁ plus q₂ → Changed (λ z. z +ℤ step .e) e₁ plus e₂
-    → Shifted minus plus step q e q₂ e₂
-unfolding add subtract
-shifted-by minus plus step q e q₁ e₁ q₂ e₂ nq ne eq ee cq ce gq ge =
-    record { bags = gq .long; marks = ge .long; each = λ p. at p (among minus p) (among plus p) refl refl }
-  where
-    at : (p : ℕ) (s t : Bool) → among minus p ≡ s → among plus p ≡ t → pairAt q₂ e₂ p ≡ shiftedAt minus plus step p (pairAt q e p)
-    at p true true f g = rw (gq .each p, ge .each p, cq .each p, ce .each p, f, g, eq, ee)
-    at p true false f g = rw (gq .each p, ge .each p, cq .each p, ce .each p, f, g, eq, ee)
-    at p false true f g = rw (gq .each p, ge .each p, cq .each p, ce .each p, f, g)
-    at p false false f g = rw (gq .each p, ge .each p, cq .each p, ce .each p, f, g)

@@ -7,9 +7,8 @@ ghost use Prim.Native.Nat.{ℕ, _+_, _<_, _≤_, _^_};
 ghost use lib.IntN.{pos, natAbs, _+ℤ_};
 ghost use lib.ListN.{length, getD, take};
 ghost use Rattle.transport.specs.Lists.{firstLeast};
-ghost use Rattle.transport.specs.RangeLaws.{Within};
 ghost use Rattle.basis.specs.Layout.{laneRoom};
-ghost use Rattle.basis.specs.StepLaws.{pairAt, lessAt, LaneList, Changed, Shifted};
+ghost use Rattle.basis.specs.StepLaws.{lessAt, LaneList, Changed};
 
 // Of the first `count` lanes, the one with the smallest pair; the first among equals.
 pub fn least_lane(q: &[i64; LANES], e: &[i64; LANES], lanes: &[usize; NODES], count: usize) -> usize
@@ -44,29 +43,4 @@ pub fn add_to(q: &mut [i64; LANES], lanes: &[usize; NODES], count: usize, x: i64
         q[l] = q[l] + x;
         k += 1;
     }
-}
-
-// Round the loop: the minus lanes lose the step, and the plus lanes gain it.
-pub fn shift(
-    q: &mut [i64; LANES],
-    e: &mut [i64; LANES],
-    minus: &[usize; NODES],
-    losing: usize,
-    plus: &[usize; NODES],
-    gaining: usize,
-    step: Pair,
-)
-    requires { ⌜ LaneList (now minus) losing ⌝ }
-    requires { ⌜ LaneList (now plus) gaining ⌝ }
-    requires { ⌜ (length (now q) ≡ laneRoom) × (length (now e) ≡ laneRoom) ⌝ }
-    requires { ⌜ ((p : ℕ) → Within (2 ^ 61) (pairAt (now q) (now e) p)) ⌝ }
-    requires { ⌜ Within (2 ^ 61) step ⌝ }
-    ensures { λ _. ⌜ Shifted (take losing (now (minus .entry))) (take gaining (now (plus .entry))) step (now (q .entry)) (now (e .entry)) (now (q .exit)) (now (e .exit)) ⌝ }
-{
-    let bags = step.q;
-    let marks = step.e;
-    add_to(q, minus, losing, 0 - bags);
-    add_to(e, minus, losing, 0 - marks);
-    add_to(q, plus, gaining, bags);
-    add_to(e, plus, gaining, marks);
 }

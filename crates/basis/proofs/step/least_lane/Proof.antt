@@ -10,7 +10,8 @@ use mir.Syntax.{w64}
 use mir.Val.{toZ, ofZ}
 use Rattle.transport.specs.Lists.{firstLeast}
 use Rattle.basis.specs.Layout.{laneRoom}
-use Rattle.basis.specs.StepLaws.{lessAt, firstLeast-first, firstLeast-more}
+use Rattle.transport.specs.ListLaws.{firstLeast-start, firstLeast-one}
+use Rattle.basis.specs.StepLaws.{lessAt}
 use Rattle.basis.proofs.step.least_lane.Statement.{statement}
 use Rattle.basis.proofs.step.least_lane.Tie as tie
 
@@ -26,7 +27,7 @@ element-copy-out-at c = omega arith
 loop-holds : tie.Need-loop-holds Inv-loop μ-loop
 loop-holds c =
     let s = c .before in
-    (omega arith, omega arith, s .pre .0 .inside 0 (omega arith), sym (firstLeast-first _ 0 (s .args .lanes .now) (omega arith)))
+    (omega arith, omega arith, s .pre .0 .inside 0 (omega arith), sym (firstLeast-start _ 0 (s .args .lanes .now) (omega arith)))
 
 mul-l : tie.Need-mul-l Inv-loop μ-loop
 mul-l c = omega arith
@@ -78,7 +79,7 @@ loop-again c =
     let vq' : toZ w64 (ofZ w64 (getD (a .q .now) (i .at) (pos 0))) ≡ getD (a .q .now) (i .at) (pos 0) = search needs in
     let ve' : toZ w64 (ofZ w64 (getD (a .e .now) (i .at) (pos 0))) ≡ getD (a .e .now) (i .at) (pos 0) = search needs in
     let h : c .before .less .result ≡ lessAt (a .q .now) (a .e .now) l (i .at) = c .before .less .ensures ∙ rw (vq, ve, vq', ve') in
-    let m = firstLeast-more (lessAt (a .q .now) (a .e .now)) 0 (a .lanes .now) (i .k) (i .inv .0) (omega arith) in
+    let m = firstLeast-one (lessAt (a .q .now) (a .e .now)) 0 (a .lanes .now) (i .k) (i .inv .0) (omega arith) in
     ⊎-elim
     (λ w. (omega arith, omega arith, rw (w .1) (s .pre .0 .inside (i .k) (omega arith)), w .1 ∙ sym (m ∙ rw (← i .inv .3, sym h ∙ w .0 .taken))))
     (λ w. (omega arith, omega arith, rw (w .1) (i .inv .2), w .1 ∙ sym (m ∙ rw (← i .inv .3, sym h ∙ w .0 .left))))
