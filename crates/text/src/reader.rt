@@ -76,7 +76,10 @@ fn byte_at(text: &[u8], at: usize, byte: u8) -> bool
 // These bytes.
 fn read_word(text: &[u8], at: usize, expected: &[u8]) -> Taken
     requires { ⌜ at ≤ length (now text) ⌝ }
-    ensures { λ r. ⌜ (word (now (expected .entry)) (drop at (now (text .entry))) ≡ readingOf (now (text .entry)) (λ v. tt) r) × (placeOf r ≤ length (now (text .entry))) ⌝ }
+    ensures { λ r. ⌜
+        (word (now (expected .entry)) (drop at (now (text .entry))) ≡ readingOf (now (text .entry)) (λ v. tt) r)
+        × (placeOf r ≤ length (now (text .entry)))
+        ⌝ }
 {
     let mut next = at;
     let mut i: usize = 0;
@@ -93,7 +96,10 @@ fn read_word(text: &[u8], at: usize, expected: &[u8]) -> Taken
 // At most six digits more of a number that begins with the digit `first`.
 fn more_digits(text: &[u8], at: usize, first: u64) -> Taken
     requires { ⌜ (at ≤ length (now text)) × (first < 10) ⌝ }
-    ensures { λ r. ⌜ (moreDigits always 6 first (drop at (now (text .entry))) ≡ readingOf (now (text .entry)) (λ v. v) r) × (placeOf r ≤ length (now (text .entry))) ⌝ }
+    ensures { λ r. ⌜
+        (moreDigits always 6 first (drop at (now (text .entry))) ≡ readingOf (now (text .entry)) (λ v. v) r)
+        × (placeOf r ≤ length (now (text .entry)))
+        ⌝ }
 {
     let mut value = first;
     let mut next = at;
@@ -117,12 +123,12 @@ fn read_number(text: &[u8], at: usize) -> Taken
     if !digit_at(text, at) {
         return Taken::Stuck(at);
     }
-    let first = (text[at] - b'0') as u64;
+    let leading = (text[at] - b'0') as u64;
     let next = at + 1;
-    if first == 0 {
+    if leading == 0 {
         return Taken::Got { value: 0, next };
     }
-    more_digits(text, next, first)
+    more_digits(text, next, leading)
 }
 
 // A count of sources or sinks: 1 to 32.
@@ -154,7 +160,10 @@ fn read_side(text: &[u8], at: usize) -> Taken
 // The byte that must end a number that was read.
 fn read_end(text: &[u8], number: Taken, end: u8) -> Taken
     requires { ⌜ placeOf number ≤ length (now text) ⌝ }
-    ensures { λ r. ⌜ (endReading end (readingOf (now (text .entry)) (λ v. v) number) ≡ readingOf (now (text .entry)) (λ v. v) r) × (placeOf r ≤ length (now (text .entry))) ⌝ }
+    ensures { λ r. ⌜
+        (endReading end (readingOf (now (text .entry)) (λ v. v) number) ≡ readingOf (now (text .entry)) (λ v. v) r)
+        × (placeOf r ≤ length (now (text .entry)))
+        ⌝ }
 {
     let Taken::Got { value, next } = number else {
         return number;
@@ -162,16 +171,18 @@ fn read_end(text: &[u8], number: Taken, end: u8) -> Taken
     if !byte_at(text, next, end) {
         return Taken::Stuck(next);
     }
-    Taken::Got {
-        value,
-        next: next + 1,
-    }
+    let after = next + 1;
+    Taken::Got { value, next: after }
 }
 
 // So many numbers, in lines of `width`, into the front of the list.
 fn read_lines(text: &[u8], at: usize, width: usize, count: usize, list: &mut [u64]) -> Taken
     requires { ⌜ (at ≤ length (now text)) × (1 ≤ width) × (count ≤ length (now list)) ⌝ }
-    ensures { λ r. ⌜ (readLines width width count (drop at (now (text .entry))) ≡ readingOf (now (text .entry)) (λ v. take v (now (list .exit))) r) × (placeOf r ≤ length (now (text .entry))) × (valueIs count r) ⌝ }
+    ensures { λ r. ⌜
+        (readLines width width count (drop at (now (text .entry))) ≡ readingOf (now (text .entry)) (λ v. take v (now (list .exit))) r)
+        × (placeOf r ≤ length (now (text .entry)))
+        × (valueIs count r)
+        ⌝ }
 {
     let mut next = at;
     let mut left = width;
@@ -195,7 +206,11 @@ fn read_lines(text: &[u8], at: usize, width: usize, count: usize, list: &mut [u6
 // A section of one list: its name, with the space after it, its count, and so many lines of one number. The value is the count.
 fn read_list(text: &[u8], at: usize, name: &[u8], list: &mut [u64]) -> Taken
     requires { ⌜ (at ≤ length (now text)) × (32 ≤ length (now list)) ⌝ }
-    ensures { λ r. ⌜ (listReader (now (name .entry)) (drop at (now (text .entry))) ≡ readingOf (now (text .entry)) (λ v. take v (now (list .exit))) r) × (placeOf r ≤ length (now (text .entry))) × (valueOf r ≤ 32) ⌝ }
+    ensures { λ r. ⌜
+        (listReader (now (name .entry)) (drop at (now (text .entry))) ≡ readingOf (now (text .entry)) (λ v. take v (now (list .exit))) r)
+        × (placeOf r ≤ length (now (text .entry)))
+        × (valueOf r ≤ 32)
+        ⌝ }
 {
     let head = read_word(text, at, name);
     let Taken::Got { value: _, next } = head else {
@@ -211,7 +226,11 @@ fn read_list(text: &[u8], at: usize, name: &[u8], list: &mut [u64]) -> Taken
 // The section of the costs: its head line with the count of sources, and as many lines of as many numbers as there are sinks.
 fn read_costs(text: &[u8], at: usize, m: usize, n: usize, list: &mut [u64]) -> Taken
     requires { ⌜ (at ≤ length (now text)) × (m ≤ 32) × (1 ≤ n) × (n ≤ 32) × (m * n ≤ length (now list)) ⌝ }
-    ensures { λ r. ⌜ (costReader m n (drop at (now (text .entry))) ≡ readingOf (now (text .entry)) (λ v. take v (now (list .exit))) r) × (placeOf r ≤ length (now (text .entry))) × (valueIs (m * n) r) ⌝ }
+    ensures { λ r. ⌜
+        (costReader m n (drop at (now (text .entry))) ≡ readingOf (now (text .entry)) (λ v. take v (now (list .exit))) r)
+        × (placeOf r ≤ length (now (text .entry)))
+        × (valueIs (m * n) r)
+        ⌝ }
 {
     let mut line = [0u8; 8];
     let len = writer::write_head(b"cost ", m, &mut line);
@@ -240,7 +259,10 @@ fn read_sections(
     cost: &mut [u64],
 ) -> ReadAnswer
     requires { ⌜ (32 ≤ length (now supply)) × (32 ≤ length (now demand)) × (1024 ≤ length (now cost)) ⌝ }
-    ensures { λ r. ⌜ (sheetReader (now (text .entry)) ≡ sheetRead (now (text .entry)) (now (supply .exit)) (now (demand .exit)) (now (cost .exit)) r) × (readFits (now (text .entry)) r) ⌝ }
+    ensures { λ r. ⌜
+        (sheetReader (now (text .entry)) ≡ sheetRead (now (text .entry)) (now (supply .exit)) (now (demand .exit)) (now (cost .exit)) r)
+        × (readFits (now (text .entry)) r)
+        ⌝ }
 {
     let first = read_list(text, 0, b"supply ", supply);
     let Taken::Got { value: m, next: at } = first else {
@@ -291,7 +313,11 @@ fn store_sheet(
     demand: &mut [u64],
     cost: &mut [u64],
 ) -> ReadAnswer
-    requires { ⌜ (length (now «sheet_supply») ≤ 32) × (length (now «sheet_demand») ≤ 32) × (length (now «sheet_cost») ≡ length (now «sheet_supply») * length (now «sheet_demand»)) ⌝ }
+    requires { ⌜
+        (length (now «sheet_supply») ≤ 32)
+        × (length (now «sheet_demand») ≤ 32)
+        × (length (now «sheet_cost») ≡ length (now «sheet_supply») * length (now «sheet_demand»))
+        ⌝ }
     ensures { λ r. ⌜ Stored (sheetOf (now («sheet_supply» .entry)) (now («sheet_demand» .entry)) (now («sheet_cost» .entry))) (now (supply .entry)) (now (demand .entry)) (now (cost .entry)) r (now (supply .exit)) (now (demand .exit)) (now (cost .exit)) ⌝ }
 {
     let check = sheet::check_numbers(sheet_supply, sheet_demand, sheet_cost);
@@ -324,7 +350,12 @@ pub fn read_sheet(
     demand: &mut [u64],
     cost: &mut [u64],
 ) -> ReadAnswer
-    ensures { λ r. ⌜ (r ≡ readAnswer (readSheetCall (now (text .entry)) (length (now (supply .entry))) (length (now (demand .entry))) (length (now (cost .entry))))) × (now (supply .exit) ≡ lentAfter (λ S. S .supply) (readSheetCall (now (text .entry)) (length (now (supply .entry))) (length (now (demand .entry))) (length (now (cost .entry)))) (now (supply .entry))) × (now (demand .exit) ≡ lentAfter (λ S. S .demand) (readSheetCall (now (text .entry)) (length (now (supply .entry))) (length (now (demand .entry))) (length (now (cost .entry)))) (now (demand .entry))) × (now (cost .exit) ≡ lentAfter (λ S. S .cost) (readSheetCall (now (text .entry)) (length (now (supply .entry))) (length (now (demand .entry))) (length (now (cost .entry)))) (now (cost .entry))) ⌝ }
+    ensures { λ r. ⌜
+        (r ≡ readAnswer (readSheetCall (now (text .entry)) (length (now (supply .entry))) (length (now (demand .entry))) (length (now (cost .entry)))))
+        × (now (supply .exit) ≡ lentAfter (λ S. S .supply) (readSheetCall (now (text .entry)) (length (now (supply .entry))) (length (now (demand .entry))) (length (now (cost .entry)))) (now (supply .entry)))
+        × (now (demand .exit) ≡ lentAfter (λ S. S .demand) (readSheetCall (now (text .entry)) (length (now (supply .entry))) (length (now (demand .entry))) (length (now (cost .entry)))) (now (demand .entry)))
+        × (now (cost .exit) ≡ lentAfter (λ S. S .cost) (readSheetCall (now (text .entry)) (length (now (supply .entry))) (length (now (demand .entry))) (length (now (cost .entry)))) (now (cost .entry)))
+        ⌝ }
 {
     let mut supplies = [0u64; MAX_SIDE];
     let mut demands = [0u64; MAX_SIDE];

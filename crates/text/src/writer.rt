@@ -56,7 +56,10 @@ fn write_ended(n: u64, end: u8, out: &mut [u8]) -> usize
 // Numbers in lines of `width`.
 fn write_lines(numbers: &[u64], width: usize, out: &mut [u8]) -> usize
     requires { ⌜ (1 ≤ width) × (length (linesFrom width width (now numbers)) ≤ length (now out)) ⌝ }
-    ensures { λ r. ⌜ (r ≡ length (linesFrom width width (now (numbers .entry)))) × (now (out .exit) ≡ front (linesFrom width width (now (numbers .entry))) (now (out .entry))) ⌝ }
+    ensures { λ r. ⌜
+        (r ≡ length (linesFrom width width (now (numbers .entry))))
+        × (now (out .exit) ≡ front (linesFrom width width (now (numbers .entry))) (now (out .entry)))
+        ⌝ }
 {
     let mut at: usize = 0;
     let mut left = width;
@@ -73,7 +76,10 @@ fn write_lines(numbers: &[u64], width: usize, out: &mut [u8]) -> usize
 // The head line of a section: its name, with the space after it, and its count.
 pub fn write_head(name: &[u8], count: usize, out: &mut [u8]) -> usize
     requires { ⌜ length (now name ++ ended count 10) ≤ length (now out) ⌝ }
-    ensures { λ r. ⌜ (r ≡ length (now (name .entry) ++ ended count 10)) × (now (out .exit) ≡ front (now (name .entry) ++ ended count 10) (now (out .entry))) ⌝ }
+    ensures { λ r. ⌜
+        (r ≡ length (now (name .entry) ++ ended count 10))
+        × (now (out .exit) ≡ front (now (name .entry) ++ ended count 10) (now (out .entry)))
+        ⌝ }
 {
     let at = write_bytes(name, out);
     at + write_ended(count as u64, b'\n', &mut out[at..])
@@ -82,7 +88,10 @@ pub fn write_head(name: &[u8], count: usize, out: &mut [u8]) -> usize
 // A section: its head line, and its numbers in lines of `width`.
 fn write_section(name: &[u8], count: usize, width: usize, numbers: &[u64], out: &mut [u8]) -> usize
     requires { ⌜ (1 ≤ width) × (length (sectionText (now name) count width (now numbers)) ≤ length (now out)) ⌝ }
-    ensures { λ r. ⌜ (r ≡ length (sectionText (now (name .entry)) count width (now (numbers .entry)))) × (now (out .exit) ≡ front (sectionText (now (name .entry)) count width (now (numbers .entry))) (now (out .entry))) ⌝ }
+    ensures { λ r. ⌜
+        (r ≡ length (sectionText (now (name .entry)) count width (now (numbers .entry))))
+        × (now (out .exit) ≡ front (sectionText (now (name .entry)) count width (now (numbers .entry))) (now (out .entry)))
+        ⌝ }
 {
     let at = write_head(name, count, out);
     at + write_lines(numbers, width, &mut out[at..])
@@ -110,8 +119,14 @@ fn text_len(supply: &[u64], demand: &[u64], cost: &[u64]) -> usize
 
 // The text of an accepted sheet: each section is written in what is left of the output.
 fn write_text(supply: &[u64], demand: &[u64], cost: &[u64], out: &mut [u8]) -> usize
-    requires { ⌜ (Passed (sheetOf (now supply) (now demand) (now cost))) × (length (sheetText (sheetOf (now supply) (now demand) (now cost))) ≤ length (now out)) ⌝ }
-    ensures { λ r. ⌜ (r ≡ length (sheetText (sheetOf (now (supply .entry)) (now (demand .entry)) (now (cost .entry))))) × (now (out .exit) ≡ front (sheetText (sheetOf (now (supply .entry)) (now (demand .entry)) (now (cost .entry)))) (now (out .entry))) ⌝ }
+    requires { ⌜
+        (Passed (sheetOf (now supply) (now demand) (now cost)))
+        × (length (sheetText (sheetOf (now supply) (now demand) (now cost))) ≤ length (now out))
+        ⌝ }
+    ensures { λ r. ⌜
+        (r ≡ length (sheetText (sheetOf (now (supply .entry)) (now (demand .entry)) (now (cost .entry)))))
+        × (now (out .exit) ≡ front (sheetText (sheetOf (now (supply .entry)) (now (demand .entry)) (now (cost .entry)))) (now (out .entry)))
+        ⌝ }
 {
     let m = supply.len();
     let n = demand.len();
@@ -122,7 +137,10 @@ fn write_text(supply: &[u64], demand: &[u64], cost: &[u64], out: &mut [u8]) -> u
 
 // Write sheet: the length of the text, which then stands at the front of the output; or the refusal, and the output is as it was.
 pub fn write_sheet(supply: &[u64], demand: &[u64], cost: &[u64], out: &mut [u8]) -> WriteAnswer
-    ensures { λ r. ⌜ (r ≡ writeAnswer (writeSheetCall (sheetOf (now (supply .entry)) (now (demand .entry)) (now (cost .entry))) (length (now (out .entry))))) × (now (out .exit) ≡ lentAfter (λ t. t) (writeSheetCall (sheetOf (now (supply .entry)) (now (demand .entry)) (now (cost .entry))) (length (now (out .entry)))) (now (out .entry))) ⌝ }
+    ensures { λ r. ⌜
+        (r ≡ writeAnswer (writeSheetCall (sheetOf (now (supply .entry)) (now (demand .entry)) (now (cost .entry))) (length (now (out .entry)))))
+        × (now (out .exit) ≡ lentAfter (λ t. t) (writeSheetCall (sheetOf (now (supply .entry)) (now (demand .entry)) (now (cost .entry))) (length (now (out .entry)))) (now (out .entry)))
+        ⌝ }
 {
     let check = sheet::check_sheet(supply, demand, cost);
     if let SheetCheck::Refused(number) = check {

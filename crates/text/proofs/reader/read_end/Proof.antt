@@ -12,6 +12,9 @@ use Rattle.text.specs.Reading.{byteNext, byte-inside, drop-next, endRead
 use borrow.Author.Needs.{needs}
 use Rattle.text.proofs.reader.read_end.Statement.{statement}
 use Rattle.text.proofs.reader.read_end.Tie as tie
+use Rattle.text.proofs.reader.read_end.Reads as reads
+use Rattle.text.proofs.reader.read_end.Lts as lts
+use Rattle.text.proofs.reader.byte_at.Reads as byte-at-reads
 
 enum-known-number : tie.Need-enum-known-number
 enum-known-number c = search needs
@@ -41,8 +44,8 @@ returns-2 c =
 next-byte : (c : tie.Else1) → byteNext (c .before .before .before .before .before .before .args .end) (drop (c .before .before .before .number .given .0 .1 .0) (c .before .before .before .before .before .before .args .text .now)) ≡ true
 next-byte c = sym (c .before .byte-at .ensures) ∙ not-false _ (c .if1 .left)
 
-add-t8 : tie.Need-add-t8
-add-t8 c = omega (arith, byte-inside (c .before .before .before .before .before .before .args .text .now) (c .before .before .before .number .given .0 .1 .0) _ (next-byte c))
+add-after : tie.Need-add-after
+add-after c = omega (arith, byte-inside (c .before .before .before .before .before .before .args .text .now) (c .before .before .before .number .given .0 .1 .0) _ (next-byte c))
 
 returns-3 : tie.Need-returns-3
 returns-3 c =
@@ -54,4 +57,4 @@ returns-3 c =
 pub read-end-spec : {M : Type 1} → statement M
 read-end-spec =
     tie.close
-    (tie.spec enum-known-number enum-told returns byte-at-requires returns-2 add-t8 returns-3)
+    (tie.spec enum-known-number enum-told returns byte-at-requires returns-2 add-after returns-3)

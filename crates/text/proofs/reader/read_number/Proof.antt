@@ -13,6 +13,10 @@ use Rattle.text.specs.Reading.{digitNext, digit-inside, digit-found, dig
 use borrow.Author.Needs.{needs}
 use Rattle.text.proofs.reader.read_number.Statement.{statement}
 use Rattle.text.proofs.reader.read_number.Tie as tie
+use Rattle.text.proofs.reader.read_number.Reads as reads
+use Rattle.text.proofs.reader.read_number.Lts as lts
+use Rattle.text.proofs.reader.digit_at.Reads as digit-at-reads
+use Rattle.text.proofs.reader.more_digits.Reads as more-digits-reads
 
 digit-at-requires : tie.Need-digit-at-requires
 digit-at-requires c κs = search needs
@@ -29,14 +33,14 @@ inside c = digit-inside (c .before .before .before .args .text .now) (c .before 
 is-digit : (c : tie.Else1) → isDigit (getD (c .before .before .before .args .text .now) (c .before .before .before .args .at) 0) ≡ true
 is-digit c = digit-found (c .before .before .before .args .text .now) (c .before .before .before .args .at) (next-digit c)
 
-shared-slice-read-first : tie.Need-shared-slice-read-first
-shared-slice-read-first c = inside (c .before)
+shared-slice-read-leading : tie.Need-shared-slice-read-leading
+shared-slice-read-leading c = inside (c .before)
 
-sub-first : tie.Need-sub-first
-sub-first c = digit-low _ (is-digit (c .before))
+sub-leading : tie.Need-sub-leading
+sub-leading c = digit-low _ (is-digit (c .before))
 
-cast-first : tie.Need-cast-first
-cast-first c = omega (arith, digit-high _ (is-digit (c .before)))
+cast-leading : tie.Need-cast-leading
+cast-leading c = omega (arith, digit-high _ (is-digit (c .before)))
 
 add-next : tie.Need-add-next
 add-next c = omega (arith, inside (c .before))
@@ -62,9 +66,9 @@ read-number-spec =
     (tie.spec
     digit-at-requires
     returns
-    shared-slice-read-first
-    sub-first
-    cast-first
+    shared-slice-read-leading
+    sub-leading
+    cast-leading
     add-next
     returns-2
     more-digits-requires
