@@ -1,0 +1,2 @@
+// Whether a tableau belongs to a sheet.
+pub mod flows;
