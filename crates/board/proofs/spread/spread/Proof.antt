@@ -1,0 +1,92 @@
+-- `board::spread::spread` meets its contract. The loop's invariant: the arrays hold the cells from number k on; the measure is k.
+use Prim.Native.Nat.{suc, _-_, _≤_, _<_}
+use mathlib.Core.Path.{_≡_, refl, _∙_}
+use native.Mathlib.Omega.{arith}
+use borrow.Author.Needs.{needs}
+use lib.ListN.{length, drop, getD, drop-of-length-le}
+use Rattle.transport.specs.Amount.{nothing}
+use Rattle.transport.specs.Tableau.{noCell, cellsOf}
+use Rattle.basis.specs.Layout.{stride}
+use Rattle.board.specs.Cells.{long, length-cells, cells-from, cell-inside}
+use Rattle.board.specs.Held.{Held, held-fewer, held-more, held-none}
+use Rattle.board.proofs.spread.spread.Statement.{statement}
+use Rattle.board.proofs.spread.spread.Tie as tie
+
+abbrev Inv-loop : tie.InvT-loop
+Inv-loop m adj₀ q₀ e₀ t k₀ adj q e k = (k ≤ t .count) × Held m stride (drop k (cellsOf t)) adj q e
+
+abbrev μ-loop : tie.MeasureT-loop
+μ-loop m adj₀ q₀ e₀ t k₀ adj q e k = k
+
+clear-requires : tie.Need-clear-requires Inv-loop μ-loop
+clear-requires c κs = tt
+
+loop-holds : tie.Need-loop-holds Inv-loop μ-loop
+loop-holds c =
+    let t = c .before .before .before .before .args .t1 in
+    let l : length (t .cells) ≡ 63 = search (needs, long) in
+    (omega arith, rw (drop-of-length-le (cellsOf t) {i = t .count} (omega (arith, length-cells t (omega arith)))) (held-none (c .clear .ensures)))
+
+sub-k : tie.Need-sub-k Inv-loop μ-loop
+sub-k c = omega arith
+
+mul-c : tie.Need-mul-c Inv-loop μ-loop
+mul-c c = omega arith
+
+element-copy-out-c : tie.Need-element-copy-out-c Inv-loop μ-loop
+element-copy-out-c c = omega arith
+
+-- The cell is on the sheet.
+inside : (c : tie.In-loop Inv-loop μ-loop)
+    → let a = c .before .before .before .before .before .before .args in
+    let d = getD (a .t1 .cells) (c .before .loop .k - 1) noCell in
+    (d .row < a .m) × (d .col < stride)
+inside c =
+    let s = c .before .before .before .before .before .before in
+    let l : length (s .args .t1 .cells) ≡ 63 = search (needs, long) in
+    cell-inside (s .args .t1) (s .pre .2) (c .before .loop .k - 1) (omega arith) (omega arith)
+
+put-cell-requires : tie.Need-put-cell-requires Inv-loop μ-loop
+unfolding noCell nothing
+put-cell-requires c κs =
+    let h = inside (c .before .before .before .before) in
+    (h .0, omega arith, h .1)
+
+loop-less : tie.Need-loop-less Inv-loop μ-loop
+loop-less c = omega arith
+
+loop-again : tie.Need-loop-again Inv-loop μ-loop
+unfolding noCell nothing
+loop-again c =
+    let s = c .before .before .before .before .before .before .before .before .before .before .before in
+    let i = c .before .before .before .before .before .before .loop in
+    let t = s .args .t1 in
+    let l : length (t .cells) ≡ 63 = search (needs, long) in
+    let h = inside (c .before .before .before .before .before) in
+    let r : suc (i .k - 1) ≡ i .k = omega arith in
+    let held : Held (s .args .m) stride (drop (suc (i .k - 1)) (cellsOf t)) (i .adj) (i .q) (i .e) = rw r (i .inv .1) in (
+      omega arith,
+      rw (cells-from t (i .k - 1) (omega arith) (omega arith), c .put-cell .ensures .0, c .put-cell .ensures .1, c .put-cell .ensures .2)
+          (held-more (getD (t .cells) (i .k - 1) noCell) held (omega arith) (omega arith) (h .0) (h .1)),
+    )
+
+returns : tie.Need-returns Inv-loop μ-loop
+returns c =
+    let e : c .before .loop .k ≡ 0 = omega arith in
+    λ n p. held-fewer p (rw e at (c .before .loop .inv .1))
+
+pub spread-spec : {M : Type 1} → statement M
+spread-spec =
+    tie.close
+    (tie.spec
+    Inv-loop
+    μ-loop
+    clear-requires
+    loop-holds
+    sub-k
+    mul-c
+    element-copy-out-c
+    put-cell-requires
+    loop-less
+    loop-again
+    returns)

@@ -1,0 +1,214 @@
+-- How the flat arrays of a run hold a list of cells: a mask of basic lanes for each node, and an amount for each lane.
+use Prim.Native.Nat.{ℕ, zero, suc, _+_, _*_, _<_, _≤_}
+use native.Mathlib.Omega.{arith}
+use mathlib.Core.Path.{_≡_, refl, sym, ap, _∙_}
+use mathlib.Core.Bool.{Bool, true, false, _&&_, _||_, cond, false≢true}
+use mathlib.Core.List.{List, [], _∷_}
+use mathlib.Core.Logic.{_⊎_, inl, inr}
+use lib.Dec.{eqb}
+use lib.IntN.{ℤ, pos}
+use lib.ListN.{length, getD, set, length-set}
+use lib.Seq.{lt-length-set, getD-set-same, getD-set-other}
+use borrow.Author.Tests.{eqb-true, eqb-false, eq-eqb, ne-eqb}
+use Rattle.transport.specs.ListLaws.{and-left, and-right}
+use Rattle.transport.specs.Amount.{nothing}
+use Rattle.transport.specs.declared.Pair.{Pair}
+use Rattle.transport.specs.declared.Cell.{Cell}
+use Rattle.transport.specs.Statements.{Basic}
+use Rattle.tableaux.specs.View.{Inside, rowOf, colOf, amountAt, basic-later, amount-none}
+use Rattle.basis.specs.Layout.{stride, nodeRoom, laneRoom, getD-set}
+use Rattle.basis.specs.Mask.{has, put, has-put, has-zero}
+
+-- ---- basic lanes, as a test
+
+unfoldable pub isBasic : List Cell → ℕ → ℕ → Bool
+isBasic [] i j = false
+isBasic (c ∷ cs) i j = eqb (c .row) i && eqb (c .col) j || isBasic cs i j
+
+or-cases : (a b : Bool) → a || b ≡ true → (a ≡ true) ⊎ (b ≡ true)
+or-cases true b e = inl refl
+or-cases false b e = inr e
+
+pub isBasic-true : (T : List Cell) (i j : ℕ) → isBasic T i j ≡ true → Basic T i j
+unfolding isBasic
+isBasic-true [] i j e = absurd (false≢true e)
+isBasic-true (c ∷ cs) i j e = go (or-cases (eqb (c .row) i && eqb (c .col) j) (isBasic cs i j) e) (isBasic-true cs i j)
+  where
+    go : (eqb (c .row) i && eqb (c .col) j ≡ true) ⊎ (isBasic cs i j ≡ true) → (isBasic cs i j ≡ true → Basic cs i j) → Basic (c ∷ cs) i j
+    go (inl h) rest = record { index = 0; below = omega arith; row = eqb-true _ _ (and-left _ (eqb (c .col) j) h); column = eqb-true _ _ (and-right (eqb (c .row) i) _ h) }
+    go (inr h) rest = basic-later c cs i j (rest h)
+
+basic-at : (T : List Cell) (k i j : ℕ) → k < length T → rowOf T k ≡ i → colOf T k ≡ j → isBasic T i j ≡ true
+unfolding isBasic
+basic-at [] k i j l p q = absurd (omega arith)
+basic-at (c ∷ cs) zero i j l p q = rw (eq-eqb (c .row) i p, eq-eqb (c .col) j q)
+basic-at (c ∷ cs) (suc k) i j l p q = rw (basic-at cs k i j (omega arith) p q) (or-true (eqb (c .row) i && eqb (c .col) j))
+  where
+    or-true : (b : Bool) → b || true ≡ true
+    or-true true = refl
+    or-true false = refl
+
+pub true-isBasic : {T : List Cell} {i j : ℕ} → Basic T i j → isBasic T i j ≡ true
+true-isBasic {T} {i} {j} b = basic-at T (b .index) i j (b .below) (b .row) (b .column)
+
+pub isBasic-cons : (c : Cell) (cs : List Cell) (i j : ℕ) → isBasic (c ∷ cs) i j ≡ eqb (c .row) i && eqb (c .col) j || isBasic cs i j
+unfolding isBasic
+isBasic-cons c cs i j = refl
+
+-- ---- the arrays
+
+-- The arrays hold the cells T of a sheet of m rows and n columns: bit j of row i's mask, and bit i of column j's, say whether the lane (i, j) is basic, and its
+-- amount, (0, 0) where it is not, lies on the lane.
+pub record Held (m n : ℕ) (T : List Cell) (adj : List ℕ) (q e : List ℤ) : Type 0 where
+  pub adjLong : length adj ≡ nodeRoom
+  pub qLong : length q ≡ laneRoom
+  pub eLong : length e ≡ laneRoom
+  pub rows : (i j : ℕ) → i < m → j < 64 → has (getD adj i 0) j ≡ isBasic T i j
+  pub columns : (i j : ℕ) → i < 64 → j < n → has (getD adj (m + j) 0) i ≡ isBasic T i j
+  pub bags : (i j : ℕ) → i < m → j < n → getD q (i * stride + j) (pos 0) ≡ amountAt T i j .q
+  pub marks : (i j : ℕ) → i < m → j < n → getD e (i * stride + j) (pos 0) ≡ amountAt T i j .e
+
+module _ {m n : ℕ} {T : List Cell} {adj : List ℕ} {q e : List ℤ} (h : Held m n T adj q e) where
+  -- Of cells on the sheet the masks have the basic lanes, and no others.
+  pub row-basic : (i j : ℕ) → i < m → j < 64 → has (getD adj i 0) j ≡ true → Basic T i j
+  row-basic i j l r s = isBasic-true T i j (sym (h .rows i j l r) ∙ s)
+
+  pub basic-row : (i j : ℕ) → i < m → j < 64 → Basic T i j → has (getD adj i 0) j ≡ true
+  basic-row i j l r b = h .rows i j l r ∙ true-isBasic b
+
+  pub column-basic : (i j : ℕ) → i < 64 → j < n → has (getD adj (m + j) 0) i ≡ true → Basic T i j
+  column-basic i j l r s = isBasic-true T i j (sym (h .columns i j l r) ∙ s)
+
+  pub basic-column : (i j : ℕ) → i < 64 → j < n → Basic T i j → has (getD adj (m + j) 0) i ≡ true
+  basic-column i j l r b = h .columns i j l r ∙ true-isBasic b
+
+  -- A lane that is not basic has no amount.
+  pub bags-none : (i j : ℕ) → i < m → j < n → ¬ Basic T i j → getD q (i * stride + j) (pos 0) ≡ pos 0
+  unfolding nothing
+  bags-none i j l r b = h .bags i j l r ∙ ap (λ a. a .q) (amount-none T i j b)
+
+  pub marks-none : (i j : ℕ) → i < m → j < n → ¬ Basic T i j → getD e (i * stride + j) (pos 0) ≡ pos 0
+  unfolding nothing
+  marks-none i j l r b = h .marks i j l r ∙ ap (λ a. a .e) (amount-none T i j b)
+
+pub inside-basic : {m n : ℕ} {T : List Cell} → Inside m n T → {i j : ℕ} → Basic T i j → (i < m) × (j < n)
+inside-basic p b = rw (b .row, b .column) at (p (b .index) (b .below))
+
+-- With fewer columns in view.
+pub held-fewer : {m n k : ℕ} {T : List Cell} {adj : List ℕ} {q e : List ℤ} → k ≤ n → Held m n T adj q e → Held m k T adj q e
+held-fewer p h =
+    record {
+      adjLong = h .adjLong;
+      qLong = h .qLong;
+      eLong = h .eLong;
+      rows = h .rows;
+      columns = λ i j l r. h .columns i j l (omega arith);
+      bags = λ i j l r. h .bags i j l (omega arith);
+      marks = λ i j l r. h .marks i j l (omega arith);
+    }
+
+-- ---- a lane becomes basic
+
+-- The lane (i, j) is put into the masks of its row and of its column.
+unfoldable pub linked : ℕ → ℕ → ℕ → List ℕ → List ℕ
+linked m i j adj =
+    let masks = set adj i (put (getD adj i 0) j) in
+    set masks (m + j) (put (getD masks (m + j) 0) i)
+
+pub length-linked : (m i j : ℕ) (adj : List ℕ) → length (linked m i j adj) ≡ length adj
+unfolding linked
+length-linked m i j adj = simp length-set
+
+eqb-turn : (a b : ℕ) → eqb a b ≡ eqb b a
+eqb-turn a b = go (eqb b a) refl
+  where
+    go : (t : Bool) → eqb b a ≡ t → eqb a b ≡ t
+    go true s = eq-eqb a b (sym (eqb-true b a s))
+    go false s = ne-eqb a b (λ r. eqb-false b a s (sym r))
+
+has-set-put : (adj : List ℕ) (i j h k : ℕ) → i < length adj → has (getD (set adj i (put (getD adj i 0) j)) h 0) k ≡ eqb i h && eqb j k || has (getD adj h 0) k
+has-set-put adj i j h k p = go (eqb h i) refl
+  where
+    go : (t : Bool) → eqb h i ≡ t → has (getD (set adj i (put (getD adj i 0) j)) h 0) k ≡ eqb i h && eqb j k || has (getD adj h 0) k
+    go true s =
+        let r : h ≡ i = eqb-true h i s in
+        rw (r, getD-set-same adj i (put (getD adj i 0) j) 0 p, has-put (getD adj i 0) j k, eq-eqb i i refl, eqb-turn j k)
+    go false s = rw (getD-set-other adj i h (put (getD adj i 0) j) 0 (eqb-false h i s), eqb-turn i h, s)
+
+module _ (m i j : ℕ) (adj : List ℕ) (p : i < m) where
+  pub linked-row : (h k : ℕ) → i < length adj → h < m → has (getD (linked m i j adj) h 0) k ≡ eqb i h && eqb j k || has (getD adj h 0) k
+  unfolding linked
+  linked-row h k l r =
+      let masks = set adj i (put (getD adj i 0) j) in
+      rw (getD-set-other masks (m + j) h (put (getD masks (m + j) 0) i) 0 (λ s. omega arith)) (has-set-put adj i j h k l)
+
+  pub linked-column : (h k : ℕ) → m + j < length adj → has (getD (linked m i j adj) (m + k) 0) h ≡ eqb i h && eqb j k || has (getD adj (m + k) 0) h
+  unfolding linked
+  linked-column h k l =
+      let masks = set adj i (put (getD adj i 0) j) in
+      has-set-put masks (m + j) i (m + k) h (lt-length-set adj i (put (getD adj i 0) j) l)
+      ∙ rw (same-offset (eqb j k) refl, getD-set-other adj i (m + k) (put (getD adj i 0) j) 0 (λ s. omega arith), and-turn (eqb j k) (eqb i h))
+    where
+      same-offset : (t : Bool) → eqb j k ≡ t → eqb (m + j) (m + k) ≡ eqb j k
+      same-offset true s = rw s (eq-eqb (m + j) (m + k) (omega (arith, eqb-true j k s)))
+      same-offset false s = rw s (ne-eqb (m + j) (m + k) (λ r. eqb-false j k s (omega arith)))
+
+      and-turn : (a b : Bool) → a && b ≡ b && a
+      and-turn true true = refl
+      and-turn true false = refl
+      and-turn false true = refl
+      and-turn false false = refl
+
+-- An amount is put on the lane (i, j).
+on-lane : (xs : List ℤ) (i j h k : ℕ) (v : ℤ) → length xs ≡ laneRoom → i < stride → j < stride → k < stride
+    → getD (set xs (i * stride + j) v) (h * stride + k) (pos 0) ≡ cond (eqb i h && eqb j k) v (getD xs (h * stride + k) (pos 0))
+on-lane xs i j h k v l p q r = getD-set xs (i * stride + j) (h * stride + k) v (pos 0) (omega arith) ∙ rw (same-place (eqb i h) refl (eqb j k) refl)
+  where
+    same-place : (s : Bool) → eqb i h ≡ s → (t : Bool) → eqb j k ≡ t → eqb (h * stride + k) (i * stride + j) ≡ eqb i h && eqb j k
+    same-place true s true t = rw (s, t) (eq-eqb (h * stride + k) (i * stride + j) (omega (arith, eqb-true i h s, eqb-true j k t)))
+    same-place true s false t = rw (s, t) (ne-eqb (h * stride + k) (i * stride + j) (λ f. eqb-false j k t (omega (arith, eqb-true i h s))))
+    same-place false s t u = rw s (ne-eqb (h * stride + k) (i * stride + j) (λ f. eqb-false i h s (omega arith)))
+
+-- One cell more is held.
+pub held-more : {m n : ℕ} {T : List Cell} {adj : List ℕ} {q e : List ℤ} (c : Cell) → Held m n T adj q e → m ≤ stride → n ≤ stride → c .row < m → c .col < stride
+    → let lane = c .row * stride + c .col in Held m n (c ∷ T) (linked m (c .row) (c .col) adj) (set q lane (c .amount .q)) (set e lane (c .amount .e))
+unfolding isBasic amountAt
+held-more {m} {n} {T} {adj} {q} {e} c h mLow nLow p r =
+    record {
+      adjLong = length-linked m (c .row) (c .col) adj ∙ h .adjLong;
+      qLong = length-set q _ _ ∙ h .qLong;
+      eLong = length-set e _ _ ∙ h .eLong;
+      rows = λ i j l s. linked-row m (c .row) (c .col) adj p i j (omega (arith, h .adjLong)) l ∙ rw (h .rows i j l s);
+      columns = λ i j l s. linked-column m (c .row) (c .col) adj p i j (omega (arith, h .adjLong)) ∙ rw (h .columns i j l s);
+      bags = λ i j l s. on-lane q (c .row) (c .col) i j (c .amount .q) (h .qLong) (omega arith) r (omega arith) ∙ (rw (h .bags i j l s)) ∙ part (λ a. a .q) (eqb (c .row) i && eqb (c .col) j) (amountAt T i j);
+      marks = λ i j l s. on-lane e (c .row) (c .col) i j (c .amount .e) (h .eLong) (omega arith) r (omega arith) ∙ (rw (h .marks i j l s)) ∙ part (λ a. a .e) (eqb (c .row) i && eqb (c .col) j) (amountAt T i j);
+    }
+  where
+    part : (f : Pair → ℤ) (t : Bool) (a : Pair) → cond t (f (c .amount)) (f a) ≡ f (cond t (c .amount) a)
+    part f true a = refl
+    part f false a = refl
+
+-- ---- arrays of zeros
+
+-- The arrays are all zeros.
+pub record Cleared (adj : List ℕ) (q e : List ℤ) : Type 0 where
+  pub adjLong : length adj ≡ nodeRoom
+  pub qLong : length q ≡ laneRoom
+  pub eLong : length e ≡ laneRoom
+  pub noBits : (k : ℕ) → getD adj k 0 ≡ 0
+  pub noBags : (k : ℕ) → getD q k (pos 0) ≡ pos 0
+  pub noMarks : (k : ℕ) → getD e k (pos 0) ≡ pos 0
+
+-- They hold no cells.
+pub held-none : {m n : ℕ} {adj : List ℕ} {q e : List ℤ} → Cleared adj q e → Held m n [] adj q e
+unfolding isBasic amountAt nothing
+held-none {m} z =
+    record {
+      adjLong = z .adjLong;
+      qLong = z .qLong;
+      eLong = z .eLong;
+      rows = λ i j a b. rw (z .noBits i) (has-zero j);
+      columns = λ i j a b. rw (z .noBits (m + j)) (has-zero i);
+      bags = λ i j a b. z .noBags (i * stride + j);
+      marks = λ i j a b. z .noMarks (i * stride + j);
+    }

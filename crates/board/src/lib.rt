@@ -1,0 +1,2 @@
+// The board of a run: a tableau spread over flat arrays, and gathered from them again.
+pub mod spread;
