@@ -1,2 +1,49 @@
 // Whether a tableau belongs to a sheet.
 pub mod flows;
+pub mod weights;
+
+use basis::LANES;
+use basis::NODES;
+ghost use mathlib.Core.Path.{_≡_};
+ghost use mathlib.Core.Bool.{_&&_};
+ghost use mathlib.Core.List.{List};
+ghost use Prim.Native.Nat.{ℕ};
+ghost use lib.ListN.{length};
+ghost use Rattle.transport.specs.SheetLaws.{Checked};
+ghost use Rattle.transport.specs.declared.Cell.{Cell};
+ghost use Rattle.transport.specs.Tableau.{basisOf, balanced};
+ghost use Rattle.transport.specs.Leaf.{spans};
+ghost use Rattle.sheet.specs.Check.{sheetOf};
+ghost use Rattle.belonging.specs.Spread.{Laid};
+
+// Whether the basic lanes join all nodes without a loop, and the amounts on them add up to the paired supplies and demands. There are m + n - 1 lanes, so they do
+// join if all are struck off; and then the amounts that add up are one flow of the bags and one of the marks.
+fn spans_and_balances(
+    supply: &[u64],
+    demand: &[u64],
+    adj: &[u64; NODES],
+    q: &[i64; LANES],
+    e: &[i64; LANES],
+) -> bool
+    requires { ⌜ ((cost : List ℕ) × Checked (sheetOf (now supply) (now demand) cost)) ⌝ }
+    requires { ⌜ ((T : List Cell) × Laid (length (now supply)) (length (now demand)) T (now adj) (now q) (now e)) ⌝ }
+    ensures { λ r. ⌜ ((cost : List ℕ) (T : List Cell) → Laid (length (now (supply .entry))) (length (now (demand .entry))) T (now (adj .entry)) (now (q .entry)) (now (e .entry)) → r ≡ spans (length (now (supply .entry))) (length (now (demand .entry))) (basisOf T) && balanced (sheetOf (now (supply .entry)) (now (demand .entry)) cost) T) ⌝ }
+{
+    let m = supply.len();
+    let n = demand.len();
+    let mut leaf = [0; NODES];
+    let mut other = [0; NODES];
+    let mut lane = [0; NODES];
+    let count = elimination::strike(adj, &mut leaf, &mut other, &mut lane, m, n);
+    if count != m + n - 1 {
+        return false;
+    }
+    let mut bags = [0; NODES];
+    let mut marks = [0; NODES];
+    weights::weigh_bags(supply, demand, &mut bags);
+    weights::weigh_marks(m, n, &mut marks);
+    if !flows::flows_match(&mut bags, q, &leaf, &other, &lane, count) {
+        return false;
+    }
+    flows::flows_match(&mut marks, e, &leaf, &other, &lane, count)
+}

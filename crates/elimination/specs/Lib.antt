@@ -2,3 +2,4 @@ pub mod Links
 pub mod Queue
 pub mod Strip
 pub mod State
+pub mod Arrays
