@@ -3,3 +3,5 @@ pub mod Layout
 pub mod PotentialLaws
 pub mod SignLaws
 pub mod StepLaws
+pub mod ScanLaws
+pub mod EnteringLaws

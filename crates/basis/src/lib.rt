@@ -2,6 +2,7 @@
 // A lane (i, j) lies at i * MAX_SIDE + j. Nodes are numbered as in the specification: source i is node i, sink j is node m + j.
 pub mod mask;
 pub mod potential;
+pub mod scan;
 pub mod signs;
 pub mod step;
 

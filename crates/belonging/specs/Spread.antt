@@ -8,7 +8,7 @@ use mathlib.Core.List.{List, List·Memᴰ}
 use lib.IntN.{ℤ, pos}
 use lib.ListN.{length, getD, length-map, List·getD-map}
 use Rattle.transport.specs.Lists.{at, total}
-use Rattle.transport.specs.ListLaws.{and-left, and-right}
+use Rattle.transport.specs.ListLaws.{and-left, and-right, member-table, table-member}
 use Rattle.transport.specs.Sheet.{Sheet, sources, sinks, Lane}
 use Rattle.transport.specs.SheetLaws.{lane}
 use Rattle.transport.specs.declared.Pair.{Pair}
@@ -24,7 +24,6 @@ use Rattle.basis.specs.SignLaws.{weightsOf}
 use Rattle.board.specs.Held.{Held, row-basic, basic-row}
 use Rattle.elimination.specs.Links.{Links, Masks, iff-same}
 use Rattle.elimination.specs.Strip.{Stripped}
-use Rattle.elimination.specs.Arrays.{strike-member, member-strike}
 use Rattle.belonging.specs.Carried.{carries, carries-true, carries-at}
 use Rattle.belonging.specs.Balance.{Tree, Carry, Weights, markOf, inside-fits, balanced-iff}
 
@@ -76,12 +75,13 @@ module _ {m n : ℕ} {T : List Cell} {adj : List ℕ} {q e : List ℤ} (h : Laid
 module _ {m n : ℕ} {T : List Cell} (leaf other lanes : List ℕ) (count : ℕ) (t : Tree m n T (strikesOf leaf other lanes count)) (part : Pair → ℤ) (amount : List ℤ)
     (lies : (i j : ℕ) → i < m → j < n → getD amount (i * stride + j) (pos 0) ≡ part (amountAt T i j)) (w : ℕ → ℤ) where
   pub carries-iff : (carries w (strikesOf leaf other lanes count) amount lanes count ≡ true) ↔ Carry T (strikesOf leaf other lanes count) part w
+  unfolding strikesOf
   carries-iff = (to, from)
     where
       to : carries w (strikesOf leaf other lanes count) amount lanes count ≡ true → Carry T (strikesOf leaf other lanes count) part w
       to c i j d =
           let (s, mem, is) = t .struck .struck (lane i j) d in
-          let (k, l, at) = member-strike leaf other lanes count mem in
+          let (k, l, at) = table-member count (strikeOf leaf other lanes) mem in
           let here : laneAt (getD lanes k 0) ≡ lane i j = sym (ap (λ s. s .lane) at) ∙ is in
           let there : getD lanes k 0 ≡ i * stride + j = sym (place-laneAt (getD lanes k 0)) ∙ ap placeOf here in
           let (a, b) = inside-fits T (t .inside) (lane i j) d in
@@ -96,7 +96,7 @@ module _ {m n : ℕ} {T : List Cell} (leaf other lanes : List ℕ) (count : ℕ)
           at : (k : ℕ) → k < count → getD amount (getD lanes k 0) (pos 0) ≡ flow w (strikesOf leaf other lanes count) (laneAt (getD lanes k 0))
           at k l =
               let x = laneAt (getD lanes k 0) in
-              let d = t .struck .lanes (strikeOf leaf other lanes k) (strike-member leaf other lanes count k l) in
+              let d = t .struck .lanes (strikeOf leaf other lanes k) (member-table count (strikeOf leaf other lanes) k l) in
               let (a, b) = inside-fits T (t .inside) x d in
               ap (λ (l : ℕ). getD amount l (pos 0)) (sym (place-laneAt (getD lanes k 0))) ∙ lies (x .row) (x .col) a b ∙ h (x .row) (x .col) d
 

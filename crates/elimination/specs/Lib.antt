@@ -2,4 +2,5 @@ pub mod Links
 pub mod Queue
 pub mod Strip
 pub mod State
-pub mod Arrays
+pub mod Strikes
+pub mod Drawn

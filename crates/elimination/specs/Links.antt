@@ -1,12 +1,12 @@
 -- Masks as lanes: bit y of the mask of node x is the lane from x to the node `otherEnd m x y`.
-use mathlib.Core.Path.{_≡_, refl, sym, ap, _∙_, subst}
-use mathlib.Core.Logic.{_↔_, _≢_, _⊎_, inl, inr, ⊎-elim, by-cases}
-use mathlib.Core.Bool.{Bool, true, false, not, _&&_, _||_, cond, true≢false, false≢true}
-use mathlib.Core.List.{List, [], _∷_, List·Memᴰ}
-use Prim.Native.Nat.{ℕ, zero, suc, _+_, _-_, _*_, _/_, _%_, _^_, _<_, _≤_}
+use mathlib.Core.Path.{_≡_, refl, sym, ap, _∙_}
+use mathlib.Core.Logic.{_↔_, _≢_, by-cases}
+use mathlib.Core.Bool.{Bool, true, false, not, _&&_, cond, false≢true}
+use mathlib.Core.List.{List}
+use Prim.Native.Nat.{ℕ, zero, suc, _+_, _-_, _*_, _/_, _^_, _<_, _≤_}
 use native.Mathlib.Omega.{arith}
 use native.Mathlib.Decide.{ℕ-discrete, decLt}
-use borrow.Author.Tests.{lt-ltb, le-ltb, ltb-true, ltb-false, eqb-true, eqb-false, eq-eqb, ne-eqb, not-true}
+use borrow.Author.Tests.{lt-ltb, le-ltb, eqb-true, eqb-false, eq-eqb, ne-eqb, not-true}
 use lib.Dec.{eqb, ltb}
 use lib.Count.{ones, ones-step, trailingZeros}
 use lib.ListN.{length, getD, set, length-set}
@@ -14,8 +14,8 @@ use lib.Seq.{getD-set-same, getD-set-other}
 use Rattle.transport.specs.Sheet.{Lane}
 use Rattle.transport.specs.SheetLaws.{lane}
 use Rattle.transport.specs.ListLaws.{and-left, and-right}
-use Rattle.basis.specs.Mask.{bit, has, cut, has-cut, has-zero, bit-suc, first-in, ones-zero, none}
-use Rattle.basis.specs.Layout.{laneAt}
+use Rattle.basis.specs.Mask.{bit, has, cut, has-cut, has-zero, bit-suc, first-in, ones-zero}
+use Rattle.basis.specs.Layout.{stride, nodeRoom}
 use Rattle.tableaux.specs.Lanes.{Has, Fits}
 
 -- The node at the other end of lane y of node x, the bit of x there, and the place of the lane.
@@ -26,7 +26,7 @@ abbrev pub ownBit : ℕ → ℕ → ℕ
 ownBit m x = cond (ltb x m) x (x - m)
 
 abbrev pub laneTo : ℕ → ℕ → ℕ → ℕ
-laneTo m x y = cond (ltb x m) (x * 32 + y) (y * 32 + (x - m))
+laneTo m x y = cond (ltb x m) (x * stride + y) (y * stride + (x - m))
 
 -- A node with these lanes is a leaf that can be struck.
 abbrev pub joins : ℕ → ℕ → Bool
@@ -39,9 +39,9 @@ tied live x y = has (getD live x 0) y
 -- The masks say the same at both ends of each lane, and no lane leaves the sheet.
 pub record Links (m n : ℕ) (live : List ℕ) : Type 0 where
   pub rowsLow : 1 ≤ m
-  pub rowsHigh : m ≤ 32
+  pub rowsHigh : m ≤ stride
   pub colsLow : 1 ≤ n
-  pub colsHigh : n ≤ 32
+  pub colsHigh : n ≤ stride
   pub inRow : (i j : ℕ) → i < m → tied live i j ≡ true → j < n
   pub inCol : (j i : ℕ) → j < n → tied live (m + j) i ≡ true → i < m
   pub same : (i j : ℕ) → i < m → j < n → tied live (m + j) i ≡ tied live i j
@@ -102,10 +102,10 @@ own-col m x p = rw (le-ltb x m p)
 pub own-le : (m x : ℕ) → ownBit m x ≤ x
 own-le m x = by-cases (decLt x m) (λ p. omega (arith, own-row m x p)) (λ p. omega (arith, own-col m x (omega arith)))
 
-pub place-row : (m i j : ℕ) → i < m → laneTo m i j ≡ i * 32 + j
+pub place-row : (m i j : ℕ) → i < m → laneTo m i j ≡ i * stride + j
 place-row m i j p = rw (lt-ltb i m p)
 
-pub place-col : (m x i : ℕ) → m ≤ x → laneTo m x i ≡ i * 32 + (x - m)
+pub place-col : (m x i : ℕ) → m ≤ x → laneTo m x i ≡ i * stride + (x - m)
 place-col m x i p = rw (le-ltb x m p)
 
 module _ {m n : ℕ} {live : List ℕ} (w : Links m n live) where
@@ -163,9 +163,9 @@ module _ {m n : ℕ} {live : List ℕ} (w : Links m n live) where
 abbrev pub without-lane : ℕ → List ℕ → ℕ → ℕ → List ℕ
 without-lane m live p b = set (set live p 0) (otherEnd m p b) (cut (getD live (otherEnd m p b) 0) (ownBit m p))
 
-module _ {m n : ℕ} {live : List ℕ} (w : Links m n live) (p b : ℕ) (len : length live ≡ 64) (low : p < m + n) (e : tied live p b ≡ true)
+module _ {m n : ℕ} {live : List ℕ} (w : Links m n live) (p b : ℕ) (len : length live ≡ nodeRoom) (low : p < m + n) (e : tied live p b ≡ true)
     (few : (z : ℕ) → tied live p z ≡ true → z ≡ b) where
-  pub end-room : otherEnd m p b < 64
+  pub end-room : otherEnd m p b < nodeRoom
   end-room = omega (arith, end-below w p b low e, w .rowsHigh, w .colsHigh)
 
   pub at-leaf : getD (without-lane m live p b) p 0 ≡ 0

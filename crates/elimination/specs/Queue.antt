@@ -3,7 +3,7 @@ use mathlib.Core.Path.{_≡_, refl, sym, ap, _∙_}
 use mathlib.Core.Logic.{_≢_, _⊎_, inl, inr, ⊎-elim, by-cases}
 use mathlib.Core.Bool.{Bool, true, false, not, _&&_, cond, true≢false, false≢true}
 use mathlib.Core.List.{List}
-use Prim.Native.Nat.{ℕ, zero, suc, _+_, _-_, _<_, _≤_}
+use Prim.Native.Nat.{ℕ, zero, suc, _+_, _<_, _≤_}
 use native.Mathlib.Omega.{arith}
 use native.Mathlib.Decide.{ℕ-discrete, decLt}
 use borrow.Author.Tests.{eqb-true, eqb-false, eq-eqb, ne-eqb, not-true}
@@ -14,8 +14,9 @@ use lib.Seq.{getD-set-same, getD-set-other}
 use Rattle.transport.specs.Lists.{sumTo}
 use Rattle.transport.specs.ListLaws.{and-left, and-right, sumTo-cong, sumTo-add, sumTo-each}
 use Rattle.basis.specs.Mask.{bit, has, cut, has-cut, has-zero, ones-zero, only}
+use Rattle.basis.specs.Layout.{nodeRoom}
 use Rattle.tableaux.specs.Leaves.{one-at, sum-one-at, sum-ones, unless, unless-bits}
-use Rattle.elimination.specs.Links.{Links, otherEnd, ownBit, joins, tied, ones-some, end-below, end-apart, end-back, without-lane, at-leaf, at-end, at-rest, gone-from}
+use Rattle.elimination.specs.Links.{Links, otherEnd, ownBit, joins, tied, ones-some, end-below, end-back, without-lane, at-leaf, at-end, at-rest, gone-from}
 
 -- The queue holds nodes below N, and every leaf that P says.
 pub record QueueOf (N : ℕ) (P : ℕ → Type 0) (live leaf : List ℕ) (k tail : ℕ) : Type 0 where
@@ -121,7 +122,7 @@ queue-start live leaf = record {
   listed = λ x z p. absurd (omega arith);
 }
 
-pub queue-next : {live leaf : List ℕ} {tail : ℕ} (x : ℕ) → 1 ≤ x → x < 64 → length leaf ≡ 64 → Queue x live leaf 0 tail
+pub queue-next : {live leaf : List ℕ} {tail : ℕ} (x : ℕ) → 1 ≤ x → x < nodeRoom → length leaf ≡ nodeRoom → Queue x live leaf 0 tail
     → Queue (x + 1) live (set leaf tail x) 0 (tail + cond (joins x (getD live x 0)) 1 0)
 queue-next x p l e q =
     push x (omega (arith, room p q)) (omega arith) (omega arith)
@@ -131,7 +132,7 @@ queue-next x p l e q =
 
 -- ---- a leaf is struck
 
-module _ {m n : ℕ} {live leaf : List ℕ} {k tail : ℕ} (w : Links m n live) (len : length live ≡ 64) (size : length leaf ≡ 64) (q : Queue (m + n) live leaf k tail)
+module _ {m n : ℕ} {live leaf : List ℕ} {k tail : ℕ} (w : Links m n live) (len : length live ≡ nodeRoom) (size : length leaf ≡ nodeRoom) (q : Queue (m + n) live leaf k tail)
     (waits : k < tail) (b : ℕ) (e : tied live (getD leaf k 0) b ≡ true) where
   abbrev leaf-now : ℕ
   leaf-now = getD leaf k 0

@@ -1,7 +1,6 @@
 -- What the arrays hold while leaves are struck off: at the start, after one strike more, and at the end.
-use mathlib.Core.Path.{_≡_, refl, sym, ap, _∙_}
-use mathlib.Core.Logic.{_≢_}
-use mathlib.Core.Bool.{Bool, true, cond}
+use mathlib.Core.Path.{_≡_, ap, _∙_}
+use mathlib.Core.Bool.{true, cond}
 use mathlib.Core.List.{List, [], _∷_, _++_}
 use Prim.Native.Nat.{ℕ, _+_, _-_, _*_, _/_, _%_, _<_, _≤_}
 use native.Mathlib.Omega.{arith}
@@ -11,12 +10,11 @@ use Rattle.transport.specs.Lists.{table}
 use Rattle.transport.specs.ListLaws.{table-zero, table-one, table-cong}
 use Rattle.transport.specs.Sheet.{Lane}
 use Rattle.transport.specs.SheetLaws.{lane}
-use Rattle.transport.specs.Leaf.{Strike}
 use Rattle.basis.specs.Mask.{cut}
-use Rattle.basis.specs.Layout.{nodeRoom, laneAt, strikeOf, strikesOf, length-strikes}
+use Rattle.basis.specs.Layout.{stride, nodeRoom, laneAt, strikeOf, strikesOf, length-strikes}
 use Rattle.elimination.specs.Links.{Links, Masks, otherEnd, ownBit, laneTo, joins, tied, Seen, of-row, of-col, seen, without-lane, links-without, place-row, place-col}
 use Rattle.elimination.specs.Queue.{Queue, room, leaf-low, leaf-few, queue-struck}
-use Rattle.elimination.specs.Strip.{Strip, Stripped, nodeLane, strikeOff, lane-row, lane-col, strip-start, strip-next, stripped-empty, stripped-lost}
+use Rattle.elimination.specs.Strip.{Strip, Stripped, nodeLane, nodeStrike, lane-row, lane-col, strip-start, strip-next, stripped-empty, stripped-lost}
 
 -- k strikes are made, and the leaves from k up to tail wait.
 pub record State (m n : ℕ) (adj live leaf other lane : List ℕ) (k tail : ℕ) : Type 0 where
@@ -53,15 +51,15 @@ module _ {m n : ℕ} {adj live leaf other lane : List ℕ} {k tail : ℕ} (s : S
       where
         go : Seen (s .links) now b → laneAt place ≡ nodeLane m now b
         go (of-row p q) =
-            let u : (now * 32 + b) / 32 ≡ now = omega (arith, s .links .colsHigh) in
-            let v : (now * 32 + b) % 32 ≡ b = omega (arith, s .links .colsHigh) in
+            let u : (now * stride + b) / stride ≡ now = omega (arith, s .links .colsHigh) in
+            let v : (now * stride + b) % stride ≡ b = omega (arith, s .links .colsHigh) in
             rw (place-row m now b p, lane-row m now b p, u, v)
         go (of-col p q r h) =
-            let u : (b * 32 + (now - m)) / 32 ≡ b = omega (arith, s .links .colsHigh) in
-            let v : (b * 32 + (now - m)) % 32 ≡ now - m = omega (arith, s .links .colsHigh) in
+            let u : (b * stride + (now - m)) / stride ≡ b = omega (arith, s .links .colsHigh) in
+            let v : (b * stride + (now - m)) % stride ≡ now - m = omega (arith, s .links .colsHigh) in
             rw (place-col m now b p, lane-col m now b p, u, v)
 
-    strikes-next : strikesOf (set leaf tail end) (set other k end) (set lane k place) (k + 1) ≡ strikesOf leaf other lane k ++ (strikeOff m now b ∷ [])
+    strikes-next : strikesOf (set leaf tail end) (set other k end) (set lane k place) (k + 1) ≡ strikesOf leaf other lane k ++ (nodeStrike m now b ∷ [])
     unfolding strikesOf
     strikes-next =
         table-one (strikeOf (set leaf tail end) (set other k end) (set lane k place)) k
@@ -71,7 +69,7 @@ module _ {m n : ℕ} {adj live leaf other lane : List ℕ} {k tail : ℕ} (s : S
         same : (t : ℕ) → t < k → strikeOf (set leaf tail end) (set other k end) (set lane k place) t ≡ strikeOf leaf other lane t
         same t l = rw (getD-set-other leaf tail t end 0 (omega arith), getD-set-other other k t end 0 (omega arith), getD-set-other lane k t place 0 (omega arith))
 
-        last : strikeOf (set leaf tail end) (set other k end) (set lane k place) k ≡ strikeOff m now b
+        last : strikeOf (set leaf tail end) (set other k end) (set lane k place) k ≡ nodeStrike m now b
         last = rw (getD-set-other leaf tail k end 0 (omega arith), getD-set-same other k end 0 (omega (arith, k-room, s .otherSize)), getD-set-same lane k place 0 (omega (arith, k-room, s .laneSize)), lane-placed)
 
     pub state-next : State m n adj (without-lane m live now b) (set leaf tail end) (set other k end) (set lane k place) (k + 1) (tail + cond (joins end (cut (getD live end 0) (ownBit m now))) 1 0)

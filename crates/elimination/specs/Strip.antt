@@ -1,16 +1,15 @@
 -- The lanes B while leaves are struck off: what is struck, what is left, and that all is struck exactly if the lanes span.
 use mathlib.Core.Path.{_≡_, refl, sym, ap, _∙_}
-use mathlib.Core.Logic.{_↔_, _≢_, _⊎_, inl, inr, ⊎-elim, by-cases}
-use mathlib.Core.Bool.{Bool, true, false, not, _&&_, _||_, cond, true≢false, false≢true}
+use mathlib.Core.Logic.{_≢_, _⊎_, inl, inr, ⊎-elim, by-cases}
+use mathlib.Core.Bool.{Bool, true, false, not, _&&_, cond, true≢false}
 use mathlib.Core.List.{List, [], _∷_, _++_, List·Memᴰ, List·Memᴰ·head, List·Memᴰ·tail, List·Memᴰ·not-nil, List·Memᴰ·cases-cons, List·Memᴰ·append-cases, Memᴰ·append-left, Memᴰ·append-right, List·Memᴰ·eq-of-singleton, Memᴰ·cast}
-use Prim.Native.Nat.{ℕ, zero, suc, _+_, _-_, _*_, _<_, _≤_}
+use Prim.Native.Nat.{ℕ, suc, _+_, _-_, _<_, _≤_}
 use native.Mathlib.Omega.{arith}
-use native.Mathlib.Decide.{ℕ-discrete, decLt}
-use borrow.Author.Tests.{lt-ltb, le-ltb, eqb-true, eqb-false, eq-eqb, ne-eqb, not-true}
-use lib.Dec.{eqb, ltb}
-use lib.Count.{ones}
-use lib.ListN.{length, getD, set, length-append}
-use lib.Seq.{getD-set-same, getD-set-other}
+use native.Mathlib.Decide.{decLt}
+use borrow.Author.Tests.{lt-ltb, le-ltb, eq-eqb, ne-eqb, not-true}
+use lib.Dec.{ltb}
+use lib.ListN.{length, getD, set}
+use lib.Seq.{getD-set-other}
 use Rattle.transport.specs.Lists.{keep, table}
 use Rattle.transport.specs.ListLaws.{keep-yes, keep-no, keep-none, keep-all, keep-cong, keep-keep, keep-member, member-keep, all-members, member-place, member-at, and-left, and-right}
 use Rattle.transport.specs.Sheet.{Lane}
@@ -18,7 +17,8 @@ use Rattle.transport.specs.SheetLaws.{lane}
 use Rattle.transport.specs.Tableau.{basisSize}
 use Rattle.transport.specs.Leaf.{Strike, touches, spans}
 use Rattle.basis.specs.Mask.{has, has-zero}
-use Rattle.tableaux.specs.Lanes.{Has, Fits}
+use Rattle.basis.specs.Layout.{nodeRoom}
+use Rattle.tableaux.specs.Lanes.{Has}
 use Rattle.tableaux.specs.Leaves.{Ends, row-struck, column-struck, Leaf, Linked, Others, at-node, without, unless, found, leaf-exists, leaf-struck, leaf-member, leaf-lane, length-without, has-lane, touches-true, touches-false}
 use Rattle.tableaux.specs.Striking.{no-members, nodes-others, Step, Peeled, bare, peel, Struck, every-leaf, strike-once, struck-joined, joined-linked, spans-iff}
 use Rattle.elimination.specs.Links.{Links, Masks, otherEnd, ownBit, tied, single, iff-same, end-row, end-col, end-back, Seen, of-row, of-col, seen, without-lane, gone-from, gone-to}
@@ -64,8 +64,8 @@ peeled-last {m} {n} {ss} {s} (peel {s = t} {later} u rest) st clear =
 abbrev pub nodeLane : ℕ → ℕ → ℕ → Lane
 nodeLane m x y = cond (ltb x m) (lane x y) (lane y (x - m))
 
-abbrev pub strikeOff : ℕ → ℕ → ℕ → Strike
-strikeOff m x y = record { leaf = x; other = otherEnd m x y; lane = nodeLane m x y }
+abbrev pub nodeStrike : ℕ → ℕ → ℕ → Strike
+nodeStrike m x y = record { leaf = x; other = otherEnd m x y; lane = nodeLane m x y }
 
 -- The masks have the lane.
 abbrev pub alive : List ℕ → Lane → Bool
@@ -88,7 +88,7 @@ record Laid (m n : ℕ) (live : List ℕ) (x y : ℕ) : Type 0 where
   col : nodeLane m x y .col < n
   lives : alive live (nodeLane m x y) ≡ true
   touch : touches m x (nodeLane m x y) ≡ true
-  ends : Ends m (strikeOff m x y)
+  ends : Ends m (nodeStrike m x y)
 
 module _ {m n : ℕ} {live : List ℕ} (w : Links m n live) where
   laid : (x y : ℕ) → x < m + n → tied live x y ≡ true → Laid m n live x y
@@ -169,7 +169,7 @@ module _ {m n : ℕ} {B : List Lane} {adj : List ℕ} (M : Masks m n B adj) wher
 
 -- ---- a leaf of B is struck
 
-module _ {m n : ℕ} {B : List Lane} {adj live leaf : List ℕ} {k tail : ℕ} (M : Masks m n B adj) (w : Links m n live) (len : length live ≡ 64) (size : length leaf ≡ 64)
+module _ {m n : ℕ} {B : List Lane} {adj live leaf : List ℕ} {k tail : ℕ} (M : Masks m n B adj) (w : Links m n live) (len : length live ≡ nodeRoom) (size : length leaf ≡ nodeRoom)
     (q : Queue (m + n) live leaf k tail) (waits : k < tail) (b : ℕ) (e : tied live (getD leaf k 0) b ≡ true) where
   abbrev now : ℕ
   now = getD leaf k 0
@@ -178,7 +178,7 @@ module _ {m n : ℕ} {B : List Lane} {adj live leaf : List ℕ} {k tail : ℕ} (
   next = without-lane m live now b
 
   abbrev strike : Strike
-  strike = strikeOff m now b
+  strike = nodeStrike m now b
 
   low : now < m + n
   low = leaf-low w len size q waits b e
@@ -229,7 +229,7 @@ module _ {m n : ℕ} {B : List Lane} {adj live leaf : List ℕ} {k tail : ℕ} (
       listed = others now .1 (q .nodes k waits .0, low);
     }
 
-    -- No strike before has touched this leaf, or now ends at one struck before.
+    -- Neither end of the lane is a leaf that was struck before.
     apart : (t : Strike) → List·Memᴰ t ss → (now ≢ t .leaf) × (strike .other ≢ t .leaf)
     apart t h =
         let (a, l, g) = S .leaves t h in

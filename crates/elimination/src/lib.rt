@@ -9,14 +9,14 @@ ghost use mathlib.Core.List.{List};
 ghost use Prim.Native.Nat.{_+_, _<_, _≤_};
 ghost use lib.ListN.{length};
 ghost use Rattle.transport.specs.Sheet.{Lane};
-ghost use Rattle.basis.specs.Layout.{nodeRoom, strikesOf};
+ghost use Rattle.basis.specs.Layout.{stride, nodeRoom, strikesOf};
 ghost use Rattle.elimination.specs.Links.{Links, Masks, otherEnd, ownBit, laneTo, joins};
 ghost use Rattle.elimination.specs.Queue.{Queue};
 ghost use Rattle.elimination.specs.Strip.{Stripped};
 
 // The node at the other end of a node's lane.
 fn other_end(node: usize, bit: usize, m: usize) -> usize
-    requires { ⌜ (m ≤ 32) × (bit < 64) ⌝ }
+    requires { ⌜ (m ≤ stride) × (bit < nodeRoom) ⌝ }
     ensures { λ r. ⌜ r ≡ otherEnd m node bit ⌝ }
 {
     if node < m { m + bit } else { bit }
@@ -31,7 +31,7 @@ fn own_bit(node: usize, m: usize) -> usize
 
 // The place of a node's lane.
 fn lane_to(node: usize, bit: usize, m: usize) -> usize
-    requires { ⌜ (m ≤ 32) × (node < 64) × (bit < 64) ⌝ }
+    requires { ⌜ (m ≤ stride) × (node < nodeRoom) × (bit < nodeRoom) ⌝ }
     ensures { λ r. ⌜ r ≡ laneTo m node bit ⌝ }
 {
     if node < m {

@@ -13,7 +13,7 @@ use Rattle.transport.specs.Leaf.{spans}
 use Rattle.sheet.specs.Check.{sheetOf}
 use Rattle.basis.specs.Layout.{strikesOf}
 use Rattle.basis.specs.SignLaws.{weightsOf}
-use Rattle.elimination.specs.Arrays.{struck-room, struck-apart}
+use Rattle.elimination.specs.Strikes.{strikes-room, strikes-distinct}
 use Rattle.belonging.specs.Carried.{carries}
 use Rattle.belonging.specs.Balance.{Tree}
 use Rattle.belonging.specs.Spread.{Laid, laid-masks, laid-apart, laid-tree, balanced-is}
@@ -53,7 +53,7 @@ flows-match-requires c κs =
     let u = c .before .before .before .before .before .before .before .before in
     let (T, h) = u .before .before .before .before .before .before .before .pre .1 in
     let t = tree u T h in
-    (struck-room _ _ _ _ (t .struck) (h .links .rowsHigh) (h .links .colsHigh) (u .before .strike .ensures .0 .2), (struck-apart _ _ _ _ (t .struck), c .before .before .before .before .before .before .weigh-bags .ensures .light))
+    (strikes-room _ _ _ _ _ _ (h .links .rowsHigh) (h .links .colsHigh) (u .before .strike .ensures .0 .2) (t .struck), (strikes-distinct _ _ _ _ _ _ (t .struck .peels), c .before .before .before .before .before .before .weigh-bags .ensures .light))
 
 -- What is left to find: whether both flows are carried.
 flows : (c : tie.After-lane2) (cost : List ℕ) (T : List Cell)
@@ -79,7 +79,7 @@ flows-match-requires-2 c κs =
     let u = v .before .before .before .before .before .before .before .before in
     let (T, h) = u .before .before .before .before .before .before .before .pre .1 in
     let t = tree u T h in
-    (struck-room _ _ _ _ (t .struck) (h .links .rowsHigh) (h .links .colsHigh) (u .before .strike .ensures .0 .2), (struck-apart _ _ _ _ (t .struck), v .before .before .before .before .weigh-marks .ensures .light))
+    (strikes-room _ _ _ _ _ _ (h .links .rowsHigh) (h .links .colsHigh) (u .before .strike .ensures .0 .2) (t .struck), (strikes-distinct _ _ _ _ _ _ (t .struck .peels), v .before .before .before .before .weigh-marks .ensures .light))
 
 returns-3 : tie.Need-returns-3
 returns-3 c cost T h =

@@ -1,16 +1,16 @@
 -- `elimination::first_leaves` meets its contract. The loop's invariant: the queue holds the leaves among the nodes passed; the measure is what is left of the nodes.
-use mathlib.Core.Path.{_≡_, refl}
+use mathlib.Core.Path.{_≡_}
 use Prim.Native.Nat.{_+_, _-_, _≤_, _<_}
 use native.Mathlib.Omega.{arith}
 use borrow.Author.Needs.{needs}
-use lib.ListN.{length, getD, length-set}
-use Rattle.elimination.specs.Links.{Links}
+use lib.ListN.{length, set, length-set}
+use Rattle.basis.specs.Layout.{nodeRoom}
 use Rattle.elimination.specs.Queue.{Queue, room, queue-start, queue-next}
 use Rattle.elimination.proofs.first_leaves.Statement.{statement}
 use Rattle.elimination.proofs.first_leaves.Tie as tie
 
 abbrev Inv-loop : tie.InvT-loop
-Inv-loop live leaf₀ m n tail₀ node₀ leaf tail node = (1 ≤ node) × (node ≤ m + n) × (m + n ≤ 64) × (length leaf ≡ 64) × Queue node live leaf 0 tail
+Inv-loop live leaf₀ m n tail₀ node₀ leaf tail node = (1 ≤ node) × (node ≤ m + n) × (m + n ≤ nodeRoom) × (length leaf ≡ nodeRoom) × Queue node live leaf 0 tail
 
 abbrev μ-loop : tie.MeasureT-loop
 μ-loop live leaf₀ m n tail₀ node₀ leaf tail node = m + n - node
@@ -22,7 +22,7 @@ add-loop : tie.Need-add-loop Inv-loop μ-loop
 add-loop c = omega arith
 
 -- There is room for one node more.
-tail-room : (c : tie.In-loop Inv-loop μ-loop) → c .before .loop .tail < 64
+tail-room : (c : tie.In-loop Inv-loop μ-loop) → c .before .loop .tail < nodeRoom
 tail-room c = omega (arith, room (c .before .loop .inv .0) (c .before .loop .inv .4))
 
 mul-leaf : tie.Need-mul-leaf Inv-loop μ-loop
@@ -43,7 +43,7 @@ joins-queue-requires c κs = search needs
 again : (c : tie.After-joins-queue Inv-loop μ-loop)
     → let a = c .before .before .before .before .args in
     let i = c .before .before .before .loop in
-    Queue (i .node + 1) (a .live .now) (lib.ListN.set (i .leaf) (i .tail) (i .node)) 0 (i .tail + c .joins-queue .result)
+    Queue (i .node + 1) (a .live .now) (set (i .leaf) (i .tail) (i .node)) 0 (i .tail + c .joins-queue .result)
 again c =
     let i = c .before .before .before .loop in
     rw (c .joins-queue .ensures) (queue-next (i .node) (i .inv .0) (omega arith) (i .inv .3) (i .inv .4))

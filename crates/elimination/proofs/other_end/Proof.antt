@@ -1,5 +1,4 @@
 -- `elimination::other_end` meets its contract, in the two cases of a row and a column. Assumes nothing.
-use native.Mathlib.Omega.{arith}
 use borrow.Author.Needs.{needs}
 use borrow.Author.Tests.{lt-ltb, le-ltb}
 use Rattle.elimination.proofs.other_end.Statement.{statement}

@@ -1,5 +1,4 @@
 -- `elimination::own_bit` meets its contract, in the two cases of a row and a column. Assumes nothing.
-use native.Mathlib.Omega.{arith}
 use borrow.Author.Tests.{lt-ltb, le-ltb}
 use Rattle.elimination.proofs.own_bit.Statement.{statement}
 use Rattle.elimination.proofs.own_bit.Tie as tie

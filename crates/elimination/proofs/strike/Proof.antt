@@ -1,11 +1,11 @@
 -- `elimination::strike` meets its contract. The loop's invariant is `State`; the measure is what is left of the room for nodes.
-use mathlib.Core.Path.{_≡_, refl, sym, ap, _∙_}
+use mathlib.Core.Path.{_≡_}
 use mathlib.Core.Bool.{true}
-use Prim.Native.Nat.{ℕ, _+_, _-_, _≤_, _<_}
+use Prim.Native.Nat.{_+_, _-_, _<_}
 use native.Mathlib.Omega.{arith}
 use borrow.Author.Needs.{needs}
 use borrow.Author.Tests.{eq-eqb}
-use lib.ListN.{length, getD, set}
+use lib.ListN.{getD, set}
 use Rattle.basis.specs.Layout.{nodeRoom}
 use Rattle.basis.specs.Mask.{bit}
 use Rattle.elimination.specs.Links.{tied, end-below, own-le}
