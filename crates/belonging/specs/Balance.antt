@@ -4,7 +4,7 @@ use Prim.Native.Nat.{ℕ, zero, suc, _+_, _-_, _<_, _≤_}
 use native.Mathlib.Omega.{arith}
 use mathlib.Core.Path.{_≡_, refl, sym, ap, _∙_}
 use mathlib.Core.Logic.{_↔_, by-cases}
-use mathlib.Core.Bool.{Bool, true, _&&_, cond}
+use mathlib.Core.Bool.{Bool, true, cond}
 use mathlib.Core.List.{List}
 use lib.Dec.{eqb}
 use lib.IntN.{ℤ, pos, _+ℤ_}
@@ -28,17 +28,14 @@ use Rattle.transport.specs.Tableau.{basisOf, rowTotal, columnTotal, balanced}
 use Rattle.transport.specs.Leaf.{Strike, spans}
 use Rattle.transport.specs.Round.{flow}
 use Rattle.tableaux.specs.View.{Distinct, Inside, amountAt, amount-none, row-sum, column-sum}
-use Rattle.tableaux.specs.Lanes.{Has, Fits, has-basic, member-dec}
+use Rattle.tableaux.specs.Lanes.{Has, has-basic, member-dec}
 use Rattle.tableaux.specs.Striking.{Struck}
 use Rattle.tableaux.specs.Leaves.{sum-ones}
 use Rattle.tableaux.specs.Flows.{struck-flow, flow-only}
 use Rattle.tableaux.specs.PlanView.{sum-sumTo}
 use Rattle.basis.specs.SignLaws.{weightsOf}
-use Rattle.board.specs.Held.{inside-basic}
+use Rattle.tableaux.specs.Belonging.{fits-inside}
 use Rattle.belonging.specs.Carried.{Light}
-
-pub inside-fits : {m n : ℕ} (T : List Cell) → Inside m n T → Fits m n (basisOf T)
-inside-fits T h l q = inside-basic h (has-basic T (l .row) (l .col) .0 q)
 
 -- The cells T are distinct and inside the sheet, and the strikes ss strike off their lanes, which span.
 pub record Tree (m n : ℕ) (T : List Cell) (ss : List Strike) : Type 0 where
@@ -94,8 +91,8 @@ module _ {m n : ℕ} {T : List Cell} {ss : List Strike} (t : Tree m n T ss) (par
 
   even-carry : AddUp m n T part w → Carry T ss part w
   even-carry h i j d =
-      let (k, l) = inside-fits T (t .inside) (lane i j) d in
-      eq-z _ _ (flow-only (t .rowsLow) (inside-fits T (t .inside)) (t .spans) (t .colsLow) amounts flows i j k l)
+      let (k, l) = fits-inside m n T (t .inside) (lane i j) d in
+      eq-z _ _ (flow-only (t .rowsLow) (fits-inside m n T (t .inside)) (t .spans) (t .colsLow) amounts flows i j k l)
     where
       amounts : Flow m n (Has (basisOf T)) x (λ i. toZ (w i)) (λ j. toZ (w (m + j)))
       amounts = record {

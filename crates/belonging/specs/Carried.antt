@@ -5,7 +5,7 @@ use native.Mathlib.Numerals.{add-one}
 use native.Mathlib.Decide.{decLt}
 use mathlib.Core.Path.{_≡_, refl, sym, ap, _∙_}
 use mathlib.Core.Logic.{by-cases}
-use mathlib.Core.Bool.{Bool, true, false, cond, true≢false}
+use mathlib.Core.Bool.{Bool, true, false, cond}
 use mathlib.Core.List.{List}
 use lib.Dec.{eqb}
 use lib.IntN.{ℤ, pos, natAbs, _-ℤ_}
@@ -22,7 +22,13 @@ use Rattle.transport.specs.AmountLaws.{eqZ-true, eqZ-same}
 use Rattle.transport.specs.Leaf.{Strike}
 use Rattle.transport.specs.Round.{flow}
 use Rattle.basis.specs.Layout.{nodeRoom, laneAt, strikeOf, strikesOf, strikesFrom, strikesFrom-cons, getD-set, Distinct, Struck}
-use Rattle.basis.specs.SignLaws.{leftBy, flow-here, flow-later, sameLane-self, sameLane-places, size, size-each, size-leftBy, weightsOf, need-left}
+use Rattle.basis.specs.SignLaws.{flow-here, flow-later, sameLane-self, sameLane-places, size, size-each, size-leftBy, weightsOf, need-left}
+
+-- Two numbers in range with the same bits are the same.
+pub eq-test : (a b : ℤ) → mag a < 2 ^ 63 → mag b < 2 ^ 63 → ofZ w64 a ≡ ofZ w64 b → a ≡ b
+eq-test a b p q e = sym (back w64 a p) ∙ ap (toZ w64) e ∙ back w64 b q
+
+-- ---- the lanes carry the flow
 
 -- The first `count` lanes carry the flow of the weights through the strikes.
 unfoldable pub carries : (ℕ → ℤ) → List Strike → List ℤ → List ℕ → ℕ → Bool
@@ -49,6 +55,8 @@ module _ (weight : ℕ → ℤ) (ss : List Strike) (amount : List ℤ) (lane : L
       go : (b : Bool) → carries weight ss amount lane count ≡ b → carries weight ss amount lane count ≡ false
       go true e = absurd (n (carries-at count e k l))
       go false e = e
+
+-- ---- forwards through the strikes
 
 -- Weights so small that no sum of them leaves the range.
 pub record Light (weight : List ℤ) : Type 0 where
@@ -113,7 +121,3 @@ module _ {start : ℕ → ℤ} {leaf other lane : List ℕ} {count : ℕ} {amoun
       zero-or : (t : Bool) → natAbs (cond t (pos 0) (getD weight (getD other k 0) (pos 0))) ≤ natAbs (getD weight (getD other k 0) (pos 0))
       zero-or true = omega arith
       zero-or false = omega arith
-
--- Two numbers in range with the same bits are the same.
-pub eq-test : (a b : ℤ) → mag a < 2 ^ 63 → mag b < 2 ^ 63 → ofZ w64 a ≡ ofZ w64 b → a ≡ b
-eq-test a b p q e = sym (back w64 a p) ∙ ap (toZ w64) e ∙ back w64 b q

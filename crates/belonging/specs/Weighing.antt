@@ -1,11 +1,10 @@
 -- How the weights at the nodes are put into their array.
-use Prim.Native.Nat.{ℕ, suc, _+_, _-_, _*_, _<_, _≤_, _^_}
+use Prim.Native.Nat.{ℕ, _+_, _-_, _<_, _≤_}
 use native.Mathlib.Omega.{arith}
 use native.Mathlib.Nat.{zero-add}
 use native.Mathlib.Decide.{decLt, ℕ-discrete}
-use mathlib.Core.Path.{_≡_, refl, sym, ap, _∙_}
+use mathlib.Core.Path.{_≡_, refl, _∙_}
 use mathlib.Core.Logic.{by-cases}
-use mathlib.Core.Bool.{Bool, true, false, cond}
 use mathlib.Core.List.{List}
 use lib.IntN.{ℤ, pos, natAbs}
 use lib.ListN.{length, getD, set, length-set}
@@ -15,7 +14,7 @@ use Rattle.transport.specs.Lists.{at}
 use Rattle.transport.specs.ListLaws.{sumTo-bound}
 use Rattle.transport.specs.Limits.{maxAmount}
 use Rattle.basis.specs.Layout.{stride, nodeRoom}
-use Rattle.basis.specs.SignLaws.{size, weightsOf}
+use Rattle.basis.specs.SignLaws.{size}
 use Rattle.belonging.specs.Carried.{Light}
 use Rattle.belonging.specs.Balance.{Weights, markOf}
 
