@@ -1,2 +1,3 @@
 // The board of a run: a tableau spread over flat arrays, and gathered from them again.
+pub mod gather;
 pub mod spread;

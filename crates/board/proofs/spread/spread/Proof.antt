@@ -1,6 +1,6 @@
 -- `board::spread::spread` meets its contract. The loop's invariant: the arrays hold the cells from number k on; the measure is k.
 use Prim.Native.Nat.{suc, _-_, _≤_, _<_}
-use mathlib.Core.Path.{_≡_, refl, _∙_}
+use mathlib.Core.Path.{_≡_}
 use native.Mathlib.Omega.{arith}
 use borrow.Author.Needs.{needs}
 use lib.ListN.{length, drop, getD, drop-of-length-le}
