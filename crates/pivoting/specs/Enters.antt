@@ -1,0 +1,164 @@
+-- A lane that enters a tableau: the strikes in the code's arrays, and the lanes of the loop that stand in its lists, have the signs of the specification.
+use Prim.Native.Nat.{ℕ, zero, suc, _+_, _*_, _/_, _%_, _<_, _≤_}
+use native.Mathlib.Omega.{arith}
+use mathlib.Core.Path.{_≡_, sym, ap, _∙_, subst}
+use mathlib.Core.Logic.{by-cases}
+use mathlib.Core.Bool.{Bool, true, false}
+use mathlib.Core.List.{List, List·Memᴰ}
+use lib.IntN.{ℤ, pos}
+use lib.Signed.{ltZ}
+use lib.ListN.{length, take, getD}
+use lib.Seq.{getD-take, length-take-le}
+use Rattle.integers.specs.Bridge.{eq-z}
+use Rattle.transport.specs.Lists.{keep}
+use Rattle.transport.specs.ListLaws.{member-at, member-place, member-table, table-member, keep-member}
+use Rattle.transport.specs.Sheet.{Sheet, sources, sinks, Lane}
+use Rattle.transport.specs.SheetLaws.{lane, Checked}
+use Rattle.transport.specs.declared.Cell.{Cell}
+use Rattle.transport.specs.Tableau.{basisOf}
+use Rattle.transport.specs.Leaf.{Strike, cellsBelong}
+use Rattle.transport.specs.Round.{flow, sign}
+use Rattle.transport.specs.Statements.{Basic, Belongs}
+use Rattle.tableaux.specs.Lanes.{has-basic}
+use Rattle.tableaux.specs.Leaves.{Ends, row-struck, column-struck}
+use Rattle.tableaux.specs.Striking.{Struck, Step, Peeled, bare, peel, step-of, lane-once, leaf-below}
+use Rattle.tableaux.specs.Flows.{struck-signs, signs-of, flow-only, sign-off}
+use Rattle.tableaux.specs.Belonging.{belongs-iff, inside-of, fits-of, spans-of}
+use Rattle.tableaux.specs.Order.{basic-dec}
+use Rattle.tableaux.specs.PivotView.{signs}
+use Rattle.board.specs.Held.{inside-basic}
+use Rattle.basis.specs.Layout as layout
+use Rattle.basis.specs.Layout.{stride, stride-is, nodeRoom, laneRoom, laneAt, placeOf, place-laneAt, strikeOf, strikesOf, length-strikes, Distinct}
+use Rattle.basis.specs.SignLaws.{enterWeight, sign-is, LoopLanes}
+use Rattle.basis.specs.StepLaws.{among, among-keep, LaneList, minus-lanes, plus-lanes}
+use Rattle.pivoting.specs.Carry.{among-member, member-among, no-member-among, member-first}
+
+-- The lane e, on the sheet and not basic, enters the tableau T of the sheet S, and the strikes in the arrays strike off the basis of T.
+pub record Enters (S : Sheet) (T : List Cell) (leaf other lanes : List ℕ) (count : ℕ) (e : Lane) : Type 0 where
+  pub checked : Checked S
+  pub belongs : cellsBelong S T ≡ true
+  pub struck : Struck (sources S) (sinks S) (basisOf T) (strikesOf leaf other lanes count)
+  pub long : length lanes ≡ nodeRoom
+  pub row : e .row < sources S
+  pub col : e .col < sinks S
+  pub new : ¬ Basic T (e .row) (e .col)
+
+pub laneAt-place : (i j : ℕ) → j < stride → laneAt (i * stride + j) ≡ lane i j
+laneAt-place i j l =
+    let p : (i * stride + j) / stride ≡ i = omega arith in
+    let q : (i * stride + j) % stride ≡ j = omega arith in
+    λ t. lane (p t) (q t)
+
+-- No lane is struck twice.
+peeled-once : {m n : ℕ} (d : Strike) (ss : List Strike) → Peeled m n ss → (i k : ℕ) → i < k → k < length ss → getD ss k d .lane ≡ getD ss i d .lane → ⊥
+peeled-once d _ bare i k p l = absurd (omega arith)
+peeled-once d _ (peel {s} {later} st rest) zero (suc k) p l = lane-once st rest (getD later k d) (member-at later d k (omega arith))
+peeled-once d _ (peel {s} {later} st rest) (suc i) (suc k) p l = peeled-once d later rest i k (omega arith) (omega arith)
+peeled-once d _ (peel {s} {later} st rest) i zero p l = absurd (omega arith)
+
+module _ {S : Sheet} {T : List Cell} {leaf other lanes : List ℕ} {count : ℕ} {e : Lane} (h : Enters S T leaf other lanes count e) where
+  abbrev m : ℕ
+  m = sources S
+
+  abbrev n : ℕ
+  n = sinks S
+
+  abbrev ss : List Strike
+  ss = strikesOf leaf other lanes count
+
+  pub enters-belongs : Belongs S T
+  enters-belongs = belongs-iff S T (h .checked .sourcesLow) (h .checked .sinksLow) .0 (h .belongs)
+
+  pub sides : (sources S ≤ stride) × (sinks S ≤ stride)
+  sides = (omega (arith, stride-is, h .checked .sourcesHigh), omega (arith, stride-is, h .checked .sinksHigh))
+
+  -- ---- the signs do not depend on the order of the strikes
+
+  sign-same : (i j : ℕ) → i < m → j < n → sign m ss e (lane i j) ≡ signs m n T e (lane i j)
+  sign-same i j hi hj =
+      let fits = fits-of (h .checked) enters-belongs in
+      let spans = spans-of (h .checked) enters-belongs in
+      let low = h .checked .sourcesLow in
+      eq-z _ _ (flow-only low fits spans (h .checked .sinksLow) (struck-signs (h .row) (h .col) low (h .struck)) (signs-of low fits spans e (h .row) (h .col)) i j hi hj)
+
+  pub sign-none : (i j : ℕ) → ¬ Basic T i j → signs (sources S) (sinks S) T e (lane i j) ≡ pos 0
+  sign-none i j d =
+      sign-off (h .checked .sourcesLow) (fits-of (h .checked) enters-belongs) (spans-of (h .checked) enters-belongs) e (lane i j) (λ b. d (has-basic T i j .0 b))
+
+  -- ---- strikes in arrays
+
+  few : count ≤ nodeRoom
+  few = omega (arith, h .struck .size, length-strikes leaf other lanes count, sides)
+
+  strike-at : (k : ℕ) → k < count → List·Memᴰ (strikeOf leaf other lanes k) ss
+  unfolding strikesOf
+  strike-at k l = member-table count (strikeOf leaf other lanes) k l
+
+  step-at : (k : ℕ) → k < count → (later : List Strike) × Step m n (strikeOf leaf other lanes k) later
+  step-at k l = step-of (h .struck .peels) (strikeOf leaf other lanes k) (strike-at k l)
+
+  other-below : (s : Strike) (later : List Strike) → Step m n s later → s .other < m + n
+  other-below s later st = go (st .ends)
+    where
+      go : Ends m s → s .other < m + n
+      go (row-struck a b) = omega (arith, st .col)
+      go (column-struck a b) = omega (arith, st .row)
+
+  pub enters-struck : layout.Struck leaf other lanes count
+  enters-struck = record {
+    few = few;
+    laneLong = h .long;
+    leafIn = λ k l. omega (arith, leaf-below (step-at k l .1), sides);
+    otherIn = λ k l. omega (arith, other-below _ _ (step-at k l .1), sides);
+    laneIn = λ k l. let st = step-at k l .1 in omega (arith, st .row, st .col, sides, place-laneAt (getD lanes k 0));
+  }
+
+  pub enters-distinct : Distinct lanes count
+  unfolding strikesOf
+  enters-distinct i k p l q = peeled-once (strikeOf leaf other lanes 0) ss (h .struck .peels) i k p (omega (arith, length-strikes leaf other lanes count))
+      (ap (λ s. s .lane) (layout.getD-strikes leaf other lanes count k _ l) ∙ ap laneAt q ∙ sym (ap (λ s. s .lane) (layout.getD-strikes leaf other lanes count i _ (omega arith))))
+
+  -- The lanes of the strikes are the basic lanes.
+  listed-basic : (p : ℕ) → List·Memᴰ p (take count lanes) → Basic T (p / stride) (p % stride)
+  listed-basic p mem = go (member-place 0 mem)
+    where
+      go : (k : ℕ) × (k < length (take count lanes)) × (getD (take count lanes) k 0 ≡ p) → Basic T (p / stride) (p % stride)
+      go (k, l, s) =
+          let l : k < count = omega (arith, length-take-le count lanes (omega (arith, few))) in
+          let s : getD lanes k 0 ≡ p = sym (getD-take count lanes k 0 l) ∙ s in
+          has-basic T (p / stride) (p % stride) .0 (rw (← s) (h .struck .lanes (strikeOf leaf other lanes k) (strike-at k l)))
+
+  basic-listed : (i j : ℕ) → j < stride → Basic T i j → List·Memᴰ (i * stride + j) (take count lanes)
+  unfolding strikesOf
+  basic-listed i j r b =
+      let (s, mem, at) = h .struck .struck (lane i j) (has-basic T i j .1 b) in
+      let (k, l, is) = table-member count (strikeOf leaf other lanes) mem in
+      let here : getD lanes k 0 ≡ i * stride + j = sym (place-laneAt (getD lanes k 0)) ∙ ap placeOf (sym (ap (λ s. s .lane) is) ∙ at) in
+      rw (← here) (member-first lanes count k (omega (arith, few)) l)
+
+  -- ---- the lanes with a sign
+
+  -- Of the lanes of the strikes, those whose sign passes the test.
+  abbrev pub signed : (ℤ → Bool) → List ℕ
+  signed test = keep (λ p. test (flow (enterWeight (e .row) (sources S + e .col)) (strikesOf leaf other lanes count) (laneAt p))) (take count lanes)
+
+  module _ (test : ℤ → Bool) (none : test (pos 0) ≡ false) where
+    pub signed-among : (i j : ℕ) → i < sources S → j < sinks S → among (signed test) (i * stride + j) ≡ test (signs (sources S) (sinks S) T e (lane i j))
+    signed-among i j hi hj = among-keep _ (take count lanes) (i * stride + j) ∙ by-cases (basic-dec T i j)
+        (λ b. rw (member-among (basic-listed i j (omega (arith, sides)) b)) (ap test here))
+        (λ d. rw (no-member-among (take count lanes) (i * stride + j) (λ mem. d (unlisted mem)), sign-none i j d, none))
+      where
+        at : laneAt (i * stride + j) ≡ lane i j
+        at = laneAt-place i j (omega (arith, sides))
+
+        here : flow (enterWeight (e .row) (m + e .col)) ss (laneAt (i * stride + j)) ≡ signs m n T e (lane i j)
+        here = ap (λ f. f (laneAt (i * stride + j))) (sym (sign-is m ss e)) ∙ ap (sign m ss e) at ∙ sign-same i j hi hj
+
+        unlisted : List·Memᴰ (i * stride + j) (take count lanes) → Basic T i j
+        unlisted mem = subst (λ (l : Lane). Basic T (l .row) (l .col)) at (listed-basic (i * stride + j) mem)
+
+    pub signed-basic : (p : ℕ) → List·Memᴰ p (signed test) → Basic T (p / stride) (p % stride) × (test (signs (sources S) (sinks S) T e (laneAt p)) ≡ true)
+    signed-basic p mem =
+        let b = listed-basic p (keep-member _ (take count lanes) mem .0) in
+        let (hi, hj) = inside-basic (inside-of (h .checked) enters-belongs) b in
+        (b, sym (signed-among (p / stride) (p % stride) hi hj) ∙ ap (among (signed test)) (place-laneAt p) ∙ member-among mem)

@@ -1,0 +1,5 @@
+pub mod Carry
+pub mod Enters
+pub mod Pivoted
+pub mod Masks
+pub mod Ready
