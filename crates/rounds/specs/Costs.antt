@@ -55,3 +55,14 @@ module _ (cost : List ℕ) (n : ℕ) where
 
     pub part-all : j ≡ 0 → i ≤ stride → Spread cost i n out
     part-all e l = record { long = p .long; lanes = λ h k s t. p .lanes h k (omega arith) t; pads = λ h k s t u. p .pads h k (omega arith) t u }
+
+-- ---- for a sheet
+
+-- The costs of the sheet S lie by lane.
+pub record Costed (S : Sheet) (cost : List ℤ) : Type 0 where
+  pub lanes : (i j : ℕ) → i < sources S → j < sinks S → getD cost (i * stride + j) (pos 0) ≡ laneCost S (lane i j)
+  pub pads : (i j : ℕ) → i < sources S → sinks S ≤ j → j < stride → getD cost (i * stride + j) (pos 0) ≡ pos padCost
+
+pub spread-costed : (S : Sheet) (out : List ℤ) → Spread (S .cost) (sources S) (sinks S) out → Costed S out
+unfolding laneCost
+spread-costed S out p = record { lanes = p .lanes; pads = p .pads }
