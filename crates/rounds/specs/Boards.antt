@@ -10,22 +10,25 @@ use lib.ListN.{length, getD}
 use Rattle.transport.specs.Sheet.{Sheet, sources, sinks}
 use Rattle.transport.specs.SheetLaws.{lane, Checked}
 use Rattle.transport.specs.declared.Cell.{Cell}
-use Rattle.transport.specs.Tableau.{basisOf}
+use Rattle.transport.specs.Tableau.{basisOf, basisSize}
 use Rattle.transport.specs.Leaf.{cellsBelong}
 use Rattle.transport.specs.Potential.{potential, isFinished}
 use Rattle.transport.specs.Round.{pivot, next, run}
-use Rattle.transport.specs.Statements.{Basic}
+use Rattle.transport.specs.Statements.{Belongs}
+use Rattle.tableaux.specs.View.{Inside}
+use Rattle.tableaux.specs.Order.{Ordered, ordered-by}
 use Rattle.tableaux.specs.Striking.{Struck}
-use Rattle.tableaux.specs.Belonging.{belongs-iff}
+use Rattle.tableaux.specs.Belonging.{belongs-iff, inside-of}
 use Rattle.tableaux.specs.Entering.{entering-inside, entering-new}
 use Rattle.tableaux.specs.Running.{run-done, run-more}
 use Rattle.tableaux.specs.Ending.{next-belongs}
 use Rattle.basis.specs.Layout.{nodeRoom, strikesOf}
 use Rattle.board.specs.Held.{Held}
+use Rattle.board.specs.Lanes.{RowMasks, gathered, gathered-is, held-masks}
 use Rattle.pivoting.specs.Ready.{Ready}
 use Rattle.rounds.specs.Costs.{Costed}
 use Rattle.rounds.specs.Masks.{held-masked}
-use Rattle.rounds.specs.Pricing.{Laid, Priced, laid-belongs}
+use Rattle.rounds.specs.Pricing.{Laid, Priced, laid-belongs, laid-sides}
 
 -- The sheet S has m sources and n sinks, its costs lie by lane, and the arrays hold its tableau T.
 pub record Board (S : Sheet) (T : List Cell) (adj : List ℕ) (q e cost : List ℤ) (m n : ℕ) : Type 0 where
@@ -48,6 +51,25 @@ pub record Advanced (S : Sheet) (T : List Cell) (adj : List ℕ) (q e cost price
 module _ {S : Sheet} {T : List Cell} {adj : List ℕ} {q e cost : List ℤ} {m n : ℕ} (b : Board S T adj q e cost m n) where
   pub board-laid : Laid S T adj cost m n
   board-laid = record { checked = b .checked; rows = b .rows; columns = b .columns; belongs = b .belongs; costs = b .costs; masks = held-masked (b .held) }
+
+  -- The tableau can be gathered from the arrays.
+  board-belongs : Belongs S T
+  board-belongs = laid-belongs board-laid
+
+  board-inside : Inside m n T
+  board-inside = rw (b .rows, b .columns) (inside-of (b .checked) board-belongs)
+
+  board-ordered : Ordered n T
+  board-ordered = rw (b .columns) (ordered-by (sinks S) T (board-belongs .order))
+
+  pub board-masks : RowMasks adj m
+  unfolding basisSize
+  board-masks =
+      let (mLow, mHigh, nLow, nHigh) = laid-sides board-laid in
+      held-masks (b .held) nHigh board-inside board-ordered mHigh (omega (arith, board-belongs .count, b .rows, b .columns))
+
+  pub board-gathered : gathered m adj q e ≡ T
+  board-gathered = gathered-is (b .held) (laid-sides board-laid .3) board-inside board-ordered
 
   module _ {leaf other lanes : List ℕ} {price : List ℤ} {row col : ℕ} {reduced : ℤ} (p : Priced S T leaf other lanes price m n row col reduced) where
     pub advanced-stays : ltZ reduced (pos 0) ≡ false → Advanced S T adj q e cost price m n true
@@ -72,7 +94,7 @@ module _ {S : Sheet} {T : List Cell} {adj : List ℕ} {q e cost : List ℤ} {m n
               long = long;
               row = inside .0;
               col = inside .1;
-              new = rw (p .enters t) at (entering-new (b .checked) T unfinished (laid-belongs board-laid));
+              new = rw (p .enters t) at (entering-new (b .checked) T unfinished board-belongs);
             };
           }
 
@@ -88,7 +110,7 @@ module _ {S : Sheet} {T : List Cell} {adj : List ℕ} {q e cost : List ℤ} {m n
             checked = b .checked;
             rows = b .rows;
             columns = b .columns;
-            belongs = belongs-iff S (next S T) (b .checked .sourcesLow) (b .checked .sinksLow) .1 (next-belongs (b .checked) (laid-belongs board-laid) unfinished);
+            belongs = belongs-iff S (next S T) (b .checked .sourcesLow) (b .checked .sinksLow) .1 (next-belongs (b .checked) board-belongs unfinished);
             costs = b .costs;
             held = rw (b .columns, ← next-is) h;
           }

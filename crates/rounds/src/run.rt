@@ -56,6 +56,27 @@ pub fn advance(
     false
 }
 
+// One round, with room of its own.
+pub fn round(
+    adj: &mut [u64; NODES],
+    q: &mut [i64; LANES],
+    e: &mut [i64; LANES],
+    cost: &[Price; LANES],
+    price: &mut [Price; NODES],
+    m: usize,
+    n: usize,
+) -> bool
+    requires { ⌜ ((S : Sheet) × (T : List Cell) × Board S T (now adj) (now q) (now e) (now cost) m n) ⌝ }
+    ensures { λ r. ⌜ ((S : Sheet) (T : List Cell) → Board S T (now (adj .entry)) (now (q .entry)) (now (e .entry)) (now (cost .entry)) m n → Advanced S T (now (adj .exit)) (now (q .exit)) (now (e .exit)) (now (cost .entry)) (now (price .exit)) m n r) ⌝ }
+{
+    let mut leaf = [0usize; NODES];
+    let mut other = [0usize; NODES];
+    let mut lane = [0usize; NODES];
+    let mut minus = [0usize; NODES];
+    let mut plus = [0usize; NODES];
+    advance(adj, q, e, cost, price, m, n, &mut leaf, &mut other, &mut lane, &mut minus, &mut plus)
+}
+
 // How a run ended, and how many rounds it made.
 pub struct Made {
     pub finished: bool,
