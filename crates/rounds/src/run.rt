@@ -74,7 +74,20 @@ pub fn round(
     let mut lane = [0usize; NODES];
     let mut minus = [0usize; NODES];
     let mut plus = [0usize; NODES];
-    advance(adj, q, e, cost, price, m, n, &mut leaf, &mut other, &mut lane, &mut minus, &mut plus)
+    advance(
+        adj,
+        q,
+        e,
+        cost,
+        price,
+        m,
+        n,
+        &mut leaf,
+        &mut other,
+        &mut lane,
+        &mut minus,
+        &mut plus,
+    )
 }
 
 // How a run ended, and how many rounds it made.
