@@ -31,6 +31,10 @@ nodeRoom = 64
 abbrev pub laneRoom : ℕ
 laneRoom = 1024
 
+-- No potential by strikes within the room passes this.
+abbrev pub maxPotential : ℕ
+maxPotential = 64_000_000
+
 abbrev pub laneAt : ℕ → Lane
 laneAt l = record { row = l / stride; col = l % stride }
 

@@ -4,3 +4,4 @@ pub mod PotentialLaws
 pub mod SignLaws
 pub mod StepLaws
 pub mod ScanLaws
+pub mod EnteringLaws

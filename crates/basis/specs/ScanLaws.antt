@@ -15,7 +15,7 @@ use Rattle.integers.specs.Bridge.{z-add, eq!, !, _-'_}
 use Rattle.integers.specs.Tests.{lt-yes, lt-no, yes-lt, no-lt, abs-z}
 use Rattle.transport.specs.AmountLaws.{ltZ-tie}
 use Rattle.transport.specs.RangeLaws.{abs-diff}
-use Rattle.basis.specs.Layout.{stride, nodeRoom}
+use Rattle.basis.specs.Layout.{stride, nodeRoom, maxPotential}
 
 -- ---- the least of f 0, .., f (n − 1) that is below b, and the first place that has it
 
@@ -131,7 +131,7 @@ rowLeast cost price m i = lowest (pos far) (slackAt cost price m i) stride -ℤ 
 pub record InRange (cost price : List ℤ) (m : ℕ) : Type 0 where
   pub rows : m ≤ stride
   pub costs : (l : ℕ) → l < m * stride → natAbs (getD cost l (pos 0)) ≤ padCost
-  pub prices : (k : ℕ) → k < nodeRoom → natAbs (getD price k (pos 0)) ≤ 64_000_000
+  pub prices : (k : ℕ) → k < nodeRoom → natAbs (getD price k (pos 0)) ≤ maxPotential
 
 reduced-is : (c u v : ℤ) → (c -ℤ v) -ℤ u ≡ c -ℤ u -ℤ v
 reduced-is c u v = eq! (! c -' ! v -' ! u) (! c -' ! u -' ! v) (omega arith)

@@ -69,7 +69,7 @@ pub record Held (m n : ℕ) (T : List Cell) (adj : List ℕ) (q e : List ℤ) : 
   pub marks : (i j : ℕ) → i < m → j < n → getD e (i * stride + j) (pos 0) ≡ amountAt T i j .e
 
 module _ {m n : ℕ} {T : List Cell} {adj : List ℕ} {q e : List ℤ} (h : Held m n T adj q e) where
-  -- Of cells on the sheet the masks have the basic lanes, and no others.
+  -- The masks have the basic lanes, and no others.
   pub row-basic : (i j : ℕ) → i < m → j < 64 → has (getD adj i 0) j ≡ true → Basic T i j
   row-basic i j l r s = isBasic-true T i j (sym (h .rows i j l r) ∙ s)
 

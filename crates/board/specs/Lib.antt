@@ -1,3 +1,4 @@
 pub mod Cells
+pub mod CellTests
 pub mod Held
 pub mod Lanes

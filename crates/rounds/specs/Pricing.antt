@@ -28,7 +28,7 @@ use Rattle.transport.specs.Round.{entering}
 use Rattle.transport.specs.Statements.{Belongs}
 use Rattle.tableaux.specs.Lanes.{Fits}
 use Rattle.tableaux.specs.Striking.{Struck}
-use Rattle.tableaux.specs.Potentials.{potential-any}
+use Rattle.tableaux.specs.Potentials.{potential-root, potential-tight, potential-only, potential-any}
 use Rattle.tableaux.specs.Belonging.{belongs-iff, fits-of, spans-of, distinct-of}
 use Rattle.basis.specs.Layout.{stride, stride-is, nodeRoom, laneAt, costOf, costOf-at, strikeOf, strikesOf}
 use Rattle.basis.specs.PotentialLaws.{potentialBy-abs}
@@ -116,8 +116,13 @@ module _ {S : Sheet} {T : List Cell} {adj : List ℕ} {cost : List ℤ} {m n : �
       prices-are k l =
           let same : (t : Lane) → List·Memᴰ t (basisOf T) → costOf cost t ≡ laneCost S t =
           λ t q. h .costs .lanes (t .row) (t .col) (omega (arith, h .rows, laid-fits t q)) (omega (arith, h .columns, laid-fits t q)) in
+          let low = laid-sides .0 in
+          let other = potentialBy (costOf cost) (strikes m n (basisOf T)) in
           let turned : potentialBy (laneCost S) (strikes m n (basisOf T)) k ≡ potential S T k = rw (h .rows, h .columns) in
-          p k (omega (arith, laid-sides)) ∙ potential-any (laid-sides .0) laid-fits laid-spans (laneCost S) s (costOf cost) same k l ∙ turned
+          p k (omega (arith, laid-sides))
+          ∙ potential-any low laid-fits laid-spans (costOf cost) s k l
+          ∙ potential-only low laid-fits laid-spans (laneCost S) other (potential-root low laid-fits laid-spans (costOf cost)) (λ t q. omega (arith, potential-tight low laid-fits laid-spans (costOf cost) t q, z-eq (same t q))) k l
+          ∙ turned
 
       pub in-range : InRange cost price m
       unfolding maxCost

@@ -5,6 +5,7 @@ use mathlib.Core.Path.{_≡_, refl, sym, ap, _∙_}
 use mathlib.Core.Bool.{true, false, not}
 use mathlib.Core.Option.{none, some}
 use mathlib.Core.List.{List, []}
+use lib.Dec.{eqb}
 use lib.IntN.{ℤ, pos, natAbs}
 use lib.ListN.{length, getD}
 use Rattle.transport.specs.declared.RoundOutcome.the-variants as RoundOutcome
@@ -12,11 +13,11 @@ use Rattle.transport.specs.declared.RunOutcome.the-variants as RunOutcome
 use Rattle.transport.specs.declared.Cell.{Cell}
 use Rattle.transport.specs.declared.Tableau.{Tableau}
 use Rattle.transport.specs.Lists.{at, table, padded}
-use Rattle.transport.specs.ListLaws.{table-cong}
+use Rattle.transport.specs.ListLaws.{and-right, table-cong}
 use Rattle.transport.specs.Limits.{maxSide, maxCost}
 use Rattle.transport.specs.Sheet.{Sheet, sources, sinks, sheetTests, refusal}
 use Rattle.transport.specs.SheetLaws.{Checked}
-use Rattle.transport.specs.Tableau.{cellsOf, tableauOf, noTableau}
+use Rattle.transport.specs.Tableau.{cellsOf, tableauOf, noTableau, basisSize}
 use Rattle.transport.specs.Leaf.{cellsBelong, belongs}
 use Rattle.transport.specs.Potential.{potential, sourcePrices, sinkPrices, isFinished}
 use Rattle.transport.specs.Round.{finished, moved, round, next, Run, run}
@@ -58,6 +59,14 @@ module _ {S : Sheet} {T : List Cell} {cost adj : List ℕ} {q e : List ℤ} {m n
     costs = spread-costed S out (rw (d .costs, ← d .rows, ← d .columns) s);
     held = d .held;
   }
+
+-- A tableau that was loaded.
+pub dealt-loaded : (S : Sheet) (t : Tableau) {adj : List ℕ} {q e : List ℤ} → Checked S → belongs S t ≡ true
+    → Held (length (S .supply)) (length (S .demand)) (cellsOf t) adj q e
+    → Dealt S (cellsOf t) (S .cost) adj q e (length (S .supply)) (length (S .demand))
+unfolding sources sinks belongs
+dealt-loaded S t ok w h =
+    record { checked = ok; rows = refl; columns = refl; costs = refl; belongs = and-right (eqb (t .count) (basisSize (sources S) (sinks S))) (cellsBelong S (cellsOf t)) w; held = h }
 
 -- ---- prices
 

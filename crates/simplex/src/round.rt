@@ -5,9 +5,11 @@ use basis::NODES;
 use basis::Price;
 use board::gather;
 use rounds::costs;
+use sheet::SheetCheck;
 use transport::MAX_SIDE;
 use transport::RoundAnswer;
 use transport::RoundOutcome;
+use transport::Tableau;
 ghost use mathlib.Core.Path.{_≡_};
 ghost use mathlib.Core.List.{List};
 ghost use Prim.Native.Nat.{ℕ, _+_, _<_, _≤_};
@@ -17,9 +19,10 @@ ghost use Rattle.transport.specs.Lists.{table};
 ghost use Rattle.transport.specs.Sheet.{Sheet};
 ghost use Rattle.transport.specs.declared.Cell.{Cell};
 ghost use Rattle.transport.specs.Round.{round};
-ghost use Rattle.transport.specs.Calls.{given, refusedBy};
+ghost use Rattle.transport.specs.Calls.{given, refusedBy, roundCall};
 ghost use Rattle.transport.specs.Answers.{prices, roundAnswer};
 ghost use Rattle.basis.specs.Layout.{stride};
+ghost use Rattle.sheet.specs.Check.{sheetOf};
 ghost use Rattle.simplex.specs.Dealt.{Dealt};
 
 // The prices of one side, from the node `from` on, as an answer holds them.
@@ -76,4 +79,21 @@ fn round_on(
         u: [0; MAX_SIDE],
         v: [0; MAX_SIDE],
     }
+}
+
+// Round gives the next tableau, or `finished` with the prices. Sheet check, then 6 if the tableau doesn't belong to the sheet.
+pub fn round(supply: &[u64], demand: &[u64], cost: &[u64], t: Tableau) -> RoundAnswer
+    ensures { λ r. ⌜ r ≡ roundAnswer (roundCall (sheetOf (now (supply .entry)) (now (demand .entry)) (now (cost .entry))) t) ⌝ }
+{
+    let check = sheet::check_sheet(supply, demand, cost);
+    if let SheetCheck::Refused(number) = check {
+        return refused_round(number);
+    }
+    let mut adj = [0u64; NODES];
+    let mut q = [0i64; LANES];
+    let mut e = [0i64; LANES];
+    if !belonging::load(supply, demand, t, &mut adj, &mut q, &mut e) {
+        return refused_round(6);
+    }
+    round_on(cost, supply.len(), demand.len(), &mut adj, &mut q, &mut e)
 }

@@ -39,7 +39,7 @@ use Rattle.tableaux.specs.Potentials.{potential-tight}
 
 -- ---- each test, and what it says
 
-order-true : (n : ℕ) (T : List Cell) → inOrder n T ≡ true → (k : ℕ) → suc k < length T → place n (rowOf T k) (colOf T k) < place n (rowOf T (suc k)) (colOf T (suc k))
+pub order-true : (n : ℕ) (T : List Cell) → inOrder n T ≡ true → (k : ℕ) → suc k < length T → place n (rowOf T k) (colOf T k) < place n (rowOf T (suc k)) (colOf T (suc k))
 unfolding inOrder
 order-true n [] e k l = absurd (omega arith)
 order-true n (c ∷ []) e k l = absurd (omega arith)
@@ -52,7 +52,7 @@ true-order n [] h = refl
 true-order n (c ∷ []) h = refl
 true-order n (c ∷ d ∷ cs) h = rw (lt-ltb (place n (c .row) (c .col)) (place n (d .row) (d .col)) (h 0 (omega arith)), true-order n (d ∷ cs) (λ k l. h (suc k) (omega arith)))
 
-fits-inside : (m n : ℕ) (T : List Cell) → Inside m n T → Fits m n (basisOf T)
+pub fits-inside : (m n : ℕ) (T : List Cell) → Inside m n T → Fits m n (basisOf T)
 unfolding basisOf laneOf
 fits-inside m n T h l q =
     let (c, r, e) = map-member laneOf T q in

@@ -22,7 +22,7 @@ use Rattle.transport.specs.Potential.{potentialBy, potential}
 use Rattle.network.specs.Joined.{potentials-unique}
 use Rattle.tableaux.specs.Lanes.{Fits}
 use Rattle.tableaux.specs.Leaves.{Ends, row-struck, column-struck, ends-differ}
-use Rattle.tableaux.specs.Striking.{Struck, Peeled, bare, peel, struck-of, step-of, root-no-leaf, spans-iff}
+use Rattle.tableaux.specs.Striking.{Peeled, bare, peel, Struck, struck-of, step-of, root-no-leaf, spans-iff}
 
 -- ---- sizes
 
@@ -49,7 +49,7 @@ module _ (cost : Lane → ℤ) where
   potential-later s ss k e = rw (ne-eqb k (s .leaf) e, potentialBy)
 
   -- A node that is no leaf has potential 0.
-  potential-off : (ss : List Strike) (k : ℕ) → ((s : Strike) → List·Memᴰ s ss → s .leaf ≢ k) → potentialBy cost ss k ≡ pos 0
+  pub potential-off : (ss : List Strike) (k : ℕ) → ((s : Strike) → List·Memᴰ s ss → s .leaf ≢ k) → potentialBy cost ss k ≡ pos 0
   unfolding potentialBy
   potential-off [] k d = refl
   potential-off (s ∷ ss) k d = potential-later s ss k (λ e. d s (List·Memᴰ·head refl) (sym e)) ∙ potential-off ss k (λ t h. d t (List·Memᴰ·tail h))
@@ -81,28 +81,27 @@ module _ (cost : Lane → ℤ) where
       )))
       (λ e. rw (potential-later s ss k e) (omega (arith, potential-bound C ss (λ t q. h t (List·Memᴰ·tail q)) k)))
 
--- Strikes of the lanes, in any order.
-module _ {m n : ℕ} {B : List Lane} {ss : List Strike} (w : Struck m n B ss) (cost : Lane → ℤ) where
-  struck-root : potentialBy cost ss 0 ≡ pos 0
-  struck-root = potential-off cost ss 0 (root-no-leaf (w .peels))
+-- In whatever order the lanes are struck off, the potentials are tight on each of them.
+pub struck-tight : {m n : ℕ} {B : List Lane} {ss : List Strike} → Struck m n B ss → (cost : Lane → ℤ) (l : Lane) → List·Memᴰ l B
+    → toZ (potentialBy cost ss (l .row)) ⊕ toZ (potentialBy cost ss (m + l .col)) ≈ toZ (cost l)
+struck-tight {m} {n} {B} {ss} w cost l q =
+    let (s, r, c) = w .struck l q in
+    let (later, st) = step-of (w .peels) s r in
+    rw (← c) (by-ends s (st .ends) (strike-tight cost (w .peels) s r))
+  where
+    by : ℕ → ℤ
+    by = potentialBy cost ss
 
-  struck-tight : (l : Lane) → List·Memᴰ l B → toZ (potentialBy cost ss (l .row)) ⊕ toZ (potentialBy cost ss (m + l .col)) ≈ toZ (cost l)
-  struck-tight l q =
-      let (s, r, c) = w .struck l q in
-      let (later, st) = step-of (w .peels) s r in
-      rw (← c) (by-ends s (st .ends) (strike-tight cost (w .peels) s r))
-    where
-      by-ends : (s : Strike) → Ends m s → toZ (potentialBy cost ss (s .leaf)) ⊕ toZ (potentialBy cost ss (s .other)) ≈ toZ (cost (s .lane))
-          → toZ (potentialBy cost ss (s .lane .row)) ⊕ toZ (potentialBy cost ss (m + s .lane .col)) ≈ toZ (cost (s .lane))
-      by-ends s (row-struck a b) t = omega (arith, z-eq (ap (potentialBy cost ss) a), z-eq (ap (potentialBy cost ss) b))
-      by-ends s (column-struck a b) t = omega (arith, z-eq (ap (potentialBy cost ss) a), z-eq (ap (potentialBy cost ss) b))
+    by-ends : (s : Strike) → Ends m s → toZ (by (s .leaf)) ⊕ toZ (by (s .other)) ≈ toZ (cost (s .lane)) → toZ (by (s .lane .row)) ⊕ toZ (by (m + s .lane .col)) ≈ toZ (cost (s .lane))
+    by-ends s (row-struck a b) t = omega (arith, z-eq (ap by a), z-eq (ap by b))
+    by-ends s (column-struck a b) t = omega (arith, z-eq (ap by a), z-eq (ap by b))
 
 module _ {m n : ℕ} {B : List Lane} (p : 1 ≤ m) (h : Fits m n B) (e : spans m n B ≡ true) (cost : Lane → ℤ) where
   abbrev pub solution : ℕ → ℤ
   solution = potentialBy cost (strikes m n B)
 
   pub potential-root : solution 0 ≡ pos 0
-  potential-root = struck-root (struck-of p h e) cost
+  potential-root = potential-off cost (strikes m n B) 0 (root-no-leaf (struck-of p h e .peels))
 
   pub potential-tight : (l : Lane) → List·Memᴰ l B → toZ (solution (l .row)) ⊕ toZ (solution (m + l .col)) ≈ toZ (cost l)
   potential-tight = struck-tight (struck-of p h e) cost
@@ -122,11 +121,9 @@ module _ {m n : ℕ} {B : List Lane} (p : 1 ≤ m) (h : Fits m n B) (e : spans m
           (λ i j hi hj s. potential-tight (lane i j) s)
           (z-eq (z ∙ sym potential-root))
 
-  -- So any strikes of the lanes give them, with any costs that are the same on the lanes.
-  pub potential-any : {ss : List Strike} → Struck m n B ss → (cost′ : Lane → ℤ) → ((l : Lane) → List·Memᴰ l B → cost′ l ≡ cost l)
-      → (k : ℕ) → k < m + n → potentialBy cost′ ss k ≡ solution k
-  potential-any {ss} w cost′ same =
-      potential-only (potentialBy cost′ ss) (struck-root w cost′) (λ l q. omega (arith, struck-tight w cost′ l q, z-eq (same l q)))
+  -- So every order of striking gives the same.
+  pub potential-any : {ss : List Strike} → Struck m n B ss → (k : ℕ) → k < m + n → potentialBy cost ss k ≡ solution k
+  potential-any {ss} w = potential-only (potentialBy cost ss) (potential-off cost ss 0 (root-no-leaf (w .peels))) (struck-tight w cost)
 
   -- After m + n − 1 assignments none passes m + n − 1 times the greatest cost.
   pub potential-size : (C : ℕ) → ((l : Lane) → List·Memᴰ l B → natAbs (cost l) ≤ C) → (k : ℕ) → natAbs (solution k) ≤ basisSize m n * C

@@ -19,6 +19,10 @@ pub length-front : (text out : List ℕ) → length text ≤ length out → leng
 unfolding front
 length-front text out p = omega (arith, length-append text (drop (length text) out), length-drop (length text) out)
 
+pub front-take : (text out : List ℕ) (n : ℕ) → n ≡ length text → take n (front text out) ≡ text
+unfolding front
+front-take text out n e = take-at text (drop (length text) out) n (sym e)
+
 -- One byte more.
 pub front-byte : (text out : List ℕ) (n b : ℕ) → n ≡ length text → length text < length out → set (front text out) n b ≡ front (text ++ (b ∷ [])) out
 unfolding front

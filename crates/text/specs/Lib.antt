@@ -3,3 +3,7 @@ pub mod Front
 pub mod Whole
 pub mod Lines
 pub mod WriteCall
+pub mod Reading
+pub mod LinesRead
+pub mod SheetRead
+pub mod ReadCall

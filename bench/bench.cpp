@@ -1,0 +1,97 @@
+// Times the panel's rounds beside LEMON's network simplex on the same random sheets, in the same process, and prints the ratio.
+// Passes are interleaved and the least time of each side is taken, since other work on the machine only ever adds to a time.
+#include <lemon/network_simplex.h>
+#include <lemon/smart_graph.h>
+
+#include <algorithm>
+#include <chrono>
+#include <cstdint>
+#include <cstdio>
+#include <random>
+#include <vector>
+
+// Exported by crate exports: the rounds from the start to the first finished tableau; a slice is a pointer and a length.
+extern "C" uint64_t panel_rounds(const uint64_t* supply, size_t m, const uint64_t* demand, size_t n, const uint64_t* cost, size_t lanes);
+
+struct Sheet {
+    std::vector<uint64_t> supply, demand, cost;
+};
+
+// A balanced sheet: bags up to `bags` a party before the totals are made equal, costs up to `top`.
+static Sheet random_sheet(std::mt19937_64& rng, size_t m, size_t n, uint64_t bags, uint64_t top) {
+    Sheet s;
+    uint64_t supply = 0, demand = 0;
+    for (size_t i = 0; i < m; i++) {
+        s.supply.push_back(1 + rng() % bags);
+        supply += s.supply.back();
+    }
+    for (size_t j = 0; j < n; j++) {
+        s.demand.push_back(1 + rng() % bags);
+        demand += s.demand.back();
+    }
+    while (supply < demand) {
+        s.supply[rng() % m]++;
+        supply++;
+    }
+    while (demand < supply) {
+        s.demand[rng() % n]++;
+        demand++;
+    }
+    for (size_t k = 0; k < m * n; k++) s.cost.push_back(rng() % (top + 1));
+    return s;
+}
+
+using Graph = lemon::SmartDigraph;
+using Simplex = lemon::NetworkSimplex<Graph, int64_t, int64_t>;
+
+static int64_t lemon_cost(const Graph& g, const std::vector<Graph::Node>& nodes, const std::vector<Graph::Arc>& arcs, const Sheet& s) {
+    Graph::NodeMap<int64_t> amount(g);
+    Graph::ArcMap<int64_t> price(g);
+    size_t m = s.supply.size(), n = s.demand.size();
+    for (size_t i = 0; i < m; i++) amount[nodes[i]] = (int64_t)s.supply[i];
+    for (size_t j = 0; j < n; j++) amount[nodes[m + j]] = -(int64_t)s.demand[j];
+    for (size_t k = 0; k < m * n; k++) price[arcs[k]] = (int64_t)s.cost[k];
+    Simplex simplex(g);
+    simplex.supplyMap(amount).costMap(price).run();
+    return simplex.totalCost();
+}
+
+template <class F> static double microseconds(F f) {
+    auto from = std::chrono::steady_clock::now();
+    f();
+    return std::chrono::duration<double, std::micro>(std::chrono::steady_clock::now() - from).count();
+}
+
+static void compare(const char* name, size_t side, uint64_t bags, uint64_t top) {
+    const size_t sheets = 200, passes = 8;
+    std::mt19937_64 rng(7);
+    std::vector<Sheet> all;
+    for (size_t k = 0; k < sheets; k++) all.push_back(random_sheet(rng, side, side, bags, top));
+    Graph g;
+    std::vector<Graph::Node> nodes;
+    std::vector<Graph::Arc> arcs;
+    for (size_t k = 0; k < 2 * side; k++) nodes.push_back(g.addNode());
+    for (size_t i = 0; i < side; i++)
+        for (size_t j = 0; j < side; j++) arcs.push_back(g.addArc(nodes[i], nodes[side + j]));
+
+    double ours = 1e300, lemons = 1e300;
+    uint64_t rounds = 0;
+    int64_t sink = 0;
+    for (size_t p = 0; p < passes; p++) {
+        lemons = std::min(lemons, microseconds([&] { for (auto& s : all) sink += lemon_cost(g, nodes, arcs, s); }));
+        rounds = 0;
+        ours = std::min(ours, microseconds([&] {
+            for (auto& s : all)
+                rounds += panel_rounds(s.supply.data(), side, s.demand.data(), side, s.cost.data(), s.cost.size());
+        }));
+    }
+    std::printf("%-28s rounds %6.1f   panel %8.1f us   LEMON %8.1f us   ratio %.2f\n", name, (double)rounds / sheets, ours / sheets, lemons / sheets, ours / lemons);
+    if (sink == 42) std::puts("");
+}
+
+int main() {
+    compare("32 x 32, costs to 1,000", 32, 1000, 1000);
+    compare("32 x 32, many ties", 32, 5, 3);
+    compare("8 x 8, costs to 1,000", 8, 1000, 1000);
+    return 0;
+}

@@ -1,0 +1,73 @@
+-- `belonging::weights::put_from` meets its contract: `put-more` is a turn of the loop. The measure is what is left of the amounts.
+use Prim.Native.Nat.{_-_, _≤_}
+use mathlib.Core.Path.{_≡_}
+use native.Mathlib.Omega.{arith}
+use lib.ListN.{length}
+use mir.Syntax.{w64}
+use mir.Facts.{toZ-pos}
+use Rattle.transport.specs.Lists.{at}
+use Rattle.transport.specs.Limits.{maxAmount}
+use Rattle.belonging.specs.Weighing.{Put, put-none, put-more}
+use Rattle.belonging.proofs.weights.put_from.Statement.{statement}
+use Rattle.belonging.proofs.weights.put_from.Tie as tie
+use Rattle.belonging.proofs.weights.put_from.Reads as reads
+use Rattle.belonging.proofs.weights.put_from.Lts as lts
+
+abbrev Inv-loop : tie.InvT-loop
+Inv-loop amounts from weight₀ k₀ weight k = (k ≤ length amounts) × Put amounts from weight₀ weight k
+
+abbrev μ-loop : tie.MeasureT-loop
+μ-loop amounts from weight₀ k₀ weight k = length amounts - k
+
+loop-holds : tie.Need-loop-holds Inv-loop μ-loop
+loop-holds c = (omega arith, put-none _ _ _ (c .pre .1 .1))
+
+mul-weight : tie.Need-mul-weight Inv-loop μ-loop
+mul-weight c = omega arith
+
+shared-slice-read-weight : tie.Need-shared-slice-read-weight Inv-loop μ-loop
+shared-slice-read-weight c = omega arith
+
+cast-weight : tie.Need-cast-weight Inv-loop μ-loop
+unfolding at maxAmount
+cast-weight c = omega (arith, c .before .before .before .pre .0 .high (c .before .before .loop .k))
+
+add-t10 : tie.Need-add-t10 Inv-loop μ-loop
+add-t10 c = omega arith
+
+mul-t11 : tie.Need-mul-t11 Inv-loop μ-loop
+mul-t11 c = omega arith
+
+element-set-from-weight : tie.Need-element-set-from-weight Inv-loop μ-loop
+element-set-from-weight c = omega arith
+
+add-k : tie.Need-add-k Inv-loop μ-loop
+add-k c = omega arith
+
+loop-less : tie.Need-loop-less Inv-loop μ-loop
+loop-less c = omega arith
+
+loop-again : tie.Need-loop-again Inv-loop μ-loop
+unfolding at
+loop-again c = (omega arith, rw (toZ-pos w64 (cast-weight c .sfits)) (put-more (omega arith) (c .before .before .loop .inv .1)))
+
+returns : tie.Need-returns Inv-loop μ-loop
+returns c = let e : c .before .loop .k ≡ length (c .before .before .args .amounts .now) = omega arith in rw e at (c .before .loop .inv .1)
+
+pub put-from-spec : {M : Type 1} → statement M
+put-from-spec =
+    tie.close
+    (tie.spec
+    Inv-loop
+    μ-loop
+    loop-holds
+    mul-weight
+    shared-slice-read-weight
+    cast-weight
+    add-t10
+    mul-t11
+    element-set-from-weight
+    add-k
+    loop-less
+    loop-again
+    returns)

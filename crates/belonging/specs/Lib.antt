@@ -1,0 +1,4 @@
+pub mod Carried
+pub mod Balance
+pub mod Weighing
+pub mod Spread

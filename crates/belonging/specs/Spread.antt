@@ -1,0 +1,234 @@
+-- A tableau in the flat arrays: whether its lanes span and its amounts add up, as the code finds it.
+use Prim.Native.Nat.{ℕ, _+_, _*_, _^_, _<_, _≤_}
+use native.Mathlib.Omega.{arith}
+use native.Mathlib.Nat.{div-eq-of-lt, pow-le-pow-right}
+use native.Mathlib.Decide.{decLt}
+use mathlib.Core.Path.{_≡_, refl, sym, ap, _∙_}
+use mathlib.Core.Logic.{_↔_, by-cases}
+use mathlib.Core.Bool.{Bool, true, false, _&&_, true≢false}
+use mathlib.Core.List.{List}
+use lib.Dec.{eqb, ltb}
+use borrow.Author.Tests.{ltb-true, eq-eqb, ne-eqb}
+use lib.IntN.{ℤ, pos}
+use lib.ListN.{length, getD, length-map, List·getD-map}
+use Rattle.transport.specs.Lists.{all, at, total}
+use Rattle.transport.specs.ListLaws.{and-left, and-right, all-at, member-table, table-member}
+use Rattle.transport.specs.Sheet.{Sheet, sources, sinks, Lane}
+use Rattle.transport.specs.SheetLaws.{lane, Checked}
+use Rattle.transport.specs.Limits.{maxSide}
+use Rattle.transport.specs.declared.Pair.{Pair}
+use Rattle.transport.specs.declared.Cell.{Cell}
+use Rattle.transport.specs.declared.Tableau.{Tableau}
+use Rattle.transport.specs.Tableau.{noCell, laneOf, basisOf, basisSize, onSheet, inOrder, aboveZero, balanced, cellsOf}
+use Rattle.transport.specs.Leaf.{spans, cellsBelong, belongs}
+use Rattle.transport.specs.Round.{flow}
+use Rattle.sheet.specs.Check.{sheetOf}
+use Rattle.tableaux.specs.View.{Distinct, Inside, rowOf, colOf, amountAt}
+use Rattle.tableaux.specs.Lanes.{has-basic}
+use Rattle.tableaux.specs.Belonging.{fits-inside, order-true}
+use Rattle.tableaux.specs.Order.{ordered-by, ordered-distinct}
+use Rattle.basis.specs.Mask.{has}
+use Rattle.basis.specs.Layout.{stride, laneAt, placeOf, place-laneAt, strikeOf, strikesOf}
+use Rattle.basis.specs.SignLaws.{weightsOf}
+use Rattle.board.specs.CellTests.{onBoard, cellsFit}
+use Rattle.board.specs.Held.{Held, row-basic, basic-row, column-basic, basic-column, inside-basic}
+use Rattle.elimination.specs.Links.{Links, Masks, iff-same}
+use Rattle.elimination.specs.Drawn.{Drawn, drawn-links, drawn-masks}
+use Rattle.elimination.specs.Strip.{Stripped}
+use Rattle.belonging.specs.Carried.{carries, carries-true, carries-at}
+use Rattle.belonging.specs.Balance.{Tree, Carry, Weights, markOf, balanced-iff}
+use Rattle.belonging.specs.Weighing.{Modest}
+
+-- ---- the sheet
+
+-- There are 1 to 32 rows and 1 to 32 columns.
+pub record Sides (m n : ℕ) : Type 0 where
+  pub rowsLow : 1 ≤ m
+  pub rowsHigh : m ≤ stride
+  pub colsLow : 1 ≤ n
+  pub colsHigh : n ≤ stride
+
+module _ {supply demand cost : List ℕ} (ok : Checked (sheetOf supply demand cost)) where
+  pub checked-sides : Sides (length supply) (length demand)
+  unfolding sources sinks maxSide
+  checked-sides = record { rowsLow = ok .sourcesLow; rowsHigh = ok .sourcesHigh; colsLow = ok .sinksLow; colsHigh = ok .sinksHigh }
+
+  pub checked-modest : Modest supply × Modest demand
+  checked-modest = (record { few = checked-sides .rowsHigh; high = ok .supplyHigh }, record { few = checked-sides .colsHigh; high = ok .demandHigh })
+
+-- ---- masks
+
+-- No mask has a bit past its 64th.
+abbrev pub Ranged : List ℕ → Type 0
+Ranged adj = (k : ℕ) → getD adj k 0 < 2 ^ 64
+
+has-past : (x j : ℕ) → x < 2 ^ 64 → 64 ≤ j → has x j ≡ true → ⊥
+has-past x j p l e =
+    let r : 2 ^ 64 ≤ 2 ^ j = pow-le-pow-right {n = 2} (omega arith) l in
+    true≢false (sym e ∙ rw (div-eq-of-lt {n = x} {m = 2 ^ j} (omega arith)))
+
+-- The arrays hold m + n − 1 distinct cells T, all on the sheet.
+pub record Laid (m n : ℕ) (T : List Cell) (adj : List ℕ) (q e : List ℤ) : Type 0 where
+  pub held : Held m n T adj q e
+  pub inside : Inside m n T
+  pub distinct : Distinct T
+  pub count : length T ≡ basisSize m n
+
+module _ {m n : ℕ} {T : List Cell} {adj : List ℕ} {q e : List ℤ} (sides : Sides m n) (ranged : Ranged adj) (h : Laid m n T adj q e) where
+  -- The masks are those of the lanes of T.
+  laid-drawn : Drawn m n (basisOf T) adj
+  laid-drawn = record {
+    rows = λ i j l. (
+      (λ t. by-cases (decLt j 64) (λ r. has-basic T i j .1 (row-basic (h .held) i j l r t)) (λ r. absurd (has-past (getD adj i 0) j (ranged i) (omega arith) t))),
+      (λ d. let b = has-basic T i j .0 d in basic-row (h .held) i j l (omega (arith, inside-basic (h .inside) b, sides .colsHigh)) b),
+    );
+    cols = λ i j l. (
+      (λ t. by-cases (decLt i 64) (λ r. has-basic T i j .1 (column-basic (h .held) i j r l t)) (λ r. absurd (has-past (getD adj (m + j) 0) i (ranged (m + j)) (omega arith) t))),
+      (λ d. let b = has-basic T i j .0 d in basic-column (h .held) i j (omega (arith, inside-basic (h .inside) b, sides .rowsHigh)) l b),
+    );
+  }
+
+  pub laid-links : Links m n adj
+  laid-links = drawn-links laid-drawn (fits-inside m n T (h .inside)) (sides .rowsLow) (sides .rowsHigh) (sides .colsLow) (sides .colsHigh)
+
+  pub laid-masks : Masks m n (basisOf T) adj
+  unfolding basisOf laneOf noCell
+  laid-masks = drawn-masks laid-drawn (fits-inside m n T (h .inside))
+      (λ i k l r s. let z = h .distinct i k (omega (arith, length-map T laneOf)) (omega (arith, length-map T laneOf)) (row i k s) (col i k s) in omega arith)
+    where
+      row : (i k : ℕ) → getD (basisOf T) i (lane 0 0) ≡ getD (basisOf T) k (lane 0 0) → rowOf T i ≡ rowOf T k
+      row i k s = ap (λ (l : Lane). l .row) (sym (List·getD-map laneOf T i noCell) ∙ s ∙ List·getD-map laneOf T k noCell)
+
+      col : (i k : ℕ) → getD (basisOf T) i (lane 0 0) ≡ getD (basisOf T) k (lane 0 0) → colOf T i ≡ colOf T k
+      col i k s = ap (λ (l : Lane). l .col) (sym (List·getD-map laneOf T i noCell) ∙ s ∙ List·getD-map laneOf T k noCell)
+
+  module _ (leaf other lanes : List ℕ) (r : ℕ) (w : Stripped m n (basisOf T) (strikesOf leaf other lanes r) r) where
+    -- All lanes are struck off if they span ..
+    pub laid-apart : (r ≡ basisSize m n → ⊥) → spans m n (basisOf T) ≡ false
+    laid-apart d = go (spans m n (basisOf T)) refl
+      where
+        go : (b : Bool) → spans m n (basisOf T) ≡ b → spans m n (basisOf T) ≡ false
+        go true s = absurd (d (w .complete s .0))
+        go false s = s
+
+    -- .. and only then.
+    pub laid-tree : r ≡ basisSize m n → Tree m n T (strikesOf leaf other lanes r)
+    unfolding basisOf
+    laid-tree s =
+        let (spanned, struck) = w .sound (length-map T laneOf ∙ h .count) s in
+        record { rowsLow = sides .rowsLow; colsLow = sides .colsLow; inside = h .inside; distinct = h .distinct; spans = spanned; struck = struck }
+
+-- ---- the amounts in their array
+
+module _ {m n : ℕ} {T : List Cell} (leaf other lanes : List ℕ) (count : ℕ) (t : Tree m n T (strikesOf leaf other lanes count)) (part : Pair → ℤ) (amount : List ℤ)
+    (lies : (i j : ℕ) → i < m → j < n → getD amount (i * stride + j) (pos 0) ≡ part (amountAt T i j)) (w : ℕ → ℤ) where
+  pub carries-iff : (carries w (strikesOf leaf other lanes count) amount lanes count ≡ true) ↔ Carry T (strikesOf leaf other lanes count) part w
+  unfolding strikesOf
+  carries-iff = (to, from)
+    where
+      to : carries w (strikesOf leaf other lanes count) amount lanes count ≡ true → Carry T (strikesOf leaf other lanes count) part w
+      to c i j d =
+          let (s, mem, is) = t .struck .struck (lane i j) d in
+          let (k, l, at) = table-member count (strikeOf leaf other lanes) mem in
+          let here : laneAt (getD lanes k 0) ≡ lane i j = sym (ap (λ s. s .lane) at) ∙ is in
+          let there : getD lanes k 0 ≡ i * stride + j = sym (place-laneAt (getD lanes k 0)) ∙ ap placeOf here in
+          let (a, b) = fits-inside m n T (t .inside) (lane i j) d in
+          sym (lies i j a b)
+          ∙ ap (λ (l : ℕ). getD amount l (pos 0)) (sym there)
+          ∙ carries-at w (strikesOf leaf other lanes count) amount lanes count c k l
+          ∙ ap (flow w (strikesOf leaf other lanes count)) here
+
+      from : Carry T (strikesOf leaf other lanes count) part w → carries w (strikesOf leaf other lanes count) amount lanes count ≡ true
+      from h = carries-true w (strikesOf leaf other lanes count) amount lanes count at
+        where
+          at : (k : ℕ) → k < count → getD amount (getD lanes k 0) (pos 0) ≡ flow w (strikesOf leaf other lanes count) (laneAt (getD lanes k 0))
+          at k l =
+              let x = laneAt (getD lanes k 0) in
+              let d = t .struck .lanes (strikeOf leaf other lanes k) (member-table count (strikeOf leaf other lanes) k l) in
+              let (a, b) = fits-inside m n T (t .inside) x d in
+              ap (λ (l : ℕ). getD amount l (pos 0)) (sym (place-laneAt (getD lanes k 0))) ∙ lies (x .row) (x .col) a b ∙ h (x .row) (x .col) d
+
+-- ---- balanced, by the two flows
+
+module _ (supply demand cost : List ℕ) {T : List Cell} {adj : List ℕ} {q e : List ℤ} (h : Held (length supply) (length demand) T adj q e) (leaf other lanes : List ℕ) (count : ℕ)
+    (t : Tree (length supply) (length demand) T (strikesOf leaf other lanes count)) (totals : total supply ≡ total demand) {bags marks : List ℤ}
+    (b : Weights (length supply) (length demand) (at supply) (at demand) bags) (k : Weights (length supply) (length demand) (λ i. 1) (markOf (length supply) (length demand)) marks) where
+  pub balanced-is : balanced (sheetOf supply demand cost) T
+      ≡ carries (weightsOf bags) (strikesOf leaf other lanes count) q lanes count && carries (weightsOf marks) (strikesOf leaf other lanes count) e lanes count
+  unfolding sources sinks
+  balanced-is = iff-same (balanced S T) (first && second)
+      (λ s. let (x, y) = both .0 s in rw (bagsAre .1 x, marksAre .1 y))
+      (λ s. both .1 (bagsAre .0 (and-left first second s), marksAre .0 (and-right first second s)))
+    where
+      S : Sheet
+      S = sheetOf supply demand cost
+
+      first : Bool
+      first = carries (weightsOf bags) (strikesOf leaf other lanes count) q lanes count
+
+      second : Bool
+      second = carries (weightsOf marks) (strikesOf leaf other lanes count) e lanes count
+
+      both : (balanced S T ≡ true) ↔ (Carry T (strikesOf leaf other lanes count) (λ a. a .q) (weightsOf bags) × Carry T (strikesOf leaf other lanes count) (λ a. a .e) (weightsOf marks))
+      both = balanced-iff S t totals b k
+
+      bagsAre : (first ≡ true) ↔ Carry T (strikesOf leaf other lanes count) (λ a. a .q) (weightsOf bags)
+      bagsAre = carries-iff leaf other lanes count t (λ a. a .q) q (h .bags) (weightsOf bags)
+
+      marksAre : (second ≡ true) ↔ Carry T (strikesOf leaf other lanes count) (λ a. a .e) (weightsOf marks)
+      marksAre = carries-iff leaf other lanes count t (λ a. a .e) e (h .marks) (weightsOf marks)
+
+-- ---- belonging
+
+regroup : (a b c d e : Bool) → a && b && c && d && e ≡ (a && (b && d)) && (c && e)
+regroup true true true true e = refl
+regroup true true true false e = refl
+regroup true true false true e = refl
+regroup true true false false e = refl
+regroup true false true d e = refl
+regroup true false false d e = refl
+regroup false b c d e = refl
+
+-- The tests of belonging as the code makes them: of the count, of cell after cell, and of the whole.
+module _ (supply demand cost : List ℕ) (t : Tableau) where
+  abbrev S : Sheet
+  S = sheetOf supply demand cost
+
+  abbrev size : ℕ
+  size = basisSize (length supply) (length demand)
+
+  abbrev fits : Bool
+  fits = cellsFit (length supply) (length demand) (cellsOf t)
+
+  abbrev whole : Bool
+  whole = spans (length supply) (length demand) (basisOf (cellsOf t)) && balanced S (cellsOf t)
+
+  belongs-is : belongs S t ≡ eqb (t .count) size && (fits && whole)
+  unfolding belongs cellsBelong cellsFit onBoard onSheet sources sinks
+  belongs-is = ap (λ (b : Bool). eqb (t .count) size && b) (regroup (all (onSheet S) (cellsOf t)) (inOrder (length demand) (cellsOf t)) (spans (length supply) (length demand) (basisOf (cellsOf t))) (all aboveZero (cellsOf t)) (balanced S (cellsOf t)))
+
+  pub other-count : (t .count ≡ size → ⊥) → belongs S t ≡ false
+  other-count d = belongs-is ∙ rw (ne-eqb (t .count) size d)
+
+  pub other-cells : fits ≡ false → belongs S t ≡ false
+  other-cells f = belongs-is ∙ rw f (both (eqb (t .count) size))
+    where
+      both : (b : Bool) → b && false ≡ false
+      both true = refl
+      both false = refl
+
+  pub belongs-whole : t .count ≡ size → fits ≡ true → belongs S t ≡ whole
+  belongs-whole c f = belongs-is ∙ rw (eq-eqb (t .count) size c, f)
+
+-- Cells that fit are distinct and inside the sheet.
+module _ (m n : ℕ) (T : List Cell) (f : cellsFit m n T ≡ true) where
+  pub fit-inside : Inside m n T
+  unfolding cellsFit onBoard
+  fit-inside k l =
+      let c : ltb (rowOf T k) m && ltb (colOf T k) n ≡ true = all-at (onBoard m n) T noCell k (and-left (all (onBoard m n) T) (inOrder n T && all aboveZero T) f) l in
+      (ltb-true (rowOf T k) m (and-left (ltb (rowOf T k) m) (ltb (colOf T k) n) c), ltb-true (colOf T k) n (and-right (ltb (rowOf T k) m) (ltb (colOf T k) n) c))
+
+  pub fit-distinct : Distinct T
+  unfolding cellsFit
+  fit-distinct =
+      ordered-distinct n T (ordered-by n T (order-true n T (and-left (inOrder n T) (all aboveZero T) (and-right (all (onBoard m n) T) (inOrder n T && all aboveZero T) f))))

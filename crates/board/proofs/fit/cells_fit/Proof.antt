@@ -1,0 +1,124 @@
+-- `board::fit::cells_fit` meets its contract. The loop's invariant: all cells fit where those from number k on do, at `least` or later; the measure is how many
+-- are left.
+use Prim.Native.Nat.{suc, _*_, _-_, _≤_, _<_}
+use mathlib.Core.Path.{_≡_, refl, sym, ap, _∙_}
+use mathlib.Core.Bool.{true, false}
+use mathlib.Core.List.{[]}
+use native.Mathlib.Omega.{arith}
+use native.Mathlib.Numerals.{add-one}
+use borrow.Author.Needs.{needs}
+use borrow.Author.Tests.{not-true, not-false}
+use lib.ListN.{length, drop, getD, drop-of-length-le}
+use Rattle.transport.specs.Amount.{nothing}
+use Rattle.transport.specs.Sheet.{place}
+use Rattle.transport.specs.Tableau.{noCell, cellsOf}
+use Rattle.basis.specs.Layout.{stride}
+use Rattle.board.specs.Cells.{long, length-cells, cells-from}
+use Rattle.board.specs.CellTests.{fitsAt, fits-row, fits-column, row-small, fitsFrom, fitsFrom-nil, fitsFrom-yes, fitsFrom-no, fits-all}
+use Rattle.board.proofs.fit.cells_fit.Statement.{statement}
+use Rattle.board.proofs.fit.cells_fit.Tie as tie
+
+abbrev Inv-loop : tie.InvT-loop
+Inv-loop m n t least₀ k₀ least k = (k ≤ t .count) × (fitsFrom m n 0 (cellsOf t) ≡ fitsFrom m n least (drop k (cellsOf t)))
+
+abbrev μ-loop : tie.MeasureT-loop
+μ-loop m n t least₀ k₀ least k = t .count - k
+
+loop-holds : tie.Need-loop-holds Inv-loop μ-loop
+loop-holds c = (omega arith, refl)
+
+mul-c : tie.Need-mul-c Inv-loop μ-loop
+mul-c c = omega arith
+
+element-copy-out-c : tie.Need-element-copy-out-c Inv-loop μ-loop
+element-copy-out-c c = omega arith
+
+cell-fits-requires : tie.Need-cell-fits-requires Inv-loop μ-loop
+cell-fits-requires c κs = (omega arith, omega arith)
+
+returns : tie.Need-returns Inv-loop μ-loop
+unfolding noCell nothing
+returns c =
+    let a = c .before .before .before .before .before .args in
+    let i = c .before .before .before .before .loop in
+    let d = getD (a .t1 .cells) (i .k) noCell in
+    let l : length (a .t1 .cells) ≡ 63 = search (needs, long) in
+    let e : fitsAt (a .m) (a .n) (i .least) d ≡ false = sym (c .before .cell-fits .ensures) ∙ not-true _ (c .if1 .taken) in
+    sym (sym (fits-all (a .m) (a .n) (cellsOf (a .t1))) ∙ i .inv .1 ∙ ap (fitsFrom (a .m) (a .n) (i .least)) (cells-from (a .t1) (i .k) (omega arith) (omega arith)) ∙ fitsFrom-no (a .m) (a .n) (i .least) d (drop (suc (i .k)) (cellsOf (a .t1))) e)
+
+-- Where the test is passed, the cell is on the board, and its place is small.
+fits : (c : tie.Else1 Inv-loop μ-loop)
+    → let a = c .before .before .before .before .before .args in
+    let i = c .before .before .before .before .loop in
+    fitsAt (a .m) (a .n) (i .least) (getD (a .t1 .cells) (i .k) noCell) ≡ true
+unfolding noCell nothing
+fits c = sym (c .before .cell-fits .ensures) ∙ not-false _ (c .if1 .left)
+
+small : (c : tie.Else1 Inv-loop μ-loop)
+    → let a = c .before .before .before .before .before .args in
+    let d = getD (a .t1 .cells) (c .before .before .before .before .loop .k) noCell in
+    (d .row * a .n ≤ 992) × (d .col < stride)
+small c =
+    let a = c .before .before .before .before .before .args in
+    let i = c .before .before .before .before .loop in
+    let d = getD (a .t1 .cells) (i .k) noCell in
+    (row-small (d .row) (a .n) (omega (arith, fits-row (a .m) (a .n) (i .least) d (fits c))) (omega arith), omega (arith, fits-column (a .m) (a .n) (i .least) d (fits c)))
+
+mul-least : tie.Need-mul-least Inv-loop μ-loop
+unfolding noCell nothing
+mul-least c = omega (arith, small (c .before))
+
+add-least : tie.Need-add-least Inv-loop μ-loop
+unfolding noCell nothing
+add-least c = omega (arith, small (c .before .before))
+
+add-least-2 : tie.Need-add-least-2 Inv-loop μ-loop
+unfolding noCell nothing
+add-least-2 c = omega (arith, small (c .before .before))
+
+add-k : tie.Need-add-k Inv-loop μ-loop
+add-k c = omega arith
+
+loop-less : tie.Need-loop-less Inv-loop μ-loop
+loop-less c = omega arith
+
+loop-again : tie.Need-loop-again Inv-loop μ-loop
+unfolding noCell nothing place
+loop-again c =
+    let a = c .before .before .before .before .before .before .before .args in
+    let i = c .before .before .before .before .before .before .loop in
+    let d = getD (a .t1 .cells) (i .k) noCell in
+    let l : length (a .t1 .cells) ≡ 63 = search (needs, long) in (
+      omega arith,
+      i .inv .1
+          ∙ ap (fitsFrom (a .m) (a .n) (i .least)) (cells-from (a .t1) (i .k) (omega arith) (omega arith))
+          ∙ fitsFrom-yes (a .m) (a .n) (i .least) d (drop (suc (i .k)) (cellsOf (a .t1))) (fits (c .before .before))
+          ∙ rw (add-one (i .k)),
+    )
+
+returns-2 : tie.Need-returns-2 Inv-loop μ-loop
+returns-2 c =
+    let a = c .before .before .args in
+    let i = c .before .loop in
+    let l : length (a .t1 .cells) ≡ 63 = search (needs, long) in
+    let none : drop (i .k) (cellsOf (a .t1)) ≡ [] = drop-of-length-le (cellsOf (a .t1)) {i = i .k} (omega (arith, length-cells (a .t1) (omega arith))) in
+    sym (sym (fits-all (a .m) (a .n) (cellsOf (a .t1))) ∙ i .inv .1 ∙ rw none (fitsFrom-nil (a .m) (a .n) (i .least)))
+
+pub cells-fit-spec : {M : Type 1} → statement M
+cells-fit-spec =
+    tie.close
+    (tie.spec
+    Inv-loop
+    μ-loop
+    loop-holds
+    mul-c
+    element-copy-out-c
+    cell-fits-requires
+    returns
+    mul-least
+    add-least
+    add-least-2
+    add-k
+    loop-less
+    loop-again
+    returns-2)

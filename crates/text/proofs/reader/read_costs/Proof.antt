@@ -1,0 +1,108 @@
+-- The head line that must come is written first; then it is read as a word, and the lines after it.
+use mathlib.Core.Path.{_≡_, refl, sym, ap, _∙_}
+use mathlib.Core.Bool.{true, false}
+use mathlib.Core.List.{_∷_, []}
+use Prim.Native.Nat.{ℕ, _≤_, _<_, _+_, _*_, _-_, _^_, suc}
+use native.Mathlib.Omega.{arith}
+use native.Mathlib.Numerals.{add-one}
+use borrow.Author.Tests.{not-true, not-false}
+use lib.ListN.{length, drop, getD, drop-of-length-le}
+use lib.Seq.{drop-cons}
+use mathlib.Core.List.{_++_}
+use lib.ListN.{take}
+use lib.Seq.{length-take-le}
+use Rattle.transport.specs.Text.{bytes, digits, headLine}
+use Rattle.transport.specs.SheetText.{Reading, stuck, got, word}
+use Rattle.sheet.specs.Laws.{sides-product, side-limit}
+use Rattle.text.specs.Digits.{length-digits-le}
+use Rattle.text.specs.Front.{front-take, length-front}
+use Rattle.text.specs.Lines.{ended, length-ended, head-cost}
+use Rattle.text.specs.Reading.{Taken, Got, Stuck, readingOf, placeOf, valueOf}
+use Rattle.text.specs.SheetRead.{cost-unnamed, cost-named}
+use borrow.Author.Needs.{needs}
+use Rattle.text.proofs.reader.read_costs.Statement.{statement}
+use Rattle.text.proofs.reader.read_costs.Tie as tie
+
+slice-aggregate-write-head : tie.Need-slice-aggregate-write-head
+slice-aggregate-write-head c = search needs
+
+slice-aggregate-write-head-2 : tie.Need-slice-aggregate-write-head-2
+slice-aggregate-write-head-2 c = search needs
+
+short : (c : tie.Start) → length (ended (c .args .m) 10) ≤ 3
+short c = omega (arith, length-ended (c .args .m) 10, length-digits-le 1 (c .args .m) (omega (arith, c .pre .1)))
+
+write-head-requires : tie.Need-write-head-requires
+write-head-requires c κs = omega (arith, short (c .before .before .before .before))
+
+module _ (c : tie.After-write-head) where
+  fits : c .write-head .result ≤ length (c .write-head .last .1 .1 .0)
+  fits = omega (arith, c .write-head .ensures .0, ap length (c .write-head .ensures .1) ∙ length-front _ _ (omega (arith, short (c .before .before .before .before .before))), short (c .before .before .before .before .before))
+
+  head-is : take (c .write-head .result) (c .write-head .last .1 .1 .0) ≡ headLine "cost" (c .before .before .before .before .before .args .m)
+  unfolding bytes
+  head-is = (rw (c .write-head .ensures .1) (front-take _ _ (c .write-head .result) (c .write-head .ensures .0))) ∙ sym (head-cost (c .before .before .before .before .before .args .m))
+
+array-share-prefix-line : tie.Need-array-share-prefix-line
+array-share-prefix-line c = fits (c .before)
+
+slice-aggregate-read-word : tie.Need-slice-aggregate-read-word
+slice-aggregate-read-word c = sym (length-take-le _ _ (fits (c .before .before)))
+
+read-word-requires : tie.Need-read-word-requires
+read-word-requires c κs = c .before .before .before .before .before .before .before .pre .0
+
+enum-known-head : tie.Need-enum-known-head
+enum-known-head c = search needs
+
+enum-told : tie.Need-enum-told
+enum-told c = search needs
+
+headed : (c : tie.After-read-word) → word (headLine "cost" (c .before .before .before .before .before .before .before .before .args .m)) (drop (c .before .before .before .before .before .before .before .before .args .at) (c .before .before .before .before .before .before .before .before .args .text .now)) ≡ readingOf (c .before .before .before .before .before .before .before .before .args .text .now) (λ v. tt) (c .read-word .result)
+headed c = rw (head-is (c .before .before .before)) at (c .read-word .ensures .0)
+
+returns : tie.Need-returns
+returns c =
+    let w = c .before .before .read-word in
+    let a = c .before .before .before .before .before .before .before .before .before .before .args in
+    let stopped = c .enum-told .given .1 in
+    (rw stopped (cost-unnamed (a .m) (a .n) (drop (a .at) (a .text .now)) _ (headed (c .before .before) ∙ (rw stopped))), w .ensures .1, rw stopped tt)
+
+mul-read-lines : tie.Need-mul-read-lines
+mul-read-lines c = record { fits = sides-product _ _ (rw side-limit (c .before .before .before .before .before .before .before .before .before .before .before .pre .1)) (rw side-limit (c .before .before .before .before .before .before .before .before .before .before .before .pre .3)) }
+
+read-lines-requires : tie.Need-read-lines-requires
+read-lines-requires c κs =
+    let k = c .before .before .head .given in
+    (rw (k .1) at (c .before .before .before .before .read-word .ensures .1), c .before .before .before .before .before .before .before .before .before .before .before .before .pre .2, c .before .before .before .before .before .before .before .before .before .before .before .before .pre .4)
+
+same-length : tie.Need-same-length
+same-length c = search needs
+
+returns-2 : tie.Need-returns-2
+returns-2 c =
+    let w = c .before .before .read-lines in
+    let a = c .before .before .before .before .before .before .before .before .before .before .before .before .before .before .before .args in
+    let k = c .before .before .before .before .before .head .given in (
+      cost-named (a .m) (a .n) (drop (a .at) (a .text .now)) (drop (k .0 .1 .0) (a .text .now)) tt (headed (c .before .before .before .before .before .before .before) ∙ (rw (k .1))) ∙ w .ensures .0,
+      w .ensures .1,
+      w .ensures .2,
+    )
+
+pub read-costs-spec : {M : Type 1} → statement M
+read-costs-spec =
+    tie.close
+    (tie.spec
+    slice-aggregate-write-head
+    slice-aggregate-write-head-2
+    write-head-requires
+    array-share-prefix-line
+    slice-aggregate-read-word
+    read-word-requires
+    enum-known-head
+    enum-told
+    returns
+    mul-read-lines
+    read-lines-requires
+    same-length
+    returns-2)

@@ -1,0 +1,57 @@
+-- A number that was not read stays as it is; else the byte decides.
+use mathlib.Core.Path.{_≡_, refl, sym, ap, _∙_}
+use mathlib.Core.Bool.{true, false}
+use mathlib.Core.List.{_∷_, []}
+use Prim.Native.Nat.{ℕ, _≤_, _<_, _+_, _*_, _-_, _^_, suc}
+use native.Mathlib.Omega.{arith}
+use native.Mathlib.Numerals.{add-one}
+use borrow.Author.Tests.{not-true, not-false}
+use lib.ListN.{length, drop, getD, drop-of-length-le}
+use lib.Seq.{drop-cons}
+use Rattle.text.specs.Reading.{byteNext, byte-inside, drop-next, endReading, end-stuck, end-no, end-yes, placeOf, readingOf, Got}
+use borrow.Author.Needs.{needs}
+use Rattle.text.proofs.reader.read_end.Statement.{statement}
+use Rattle.text.proofs.reader.read_end.Tie as tie
+
+enum-known-number : tie.Need-enum-known-number
+enum-known-number c = search needs
+
+enum-told : tie.Need-enum-told
+enum-told c = search needs
+
+returns : tie.Need-returns
+returns c =
+    let told = c .enum-told .given .1 in
+    (rw told (end-stuck (c .before .before .before .args .end) _), c .before .before .before .pre)
+
+byte-at-requires : tie.Need-byte-at-requires
+byte-at-requires c κs = search needs
+
+got-is : (c : tie.After-byte-at) → c .before .before .before .before .before .args .number ≡ Got (c .before .before .number .given .0 .0) (c .before .before .number .given .0 .1 .0)
+got-is c = c .before .before .number .given .1
+
+inside : (c : tie.After-byte-at) → c .before .before .number .given .0 .1 .0 ≤ length (c .before .before .before .before .before .args .text .now)
+inside c = rw (got-is c) at (c .before .before .before .before .before .pre)
+
+returns-2 : tie.Need-returns-2
+returns-2 c =
+    let e = got-is (c .before) in
+    (rw e (end-no (c .before .before .before .before .before .before .args .end) _ _ (sym (c .before .byte-at .ensures) ∙ not-true _ (c .if1 .taken))), inside (c .before))
+
+next-byte : (c : tie.Else1) → byteNext (c .before .before .before .before .before .before .args .end) (drop (c .before .before .before .number .given .0 .1 .0) (c .before .before .before .before .before .before .args .text .now)) ≡ true
+next-byte c = sym (c .before .byte-at .ensures) ∙ not-false _ (c .if1 .left)
+
+add-t8 : tie.Need-add-t8
+add-t8 c = omega (arith, byte-inside (c .before .before .before .before .before .before .args .text .now) (c .before .before .before .number .given .0 .1 .0) _ (next-byte c))
+
+returns-3 : tie.Need-returns-3
+returns-3 c =
+    let a = c .before .before .before .before .before .before .args in
+    let n = c .before .before .before .number .given .0 .1 .0 in
+    let e = got-is (c .before) in
+    (rw (e, ← drop-next (a .text .now) n) (end-yes (a .end) _ _ (next-byte c)), omega (arith, byte-inside (a .text .now) n _ (next-byte c)))
+
+pub read-end-spec : {M : Type 1} → statement M
+read-end-spec =
+    tie.close
+    (tie.spec enum-known-number enum-told returns byte-at-requires returns-2 add-t8 returns-3)

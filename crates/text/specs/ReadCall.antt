@@ -1,0 +1,105 @@
+-- Read sheet: what the sections' answer says, and the call case by case.
+use mathlib.Core.Path.{_≡_, refl, sym, ap, _∙_}
+use mathlib.Core.List.{List, [], _∷_, _++_}
+use Prim.Native.Nat.{ℕ, _+_, _*_, _-_, _≤_, _<_}
+use native.Mathlib.Omega.{arith}
+use mathlib.Core.Bool.{Bool, true, false, _||_}
+use mathlib.Core.Option.{none, some}
+use lib.ListN.{length, take, drop, length-drop}
+use Rattle.transport.specs.declared.ReadAnswer.{ReadAnswer}
+use Rattle.transport.specs.declared.ReadAnswer.the-variants as ReadAnswer
+use Rattle.transport.specs.Sheet.{Sheet as SheetRecord, sources, sinks, refusal, numberTests}
+use Rattle.transport.specs.Calls.{Answer, refused, given, refusedBy, unless, lentAfter, tooShort}
+use Rattle.transport.specs.Answers.{readAnswer}
+use Rattle.transport.specs.SheetText.{Reading, stuck, got, sheetReader, readWith, readTests, readSheetCall}
+use Rattle.sheet.specs.Calls.{unless-before, unless-last, unless-none, short-yes, short-no, lent-refused, lent-given}
+use Rattle.text.specs.Front.{front}
+
+-- The sheet that the fronts of three lists are.
+abbrev pub frontSheet : ℕ → ℕ → List ℕ → List ℕ → List ℕ → SheetRecord
+frontSheet m n supply demand cost = record { supply = take m supply; demand = take n demand; cost = take (m * n) cost }
+
+abbrev pub sheetRead : List ℕ → List ℕ → List ℕ → List ℕ → ReadAnswer → Reading SheetRecord
+sheetRead text supply demand cost (ReadAnswer.Sheet m n) = got (frontSheet m n supply demand cost) []
+sheetRead text supply demand cost (ReadAnswer.NotSheetText place) = stuck (drop place text)
+sheetRead text supply demand cost (ReadAnswer.Refused number) = stuck text
+
+-- Sides within their limits, and a place in the text.
+abbrev pub readFits : List ℕ → ReadAnswer → Type 0
+readFits text (ReadAnswer.Sheet m n) = (1 ≤ m) × (m ≤ 32) × (1 ≤ n) × (n ≤ 32)
+readFits text (ReadAnswer.NotSheetText place) = place ≤ length text
+readFits text (ReadAnswer.Refused number) = ⊥
+
+-- ---- a sheet that was read
+
+-- The answer, and what the lent lists then hold.
+abbrev pub Filled : Answer SheetRecord → List ℕ → List ℕ → List ℕ → ReadAnswer → List ℕ → List ℕ → List ℕ → Type 0
+Filled a supply demand cost r supplyAfter demandAfter costAfter =
+    (r ≡ readAnswer a)
+    × (supplyAfter ≡ lentAfter (λ S. S .supply) a supply)
+    × (demandAfter ≡ lentAfter (λ S. S .demand) a demand)
+    × (costAfter ≡ lentAfter (λ S. S .cost) a cost)
+
+abbrev pub Stored : SheetRecord → List ℕ → List ℕ → List ℕ → ReadAnswer → List ℕ → List ℕ → List ℕ → Type 0
+Stored S supply demand cost = Filled (unless (readTests (length supply) (length demand) (length cost) S) S) supply demand cost
+
+module _ (supply demand cost : List ℕ) where
+  filled-refused : (a : Answer SheetRecord) (k : ℕ) → a ≡ refusedBy k → Filled a supply demand cost (ReadAnswer.Refused k) supply demand cost
+  unfolding readAnswer refusedBy lentAfter
+  filled-refused a k e = rw e (refl, refl, refl, refl)
+
+  filled-given : (a : Answer SheetRecord) (S : SheetRecord) → a ≡ given S → Filled a supply demand cost (ReadAnswer.Sheet (length (S .supply)) (length (S .demand))) (front (S .supply) supply) (front (S .demand) demand) (front (S .cost) cost)
+  unfolding readAnswer lentAfter front sources sinks
+  filled-given a S e = rw e (refl, refl, refl, refl)
+
+  module _ (S : SheetRecord) where
+    abbrev tight : Bool
+    tight = tooShort (length supply) (sources S) || tooShort (length demand) (sinks S) || tooShort (length cost) (sources S * sinks S)
+
+    pub stored-number : (k : ℕ) → refusal (numberTests S) ≡ some k → Stored S supply demand cost (ReadAnswer.Refused k) supply demand cost
+    unfolding readTests
+    stored-number k e = filled-refused _ k (unless-before (numberTests S) tight 8 S k e)
+
+    module _ (e : refusal (numberTests S) ≡ none) where
+      stored-tight : tight ≡ true → Stored S supply demand cost (ReadAnswer.Refused 8) supply demand cost
+      unfolding readTests
+      stored-tight t = filled-refused _ 8 (unless-last (numberTests S) tight 8 S e t)
+
+      pub stored-supply : length supply < length (S .supply) → Stored S supply demand cost (ReadAnswer.Refused 8) supply demand cost
+      unfolding sources
+      stored-supply p = stored-tight (rw (short-yes (length supply) (length (S .supply)) p))
+
+      pub stored-demand : length (S .supply) ≤ length supply → length demand < length (S .demand) → Stored S supply demand cost (ReadAnswer.Refused 8) supply demand cost
+      unfolding sources sinks
+      stored-demand p q = stored-tight (rw (short-no (length supply) (length (S .supply)) p, short-yes (length demand) (length (S .demand)) q))
+
+      pub stored-cost : length (S .supply) ≤ length supply → length (S .demand) ≤ length demand → length cost < length (S .supply) * length (S .demand) → Stored S supply demand cost (ReadAnswer.Refused 8) supply demand cost
+      unfolding sources sinks
+      stored-cost p q r = stored-tight (rw (short-no (length supply) (length (S .supply)) p, short-no (length demand) (length (S .demand)) q, short-yes (length cost) (length (S .supply) * length (S .demand)) r))
+
+      pub stored-given : length (S .supply) ≤ length supply → length (S .demand) ≤ length demand → length (S .supply) * length (S .demand) ≤ length cost → Stored S supply demand cost (ReadAnswer.Sheet (length (S .supply)) (length (S .demand))) (front (S .supply) supply) (front (S .demand) demand) (front (S .cost) cost)
+      unfolding readTests sources sinks
+      stored-given p q r = filled-given _ S (unless-none (numberTests S) tight 8 S e (rw (short-no _ _ p, short-no _ _ q, short-no _ _ r)))
+
+-- ---- the call
+
+module _ (text : List ℕ) (a b c : ℕ) where
+  pub call-stuck : (place : ℕ) → place ≤ length text → sheetReader text ≡ stuck (drop place text) → readSheetCall text a b c ≡ refused (record { number = 9; position = some place })
+  unfolding readSheetCall readWith
+  call-stuck place p e = let n : length text - length (drop place text) ≡ place = omega (arith, length-drop place text) in rw (readWith, e, n)
+
+  pub call-got : (S : SheetRecord) (rest : List ℕ) → sheetReader text ≡ got S rest → readSheetCall text a b c ≡ unless (readTests a b c S) S
+  unfolding readSheetCall readWith
+  call-got S rest e = rw (readWith, e)
+
+module _ (text supply demand cost : List ℕ) where
+  -- What the call answers, and what it leaves in the lent lists.
+  abbrev pub Read : ReadAnswer → List ℕ → List ℕ → List ℕ → Type 0
+  Read = Filled (readSheetCall text (length supply) (length demand) (length cost)) supply demand cost
+
+  pub read-stuck : (place : ℕ) → place ≤ length text → sheetReader text ≡ stuck (drop place text) → Read (ReadAnswer.NotSheetText place) supply demand cost
+  unfolding readAnswer lentAfter
+  read-stuck place p e = rw (call-stuck text (length supply) (length demand) (length cost) place p e) (refl, refl, refl, refl)
+
+  pub read-got : (S : SheetRecord) (rest : List ℕ) → sheetReader text ≡ got S rest → (r : ReadAnswer) (s d c : List ℕ) → Stored S supply demand cost r s d c → Read r s d c
+  read-got S rest e r s d c h = rw (call-got text (length supply) (length demand) (length cost) S rest e) h

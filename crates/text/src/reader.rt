@@ -1,0 +1,349 @@
+// Read sheet. Each reader starts at a place of the text, and its answer says where it ended.
+ghost use mathlib.Core.Path.{_≡_};
+ghost use mathlib.Core.List.{_++_};
+ghost use Prim.Native.Nat.{ℕ, _+_, _*_, _≤_, _<_};
+ghost use lib.ListN.{length, take, drop};
+ghost use Rattle.transport.specs.Text.{kindOf};
+ghost use Rattle.transport.specs.SheetText.{isDigit, word, moreDigits, number, side, sheetReader, readSheetCall};
+ghost use Rattle.transport.specs.Calls.{lentAfter};
+ghost use Rattle.transport.specs.Answers.{readAnswer};
+ghost use Rattle.text.specs.Reading.{byteNext, digitNext, readingOf, placeOf, valueOf, valueIs, always, endReading};
+ghost use Rattle.text.specs.LinesRead.{readLines};
+ghost use Rattle.text.specs.SheetRead.{listReader, costReader};
+ghost use Rattle.text.specs.ReadCall.{sheetRead, readFits, Stored};
+ghost use Rattle.text.specs.Front.{front};
+ghost use Rattle.sheet.specs.Check.{sheetOf};
+use crate::Taken;
+use crate::lines;
+use crate::writer;
+use sheet::SheetCheck;
+use transport::ByteKind;
+use transport::MAX_SIDE;
+use transport::ReadAnswer;
+
+// The most lanes of a sheet.
+const MAX_LANES: usize = MAX_SIDE * MAX_SIDE;
+
+// The most digits that a number of a sheet text has.
+const MAX_DIGITS: usize = 7;
+
+// The kind of a byte.
+pub fn kind_of(b: u8) -> ByteKind
+    ensures { λ r. ⌜ r ≡ kindOf b ⌝ }
+{
+    match b {
+        b'0'..=b'9' => ByteKind::Digit,
+        b' ' => ByteKind::Space,
+        b'\n' => ByteKind::LineEnd,
+        b'a'..=b'z' => ByteKind::Letter,
+        _ => ByteKind::Other,
+    }
+}
+
+fn is_digit(b: u8) -> bool
+    ensures { λ r. ⌜ r ≡ isDigit b ⌝ }
+{
+    let kind = kind_of(b);
+    match kind {
+        ByteKind::Digit => true,
+        ByteKind::Space => false,
+        ByteKind::LineEnd => false,
+        ByteKind::Letter => false,
+        ByteKind::Other => false,
+    }
+}
+
+// Whether a digit comes next.
+fn digit_at(text: &[u8], at: usize) -> bool
+    ensures { λ r. ⌜ r ≡ digitNext (drop at (now (text .entry))) ⌝ }
+{
+    if text.len() <= at {
+        return false;
+    }
+    is_digit(text[at])
+}
+
+// Whether this byte comes next.
+fn byte_at(text: &[u8], at: usize, byte: u8) -> bool
+    ensures { λ r. ⌜ r ≡ byteNext byte (drop at (now (text .entry))) ⌝ }
+{
+    if text.len() <= at {
+        return false;
+    }
+    byte == text[at]
+}
+
+// These bytes.
+fn read_word(text: &[u8], at: usize, expected: &[u8]) -> Taken
+    requires { ⌜ at ≤ length (now text) ⌝ }
+    ensures { λ r. ⌜ (word (now (expected .entry)) (drop at (now (text .entry))) ≡ readingOf (now (text .entry)) (λ v. tt) r) × (placeOf r ≤ length (now (text .entry))) ⌝ }
+{
+    let mut next = at;
+    let mut i: usize = 0;
+    while i < expected.len() {
+        if !byte_at(text, next, expected[i]) {
+            return Taken::Stuck(next);
+        }
+        next += 1;
+        i += 1;
+    }
+    Taken::Got { value: 0, next }
+}
+
+// At most six digits more of a number that begins with the digit `first`.
+fn more_digits(text: &[u8], at: usize, first: u64) -> Taken
+    requires { ⌜ (at ≤ length (now text)) × (first < 10) ⌝ }
+    ensures { λ r. ⌜ (moreDigits always 6 first (drop at (now (text .entry))) ≡ readingOf (now (text .entry)) (λ v. v) r) × (placeOf r ≤ length (now (text .entry))) ⌝ }
+{
+    let mut value = first;
+    let mut next = at;
+    let mut count: usize = 1;
+    while count < MAX_DIGITS {
+        if !digit_at(text, next) {
+            return Taken::Got { value, next };
+        }
+        value = value * 10 + (text[next] - b'0') as u64;
+        next += 1;
+        count += 1;
+    }
+    Taken::Got { value, next }
+}
+
+// A number of one to seven digits, with no leading 0 except 0 itself.
+fn read_number(text: &[u8], at: usize) -> Taken
+    requires { ⌜ at ≤ length (now text) ⌝ }
+    ensures { λ r. ⌜ (number (drop at (now (text .entry))) ≡ readingOf (now (text .entry)) (λ v. v) r) × (placeOf r ≤ length (now (text .entry))) ⌝ }
+{
+    if !digit_at(text, at) {
+        return Taken::Stuck(at);
+    }
+    let first = (text[at] - b'0') as u64;
+    let next = at + 1;
+    if first == 0 {
+        return Taken::Got { value: 0, next };
+    }
+    more_digits(text, next, first)
+}
+
+// A count of sources or sinks: 1 to 32.
+fn read_side(text: &[u8], at: usize) -> Taken
+    requires { ⌜ at ≤ length (now text) ⌝ }
+    ensures { λ r. ⌜ (side (drop at (now (text .entry))) ≡ readingOf (now (text .entry)) (λ v. v) r) × (placeOf r ≤ length (now (text .entry))) ⌝ }
+{
+    if !digit_at(text, at) {
+        return Taken::Stuck(at);
+    }
+    let first = (text[at] - b'0') as u64;
+    if first == 0 {
+        return Taken::Stuck(at);
+    }
+    let next = at + 1;
+    if !digit_at(text, next) {
+        return Taken::Got { value: first, next };
+    }
+    let both = first * 10 + (text[next] - b'0') as u64;
+    if both > MAX_SIDE as u64 {
+        return Taken::Got { value: first, next };
+    }
+    Taken::Got {
+        value: both,
+        next: next + 1,
+    }
+}
+
+// The byte that must end a number that was read.
+fn read_end(text: &[u8], number: Taken, end: u8) -> Taken
+    requires { ⌜ placeOf number ≤ length (now text) ⌝ }
+    ensures { λ r. ⌜ (endReading end (readingOf (now (text .entry)) (λ v. v) number) ≡ readingOf (now (text .entry)) (λ v. v) r) × (placeOf r ≤ length (now (text .entry))) ⌝ }
+{
+    let Taken::Got { value, next } = number else {
+        return number;
+    };
+    if !byte_at(text, next, end) {
+        return Taken::Stuck(next);
+    }
+    Taken::Got {
+        value,
+        next: next + 1,
+    }
+}
+
+// So many numbers, in lines of `width`, into the front of the list.
+fn read_lines(text: &[u8], at: usize, width: usize, count: usize, list: &mut [u64]) -> Taken
+    requires { ⌜ (at ≤ length (now text)) × (1 ≤ width) × (count ≤ length (now list)) ⌝ }
+    ensures { λ r. ⌜ (readLines width width count (drop at (now (text .entry))) ≡ readingOf (now (text .entry)) (λ v. take v (now (list .exit))) r) × (placeOf r ≤ length (now (text .entry))) × (valueIs count r) ⌝ }
+{
+    let mut next = at;
+    let mut left = width;
+    let mut i: usize = 0;
+    while i < count {
+        let number = read_end(text, read_number(text, next), lines::ending(left));
+        let Taken::Got { value, next: after } = number else {
+            return number;
+        };
+        list[i] = value;
+        next = after;
+        left = lines::left_after(width, left);
+        i += 1;
+    }
+    Taken::Got {
+        value: count as u64,
+        next,
+    }
+}
+
+// A section of one list: its name, with the space after it, its count, and so many lines of one number. The value is the count.
+fn read_list(text: &[u8], at: usize, name: &[u8], list: &mut [u64]) -> Taken
+    requires { ⌜ (at ≤ length (now text)) × (32 ≤ length (now list)) ⌝ }
+    ensures { λ r. ⌜ (listReader (now (name .entry)) (drop at (now (text .entry))) ≡ readingOf (now (text .entry)) (λ v. take v (now (list .exit))) r) × (placeOf r ≤ length (now (text .entry))) × (valueOf r ≤ 32) ⌝ }
+{
+    let head = read_word(text, at, name);
+    let Taken::Got { value: _, next } = head else {
+        return head;
+    };
+    let count = read_end(text, read_side(text, next), b'\n');
+    let Taken::Got { value, next: after } = count else {
+        return count;
+    };
+    read_lines(text, after, 1, value as usize, list)
+}
+
+// The section of the costs: its head line with the count of sources, and as many lines of as many numbers as there are sinks.
+fn read_costs(text: &[u8], at: usize, m: usize, n: usize, list: &mut [u64]) -> Taken
+    requires { ⌜ (at ≤ length (now text)) × (m ≤ 32) × (1 ≤ n) × (n ≤ 32) × (m * n ≤ length (now list)) ⌝ }
+    ensures { λ r. ⌜ (costReader m n (drop at (now (text .entry))) ≡ readingOf (now (text .entry)) (λ v. take v (now (list .exit))) r) × (placeOf r ≤ length (now (text .entry))) × (valueIs (m * n) r) ⌝ }
+{
+    let mut line = [0u8; 8];
+    let len = writer::write_head(b"cost ", m, &mut line);
+    let head = read_word(text, at, &line[..len]);
+    let Taken::Got { value: _, next } = head else {
+        return head;
+    };
+    read_lines(text, next, n, m * n, list)
+}
+
+// The answer where a reader is stuck: 9, with its place.
+fn not_sheet_text(found: Taken) -> ReadAnswer
+    ensures { λ r. ⌜ r ≡ ReadAnswer.NotSheetText (placeOf found) ⌝ }
+{
+    match found {
+        Taken::Got { value: _, next } => ReadAnswer::NotSheetText(next),
+        Taken::Stuck(place) => ReadAnswer::NotSheetText(place),
+    }
+}
+
+// The whole text, into the fronts of three lists that are long enough for any sheet text. Never `Refused`.
+fn read_sections(
+    text: &[u8],
+    supply: &mut [u64],
+    demand: &mut [u64],
+    cost: &mut [u64],
+) -> ReadAnswer
+    requires { ⌜ (32 ≤ length (now supply)) × (32 ≤ length (now demand)) × (1024 ≤ length (now cost)) ⌝ }
+    ensures { λ r. ⌜ (sheetReader (now (text .entry)) ≡ sheetRead (now (text .entry)) (now (supply .exit)) (now (demand .exit)) (now (cost .exit)) r) × (readFits (now (text .entry)) r) ⌝ }
+{
+    let first = read_list(text, 0, b"supply ", supply);
+    let Taken::Got { value: m, next: at } = first else {
+        return not_sheet_text(first);
+    };
+    let second = read_list(text, at, b"demand ", demand);
+    let Taken::Got {
+        value: n,
+        next: after,
+    } = second
+    else {
+        return not_sheet_text(second);
+    };
+    let sources = m as usize;
+    let sinks = n as usize;
+    let third = read_costs(text, after, sources, sinks, cost);
+    let Taken::Got {
+        value: _,
+        next: end,
+    } = third
+    else {
+        return not_sheet_text(third);
+    };
+    if end < text.len() {
+        return ReadAnswer::NotSheetText(end);
+    }
+    ReadAnswer::Sheet { sources, sinks }
+}
+
+// Copies a list to the front of a longer one.
+fn copy_list(from: &[u64], list: &mut [u64])
+    requires { ⌜ length (now from) ≤ length (now list) ⌝ }
+    ensures { λ r. ⌜ now (list .exit) ≡ front (now (from .entry)) (now (list .entry)) ⌝ }
+{
+    let mut i: usize = 0;
+    while i < from.len() {
+        list[i] = from[i];
+        i += 1;
+    }
+}
+
+// A sheet that was read goes to the lent lists, unless 3, 4, 5 or 8 refuses it.
+fn store_sheet(
+    sheet_supply: &[u64],
+    sheet_demand: &[u64],
+    sheet_cost: &[u64],
+    supply: &mut [u64],
+    demand: &mut [u64],
+    cost: &mut [u64],
+) -> ReadAnswer
+    requires { ⌜ (length (now «sheet_supply») ≤ 32) × (length (now «sheet_demand») ≤ 32) × (length (now «sheet_cost») ≡ length (now «sheet_supply») * length (now «sheet_demand»)) ⌝ }
+    ensures { λ r. ⌜ Stored (sheetOf (now («sheet_supply» .entry)) (now («sheet_demand» .entry)) (now («sheet_cost» .entry))) (now (supply .entry)) (now (demand .entry)) (now (cost .entry)) r (now (supply .exit)) (now (demand .exit)) (now (cost .exit)) ⌝ }
+{
+    let check = sheet::check_numbers(sheet_supply, sheet_demand, sheet_cost);
+    if let SheetCheck::Refused(number) = check {
+        return ReadAnswer::Refused(number);
+    }
+    if supply.len() < sheet_supply.len() {
+        return ReadAnswer::Refused(8);
+    }
+    if demand.len() < sheet_demand.len() {
+        return ReadAnswer::Refused(8);
+    }
+    if cost.len() < sheet_cost.len() {
+        return ReadAnswer::Refused(8);
+    }
+    copy_list(sheet_supply, supply);
+    copy_list(sheet_demand, demand);
+    copy_list(sheet_cost, cost);
+    ReadAnswer::Sheet {
+        sources: sheet_supply.len(),
+        sinks: sheet_demand.len(),
+    }
+}
+
+// Read sheet: the counts of sources and sinks, which then stand in the lent lists with the costs; or the refusal, and the lists are as they were.
+// The text is read into lists of the largest sheet first, so that nothing is stored before all of it is known to be good.
+pub fn read_sheet(
+    text: &[u8],
+    supply: &mut [u64],
+    demand: &mut [u64],
+    cost: &mut [u64],
+) -> ReadAnswer
+    ensures { λ r. ⌜ (r ≡ readAnswer (readSheetCall (now (text .entry)) (length (now (supply .entry))) (length (now (demand .entry))) (length (now (cost .entry))))) × (now (supply .exit) ≡ lentAfter (λ S. S .supply) (readSheetCall (now (text .entry)) (length (now (supply .entry))) (length (now (demand .entry))) (length (now (cost .entry)))) (now (supply .entry))) × (now (demand .exit) ≡ lentAfter (λ S. S .demand) (readSheetCall (now (text .entry)) (length (now (supply .entry))) (length (now (demand .entry))) (length (now (cost .entry)))) (now (demand .entry))) × (now (cost .exit) ≡ lentAfter (λ S. S .cost) (readSheetCall (now (text .entry)) (length (now (supply .entry))) (length (now (demand .entry))) (length (now (cost .entry)))) (now (cost .entry))) ⌝ }
+{
+    let mut supplies = [0u64; MAX_SIDE];
+    let mut demands = [0u64; MAX_SIDE];
+    let mut costs = [0u64; MAX_LANES];
+    let answer = read_sections(text, &mut supplies, &mut demands, &mut costs);
+    let ReadAnswer::Sheet {
+        sources: m,
+        sinks: n,
+    } = answer
+    else {
+        return answer;
+    };
+    let lanes = m * n;
+    store_sheet(
+        &supplies[..m],
+        &demands[..n],
+        &costs[..lanes],
+        supply,
+        demand,
+        cost,
+    )
+}
