@@ -276,7 +276,7 @@ abbrev placeOn : Cell → ℕ
 placeOn c = c .row * stride + c .col
 
 -- Sheet order is the order of the lanes' places in the arrays.
-place-order : (n i j h k : ℕ) → j < n → k < n → n ≤ stride → place n i j < place n h k → i * stride + j < h * stride + k
+pub place-order : (n i j h k : ℕ) → j < n → k < n → n ≤ stride → place n i j < place n h k → i * stride + j < h * stride + k
 unfolding place
 place-order n i j h k p q r l = go (decLt i h) (decLt h i)
   where

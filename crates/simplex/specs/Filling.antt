@@ -6,7 +6,7 @@ use mathlib.Core.Path.{_≡_}
 use mathlib.Core.List.{List, _++_}
 use lib.ListN.{length, drop, getD, set, replicate, length-replicate}
 use Rattle.transport.specs.Lists.{table, padded}
-use Rattle.transport.specs.ListLaws.{table-zero, table-getD, fill-one}
+use Rattle.transport.specs.ListLaws.{table-zero, length-table, table-getD, fill-one}
 use Rattle.transport.specs.Limits.{maxCells}
 use Rattle.transport.specs.declared.Cell.{Cell}
 use Rattle.transport.specs.Tableau.{noCell, tableauOf, noTableau}
@@ -33,3 +33,8 @@ module _ (T : List Cell) where
   pub filled-all : (xs : List Cell) (n : ℕ) → n ≡ length T → xs ≡ filled T n → record { cells = xs; count = n } ≡ tableauOf T
   unfolding filled tableauOf padded
   filled-all xs n e f = rw (f, e, table-getD T noCell, drop-replicate (length T) maxCells noCell)
+
+-- An array of one number, of which the first n are written.
+pub padded-fill : {A : Type 0} (f : ℕ → A) (n size : ℕ) (d : A) → table n f ++ drop n (replicate size d) ≡ padded size d (table n f)
+unfolding padded
+padded-fill f n size d = rw (drop-replicate n size d, length-table f n)

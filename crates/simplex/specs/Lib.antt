@@ -1,3 +1,4 @@
 pub mod Corner
+pub mod Dealt
 pub mod Filling
 pub mod Start

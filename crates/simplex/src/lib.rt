@@ -1,3 +1,5 @@
-// The transportation simplex: start.
+// The transportation simplex: start, round and run.
+pub mod round;
+pub mod run;
 pub mod start;
 pub mod tableau;

@@ -72,16 +72,16 @@ module _ (S : Sheet) where
 
   -- ---- the run's steps
 
-  run-done : (k : ℕ) (T : List Cell) → isFinished S T ≡ true → run S k T ≡ record { done = true; tableau = T; rounds = 0 }
+  pub run-done : (k : ℕ) (T : List Cell) → isFinished S T ≡ true → run S k T ≡ record { done = true; tableau = T; rounds = 0 }
   unfolding run
   run-done zero T e = rw e
   run-done (suc k) T e = rw (e, run)
 
-  run-none : (T : List Cell) → isFinished S T ≡ false → run S 0 T ≡ record { done = false; tableau = T; rounds = 0 }
+  pub run-none : (T : List Cell) → isFinished S T ≡ false → run S 0 T ≡ record { done = false; tableau = T; rounds = 0 }
   unfolding run
   run-none T e = rw e
 
-  run-more : (k : ℕ) (T : List Cell) → isFinished S T ≡ false
+  pub run-more : (k : ℕ) (T : List Cell) → isFinished S T ≡ false
       → run S (suc k) T ≡ record { done = run S k (next S T) .done; tableau = run S k (next S T) .tableau; rounds = suc (run S k (next S T) .rounds) }
   unfolding run
   run-more k T e = rw (e, run)

@@ -1,0 +1,168 @@
+-- The board of a run: the arrays hold a tableau of a sheet; one round on it, and a run of rounds.
+use Prim.Native.Nat.{ℕ, suc, _+_, _-_, _<_}
+use native.Mathlib.Omega.{arith}
+use mathlib.Core.Path.{_≡_, refl, sym, ap, _∙_, subst}
+use mathlib.Core.Bool.{Bool, true, false, not, true≢false}
+use mathlib.Core.List.{List}
+use lib.IntN.{ℤ, pos}
+use lib.Signed.{ltZ}
+use lib.ListN.{length, getD}
+use Rattle.transport.specs.Sheet.{Sheet, sources, sinks}
+use Rattle.transport.specs.SheetLaws.{lane, Checked}
+use Rattle.transport.specs.declared.Cell.{Cell}
+use Rattle.transport.specs.Tableau.{basisOf, basisSize}
+use Rattle.transport.specs.Leaf.{cellsBelong}
+use Rattle.transport.specs.Potential.{potential, isFinished}
+use Rattle.transport.specs.Round.{pivot, next, run}
+use Rattle.transport.specs.Statements.{Belongs}
+use Rattle.tableaux.specs.View.{Inside}
+use Rattle.tableaux.specs.Order.{Ordered, ordered-by}
+use Rattle.tableaux.specs.Striking.{Struck}
+use Rattle.tableaux.specs.Belonging.{belongs-iff, inside-of}
+use Rattle.tableaux.specs.Entering.{entering-inside, entering-new}
+use Rattle.tableaux.specs.Running.{run-done, run-more}
+use Rattle.tableaux.specs.Ending.{next-belongs}
+use Rattle.basis.specs.Layout.{nodeRoom, strikesOf}
+use Rattle.board.specs.Held.{Held}
+use Rattle.board.specs.Lanes.{RowMasks, gathered, gathered-is, held-masks}
+use Rattle.pivoting.specs.Ready.{Ready}
+use Rattle.rounds.specs.Costs.{Costed}
+use Rattle.rounds.specs.Masks.{held-masked}
+use Rattle.rounds.specs.Pricing.{Laid, Priced, laid-belongs, laid-sides}
+
+-- The sheet S has m sources and n sinks, its costs lie by lane, and the arrays hold its tableau T.
+pub record Board (S : Sheet) (T : List Cell) (adj : List ℕ) (q e cost : List ℤ) (m n : ℕ) : Type 0 where
+  pub checked : Checked S
+  pub rows : m ≡ sources S
+  pub columns : n ≡ sinks S
+  pub belongs : cellsBelong S T ≡ true
+  pub costs : Costed S cost
+  pub held : Held m n T adj q e
+
+-- ---- one round
+
+-- The round on T: it is finished, and the board stays; or it is not, and the board then holds the next tableau. The prices are those of T.
+pub record Advanced (S : Sheet) (T : List Cell) (adj : List ℕ) (q e cost price : List ℤ) (m n : ℕ) (finished : Bool) : Type 0 where
+  pub done : isFinished S T ≡ finished
+  pub prices : (k : ℕ) → k < m + n → getD price k (pos 0) ≡ potential S T k
+  pub stays : finished ≡ true → Board S T adj q e cost m n
+  pub moves : finished ≡ false → Board S (next S T) adj q e cost m n
+
+module _ {S : Sheet} {T : List Cell} {adj : List ℕ} {q e cost : List ℤ} {m n : ℕ} (b : Board S T adj q e cost m n) where
+  pub board-laid : Laid S T adj cost m n
+  board-laid = record { checked = b .checked; rows = b .rows; columns = b .columns; belongs = b .belongs; costs = b .costs; masks = held-masked (b .held) }
+
+  -- The tableau can be gathered from the arrays.
+  board-belongs : Belongs S T
+  board-belongs = laid-belongs board-laid
+
+  board-inside : Inside m n T
+  board-inside = rw (b .rows, b .columns) (inside-of (b .checked) board-belongs)
+
+  board-ordered : Ordered n T
+  board-ordered = rw (b .columns) (ordered-by (sinks S) T (board-belongs .order))
+
+  pub board-masks : RowMasks adj m
+  unfolding basisSize
+  board-masks =
+      let (mLow, mHigh, nLow, nHigh) = laid-sides board-laid in
+      held-masks (b .held) nHigh board-inside board-ordered mHigh (omega (arith, board-belongs .count, b .rows, b .columns))
+
+  pub board-gathered : gathered m adj q e ≡ T
+  board-gathered = gathered-is (b .held) (laid-sides board-laid .3) board-inside board-ordered
+
+  module _ {leaf other lanes : List ℕ} {price : List ℤ} {row col : ℕ} {reduced : ℤ} (p : Priced S T leaf other lanes price m n row col reduced) where
+    pub advanced-stays : ltZ reduced (pos 0) ≡ false → Advanced S T adj q e cost price m n true
+    advanced-stays t = record { done = p .done ∙ ap not t; prices = p .prices; stays = λ s. b; moves = λ s. absurd (true≢false s) }
+
+    module _ (t : ltZ reduced (pos 0) ≡ true) where
+      unfinished : isFinished S T ≡ false
+      unfinished = p .done ∙ ap not t
+
+      pub board-ready : length lanes ≡ nodeRoom → Ready S T adj q e leaf other lanes (m + n - 1) m row col
+      board-ready long =
+          let inside = rw (p .enters t) at (entering-inside (b .checked) T) in
+          record {
+            rows = b .rows;
+            held = rw (b .columns) at (b .held);
+            enters = record {
+              checked = b .checked;
+              belongs = b .belongs;
+              struck =
+                  subst (λ (k : ℕ). Struck (sources S) k (basisOf T) (strikesOf leaf other lanes (m + n - 1))) (b .columns)
+                  (subst (λ (k : ℕ). Struck k n (basisOf T) (strikesOf leaf other lanes (m + n - 1))) (b .rows) (p .struck));
+              long = long;
+              row = inside .0;
+              col = inside .1;
+              new = rw (p .enters t) at (entering-new (b .checked) T unfinished board-belongs);
+            };
+          }
+
+      next-is : pivot m (sinks S) T (lane row col) ≡ next S T
+      unfolding next
+      next-is = rw (b .rows, p .enters t)
+
+      pub advanced-moves : {adj′ : List ℕ} {q′ e′ : List ℤ} → Held m (sinks S) (pivot m (sinks S) T (lane row col)) adj′ q′ e′ → Advanced S T adj′ q′ e′ cost price m n false
+      advanced-moves {adj′} {q′} {e′} h = record { done = unfinished; prices = p .prices; stays = λ s. absurd (true≢false (sym s)); moves = λ s. board }
+        where
+          board : Board S (next S T) adj′ q′ e′ cost m n
+          board = record {
+            checked = b .checked;
+            rows = b .rows;
+            columns = b .columns;
+            belongs = belongs-iff S (next S T) (b .checked .sourcesLow) (b .checked .sinksLow) .1 (next-belongs (b .checked) board-belongs unfinished);
+            costs = b .costs;
+            held = rw (b .columns, ← next-is) h;
+          }
+
+-- ---- a run
+
+-- The run of an allowance on T has come to the board's tableau: `made` rounds are made, and what is left is a run from there.
+pub record Going (S : Sheet) (T : List Cell) (allowance : ℕ) (adj : List ℕ) (q e cost : List ℤ) (m n left made : ℕ) : Type 0 where
+  pub here : List Cell
+  pub board : Board S here adj q e cost m n
+  pub done : run S allowance T .done ≡ run S left here .done
+  pub tableau : run S allowance T .tableau ≡ run S left here .tableau
+  pub rounds : run S allowance T .rounds ≡ made + run S left here .rounds
+
+-- The run has ended on the board, after `made` rounds. The prices are those of its last tableau.
+pub record Ran (S : Sheet) (T : List Cell) (allowance : ℕ) (adj : List ℕ) (q e cost price : List ℤ) (m n : ℕ) (finished : Bool) (made : ℕ) : Type 0 where
+  pub done : run S allowance T .done ≡ finished
+  pub rounds : run S allowance T .rounds ≡ made
+  pub board : Board S (run S allowance T .tableau) adj q e cost m n
+  pub prices : (k : ℕ) → k < m + n → getD price k (pos 0) ≡ potential S (run S allowance T .tableau) k
+
+run-no-more : (S : Sheet) (T : List Cell) → run S 0 T ≡ record { done = isFinished S T; tableau = T; rounds = 0 }
+unfolding run
+run-no-more S T = refl
+
+module _ {S : Sheet} {T : List Cell} {allowance : ℕ} {adj : List ℕ} {q e cost : List ℤ} {m n : ℕ} where
+  pub going-start : Board S T adj q e cost m n → Going S T allowance adj q e cost m n allowance 0
+  going-start b = record { here = T; board = b; done = refl; tableau = refl; rounds = omega arith }
+
+  module _ {left made : ℕ} (g : Going S T allowance adj q e cost m n left made) where
+    -- One round more, on a tableau that is not finished.
+    pub going-next : {adj′ : List ℕ} {q′ e′ : List ℤ} (k : ℕ) → left ≡ suc k → isFinished S (g .here) ≡ false → Board S (next S (g .here)) adj′ q′ e′ cost m n
+        → Going S T allowance adj′ q′ e′ cost m n k (made + 1)
+    going-next k s f b =
+        let r = ap (λ (a : ℕ). run S a (g .here)) s ∙ run-more S k (g .here) f in
+        record {
+          here = next S (g .here);
+          board = b;
+          done = g .done ∙ ap (λ x. x .done) r;
+          tableau = g .tableau ∙ ap (λ x. x .tableau) r;
+          rounds = omega (arith, g .rounds, ap (λ x. x .rounds) r);
+        }
+
+    module _ {adj′ : List ℕ} {q′ e′ : List ℤ} {finished : Bool} (price : List ℤ) (b : Board S (g .here) adj′ q′ e′ cost m n) (p : (k : ℕ) → k < m + n → getD price k (pos 0) ≡ potential S (g .here) k) where
+      ran : run S left (g .here) ≡ record { done = finished; tableau = g .here; rounds = 0 } → Ran S T allowance adj′ q′ e′ cost price m n finished made
+      ran r =
+          let t : run S allowance T .tableau ≡ g .here = g .tableau ∙ ap (λ x. x .tableau) r in
+          record { done = g .done ∙ ap (λ x. x .done) r; rounds = omega (arith, g .rounds, ap (λ x. x .rounds) r); board = rw t b; prices = rw t p }
+
+      -- It ends where the tableau is finished, and where no rounds are left.
+      pub ran-done : finished ≡ true → isFinished S (g .here) ≡ true → Ran S T allowance adj′ q′ e′ cost price m n finished made
+      ran-done s f = ran (run-done S left (g .here) f ∙ rw s)
+
+      pub ran-out : left ≡ 0 → isFinished S (g .here) ≡ finished → Ran S T allowance adj′ q′ e′ cost price m n finished made
+      ran-out z f = ran (ap (λ (a : ℕ). run S a (g .here)) z ∙ run-no-more S (g .here) ∙ rw f)

@@ -1,0 +1,68 @@
+-- The costs of a sheet, spread by lane with the stride of the arrays: while they are filled in, and for a sheet.
+use Prim.Native.Nat.{ℕ, suc, _+_, _*_, _/_, _%_, _<_, _≤_}
+use native.Mathlib.Omega.{arith}
+use native.Mathlib.Decide.{decLt}
+use mathlib.Core.Path.{_≡_, refl, sym, ap, _∙_}
+use mathlib.Core.Logic.{by-cases}
+use mathlib.Core.List.{List}
+use lib.IntN.{ℤ, pos, natAbs}
+use lib.ListN.{length, getD, set, replicate, length-set, getD-replicate}
+use lib.Seq.{getD-set-same, getD-set-other}
+use Rattle.transport.specs.Lists.{at}
+use Rattle.transport.specs.Limits.{maxCost}
+use Rattle.transport.specs.Sheet.{Sheet, sources, sinks, place, laneCost}
+use Rattle.transport.specs.SheetLaws.{Checked, lane}
+use Rattle.basis.specs.Layout.{stride, laneRoom}
+use Rattle.basis.specs.ScanLaws.{padCost}
+
+-- ---- filled in
+
+-- The costs of m rows and n columns lie by lane, and a column past them costs padCost.
+pub record Spread (cost : List ℕ) (m n : ℕ) (out : List ℤ) : Type 0 where
+  pub long : length out ≡ laneRoom
+  pub lanes : (i j : ℕ) → i < m → j < n → getD out (i * stride + j) (pos 0) ≡ pos (at cost (place n i j))
+  pub pads : (i j : ℕ) → i < m → n ≤ j → j < stride → getD out (i * stride + j) (pos 0) ≡ pos padCost
+
+-- The rows before i are filled in, and of row i the columns before j.
+pub record Part (cost : List ℕ) (n i j : ℕ) (out : List ℤ) : Type 0 where
+  pub long : length out ≡ laneRoom
+  pub lanes : (h k : ℕ) → h * stride + k < i * stride + j → k < n → getD out (h * stride + k) (pos 0) ≡ pos (at cost (place n h k))
+  pub pads : (h k : ℕ) → h < stride → n ≤ k → k < stride → getD out (h * stride + k) (pos 0) ≡ pos padCost
+
+module _ (cost : List ℕ) (n : ℕ) where
+  pub part-none : Part cost n 0 0 (replicate laneRoom (pos padCost))
+  part-none = record {
+    long = refl;
+    lanes = λ h k l r. absurd (omega arith);
+    pads = λ h k l r s. getD-replicate laneRoom (h * stride + k) (pos padCost) (pos 0) (omega arith);
+  }
+
+  module _ (i j : ℕ) (out : List ℤ) (p : Part cost n i j out) (low : n ≤ stride) where
+    pub part-one : i < stride → j < n → Part cost n i (j + 1) (set out (i * stride + j) (pos (at cost (place n i j))))
+    part-one l r = record {
+      long = simp length-set (p .long);
+      lanes = λ h k s t. by-cases (decLt (h * stride + k) (i * stride + j))
+          (λ u. getD-set-other out (i * stride + j) (h * stride + k) (pos (at cost (place n i j))) (pos 0) (omega arith) ∙ p .lanes h k u t)
+          (λ u.
+          let a : h ≡ i = omega arith in
+          let b : k ≡ j = omega arith in
+          rw (a, b) (getD-set-same out (i * stride + j) (pos (at cost (place n i j))) (pos 0) (omega (arith, p .long))));
+      pads = λ h k s t u. getD-set-other out (i * stride + j) (h * stride + k) (pos (at cost (place n i j))) (pos 0) (λ e. absurd (omega arith)) ∙ p .pads h k s t u;
+    }
+
+    pub part-row : n ≤ j → Part cost n (i + 1) 0 out
+    part-row r = record { long = p .long; lanes = λ h k s t. p .lanes h k (omega arith) t; pads = p .pads }
+
+    pub part-all : j ≡ 0 → i ≤ stride → Spread cost i n out
+    part-all e l = record { long = p .long; lanes = λ h k s t. p .lanes h k (omega arith) t; pads = λ h k s t u. p .pads h k (omega arith) t u }
+
+-- ---- for a sheet
+
+-- The costs of the sheet S lie by lane.
+pub record Costed (S : Sheet) (cost : List ℤ) : Type 0 where
+  pub lanes : (i j : ℕ) → i < sources S → j < sinks S → getD cost (i * stride + j) (pos 0) ≡ laneCost S (lane i j)
+  pub pads : (i j : ℕ) → i < sources S → sinks S ≤ j → j < stride → getD cost (i * stride + j) (pos 0) ≡ pos padCost
+
+pub spread-costed : (S : Sheet) (out : List ℤ) → Spread (S .cost) (sources S) (sinks S) out → Costed S out
+unfolding laneCost
+spread-costed S out p = record { lanes = p .lanes; pads = p .pads }

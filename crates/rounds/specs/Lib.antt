@@ -1,0 +1,4 @@
+pub mod Boards
+pub mod Costs
+pub mod Masks
+pub mod Pricing

@@ -1,0 +1,29 @@
+// The costs of a sheet, spread by lane: that of row i and column j lies at i * MAX_SIDE + j.
+use basis::LANES;
+use basis::Price;
+use basis::scan::PAD;
+use transport::MAX_SIDE;
+ghost use mathlib.Core.Path.{_≡_};
+ghost use Prim.Native.Nat.{ℕ, _*_, _≤_};
+ghost use lib.ListN.{length};
+ghost use Rattle.transport.specs.Lists.{at};
+ghost use Rattle.transport.specs.Limits.{maxCost};
+ghost use Rattle.basis.specs.Layout.{stride};
+ghost use Rattle.rounds.specs.Costs.{Spread};
+
+// Columns past the sheet, and rows past it, cost PAD.
+pub fn spread_costs(cost: &[u64], m: usize, n: usize, out: &mut [Price; LANES])
+    requires { ⌜ (m ≤ stride) × (n ≤ stride) × (length (now cost) ≡ m * n) × ((k : ℕ) → at (now cost) k ≤ maxCost) ⌝ }
+    ensures { λ _. ⌜ Spread (now (cost .entry)) m n (now (out .exit)) ⌝ }
+{
+    *out = [PAD; LANES];
+    let mut i = 0;
+    while i < m {
+        let mut j = 0;
+        while j < n {
+            out[i * MAX_SIDE + j] = cost[i * n + j] as Price;
+            j += 1;
+        }
+        i += 1;
+    }
+}

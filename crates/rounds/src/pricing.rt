@@ -1,0 +1,53 @@
+// Pricing: the prices of a basis, and the lane that enters it.
+use basis::LANES;
+use basis::NODES;
+use basis::Price;
+use basis::potential;
+use basis::scan;
+use basis::scan::PricedLane;
+ghost use mathlib.Core.Path.{_≡_};
+ghost use mathlib.Core.List.{List};
+ghost use lib.ListN.{length};
+ghost use Rattle.transport.specs.Sheet.{Sheet};
+ghost use Rattle.transport.specs.declared.Cell.{Cell};
+ghost use Rattle.basis.specs.Layout.{nodeRoom};
+ghost use Rattle.rounds.specs.Masks.{Small, SmallTo};
+ghost use Rattle.rounds.specs.Pricing.{Laid, Priced};
+
+// A mask has 64 bits: the logic knows the size of a number that is passed by value, and not that of an element of a lent array.
+fn mask_size(mask: u64)
+    ensures { λ _. ⌜ Small mask ⌝ }
+{}
+
+// So each mask is passed by value once, for the proof alone: no work is left of it in the compiled program.
+fn mask_sizes(adj: &[u64; NODES])
+    ensures { λ _. ⌜ SmallTo (now (adj .entry)) nodeRoom ⌝ }
+{
+    let mut k = 0;
+    while k < NODES {
+        mask_size(adj[k]);
+        k += 1;
+    }
+}
+
+// Strikes off the basis, and prices it back through the strikes. The lane that enters has the least reduced cost; where that is not negative, the tableau is finished.
+pub fn price(
+    adj: &[u64; NODES],
+    cost: &[Price; LANES],
+    leaf: &mut [usize; NODES],
+    other: &mut [usize; NODES],
+    lane: &mut [usize; NODES],
+    price: &mut [Price; NODES],
+    m: usize,
+    n: usize,
+) -> PricedLane
+    requires { ⌜ ((S : Sheet) × (T : List Cell) × Laid S T (now adj) (now cost) m n) ⌝ }
+    requires { ⌜ (length (now leaf) ≡ nodeRoom) × (length (now other) ≡ nodeRoom) × (length (now lane) ≡ nodeRoom) ⌝ }
+    ensures { λ _. ⌜ (length (now (leaf .exit)) ≡ nodeRoom) × (length (now (other .exit)) ≡ nodeRoom) × (length (now (lane .exit)) ≡ nodeRoom) ⌝ }
+    ensures { λ r. ⌜ ((S : Sheet) (T : List Cell) → Laid S T (now (adj .entry)) (now (cost .entry)) m n → Priced S T (now (leaf .exit)) (now (other .exit)) (now (lane .exit)) (now (price .exit)) m n (r .row) (r .col) (r .reduced)) ⌝ }
+{
+    mask_sizes(adj);
+    let count = elimination::strike(adj, leaf, other, lane, m, n);
+    potential::potentials(cost, leaf, other, lane, count, price);
+    scan::entering(cost, price, m)
+}

@@ -1,0 +1,13 @@
+-- `simplex::run::refused_run` meets its contract: the answer of a refusal by number.
+use Rattle.simplex.specs.Dealt.{run-refused}
+use Rattle.simplex.proofs.run.refused_run.Statement.{statement}
+use Rattle.simplex.proofs.run.refused_run.Tie as tie
+
+empty-tableau-requires : tie.Need-empty-tableau-requires
+empty-tableau-requires c κs = tt
+
+returns : tie.Need-returns
+returns c = rw (c .empty-tableau .ensures) (run-refused (c .before .args .number))
+
+pub refused-run-spec : {M : Type 1} → statement M
+refused-run-spec = tie.close (tie.spec empty-tableau-requires returns)
