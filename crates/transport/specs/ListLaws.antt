@@ -168,6 +168,18 @@ and-right false b e = absurd (false≢true e)
 -- ---- all
 
 module _ {A : Type 0} (p : A → Bool) where
+  pub all-nil : all p [] ≡ true
+  unfolding all
+  all-nil = refl
+
+  pub all-yes : (x : A) (xs : List A) → p x ≡ true → all p (x ∷ xs) ≡ all p xs
+  unfolding all
+  all-yes x xs e = rw e
+
+  pub all-no : (x : A) (xs : List A) → p x ≡ false → all p (x ∷ xs) ≡ false
+  unfolding all
+  all-no x xs e = rw e
+
   pub all-at : (xs : List A) (d : A) (k : ℕ) → all p xs ≡ true → k < length xs → p (getD xs k d) ≡ true
   unfolding all
   all-at [] d k e l = absurd (omega arith)
