@@ -85,10 +85,6 @@ pub length-below : (n : ℕ) → length (below n) ≡ n
 unfolding below
 length-below n = length-table _ n
 
-pub getD-below : (n i d : ℕ) → i < n → getD (below n) i d ≡ i
-unfolding below
-getD-below n i d p = getD-table _ n i d p
-
 -- ---- members: an element of a list, and the place where it stands
 
 module _ {A : Type 0} where
