@@ -92,9 +92,6 @@ module _ (S : Sheet) where
 
   -- .. and in numbers.
   module _ (p : Passed) where
-    pub sources-some : 1 ≤ length (S .supply)
-    sources-some = within-true 1 maxSide _ (p .sourcesFit) .0
-
     pub sources-few : length (S .supply) ≤ 32
     sources-few = rw side-limit at (within-true 1 maxSide _ (p .sourcesFit) .1)
 
