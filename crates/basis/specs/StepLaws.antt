@@ -32,10 +32,6 @@ unfoldable pub among : List ℕ → ℕ → Bool
 among [] p = false
 among (x ∷ xs) p = eqb p x || among xs p
 
-pub among-nil : (p : ℕ) → among [] p ≡ false
-unfolding among
-among-nil p = refl
-
 pub among-append : (xs ys : List ℕ) (p : ℕ) → among (xs ++ ys) p ≡ among xs p || among ys p
 unfolding among
 among-append [] ys p = refl

@@ -59,14 +59,6 @@ pub record Replaces (m n : ℕ) (T : ℕ → ℕ → Type 0) (h l : ℕ) (T′ :
   pub keeps : (i j : ℕ) → i < m → j < n → T i j → ¬ ((i ≡ h) × (j ≡ l)) → T′ i j
   pub enters : T′ p q
 
--- as when cell ℓ of a list is overwritten
-pub overwritten : (m n : ℕ) {K ℓ : ℕ} {r c r′ c′ : ℕ → ℕ} → ℓ < K → ((k : ℕ) → k < K → k ≢ ℓ → (r′ k ≡ r k) × (c′ k ≡ c k))
-    → Replaces m n (In r c K) (r ℓ) (c ℓ) (In r′ c′ K) (r′ ℓ) (c′ ℓ)
-overwritten m n {K} {ℓ} {r} {c} {r′} {c′} hl rest = record { keeps = λ i j hi hj. stays; enters = (ℓ, hl, refl, refl) }
-  where
-    stays : {i j : ℕ} → In r c K i j → ¬ ((i ≡ r ℓ) × (j ≡ c ℓ)) → In r′ c′ K i j
-    stays (k, l, p, q) d = by-cases (ℕ-discrete k ℓ) (λ s. absurd (d (sym p ∙ ap r s, sym q ∙ ap c s))) (λ s. (k, l, rest k l s .0 ∙ p, rest k l s .1 ∙ q))
-
 module _ {m n K : ℕ} {r c : ℕ → ℕ} (t : Basis m n K r c) where
   -- Without cell ℓ only m + n − 2 cells are left: too few to join everything, so some cut is crossed by none of them.
   -- Cell ℓ crosses it, for all cells together do join everything.

@@ -1,18 +1,17 @@
 -- What the sheet check refuses, case by case, and what an accepted sheet is known to be.
-use mathlib.Core.Path.{_≡_, refl, sym, _∙_}
-use mathlib.Core.Bool.{Bool, true, false, not, _&&_, true≢false}
-use mathlib.Core.List.{List, [], _∷_}
-use mathlib.Core.Option.{Option, none, some}
-use Prim.Native.Nat.{ℕ, _*_, _≤_}
+use mathlib.Core.Path.{_≡_}
+use mathlib.Core.Bool.{Bool, true, false}
+use mathlib.Core.Option.{none, some}
+use Prim.Native.Nat.{_*_, _≤_}
 use native.Mathlib.Omega.{arith}
 use native.Mathlib.Nat.{mul-le-mul}
 use lib.Dec.{eqb}
-use borrow.Author.Tests.{eqb-true, not-false}
 use lib.ListN.{length}
 use Rattle.transport.specs.Lists.{all, within, total}
 use Rattle.transport.specs.Limits.{maxSide, maxAmount, maxCost}
 use Rattle.transport.specs.Sheet.{Sheet, sources, sinks, badSides, badLength, badAmount, badCost, unbalanced, numberTests, sheetTests, refusal}
-use Rattle.sheet.specs.Laws.{within-below, within-above, refusal-next, side-limit}
+use Rattle.transport.specs.SheetLaws.{checked, within-true, true-within, all-within}
+use Rattle.sheet.specs.Laws.{side-limit}
 
 module _ (S : Sheet) where
   abbrev supplies : Bool
@@ -66,23 +65,6 @@ module _ (S : Sheet) where
 
 -- ---- what nothing refused says
 
-module _ (b : Bool) (k : ℕ) (ts : List (Bool × ℕ)) where
-  none-here : refusal ((b, k) ∷ ts) ≡ none → b ≡ false
-  unfolding refusal
-  none-here e = go b e
-    where
-      go : (b : Bool) → refusal ((b, k) ∷ ts) ≡ none → b ≡ false
-      go false e = refl
-      go true e = let z : _≡_ {A = ℕ} 0 1 = cc in absurd (omega arith)
-
-  none-next : refusal ((b, k) ∷ ts) ≡ none → refusal ts ≡ none
-  none-next e = sym (refusal-next k ts b (none-here e)) ∙ e
-
-not-both : (a b : Bool) → not (a && b) ≡ false → (a ≡ true) × (b ≡ true)
-not-both true true e = (refl, refl)
-not-both true false e = absurd (true≢false e)
-not-both false b e = absurd (true≢false e)
-
 -- A sheet that the sheet check accepts, or whose numbers are accepted: each test in the form that code and proofs use.
 module _ (S : Sheet) where
   pub record Passed : Type 0 where
@@ -95,37 +77,29 @@ module _ (S : Sheet) where
     pub evenTotals : total (S .supply) ≡ total (S .demand)
 
   pub passed : refusal (sheetTests S) ≡ none → Passed
-  unfolding sheetTests numberTests badSides badLength badAmount badCost unbalanced sources sinks
+  unfolding sources sinks
   passed e =
-      let e2 = none-next _ _ _ e in
-      let e3 = none-next _ _ _ e2 in
-      let e4 = none-next _ _ _ e3 in
-      let e5 = none-next _ _ _ e4 in
-      let sides = not-both _ _ (none-here _ _ _ e) in
-      let amounts = not-both _ _ (none-here _ _ _ e3) in
+      let c = checked S e in
       record {
-        sourcesFit = sides .0;
-        sinksFit = sides .1;
-        costLength = eqb-true _ _ (not-false _ (none-here _ _ _ e2));
-        suppliesFit = amounts .0;
-        demandsFit = amounts .1;
-        costsFit = not-false _ (none-here _ _ _ e4);
-        evenTotals = eqb-true _ _ (not-false _ (none-here _ _ _ e5));
+        sourcesFit = true-within 1 maxSide _ (c .sourcesLow) (c .sourcesHigh);
+        sinksFit = true-within 1 maxSide _ (c .sinksLow) (c .sinksHigh);
+        costLength = c .costLength;
+        suppliesFit = all-within 1 maxAmount (S .supply) (c .supplyLow) (c .supplyHigh);
+        demandsFit = all-within 1 maxAmount (S .demand) (c .demandLow) (c .demandHigh);
+        costsFit = all-within 0 maxCost (S .cost) (λ k l. omega arith) (c .costHigh);
+        evenTotals = c .balance;
       }
 
   -- .. and in numbers.
   module _ (p : Passed) where
-    pub sources-some : 1 ≤ length (S .supply)
-    sources-some = within-below 1 maxSide _ (p .sourcesFit)
-
     pub sources-few : length (S .supply) ≤ 32
-    sources-few = rw side-limit at (within-above 1 maxSide _ (p .sourcesFit))
+    sources-few = rw side-limit at (within-true 1 maxSide _ (p .sourcesFit) .1)
 
     pub sinks-some : 1 ≤ length (S .demand)
-    sinks-some = within-below 1 maxSide _ (p .sinksFit)
+    sinks-some = within-true 1 maxSide _ (p .sinksFit) .0
 
     pub sinks-few : length (S .demand) ≤ 32
-    sinks-few = rw side-limit at (within-above 1 maxSide _ (p .sinksFit))
+    sinks-few = rw side-limit at (within-true 1 maxSide _ (p .sinksFit) .1)
 
     pub costs-few : length (S .cost) ≤ 1024
     costs-few = rw (p .costLength) (mul-le-mul sources-few sinks-few)

@@ -12,7 +12,7 @@ use Rattle.transport.specs.Sheet.{Sheet as SheetRecord, sources, sinks, refusal
 use Rattle.transport.specs.Calls.{Answer, refused, given, refusedBy, unless, lentAfter, tooShort}
 use Rattle.transport.specs.Answers.{readAnswer}
 use Rattle.transport.specs.SheetText.{Reading, stuck, got, sheetReader, readWith, readTests, readSheetCall}
-use Rattle.sheet.specs.Calls.{unless-before, unless-last, unless-none, short-yes, short-no, lent-refused, lent-given}
+use Rattle.transport.specs.CallLaws.{unless-before, unless-last, unless-none, short-yes, short-no}
 use Rattle.text.specs.Front.{front}
 
 -- The sheet that the fronts of three lists are.

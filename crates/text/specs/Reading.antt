@@ -17,7 +17,8 @@ use Rattle.transport.specs.declared.ByteKind.{ByteKind}
 use Rattle.transport.specs.declared.ByteKind.the-variants.{Digit, Space, LineEnd, Letter, Other}
 use Rattle.transport.specs.Text.{bytes, kindOf}
 use Rattle.transport.specs.SheetText.{Reading, stuck, got, Reader, _>>=_, _>>_, pure, byteThat, word, isDigit, digitValue, moreDigits, number, side, line}
-use Rattle.sheet.specs.Laws.{within-yes, within-low, within-high, within-below, within-above, side-limit}
+use Rattle.transport.specs.SheetLaws.{within-true, true-within, within-low, within-high}
+use Rattle.sheet.specs.Laws.{side-limit}
 pub use Rattle.text.specs.declared.Taken.{Taken}
 pub use Rattle.text.specs.declared.Taken.the-variants.{Got, Stuck}
 
@@ -103,11 +104,11 @@ kindBy d s e l = cond d Digit (cond s Space (cond e LineEnd (cond l Letter Other
 module _ (b : ℕ) where
   pub kind-digit : 48 ≤ b → b ≤ 57 → kindOf b ≡ Digit
   unfolding kindOf
-  kind-digit p q = rw (kindOf, within-yes 48 57 b p q)
+  kind-digit p q = rw (kindOf, true-within 48 57 b p q)
 
   pub kind-letter : 97 ≤ b → b ≤ 122 → kindOf b ≡ Letter
   unfolding kindOf
-  kind-letter p q = rw (kindOf, within-high 48 57 b (omega arith), ne-eqb b 32 (λ e. omega arith), ne-eqb b 10 (λ e. omega arith), within-yes 97 122 b p q)
+  kind-letter p q = rw (kindOf, within-high 48 57 b (omega arith), ne-eqb b 32 (λ e. omega arith), ne-eqb b 10 (λ e. omega arith), true-within 97 122 b p q)
 
   pub kind-other : within 48 57 b ≡ false → (b ≡ 32 → ⊥) → (b ≡ 10 → ⊥) → within 97 122 b ≡ false → kindOf b ≡ Other
   unfolding kindOf
@@ -126,10 +127,10 @@ module _ (b : ℕ) where
 
   -- A digit is a byte from `0` to `9`.
   pub digit-low : isDigit b ≡ true → 48 ≤ b
-  digit-low e = within-below 48 57 b (digit-within e)
+  digit-low e = within-true 48 57 b (digit-within e) .0
 
   pub digit-high : isDigit b ≡ true → b ≤ 57
-  digit-high e = within-above 48 57 b (digit-within e)
+  digit-high e = within-true 48 57 b (digit-within e) .1
 
 -- ---- one reader after another
 
@@ -307,7 +308,7 @@ module _ (text : List ℕ) (at : ℕ) (p : at < length text) (d : isDigit (getD 
   side-more n =
       let b = getD text at 0 in
       rw (drop-cons text at 0 p, add-one)
-      (side-is _ ∙ bind-got (byteThat startsSide) _ (drop (suc at) text) _ b (byte-yes startsSide b (drop (suc at) text) (and-yes (isDigit b) _ d ∙ within-yes 1 maxSide (b - 48) (omega arith) (rw side-limit (omega (arith, digit-high b d))))))
+      (side-is _ ∙ bind-got (byteThat startsSide) _ (drop (suc at) text) _ b (byte-yes startsSide b (drop (suc at) text) (and-yes (isDigit b) _ d ∙ true-within 1 maxSide (b - 48) (omega arith) (rw side-limit (omega (arith, digit-high b d))))))
 
 -- A side that was read is within 1 to 32.
 more-passes : (test : ℕ → Bool) (k x : ℕ) (t : List ℕ) (m : ℕ) (rest : List ℕ) → test x ≡ true → moreDigits test k x t ≡ got m rest → test m ≡ true

@@ -10,7 +10,7 @@ use Rattle.transport.specs.Sheet.{Sheet, refusal, sheetTests}
 use Rattle.transport.specs.Calls.{Answer, given, refusedBy, lentAfter}
 use Rattle.transport.specs.SheetText.{sheetText, writeSheetCall}
 use Rattle.transport.specs.Answers.{writeAnswer}
-use Rattle.sheet.specs.Calls.{unless-before, unless-last, unless-none, short-yes, short-no, lent-refused, lent-given}
+use Rattle.transport.specs.CallLaws.{unless-before, unless-last, unless-none, short-yes, short-no, lent-refused, lent-given}
 use Rattle.text.specs.Front.{front}
 
 module _ (S : Sheet) (out : List ℕ) where

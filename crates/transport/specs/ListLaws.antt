@@ -85,10 +85,6 @@ pub length-below : (n : ℕ) → length (below n) ≡ n
 unfolding below
 length-below n = length-table _ n
 
-pub getD-below : (n i d : ℕ) → i < n → getD (below n) i d ≡ i
-unfolding below
-getD-below n i d p = getD-table _ n i d p
-
 -- ---- members: an element of a list, and the place where it stands
 
 module _ {A : Type 0} where
@@ -168,6 +164,18 @@ and-right false b e = absurd (false≢true e)
 -- ---- all
 
 module _ {A : Type 0} (p : A → Bool) where
+  pub all-nil : all p [] ≡ true
+  unfolding all
+  all-nil = refl
+
+  pub all-yes : (x : A) (xs : List A) → p x ≡ true → all p (x ∷ xs) ≡ all p xs
+  unfolding all
+  all-yes x xs e = rw e
+
+  pub all-no : (x : A) (xs : List A) → p x ≡ false → all p (x ∷ xs) ≡ false
+  unfolding all
+  all-no x xs e = rw e
+
   pub all-at : (xs : List A) (d : A) (k : ℕ) → all p xs ≡ true → k < length xs → p (getD xs k d) ≡ true
   unfolding all
   all-at [] d k e l = absurd (omega arith)

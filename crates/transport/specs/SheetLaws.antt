@@ -5,12 +5,12 @@ use native.Mathlib.Nat.{mul-le-mul-right, suc-mul, zero-mul, div-add-mod', mod-l
 use native.Mathlib.Decide.{decLt}
 use mathlib.Core.Path.{_≡_, refl, sym, ap, _∙_}
 use mathlib.Core.Logic.{_⊎_, inl, inr, ⊎-elim}
-use mathlib.Core.Bool.{Bool, true, false, _&&_}
+use mathlib.Core.Bool.{Bool, true, false, _&&_, and-false}
 use mathlib.Core.List.{List, [], _∷_, _++_, flatMap, append-nil}
 use mathlib.Core.Option.{Option, none, some}
 use lib.Dec.{leb}
 use lib.ListN.{length, getD, length-append, List·getD-append}
-use borrow.Author.Tests.{leb-true, le-leb, eqb-true, eq-eqb, not-false}
+use borrow.Author.Tests.{leb-true, le-leb, lt-leb, eqb-true, eq-eqb, not-false}
 use Rattle.transport.specs.Lists.{all, at, total, within, table, below}
 use Rattle.transport.specs.ListLaws.{and-left, and-right, flatMap-append, getD-append-at, length-table, getD-table, all-at, all-of, at-past}
 use Rattle.transport.specs.Limits.{maxSide, maxAmount, maxCost}
@@ -149,6 +149,15 @@ within-true low high x e =
 pub true-within : (low high x : ℕ) → low ≤ x → x ≤ high → within low high x ≡ true
 unfolding within
 true-within low high x p q = rw (le-leb low x p, le-leb x high q)
+
+-- Below the bounds, and above them.
+pub within-low : (low high x : ℕ) → x < low → within low high x ≡ false
+unfolding within
+within-low low high x p = rw (lt-leb low x p)
+
+pub within-high : (low high x : ℕ) → high < x → within low high x ≡ false
+unfolding within
+within-high low high x p = rw (lt-leb x high p, and-false)
 
 -- Every number of the list is within the bounds.
 pub all-within-low : (low high : ℕ) (xs : List ℕ) → all (within low high) xs ≡ true → (k : ℕ) → k < length xs → low ≤ at xs k

@@ -9,7 +9,8 @@ use native.Mathlib.Numerals.{add-one}
 use lib.ListN.{length, drop, getD, drop-of-length-le}
 use lib.Seq.{drop-cons}
 use Rattle.transport.specs.Lists.{all, within}
-use Rattle.sheet.specs.Laws.{within-yes, within-low, within-high, all-nil, all-yes, all-no}
+use Rattle.transport.specs.ListLaws.{all-nil, all-yes, all-no}
+use Rattle.transport.specs.SheetLaws.{true-within, within-low, within-high}
 use Rattle.sheet.proofs.all_within.Statement.{statement}
 use Rattle.sheet.proofs.all_within.Tie as tie
 
@@ -59,7 +60,7 @@ loop-again c =
     let s = a .numbers .now in
     let t = within (a .low) (a .high) in
     let cut : drop (i .i) s ≡ getD s (i .i) 0 ∷ drop (suc (i .i)) s = drop-cons s (i .i) 0 (omega arith) in
-    let in-limits : t (getD s (i .i) 0) ≡ true = within-yes (a .low) (a .high) _ (omega arith) (omega arith) in
+    let in-limits : t (getD s (i .i) 0) ≡ true = true-within (a .low) (a .high) _ (omega arith) (omega arith) in
     (omega arith, i .inv .1 ∙ ap (all t) cut ∙ all-yes t _ _ in-limits ∙ (rw add-one))
 
 returns-3 : tie.Need-returns-3 Inv-loop μ-loop

@@ -7,8 +7,9 @@ use lib.ListN.{length}
 use borrow.Author.Tests.{not-true, not-false, eq-eqb, ne-eqb}
 use Rattle.transport.specs.Lists.{within}
 use Rattle.transport.specs.Limits.{maxSide}
+use Rattle.transport.specs.SheetLaws.{within-true}
 use Rattle.sheet.specs.Check.{sheetOf, check-none, check-some}
-use Rattle.sheet.specs.Laws.{within-above, side-limit, sides-product}
+use Rattle.sheet.specs.Laws.{sides-product}
 use Rattle.sheet.specs.Refusals.{refused-sources, refused-sinks, refused-length, sheet-numbers}
 use borrow.Author.Needs.{needs}
 use Rattle.sheet.proofs.check_sheet.Statement.{statement}
@@ -40,7 +41,7 @@ returns-2 c =
 
 mul-if3 : tie.Need-mul-if3
 mul-if3 c =
-    record { fits = sides-product _ _ (within-above 1 maxSide _ (sources-fit (c .before .before))) (within-above 1 maxSide _ (sinks-fit c)) }
+    record { fits = sides-product _ _ (within-true 1 maxSide _ (sources-fit (c .before .before)) .1) (within-true 1 maxSide _ (sinks-fit c) .1) }
 
 returns-3 : tie.Need-returns-3
 returns-3 c =
@@ -49,7 +50,7 @@ returns-3 c =
     rw (refused-length S (sources-fit (c .before .before .before)) (sinks-fit (c .before)) (ne-eqb _ _ (c .if3 .taken)), check-some)
 
 check-numbers-requires : tie.Need-check-numbers-requires
-check-numbers-requires c κs = (within-above 1 maxSide _ (sources-fit (c .before .before .before)), within-above 1 maxSide _ (sinks-fit (c .before)))
+check-numbers-requires c κs = (within-true 1 maxSide _ (sources-fit (c .before .before .before)) .1, within-true 1 maxSide _ (sinks-fit (c .before)) .1)
 
 returns-4 : tie.Need-returns-4
 returns-4 c =

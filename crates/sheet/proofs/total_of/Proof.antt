@@ -1,12 +1,14 @@
 -- The loop's invariant: the sum of the first i amounts, each of which is at most 1,000,000.
 use borrow.Author.Needs.{needs}
-use mathlib.Core.Path.{_≡_, refl, sym, ap, _∙_}
-use Prim.Native.Nat.{_≤_, _-_, _*_}
+use mathlib.Core.Path.{_≡_, ap, _∙_}
+use Prim.Native.Nat.{ℕ, _≤_, _-_, _*_}
 use native.Mathlib.Omega.{arith}
 use lib.ListN.{length, getD}
-use Rattle.transport.specs.Lists.{sumTo, at, within}
-use Rattle.transport.specs.Limits.{maxAmount, maxSide}
-use Rattle.sheet.specs.Laws.{within-above, all-at, sumTo-zero, sumTo-one, total-sum, side-limit, amount-limit}
+use Rattle.transport.specs.Lists.{sumTo, at, total}
+use Rattle.transport.specs.Limits.{maxAmount}
+use Rattle.transport.specs.ListLaws.{sumTo-zero, sumTo-one}
+use Rattle.transport.specs.SheetLaws.{all-within-high}
+use Rattle.sheet.specs.Laws.{side-limit, amount-limit}
 use Rattle.sheet.proofs.total_of.Statement.{statement}
 use Rattle.sheet.proofs.total_of.Tie as tie
 
@@ -26,10 +28,8 @@ shared-slice-read-sum : tie.Need-shared-slice-read-sum Inv-loop μ-loop
 shared-slice-read-sum c = search needs
 
 small : (c : tie.In-loop Inv-loop μ-loop) → getD (c .before .before .args .amounts .now) (c .before .loop .i) 0 ≤ 1000000
-small c =
-    let s = c .before .before .args .amounts .now in
-    let i = c .before .loop .i in
-    omega (arith, amount-limit, within-above 1 maxAmount (getD s i 0) (all-at (within 1 maxAmount) s i (c .before .before .pre .1) (omega arith)))
+unfolding at
+small c = omega (arith, amount-limit, all-within-high 1 maxAmount (c .before .before .args .amounts .now) (c .before .before .pre .1) (c .before .loop .i))
 
 add-sum : tie.Need-add-sum Inv-loop μ-loop
 add-sum c = omega (arith, small (c .before), side-limit)
@@ -41,16 +41,19 @@ loop-less : tie.Need-loop-less Inv-loop μ-loop
 loop-less c = search needs
 
 loop-again : tie.Need-loop-again Inv-loop μ-loop
+unfolding at
 loop-again c =
     let s = c .before .before .before .args .amounts .now in
     let i = c .before .before .loop in
-    (omega arith, omega (arith, small (c .before)), omega (arith, sumTo-one s (i .i)))
+    (omega arith, omega (arith, small (c .before)), omega (arith, sumTo-one (i .i) (at s)))
 
 returns : tie.Need-returns Inv-loop μ-loop
+unfolding total
 returns c =
     let s = c .before .before .args .amounts .now in
     let i = c .before .loop in
-    i .inv .2 ∙ sym (total-sum s (i .i) (omega arith))
+    let whole : i .i ≡ length s = omega arith in
+    i .inv .2 ∙ ap (λ (k : ℕ). sumTo k (at s)) whole
 
 pub total-of-spec : {M : Type 1} → statement M
 total-of-spec =

@@ -4,7 +4,7 @@ use mathlib.Core.Path.{_≡_, refl, sym}
 use native.Mathlib.Omega.{arith}
 use Rattle.transport.specs.Lists.{within}
 use Rattle.transport.specs.Text.{kindOf}
-use Rattle.sheet.specs.Laws.{within-low, within-high}
+use Rattle.transport.specs.SheetLaws.{within-low, within-high}
 use Rattle.text.specs.Reading.{kind-digit, kind-letter, kind-other}
 use Rattle.text.proofs.reader.kind_of.Statement.{statement}
 use Rattle.text.proofs.reader.kind_of.Tie as tie

@@ -11,7 +11,8 @@ use lib.Seq.{drop-cons}
 use lib.ListN.{take}
 use Rattle.transport.specs.SheetText.{Reading, stuck, got, word, line, side}
 use Rattle.transport.specs.Limits.{maxSide}
-use Rattle.sheet.specs.Laws.{within-above, side-limit}
+use Rattle.transport.specs.SheetLaws.{within-true}
+use Rattle.sheet.specs.Laws.{side-limit}
 use Rattle.text.specs.Reading.{Taken, Got, Stuck, readingOf, placeOf, valueOf, value-le, line-end, line-side-within}
 use Rattle.text.specs.SheetRead.{list-unnamed, list-uncounted, list-counted}
 use borrow.Author.Needs.{needs}
@@ -78,7 +79,7 @@ module _ (c : tie.After-known-told2) where
   counted-as = counted (c .before .before .before) ∙ ap (readingOf (c .before .before .before .before .before .before .before .before .before .before .before .before .args .text .now) (λ v. v)) (c .before .count .given .1)
 
   few : count ≤ 32
-  few = rw side-limit at (within-above 1 maxSide count (line-side-within count _ _ counted-as))
+  few = rw side-limit at (within-true 1 maxSide count (line-side-within count _ _ counted-as) .1)
 
   after-inside : after ≤ length (c .before .before .before .before .before .before .before .before .before .before .before .before .args .text .now)
   after-inside = rw (c .before .count .given .1) at (c .before .before .before .read-end .ensures .1)

@@ -14,7 +14,7 @@ use lib.Seq.{length-take-le}
 use Rattle.transport.specs.Text.{bytes}
 use Rattle.transport.specs.Limits.{maxSide}
 use Rattle.transport.specs.SheetText.{Reading, stuck, got, sheetReader}
-use Rattle.sheet.specs.Laws.{within-below}
+use Rattle.transport.specs.SheetLaws.{within-true}
 use Rattle.text.specs.Reading.{Taken, Got, Stuck, readingOf, placeOf, valueOf, valueIs}
 use Rattle.text.specs.SheetRead.{listReader, costReader, list-within, sheet-stuck, sheet-stuck-demand, sheet-stuck-cost, sheet-stuck-end, sheet-got}
 use borrow.Author.Needs.{needs}
@@ -74,7 +74,7 @@ module _ (c : tie.After-known-told) where
   m-length = length-take-le m supplies (omega (arith, m-few, c .before .before .before .before .before .read-list .kept, c .before .before .before .before .before .before .before .before .before .before .before .before .pre .0))
 
   m-some : 1 ≤ m
-  m-some = rw m-length at (within-below 1 maxSide _ (list-within (bytes "supply ") (c .before .before .before .before .before .before .before .before .before .before .before .before .args .text .now) _ _ supply-read))
+  m-some = rw m-length at (within-true 1 maxSide _ (list-within (bytes "supply ") (c .before .before .before .before .before .before .before .before .before .before .before .before .args .text .now) _ _ supply-read) .0)
 
 read-list-requires-2 : tie.Need-read-list-requires-2
 read-list-requires-2 c κs = (supply-inside (c .before .before), c .before .before .before .before .before .before .before .before .before .before .before .before .before .before .pre .1)
@@ -127,7 +127,7 @@ module _ (c : tie.After-known-told2) where
   n-length = length-take-le n demands (omega (arith, n-few, c .before .before .before .before .before .read-list2 .kept, c .before .before .before .before .before .before .before .before .before .before .before .before .before .before .before .before .before .before .before .before .pre .1))
 
   n-some : 1 ≤ n
-  n-some = rw n-length at (within-below 1 maxSide _ (list-within (bytes "demand ") _ _ _ demand-read))
+  n-some = rw n-length at (within-true 1 maxSide _ (list-within (bytes "demand ") _ _ _ demand-read) .0)
 
 read-costs-requires : tie.Need-read-costs-requires
 read-costs-requires c κs =

@@ -11,7 +11,8 @@ use lib.Seq.{drop-cons}
 use Rattle.transport.specs.Lists.{within}
 use Rattle.transport.specs.Limits.{maxSide}
 use Rattle.transport.specs.SheetText.{isDigit}
-use Rattle.sheet.specs.Laws.{within-yes, within-high, side-limit}
+use Rattle.transport.specs.SheetLaws.{true-within, within-high}
+use Rattle.sheet.specs.Laws.{side-limit}
 use Rattle.text.specs.Reading.{digitNext, digit-inside, digit-found, digit-low, digit-high, more-none, more-stop, more-step, more-over, side-stuck, side-zero, side-more}
 use borrow.Author.Needs.{needs}
 use Rattle.text.proofs.reader.read_side.Statement.{statement}
@@ -103,7 +104,7 @@ returns-5 c =
     let a = c .before .before .before .before .before .before .before .before .before .args in
     let e = c .before .before .before .before .before .before in (
       side-more (a .text .now) (a .at) (first-inside e) (first-digit e) (c .before .before .before .before .if2 .left)
-          ∙ more-step (within 1 maxSide) _ 0 (a .text .now) (a .at + 1) (second-inside (c .before .before)) (second-digit (c .before .before)) (within-yes 1 maxSide _ (omega arith) (rw side-limit (c .if4 .left)))
+          ∙ more-step (within 1 maxSide) _ 0 (a .text .now) (a .at + 1) (second-inside (c .before .before)) (second-digit (c .before .before)) (true-within 1 maxSide _ (omega arith) (rw side-limit (c .if4 .left)))
           ∙ more-none (within 1 maxSide) _ _,
       omega (arith, second-inside (c .before .before)),
     )
