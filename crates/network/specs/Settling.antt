@@ -21,7 +21,7 @@ use Rattle.network.specs.Basis.{Basis, In, flow-unique}
 abbrev pub most : ℕ → ℕ → ℕ → ℕ → Z
 most p q i j = point p (point q (neg (nat 1)) j) i
 
-most-cost : (m n p q : ℕ) → p < m → q < n → (y : ℕ → ℕ → Z) → cost m n (most p q) y ≈ neg (y p q)
+pub most-cost : (m n p q : ℕ) → p < m → q < n → (y : ℕ → ℕ → Z) → cost m n (most p q) y ≈ neg (y p q)
 most-cost m n p q hp hq y = omega (arith, sum₂-one m n (λ i j. y i j ⊗ most p q i j) p q hp hq elsewhere, here)
   where
     here : y p q ⊗ most p q p q ≈ neg (y p q)

@@ -1,0 +1,125 @@
+-- `settle::tight::tight_in_row` meets its contract. The loop's invariant: of the columns before j just the tight ones are in; the measure is what is left of them.
+use Prim.Native.Nat.{_+_, _-_, _*_, _≤_, _<_, _^_}
+use native.Mathlib.Omega.{arith}
+use borrow.Author.Needs.{needs}
+use mathlib.Core.Path.{_≡_, refl, sym, ap, _∙_}
+use mathlib.Core.Logic.{⊎-elim}
+use lib.IntN.{pos, natAbs, _-ℤ_}
+use lib.ListN.{getD}
+use mir.Syntax.{w32}
+use mir.Val.{toZ, ofZ}
+use mir.Facts.{toZ-ofZ}
+use Rattle.transport.specs.RangeLaws.{diff-in, diff-back}
+use Rattle.basis.specs.Layout.{stride}
+use Rattle.basis.specs.ScanLaws.{slackAt}
+use Rattle.settle.specs.Tight.{TightRow, tight-none, tight-in, tight-out}
+use Rattle.settle.proofs.tight.tight_in_row.Statement.{statement}
+use Rattle.settle.proofs.tight.tight_in_row.Tie as tie
+
+abbrev Inv-loop : tie.InvT-loop
+Inv-loop cost price m n i own tight₀ j₀ tight j = (j ≤ n) × TightRow cost price m i j tight × (toZ w32 own ≡ getD price i (pos 0))
+
+abbrev μ-loop : tie.MeasureT-loop
+μ-loop cost price m n i own tight₀ j₀ tight j = n - j
+
+mul-own : tie.Need-mul-own Inv-loop μ-loop
+mul-own c = omega arith
+
+element-copy-out-own : tie.Need-element-copy-out-own Inv-loop μ-loop
+element-copy-out-own c = omega arith
+
+loop-holds : tie.Need-loop-holds Inv-loop μ-loop
+loop-holds c = (omega arith, tight-none, search needs)
+
+mul-if1 : tie.Need-mul-if1 Inv-loop μ-loop
+mul-if1 c = omega arith
+
+add-if1 : tie.Need-add-if1 Inv-loop μ-loop
+add-if1 c = omega arith
+
+mul-if1-2 : tie.Need-mul-if1-2 Inv-loop μ-loop
+mul-if1-2 c = omega arith
+
+element-copy-out-if1 : tie.Need-element-copy-out-if1 Inv-loop μ-loop
+element-copy-out-if1 c = omega arith
+
+add-if1-2 : tie.Need-add-if1-2 Inv-loop μ-loop
+add-if1-2 c = omega arith
+
+mul-if1-3 : tie.Need-mul-if1-3 Inv-loop μ-loop
+mul-if1-3 c = omega arith
+
+element-copy-out-if1-2 : tie.Need-element-copy-out-if1-2 Inv-loop μ-loop
+element-copy-out-if1-2 c = omega arith
+
+room : (c : tie.After-if13 Inv-loop μ-loop)
+    → let a = c .before .before .before .before .before .args in
+    let j = c .before .before .before .loop .j in
+    natAbs (getD (a .cost .now) (a .i * stride + j) (pos 0)) + natAbs (getD (a .price .now) (a .m + j) (pos 0)) < 2 ^ 31
+room c =
+    let s = c .before .before .before .before .before in
+    omega (arith, s .pre .0 .costs (s .args .i) (c .before .before .before .loop .j) (omega arith) (omega arith), s .pre .0 .prices (s .args .m + c .before .before .before .loop .j) (omega arith))
+
+sub-if1 : tie.Need-sub-if1 Inv-loop μ-loop
+sub-if1 c = search (needs, diff-in, room c)
+
+set-bit-requires : tie.Need-set-bit-requires Inv-loop μ-loop
+set-bit-requires c κs = omega arith
+
+add-j : tie.Need-add-j Inv-loop μ-loop
+add-j c = omega arith
+
+loop-less : tie.Need-loop-less Inv-loop μ-loop
+loop-less c = omega arith
+
+slack-is : (c : tie.After-if13 Inv-loop μ-loop)
+    → let a = c .before .before .before .before .before .args in
+    let j = c .before .before .before .loop .j in
+    let x = getD (a .cost .now) (a .i * stride + j) (pos 0) in
+    let y = getD (a .price .now) (a .m + j) (pos 0) in
+    toZ w32 (ofZ w32 (toZ w32 (ofZ w32 x) -ℤ toZ w32 (ofZ w32 y))) ≡ slackAt (a .cost .now) (a .price .now) (a .m) (a .i) j
+slack-is c =
+    let a = c .before .before .before .before .before .args in
+    let j = c .before .before .before .loop .j in
+    diff-back w32 (getD (a .cost .now) (a .i * stride + j) (pos 0)) (getD (a .price .now) (a .m + j) (pos 0)) (room c)
+
+loop-again : tie.Need-loop-again Inv-loop μ-loop
+loop-again c =
+    let a = c .before .before .before .before .before .before .args in
+    let i = c .before .before .before .before .loop in
+    let own : toZ w32 (ofZ w32 (getD (a .price .now) (a .i) (pos 0))) ≡ getD (a .price .now) (a .i) (pos 0) = search needs in (
+      omega arith,
+      ⊎-elim
+          (λ w. rw (w .2, w .1 .ensures) (tight-in (i .inv .1) (sym (slack-is (c .before)) ∙ ap (toZ w32) (w .0 .taken) ∙ own)))
+          (λ w. rw (w .1) (tight-out (i .inv .1) (λ e. w .0 .left (ap (ofZ w32) (sym (toZ-ofZ {w = w32} (sub-if1 (c .before))) ∙ slack-is (c .before) ∙ e)))))
+          (c .if1 .came),
+      own,
+    )
+
+returns : tie.Need-returns Inv-loop μ-loop
+returns c =
+    let e : c .before .loop .j ≡ c .before .before .before .args .n = omega arith in
+    rw e at (c .before .loop .inv .1)
+
+pub tight-in-row-spec : {M : Type 1} → statement M
+tight-in-row-spec =
+    tie.close
+    (tie.spec
+    Inv-loop
+    μ-loop
+    mul-own
+    element-copy-out-own
+    loop-holds
+    mul-if1
+    add-if1
+    mul-if1-2
+    element-copy-out-if1
+    add-if1-2
+    mul-if1-3
+    element-copy-out-if1-2
+    sub-if1
+    set-bit-requires
+    add-j
+    loop-less
+    loop-again
+    returns)

@@ -1,0 +1,56 @@
+-- `settle::tight::tight_lanes` meets its contract. The loop's invariant: the rows before i are done; the measure is how many are left.
+use Prim.Native.Nat.{_-_, _≤_}
+use native.Mathlib.Omega.{arith}
+use mathlib.Core.Path.{_≡_}
+use Rattle.settle.specs.Tight.{TightLanes, lanes-none, lanes-more}
+use Rattle.settle.proofs.tight.tight_lanes.Statement.{statement}
+use Rattle.settle.proofs.tight.tight_lanes.Tie as tie
+
+abbrev Inv-loop : tie.InvT-loop
+Inv-loop cost price allowed₀ m n i₀ allowed i = (i ≤ m) × TightLanes cost price m n i allowed
+
+abbrev μ-loop : tie.MeasureT-loop
+μ-loop cost price allowed₀ m n i₀ allowed i = m - i
+
+loop-holds : tie.Need-loop-holds Inv-loop μ-loop
+loop-holds c = (omega arith, lanes-none)
+
+tight-in-row-requires : tie.Need-tight-in-row-requires Inv-loop μ-loop
+tight-in-row-requires c κs = (c .before .before .before .pre, omega arith)
+
+mul-allowed : tie.Need-mul-allowed Inv-loop μ-loop
+mul-allowed c = omega (arith, c .before .before .before .before .pre .rows)
+
+element-write-allowed : tie.Need-element-write-allowed Inv-loop μ-loop
+element-write-allowed c = omega (arith, c .before .before .loop .inv .1 .long, c .before .before .before .before .pre .rows)
+
+add-i : tie.Need-add-i Inv-loop μ-loop
+add-i c = omega arith
+
+loop-less : tie.Need-loop-less Inv-loop μ-loop
+loop-less c = omega arith
+
+loop-again : tie.Need-loop-again Inv-loop μ-loop
+loop-again c =
+    let i = c .before .before .loop in
+    (omega arith, lanes-more (i .inv .1) (omega (arith, c .before .before .before .before .pre .rows)) (c .tight-in-row .ensures))
+
+returns : tie.Need-returns Inv-loop μ-loop
+returns c =
+    let e : c .before .loop .i ≡ c .before .before .before .args .m = omega arith in
+    rw e at (c .before .loop .inv .1)
+
+pub tight-lanes-spec : {M : Type 1} → statement M
+tight-lanes-spec =
+    tie.close
+    (tie.spec
+    Inv-loop
+    μ-loop
+    loop-holds
+    tight-in-row-requires
+    mul-allowed
+    element-write-allowed
+    add-i
+    loop-less
+    loop-again
+    returns)

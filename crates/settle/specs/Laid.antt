@@ -1,0 +1,157 @@
+-- The arrays of settling: a tableau of the sheet with the lanes that are still allowed; its masks and its strikes.
+use mathlib.Core.Path.{_≡_, refl, sym, ap, _∙_}
+use mathlib.Core.Logic.{_≢_, by-cases}
+use mathlib.Core.Bool.{true, false, false≢true}
+use mathlib.Core.List.{List}
+use Prim.Native.Nat.{ℕ, _+_, _-_, _/_, _^_, _<_, _≤_}
+use native.Mathlib.Omega.{arith}
+use native.Mathlib.Nat.{div-eq-of-lt}
+use native.Mathlib.Decide.{decLt}
+use lib.Pow.{pow-mono}
+use lib.IntN.{ℤ, pos, negsuc, natAbs}
+use lib.ListN.{length, getD, length-map, List·getD-map}
+use Rattle.integers.specs.Integer.{_≼_, nat}
+use Rattle.integers.specs.Bridge.{toZ}
+use Rattle.network.specs.Round.{bags-nonneg}
+use Rattle.transport.specs.Lists.{at}
+use Rattle.transport.specs.Sheet.{Sheet, sources, sinks, Lane}
+use Rattle.transport.specs.SheetLaws.{Checked, lane}
+use Rattle.transport.specs.declared.Cell.{Cell}
+use Rattle.transport.specs.Tableau.{noCell, laneOf, basisOf}
+use Rattle.transport.specs.Leaf.{cellsBelong}
+use Rattle.transport.specs.Statements.{Basic, Belongs}
+use Rattle.tableaux.specs.View.{rowOf, colOf, amountAt}
+use Rattle.tableaux.specs.Lanes.{has-basic}
+use Rattle.tableaux.specs.Striking.{Struck}
+use Rattle.tableaux.specs.Belonging.{belongs-iff, inside-of, fits-of, spans-of, distinct-of}
+use Rattle.tableaux.specs.TableauView.{belongs-seen}
+use Rattle.demands.specs.Phases.{Restricted, Improving, improving-new}
+use Rattle.basis.specs.Layout as layout
+use Rattle.basis.specs.Layout.{stride, stride-is, nodeRoom, strikesOf}
+use Rattle.basis.specs.Mask.{has}
+use Rattle.elimination.specs.Links.{Links, Masks}
+use Rattle.elimination.specs.Strip.{Stripped}
+use Rattle.elimination.specs.Strikes.{strikes-room}
+use Rattle.board.specs.Held.{Held, row-basic, basic-row, column-basic, inside-basic}
+use Rattle.phase.specs.Cut.{Peels}
+use Rattle.phase.specs.PhaseLaws.{allows, peels-of}
+use Rattle.pivoting.specs.Enters.{Enters}
+use Rattle.pivoting.specs.Ready.{Ready}
+use Rattle.settle.specs.Plan.{NoDebt}
+
+-- The arrays hold a tableau T of the sheet S, of m sources and n sinks, and the masks allow its basic lanes.
+pub record Laid (S : Sheet) (m n : ℕ) (adj : List ℕ) (q e : List ℤ) (masks : List ℕ) (T : List Cell) : Type 0 where
+  pub checked : Checked S
+  pub rows : m ≡ sources S
+  pub cols : n ≡ sinks S
+  pub long : length masks ≡ stride
+  pub held : Held m n T adj q e
+  pub belongs : cellsBelong S T ≡ true
+  pub basics : (i j : ℕ) → Basic T i j → allows masks i j ≡ true
+
+-- Leaves were struck off as long as there were any.
+pub record StruckOff (m n : ℕ) (T : List Cell) (leaf other lanes : List ℕ) (count : ℕ) : Type 0 where
+  pub stripped : Stripped m n (basisOf T) (strikesOf leaf other lanes count) count
+  pub long : length lanes ≡ nodeRoom
+
+-- A mask of 64 bits has no others.
+small : (x j : ℕ) → x < 2 ^ 64 → 64 ≤ j → has x j ≡ false
+small x j p q =
+    let r : 2 ^ 64 ≤ 2 ^ j = pow-mono q in
+    let none : x / 2 ^ j ≡ 0 = div-eq-of-lt (omega arith) in
+    rw none
+
+abbrev pub Small : List ℕ → Type 0
+Small adj = (k : ℕ) → getD adj k 0 < 2 ^ 64
+
+module _ {S : Sheet} {m n : ℕ} {adj : List ℕ} {q e : List ℤ} {masks : List ℕ} {T : List Cell} (l : Laid S m n adj q e masks T) where
+  pub laid-belongs : Belongs S T
+  laid-belongs = belongs-iff S T (l .checked .sourcesLow) (l .checked .sinksLow) .0 (l .belongs)
+
+  pub laid-restricted : Restricted S (allows masks) T
+  laid-restricted = record { belongs = laid-belongs; basics = l .basics }
+
+  pub laid-sides : (1 ≤ m) × (m ≤ stride) × (1 ≤ n) × (n ≤ stride)
+  laid-sides = (
+    omega (arith, l .rows, l .checked .sourcesLow),
+    omega (arith, l .rows, stride-is, l .checked .sourcesHigh),
+    omega (arith, l .cols, l .checked .sinksLow),
+    omega (arith, l .cols, stride-is, l .checked .sinksHigh),
+  )
+
+  inside : {i j : ℕ} → Basic T i j → (i < m) × (j < n)
+  inside b = rw (l .rows, l .cols) (inside-basic (inside-of (l .checked) laid-belongs) b)
+
+  -- ---- the masks of the nodes
+
+  pub laid-links : Small adj → Links m n adj
+  laid-links s = record {
+    rowsLow = laid-sides .0;
+    rowsHigh = laid-sides .1;
+    colsLow = laid-sides .2;
+    colsHigh = laid-sides .3;
+    inRow = λ i j p h. by-cases (decLt j 64)
+        (λ r. inside (row-basic (l .held) i j p r h) .1)
+        (λ r. absurd (false≢true (sym (small (getD adj i 0) j (s i) (omega arith)) ∙ h)));
+    inCol = λ j i p h. by-cases (decLt i 64)
+        (λ r. inside (column-basic (l .held) i j r p h) .0)
+        (λ r. absurd (false≢true (sym (small (getD adj (m + j) 0) i (s (m + j)) (omega arith)) ∙ h)));
+    same = λ i j p r. l .held .columns i j (omega (arith, laid-sides)) r ∙ sym (l .held .rows i j p (omega (arith, laid-sides)));
+  }
+
+  pub laid-masks : Masks m n (basisOf T) adj
+  unfolding basisOf laneOf noCell
+  laid-masks = record {
+    inside = rw (l .rows, l .cols) (fits-of (l .checked) laid-belongs);
+    distinct = λ i k p r s.
+        let z = distinct-of (l .checked) laid-belongs i k (omega (arith, length-map T laneOf)) (omega (arith, length-map T laneOf)) (row i k s) (col i k s) in
+        omega arith;
+    lanes = λ i j p r. (
+      (λ h. has-basic T i j .1 (row-basic (l .held) i j p (omega (arith, laid-sides)) h)),
+      (λ b. basic-row (l .held) i j p (omega (arith, laid-sides)) (has-basic T i j .0 b)),
+    );
+  }
+    where
+      row : (i k : ℕ) → getD (basisOf T) i (lane 0 0) ≡ getD (basisOf T) k (lane 0 0) → rowOf T i ≡ rowOf T k
+      row i k s = ap (λ (x : Lane). x .row) (sym (List·getD-map laneOf T i noCell) ∙ s ∙ List·getD-map laneOf T k noCell)
+
+      col : (i k : ℕ) → getD (basisOf T) i (lane 0 0) ≡ getD (basisOf T) k (lane 0 0) → colOf T i ≡ colOf T k
+      col i k s = ap (λ (x : Lane). x .col) (sym (List·getD-map laneOf T i noCell) ∙ s ∙ List·getD-map laneOf T k noCell)
+
+  -- ---- its strikes
+
+  module _ {leaf other lanes : List ℕ} {count : ℕ} (w : StruckOff m n T leaf other lanes count) where
+    pub laid-struck : Struck (sources S) (sinks S) (basisOf T) (strikesOf leaf other lanes count)
+    laid-struck = rw (l .rows, l .cols) at (w .stripped .complete (rw (l .rows, l .cols) (spans-of (l .checked) laid-belongs)) .1)
+
+    struck : Struck m n (basisOf T) (strikesOf leaf other lanes count)
+    struck = rw (l .rows, l .cols) laid-struck
+
+    pub laid-room : layout.Struck leaf other lanes count
+    laid-room = strikes-room m n leaf other lanes count (laid-sides .1) (laid-sides .3) (w .long) struck
+
+    pub laid-peels : Peels m (strikesOf leaf other lanes count)
+    laid-peels = peels-of struck
+
+    -- A lane that improves may enter.
+    pub laid-ready : {p c i j : ℕ} → p < m → c < n → Improving S (allows masks) p c T i j → Ready S T adj q e leaf other lanes count m i j
+    laid-ready {p} {c} {i} {j} hp hc v =
+        let fresh : ¬ Basic T i j = improving-new (l .checked) (allows masks) (omega (arith, l .rows)) (omega (arith, l .cols)) T laid-restricted v in
+        let enters : Enters S T leaf other lanes count (lane i j) = record {
+          checked = l .checked;
+          belongs = l .belongs;
+          struck = laid-struck;
+          long = w .long;
+          row = v .row;
+          col = v .col;
+          new = fresh;
+        } in
+        record { rows = l .rows; held = rw (l .cols) at (l .held); enters = enters }
+
+-- No bags are owed on any lane.
+pub laid-debtless : {S : Sheet} {m n : ℕ} {adj : List ℕ} {q e : List ℤ} {masks : List ℕ} {T : List Cell} → Laid S m n adj q e masks T → NoDebt m n q
+laid-debtless {T = T} l i j hi hj = rw (l .held .bags i j hi hj) (whole (amountAt T i j .q) (bags-nonneg (belongs-seen (l .checked) (laid-belongs l)) i j (omega (arith, l .rows)) (omega (arith, l .cols))))
+  where
+    whole : (z : ℤ) → nat 0 ≼ toZ z → z ≡ pos (natAbs z)
+    whole (pos k) p = refl
+    whole (negsuc k) p = absurd (omega arith)

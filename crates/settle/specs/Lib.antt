@@ -1,0 +1,7 @@
+pub mod Plan
+pub mod Tight
+pub mod Laid
+pub mod Step
+pub mod Stage
+pub mod Reach
+pub mod Call
