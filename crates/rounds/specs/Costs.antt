@@ -1,17 +1,16 @@
 -- The costs of a sheet, spread by lane with the stride of the arrays: while they are filled in, and for a sheet.
-use Prim.Native.Nat.{ℕ, suc, _+_, _*_, _/_, _%_, _<_, _≤_}
+use Prim.Native.Nat.{ℕ, _+_, _*_, _<_, _≤_}
 use native.Mathlib.Omega.{arith}
 use native.Mathlib.Decide.{decLt}
-use mathlib.Core.Path.{_≡_, refl, sym, ap, _∙_}
+use mathlib.Core.Path.{_≡_, refl, _∙_}
 use mathlib.Core.Logic.{by-cases}
 use mathlib.Core.List.{List}
-use lib.IntN.{ℤ, pos, natAbs}
+use lib.IntN.{ℤ, pos}
 use lib.ListN.{length, getD, set, replicate, length-set, getD-replicate}
 use lib.Seq.{getD-set-same, getD-set-other}
 use Rattle.transport.specs.Lists.{at}
-use Rattle.transport.specs.Limits.{maxCost}
 use Rattle.transport.specs.Sheet.{Sheet, sources, sinks, place, laneCost}
-use Rattle.transport.specs.SheetLaws.{Checked, lane}
+use Rattle.transport.specs.SheetLaws.{lane}
 use Rattle.basis.specs.Layout.{stride, laneRoom}
 use Rattle.basis.specs.ScanLaws.{padCost}
 

@@ -1,11 +1,11 @@
 -- The masks of a tableau, as striking wants them.
-use Prim.Native.Nat.{ℕ, _+_, _/_, _%_, _^_, _<_, _≤_}
+use Prim.Native.Nat.{ℕ, _+_, _/_, _^_, _<_, _≤_}
 use native.Mathlib.Omega.{arith}
 use native.Mathlib.Nat.{div-eq-of-lt, eq-or-lt-of-le}
 use native.Mathlib.Decide.{decLt}
-use mathlib.Core.Path.{_≡_, refl, sym, ap, _∙_}
-use mathlib.Core.Logic.{_↔_, _≢_, ⊎-elim, by-cases}
-use mathlib.Core.Bool.{Bool, true, false, false≢true}
+use mathlib.Core.Path.{_≡_, sym, ap, _∙_}
+use mathlib.Core.Logic.{_≢_, ⊎-elim, by-cases}
+use mathlib.Core.Bool.{true, false, false≢true}
 use mathlib.Core.List.{List}
 use lib.Pow.{pow-lt}
 use lib.IntN.{ℤ}
@@ -16,11 +16,11 @@ use Rattle.transport.specs.SheetLaws.{lane}
 use Rattle.transport.specs.declared.Cell.{Cell}
 use Rattle.transport.specs.Tableau.{laneOf, basisOf, noCell}
 use Rattle.tableaux.specs.View.{Distinct}
-use Rattle.tableaux.specs.Lanes.{Has, Fits, has-basic}
+use Rattle.tableaux.specs.Lanes.{Fits, has-basic}
 use Rattle.basis.specs.Mask.{has}
 use Rattle.basis.specs.Layout.{stride, nodeRoom}
 use Rattle.board.specs.Held.{Held, isBasic, isBasic-true, true-isBasic}
-use Rattle.elimination.specs.Links.{Links, Masks, tied}
+use Rattle.elimination.specs.Links.{Links, Masks}
 use Rattle.elimination.specs.Drawn.{Drawn, drawn-links, drawn-masks}
 
 -- The masks are those of the cells T, as far as 64 bits go.

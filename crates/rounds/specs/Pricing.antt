@@ -15,13 +15,13 @@ use lib.ListN.{length, getD}
 use Rattle.integers.specs.Bridge.{z-add, z-neg, z-eq}
 use Rattle.integers.specs.Tests.{lt-yes, no-lt, abs-z}
 use Rattle.transport.specs.Limits.{maxCost}
-use Rattle.transport.specs.ListLaws.{member-at, member-table, FirstLeast, by-key, firstLeast-unique}
+use Rattle.transport.specs.ListLaws.{member-at, member-table, by-key, firstLeast-unique}
 use Rattle.transport.specs.AmountLaws.{ltZ-weak}
 use Rattle.transport.specs.RangeLaws.{back}
 use Rattle.transport.specs.Sheet.{Sheet, sources, sinks, Lane, lanes, place, laneCost}
 use Rattle.transport.specs.SheetLaws.{lane, Checked, Placed, place-of, place-below, length-lanes, getD-lanes, all-lanes, all-lanes-at}
 use Rattle.transport.specs.declared.Cell.{Cell}
-use Rattle.transport.specs.Tableau.{laneOf, noCell, basisOf, basisSize}
+use Rattle.transport.specs.Tableau.{laneOf, noCell, basisOf}
 use Rattle.transport.specs.Leaf.{Strike, strikes, spans, cellsBelong}
 use Rattle.transport.specs.Potential.{potentialBy, potential, reducedCost, isFinished}
 use Rattle.transport.specs.Round.{entering}

@@ -4,7 +4,7 @@ use native.Mathlib.Omega.{arith}
 use mathlib.Core.Path.{_≡_, refl, sym, ap, _∙_}
 use mathlib.Core.Bool.{true, false, not}
 use mathlib.Core.Option.{none, some}
-use mathlib.Core.List.{List, []}
+use mathlib.Core.List.{List}
 use lib.Dec.{eqb}
 use lib.IntN.{ℤ, pos, natAbs}
 use lib.ListN.{length, getD}
@@ -12,16 +12,16 @@ use Rattle.transport.specs.declared.RoundOutcome.the-variants as RoundOutcome
 use Rattle.transport.specs.declared.RunOutcome.the-variants as RunOutcome
 use Rattle.transport.specs.declared.Cell.{Cell}
 use Rattle.transport.specs.declared.Tableau.{Tableau}
-use Rattle.transport.specs.Lists.{at, table, padded}
+use Rattle.transport.specs.Lists.{at, table}
 use Rattle.transport.specs.ListLaws.{and-right, table-cong}
-use Rattle.transport.specs.Limits.{maxSide, maxCost}
+use Rattle.transport.specs.Limits.{maxCost}
 use Rattle.transport.specs.Sheet.{Sheet, sources, sinks, sheetTests, refusal}
 use Rattle.transport.specs.SheetLaws.{Checked}
 use Rattle.transport.specs.Tableau.{cellsOf, tableauOf, noTableau, basisSize}
 use Rattle.transport.specs.Leaf.{cellsBelong, belongs}
 use Rattle.transport.specs.Potential.{potential, sourcePrices, sinkPrices, isFinished}
 use Rattle.transport.specs.Round.{finished, moved, round, next, Run, run}
-use Rattle.transport.specs.Calls.{Answer, given, refusedBy, tableauTests, roundCall, runCall}
+use Rattle.transport.specs.Calls.{given, refusedBy, tableauTests, roundCall, runCall}
 use Rattle.transport.specs.CallLaws.{unless-before, unless-last, unless-none}
 use Rattle.transport.specs.Answers.{prices, noPrices, roundAnswer, runAnswer, runOutcome}
 use Rattle.tableaux.specs.Belonging.{belongs-iff, fits-of, spans-of}

@@ -1,7 +1,7 @@
 -- `simplex::round::side_prices` meets its contract. The loop's invariant: the first k prices are written, and zeros follow.
-use Prim.Native.Nat.{_+_, _-_, _≤_, _<_, _^_}
+use Prim.Native.Nat.{_+_, _-_, _≤_}
 use native.Mathlib.Omega.{arith}
-use mathlib.Core.Path.{_≡_, refl, sym, ap, _∙_}
+use mathlib.Core.Path.{_≡_, _∙_}
 use mathlib.Core.List.{_++_}
 use lib.IntN.{pos, natAbs}
 use lib.ListN.{drop, getD, replicate}
