@@ -2,3 +2,4 @@ pub mod Refusing
 pub mod Phases
 pub mod Settling
 pub mod Demand3
+pub mod Optimal
