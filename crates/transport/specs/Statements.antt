@@ -3,13 +3,13 @@ use mathlib.Core.Path.{_≡_}
 use mathlib.Core.Logic.{_↔_}
 use mathlib.Core.Bool.{Bool, true, false}
 use mathlib.Core.List.{List, map}
-use mathlib.Core.Option.{none, some}
-use Prim.Native.Nat.{ℕ, suc, _+_, _*_, _-_, _^_, _≤_, _<_}
+use mathlib.Core.Option.{none}
+use Prim.Native.Nat.{ℕ, suc, _*_, _^_, _≤_, _<_}
 use lib.IntN.{ℤ}
 use lib.ListN.{length, take, drop, getD}
 use Rattle.transport.specs.declared.SolveAnswer.{SolveAnswer}
 use Rattle.transport.specs.declared.SolveAnswer.the-variants as SolveAnswer
-use Rattle.transport.specs.Lists.{all, sumTo, at, total, within}
+use Rattle.transport.specs.Lists.{sumTo, at, total, within}
 use Rattle.transport.specs.Limits.{maxSide, maxDigits}
 use Rattle.transport.specs.Sheet.{Sheet, sources, sinks, place, sheetTests, refusal, badSides, badLength, badAmount, badCost}
 use Rattle.transport.specs.Amount.{less, nothing, pairedSupply, pairedDemand}
@@ -78,9 +78,9 @@ pub record Bought (S : Sheet) (r : SolveAnswer) (u v : List ℤ) (plan : List �
   -- Demand 3: of sheets within the limits, with lists long enough, solve refuses exactly the unbalanced ones, each by 5.
   pub refuses : WithinLimits S → LongEnough S (length u) (length v) (length plan)
       → (k : ℕ) → (r ≡ SolveAnswer.Refused k) ↔ (k ≡ 5) × ¬ Balanced S
-  -- Demand 1: a refusal alters no byte of lent memory ..
+  -- Demand 1: a refusal alters no byte of lent memory.
   pub unchanged : (k : ℕ) → r ≡ SolveAnswer.Refused k → (uAfter ≡ u) × (vAfter ≡ v) × (planAfter ≡ plan)
-  -- .. and success only the places that the result fills.
+  -- Paper 01: on success a lent list changes only in the places that the result fills.
   pub rest : (cost rounds : ℕ) → r ≡ SolveAnswer.Solved cost rounds
       → (drop (sources S) uAfter ≡ drop (sources S) u)
       × (drop (sinks S) vAfter ≡ drop (sinks S) v)
