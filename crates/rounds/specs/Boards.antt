@@ -1,5 +1,5 @@
--- The board of a run: the arrays hold a tableau of a sheet; one round on it, and a run of rounds.
-use Prim.Native.Nat.{ℕ, suc, _+_, _-_, _<_}
+-- The board of a run: the arrays hold a tableau of a sheet; one round on it, what falls in each round, and a run of rounds.
+use Prim.Native.Nat.{ℕ, zero, suc, _+_, _*_, _-_, _<_}
 use native.Mathlib.Omega.{arith}
 use mathlib.Core.Path.{_≡_, refl, sym, ap, _∙_, subst}
 use mathlib.Core.Bool.{Bool, true, false, not, true≢false}
@@ -7,6 +7,11 @@ use mathlib.Core.List.{List}
 use lib.IntN.{ℤ, pos}
 use lib.Signed.{ltZ}
 use lib.ListN.{length, getD}
+use Rattle.integers.specs.Integer.{Z, _≈_, _⊗_}
+use Rattle.integers.specs.Bridge.{toZ}
+use Rattle.integers.specs.SumLaws.{sum₂-cong}
+use Rattle.network.specs.Flow as network
+use Rattle.network.specs.Pivot.{valued}
 use Rattle.transport.specs.Sheet.{Sheet, sources, sinks}
 use Rattle.transport.specs.SheetLaws.{lane, Checked}
 use Rattle.transport.specs.declared.Cell.{Cell}
@@ -14,15 +19,19 @@ use Rattle.transport.specs.Tableau.{basisOf, basisSize}
 use Rattle.transport.specs.Leaf.{cellsBelong}
 use Rattle.transport.specs.Potential.{potential, isFinished}
 use Rattle.transport.specs.Round.{pivot, next, run}
+use Rattle.transport.specs.Calls.{roundBound}
 use Rattle.transport.specs.Statements.{Belongs}
 use Rattle.tableaux.specs.View.{Inside}
+use Rattle.tableaux.specs.PlanView as plan
+use Rattle.tableaux.specs.TableauView.{bagsAt, marksAt}
+use Rattle.tableaux.specs.Pivoting.{measure}
 use Rattle.tableaux.specs.Order.{Ordered, ordered-by}
 use Rattle.tableaux.specs.Striking.{Struck}
 use Rattle.tableaux.specs.Belonging.{belongs-iff, inside-of}
 use Rattle.tableaux.specs.Entering.{entering-inside, entering-new}
-use Rattle.tableaux.specs.Running.{run-done, run-more}
-use Rattle.tableaux.specs.Ending.{next-belongs}
-use Rattle.basis.specs.Layout.{nodeRoom, strikesOf}
+use Rattle.tableaux.specs.Running.{run-done, run-none, run-more}
+use Rattle.tableaux.specs.Ending.{measure-nonneg, next-belongs, next-falls, run-ends}
+use Rattle.basis.specs.Layout.{stride, nodeRoom, strikesOf}
 use Rattle.board.specs.Held.{Held}
 use Rattle.board.specs.Lanes.{RowMasks, gathered, gathered-is, held-masks}
 use Rattle.pivoting.specs.Ready.{Ready}
@@ -71,6 +80,10 @@ module _ {S : Sheet} {T : List Cell} {adj : List ℕ} {q e cost : List ℤ} {m n
   pub board-gathered : gathered m adj q e ≡ T
   board-gathered = gathered-is (b .held) (laid-sides board-laid .3) board-inside board-ordered
 
+  -- A run of the bound of rounds comes from it to a finished one.
+  pub board-ends : run S (roundBound S) T .done ≡ true
+  board-ends = run-ends (b .checked) T board-belongs
+
   module _ {leaf other lanes : List ℕ} {price : List ℤ} {row col : ℕ} {reduced : ℤ} (p : Priced S T leaf other lanes price m n row col reduced) where
     pub advanced-stays : ltZ reduced (pos 0) ≡ false → Advanced S T adj q e cost price m n true
     advanced-stays t = record { done = p .done ∙ ap not t; prices = p .prices; stays = λ s. b; moves = λ s. absurd (true≢false s) }
@@ -115,6 +128,32 @@ module _ {S : Sheet} {T : List Cell} {adj : List ℕ} {q e cost : List ℤ} {m n
             held = rw (b .columns, ← next-is) h;
           }
 
+-- ---- the measure of rounds
+
+-- What the array has on the lane of row i and column j.
+abbrev onLane : List ℤ → ℕ → ℕ → Z
+onLane xs i j = toZ (getD xs (i * stride + j) (pos 0))
+
+-- The valued cost of the bags and marks on the lanes ..
+abbrev laneValue : List ℤ → List ℤ → List ℤ → ℕ → ℕ → Z
+laneValue q e cost m n = network.cost m n (onLane cost) (valued m (onLane q) (onLane e))
+
+-- .. as a natural number.
+abbrev pub boardValue : List ℤ → List ℤ → List ℤ → ℕ → ℕ → ℕ
+boardValue q e cost m n = let x = laneValue q e cost m n in x .up - x .dn
+
+-- It is the measure of the board's tableau ..
+board-value : {S : Sheet} {T : List Cell} {adj : List ℕ} {q e cost : List ℤ} {m n : ℕ} → Board S T adj q e cost m n → laneValue q e cost m n ≈ measure S (plan.costs S) T
+board-value {S} {T} {adj} {q} {e} {cost} {m} {n} b =
+    rw (b .rows, b .columns)
+    (sum₂-cong (sources S) (sinks S) (λ i j. valued (sources S) (onLane q) (onLane e) i j ⊗ onLane cost i j) (λ i j. valued (sources S) (bagsAt T) (marksAt T) i j ⊗ plan.costs S i j)
+    (λ i j k l. rw (b .held .bags i j (omega (arith, b .rows)) (omega (arith, b .columns)), b .held .marks i j (omega (arith, b .rows)) (omega (arith, b .columns)), b .costs .lanes i j k l)))
+
+-- .. which falls in each round.
+pub board-falls : {S : Sheet} {T : List Cell} {adj adj′ : List ℕ} {q q′ e e′ cost : List ℤ} {m n : ℕ} → Board S T adj q e cost m n → isFinished S T ≡ false → Board S (next S T) adj′ q′ e′ cost m n
+    → boardValue q′ e′ cost m n < boardValue q e cost m n
+board-falls b f b′ = omega (arith, board-value b, board-value b′, next-falls (b .checked) (board-belongs b) f, measure-nonneg (b .checked) (board-belongs b′))
+
 -- ---- a run
 
 -- The run of an allowance on T has come to the board's tableau: `made` rounds are made, and what is left is a run from there.
@@ -153,6 +192,14 @@ module _ {S : Sheet} {T : List Cell} {allowance : ℕ} {adj : List ℕ} {q e cos
           tableau = g .tableau ∙ ap (λ x. x .tableau) r;
           rounds = omega (arith, g .rounds, ap (λ x. x .rounds) r);
         }
+
+    -- A run that is done has a round left as long as the tableau is not finished.
+    pub going-left : run S allowance T .done ≡ true → isFinished S (g .here) ≡ false → 0 < left
+    going-left d f = go left refl
+      where
+        go : (k : ℕ) → left ≡ k → 0 < left
+        go zero z = absurd (true≢false (sym d ∙ g .done ∙ ap (λ (a : ℕ). run S a (g .here) .done) z ∙ ap (λ x. x .done) (run-none S (g .here) f)))
+        go (suc k) s = omega arith
 
     module _ {adj′ : List ℕ} {q′ e′ : List ℤ} {finished : Bool} (price : List ℤ) (b : Board S (g .here) adj′ q′ e′ cost m n) (p : (k : ℕ) → k < m + n → getD price k (pos 0) ≡ potential S (g .here) k) where
       ran : run S left (g .here) ≡ record { done = finished; tableau = g .here; rounds = 0 } → Ran S T allowance adj′ q′ e′ cost price m n finished made

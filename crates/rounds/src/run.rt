@@ -1,13 +1,15 @@
-// Runs: rounds made on the board until a tableau is finished, or the allowance is spent.
+// Runs: rounds made on the board until a tableau is finished, or an allowance is spent.
 use crate::pricing;
 use basis::LANES;
 use basis::NODES;
 use basis::Price;
 ghost use mathlib.Core.Path.{_≡_};
+ghost use mathlib.Core.Bool.{true};
 ghost use mathlib.Core.List.{List};
 ghost use lib.ListN.{length};
 ghost use Rattle.transport.specs.Sheet.{Sheet};
 ghost use Rattle.transport.specs.declared.Cell.{Cell};
+ghost use Rattle.transport.specs.Calls.{roundBound};
 ghost use Rattle.basis.specs.Layout.{nodeRoom};
 ghost use Rattle.rounds.specs.Boards.{Board, Advanced, Ran};
 
@@ -146,4 +148,42 @@ pub fn rounds(
         finished: enter.reduced >= 0,
         made: made,
     }
+}
+
+// Rounds until the tableau is finished, however many: how many they were. The board then holds the finished tableau, and `price` its prices.
+pub fn finish(
+    adj: &mut [u64; NODES],
+    q: &mut [i64; LANES],
+    e: &mut [i64; LANES],
+    cost: &[Price; LANES],
+    price: &mut [Price; NODES],
+    m: usize,
+    n: usize,
+) -> u64
+    requires { ⌜ ((S : Sheet) × (T : List Cell) × Board S T (now adj) (now q) (now e) (now cost) m n) ⌝ }
+    ensures { λ r. ⌜ ((S : Sheet) (T : List Cell) → Board S T (now (adj .entry)) (now (q .entry)) (now (e .entry)) (now (cost .entry)) m n → Ran S T (roundBound S) (now (adj .exit)) (now (q .exit)) (now (e .exit)) (now (cost .entry)) (now (price .exit)) m n true r) ⌝ }
+{
+    let mut leaf = [0usize; NODES];
+    let mut other = [0usize; NODES];
+    let mut lane = [0usize; NODES];
+    let mut minus = [0usize; NODES];
+    let mut plus = [0usize; NODES];
+    let mut made = 0u64;
+    while !advance(
+        adj,
+        q,
+        e,
+        cost,
+        price,
+        m,
+        n,
+        &mut leaf,
+        &mut other,
+        &mut lane,
+        &mut minus,
+        &mut plus,
+    ) {
+        made += 1;
+    }
+    made
 }

@@ -91,6 +91,13 @@ module _ {S : Sheet} (ok : Checked S) where
       go true e rest = (0, omega arith, reached-now S T e)
       go false e rest = let (h, q, r) = rest (next-belongs w e) (omega (arith, next-falls w e)) in (suc h, omega arith, reached-later S T h e r)
 
+  -- So from every tableau that belongs, a run of the bound of rounds comes to a finished one.
+  bound-reached : (T : List Cell) → Belongs S T → (h : ℕ) × (h ≤ roundBound S) × Reached S T h
+  bound-reached T w = ends (roundBound S) T w (measure-bound w)
+
+  pub run-ends : (T : List Cell) → Belongs S T → run S (roundBound S) T .done ≡ true
+  run-ends T w = run-done-iff S (roundBound S) T .1 (bound-reached T w)
+
   -- As long as no tableau is finished, the next one belongs ..
   pub after-belongs : (k : ℕ) (T : List Cell) → Belongs S T → ((h : ℕ) → h < k → isFinished S (after S h T) ≡ false) → Belongs S (after S k T)
   unfolding after
@@ -107,10 +114,10 @@ module _ {S : Sheet} (ok : Checked S) where
   -- ---- from the start
 
   pub start-ends : (h : ℕ) × (h ≤ roundBound S) × Reached S (start S) h
-  start-ends = ends (roundBound S) (start S) (start-belongs S ok) (measure-bound (start-belongs S ok))
+  start-ends = bound-reached (start S) (start-belongs S ok)
 
   pub start-done : run S (roundBound S) (start S) .done ≡ true
-  start-done = run-done-iff S (roundBound S) (start S) .1 start-ends
+  start-done = run-ends (start S) (start-belongs S ok)
 
   -- The count of rounds fits 64 bits.
   pub roundBound-fits : roundBound S < 2 ^ 64
