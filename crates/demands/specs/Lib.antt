@@ -2,4 +2,5 @@ pub mod Refusing
 pub mod Phases
 pub mod Settling
 pub mod Demand3
+pub mod Bought
 pub mod Optimal

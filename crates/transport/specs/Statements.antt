@@ -1,11 +1,15 @@
 -- What the demands say, in their own words and without the algorithm: the types that the theorems and contracts inhabit.
 use mathlib.Core.Path.{_≡_}
+use mathlib.Core.Logic.{_↔_}
 use mathlib.Core.Bool.{Bool, true, false}
 use mathlib.Core.List.{List, map}
-use mathlib.Core.Option.{none, some}
-use Prim.Native.Nat.{ℕ, suc, _+_, _*_, _-_, _^_, _≤_, _<_}
-use lib.ListN.{length, take, getD}
-use Rattle.transport.specs.Lists.{all, sumTo, at, within}
+use mathlib.Core.Option.{none}
+use Prim.Native.Nat.{ℕ, suc, _*_, _^_, _≤_, _<_}
+use lib.IntN.{ℤ}
+use lib.ListN.{length, take, drop, getD}
+use Rattle.transport.specs.declared.SolveAnswer.{SolveAnswer}
+use Rattle.transport.specs.declared.SolveAnswer.the-variants as SolveAnswer
+use Rattle.transport.specs.Lists.{sumTo, at, total, within}
 use Rattle.transport.specs.Limits.{maxSide, maxDigits}
 use Rattle.transport.specs.Sheet.{Sheet, sources, sinks, place, sheetTests, refusal, badSides, badLength, badAmount, badCost}
 use Rattle.transport.specs.Amount.{less, nothing, pairedSupply, pairedDemand}
@@ -26,6 +30,10 @@ pub record WithinLimits (S : Sheet) : Type 0 where
   pub lengths : badLength S .0 ≡ false
   pub amounts : badAmount S .0 ≡ false
   pub costs : badCost S .0 ≡ false
+
+-- The sheet is balanced: total supply is total demand.
+abbrev pub Balanced : Sheet → Type 0
+Balanced S = total (S .supply) ≡ total (S .demand)
 
 -- ---- plans (01, "The sheet")
 
@@ -53,6 +61,30 @@ pub record Best (S : Sheet) (plan : List ℕ) (cost : ℕ) : Type 0 where
   pub least : (k : ℕ) (Q : List ℕ) → 1 ≤ k → Meets S k Q → k * cost ≤ planCost S Q
   pub first : (k : ℕ) (Q : List ℕ) → 1 ≤ k → Meets S k Q → planCost S Q ≡ k * cost
       → (l : ℕ) → FirstDifference (scaled k plan) Q l → at Q l < at (scaled k plan) l
+
+-- ---- solve (01, "Calls and their refusals")
+
+-- The lists lent to solve are long enough for m and n prices and m × n quantities.
+pub record LongEnough (S : Sheet) (uRoom vRoom planRoom : ℕ) : Type 0 where
+  pub u : sources S ≤ uRoom
+  pub v : sinks S ≤ vRoom
+  pub plan : sources S * sinks S ≤ planRoom
+
+-- What is bought of each call of solve: r is its answer; the lent lists hold u, v and plan before it, and uAfter, vAfter and planAfter after it.
+pub record Bought (S : Sheet) (r : SolveAnswer) (u v : List ℤ) (plan : List ℕ) (uAfter vAfter : List ℤ) (planAfter : List ℕ) : Type 0 where
+  -- Demand 3: for every balanced sheet within the limits, with lists long enough, solve gives a plan, and it is best at the cost shown.
+  pub solved : WithinLimits S → LongEnough S (length u) (length v) (length plan) → Balanced S
+      → (cost : ℕ) × (rounds : ℕ) × (r ≡ SolveAnswer.Solved cost rounds) × Best S (take (sources S * sinks S) planAfter) cost
+  -- Demand 3: of sheets within the limits, with lists long enough, solve refuses exactly the unbalanced ones, each by 5.
+  pub refuses : WithinLimits S → LongEnough S (length u) (length v) (length plan)
+      → (k : ℕ) → (r ≡ SolveAnswer.Refused k) ↔ (k ≡ 5) × ¬ Balanced S
+  -- Demand 1: a refusal alters no byte of lent memory.
+  pub unchanged : (k : ℕ) → r ≡ SolveAnswer.Refused k → (uAfter ≡ u) × (vAfter ≡ v) × (planAfter ≡ plan)
+  -- Paper 01: on success a lent list changes only in the places that the result fills.
+  pub rest : (cost rounds : ℕ) → r ≡ SolveAnswer.Solved cost rounds
+      → (drop (sources S) uAfter ≡ drop (sources S) u)
+      × (drop (sinks S) vAfter ≡ drop (sinks S) v)
+      × (drop (sources S * sinks S) planAfter ≡ drop (sources S * sinks S) plan)
 
 -- ---- belonging (01, "Tableau and start")
 

@@ -1,0 +1,87 @@
+-- What is bought, from the contract of solve.
+use mathlib.Core.Path.{_≡_, refl, sym, ap, _∙_}
+use mathlib.Core.Logic.{_↔_}
+use mathlib.Core.List.{List}
+use Prim.Native.Nat.{ℕ, _*_}
+use native.Mathlib.Omega.{arith}
+use lib.IntN.{ℤ}
+use lib.ListN.{length, take, drop}
+use lib.Seq.{take-at, drop-at}
+use Rattle.transport.specs.declared.SolveAnswer.{SolveAnswer}
+use Rattle.transport.specs.declared.SolveAnswer.the-variants as SolveAnswer
+use Rattle.transport.specs.Sheet.{Sheet, sources, sinks}
+use Rattle.transport.specs.Calls.{Answer, refused, given, refusedBy, lentAfter, Solution, solveCall}
+use Rattle.transport.specs.Answers.{solveAnswer}
+use Rattle.transport.specs.Statements.{Balanced, Best, Bought}
+use Rattle.demands.specs.Demand3.{Solved, Fills, demand3, solve-fills}
+
+solved≢refused : {cost rounds k : ℕ} → SolveAnswer.Solved cost rounds ≡ SolveAnswer.Refused k → ⊥
+solved≢refused e = let n : _≡_ {A = ℕ} 0 1 = cc in omega arith
+
+-- A lent list after a solution of which a part fills n places: these places, and the rest.
+module _ {B : Type 0} (part : Solution → List B) (s : Solution) (n : ℕ) (e : length (part s) ≡ n) (old : List B) where
+  filled : take n (lentAfter part (given s) old) ≡ part s
+  unfolding lentAfter
+  filled = take-at (part s) (drop (length (part s)) old) n e
+
+  beyond : drop n (lentAfter part (given s) old) ≡ drop n old
+  unfolding lentAfter
+  beyond = drop-at (part s) (drop (length (part s)) old) n e ∙ ap (λ (t : ℕ). drop t old) e
+
+-- ---- the fields, for any answer of the paper
+
+gives-best : (S : Sheet) (a : Answer Solution) (plan : List ℕ) → Solved S a
+    → (cost : ℕ) × (rounds : ℕ) × (solveAnswer a ≡ SolveAnswer.Solved cost rounds) × Best S (take (sources S * sinks S) (lentAfter (λ s. s .plan) a plan)) cost
+unfolding solveAnswer
+gives-best S a plan h =
+    let s = h .found in
+    let front = filled (λ s. s .plan) s (sources S * sinks S) (h .best .meets .quantities) plan in
+    (s .cost, s .rounds, rw (h .answered), rw (h .answered, front) (h .best))
+
+refuses-exactly : (S : Sheet) (a : Answer Solution) → (Balanced S → Solved S a) × (¬ Balanced S → a ≡ refusedBy 5)
+    → (k : ℕ) → (solveAnswer a ≡ SolveAnswer.Refused k) ↔ (k ≡ 5) × ¬ Balanced S
+unfolding solveAnswer refusedBy
+refuses-exactly S a h k = (there, λ r. rw (h .1 (r .1), r .0))
+  where
+    there : solveAnswer a ≡ SolveAnswer.Refused k → (k ≡ 5) × ¬ Balanced S
+    there e =
+        let unbalanced : ¬ Balanced S = λ b. solved≢refused (sym (ap solveAnswer (h .0 b .answered)) ∙ e) in
+        let five : k ≡ 5 = cc (e, ap solveAnswer (h .1 unbalanced)) in
+        (five, unbalanced)
+
+leaves-all : (a : Answer Solution) (u v : List ℤ) (plan : List ℕ) (k : ℕ) → solveAnswer a ≡ SolveAnswer.Refused k
+    → (lentAfter (λ s. s .u) a u ≡ u) × (lentAfter (λ s. s .v) a v ≡ v) × (lentAfter (λ s. s .plan) a plan ≡ plan)
+unfolding solveAnswer lentAfter
+leaves-all (refused r) u v plan k e = (refl, refl, refl)
+leaves-all (given s) u v plan k e = absurd (solved≢refused e)
+
+leaves-rest : (S : Sheet) (a : Answer Solution) (u v : List ℤ) (plan : List ℕ) → ((s : Solution) → a ≡ given s → Fills S s)
+    → (cost rounds : ℕ) → solveAnswer a ≡ SolveAnswer.Solved cost rounds
+    → (drop (sources S) (lentAfter (λ s. s .u) a u) ≡ drop (sources S) u)
+    × (drop (sinks S) (lentAfter (λ s. s .v) a v) ≡ drop (sinks S) v)
+    × (drop (sources S * sinks S) (lentAfter (λ s. s .plan) a plan) ≡ drop (sources S * sinks S) plan)
+unfolding solveAnswer
+leaves-rest S (refused r) u v plan h cost rounds e = absurd (solved≢refused (sym e))
+leaves-rest S (given s) u v plan h cost rounds e =
+    let f = h s refl in
+    (beyond (λ s. s .u) s (sources S) (f .u) u, beyond (λ s. s .v) s (sinks S) (f .v) v, beyond (λ s. s .plan) s (sources S * sinks S) (f .plan) plan)
+
+-- ---- the call
+
+-- The four equations are the contract of solve.
+pub bought : (S : Sheet) (r : SolveAnswer) (u v : List ℤ) (plan : List ℕ) (uAfter vAfter : List ℤ) (planAfter : List ℕ)
+    → r ≡ solveAnswer (solveCall S (length u) (length v) (length plan))
+    → uAfter ≡ lentAfter (λ s. s .u) (solveCall S (length u) (length v) (length plan)) u
+    → vAfter ≡ lentAfter (λ s. s .v) (solveCall S (length u) (length v) (length plan)) v
+    → planAfter ≡ lentAfter (λ s. s .plan) (solveCall S (length u) (length v) (length plan)) plan
+    → Bought S r u v plan uAfter vAfter planAfter
+bought S r u v plan uAfter vAfter planAfter answered uHeld vHeld planHeld =
+    let a = solveCall S (length u) (length v) (length plan) in
+    let d = demand3 S (length u) (length v) (length plan) in
+    rw (answered, uHeld, vHeld, planHeld)
+    (record {
+      solved = λ w l e. gives-best S a plan (d w l .0 e);
+      refuses = λ w l. refuses-exactly S a (d w l);
+      unchanged = leaves-all a u v plan;
+      rest = leaves-rest S a u v plan (solve-fills S (length u) (length v) (length plan));
+    })
