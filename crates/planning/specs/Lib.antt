@@ -1,1 +1,4 @@
+pub mod Cost
 pub mod Finished
+pub mod First
+pub mod Solve

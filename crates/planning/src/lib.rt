@@ -1,2 +1,4 @@
 // Plans: from a finished tableau of a sheet to its settled plan.
+pub mod cost;
 pub mod finished;
+pub mod solve;
