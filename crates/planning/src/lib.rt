@@ -1,3 +1,5 @@
-// Plans: from a finished tableau of a sheet to its settled plan.
+// Plans: the calls settle and solve.
+pub mod cost;
 pub mod finished;
 pub mod settling;
+pub mod solve;

@@ -1,0 +1,108 @@
+-- `planning::solve::solve` meets its contract: each way out is a case of the call.
+use mathlib.Core.Path.{_≡_, sym, _∙_}
+use mathlib.Core.Option.{none}
+use native.Mathlib.Omega.{arith}
+use borrow.Author.Needs.{needs}
+use Rattle.transport.specs.Sheet.{Sheet, sources, sinks, refusal, sheetTests}
+use Rattle.transport.specs.SheetLaws.{checked}
+use Rattle.transport.specs.CallLaws.{rooms-iff}
+use Rattle.basis.specs.Layout.{stride-is}
+use Rattle.sheet.specs.Check.{sheetOf, accepted-none, refused-some}
+use Rattle.simplex.specs.Corner.{checked-costless}
+use Rattle.planning.specs.First.{first-fits, first-dealt}
+use Rattle.planning.specs.Solve.{solve-early, solve-short, solve-given, told-refused, told-by, told-all}
+use Rattle.planning.proofs.solve.solve.Statement.{statement}
+use Rattle.planning.proofs.solve.solve.Tie as tie
+
+abbrev sheetAt : (c : tie.Start) → Sheet
+sheetAt c = sheetOf (c .args .supply .now) (c .args .demand .now) (c .args .cost .now)
+
+check-sheet-requires : tie.Need-check-sheet-requires
+check-sheet-requires c κs = search needs
+
+enum-known-check : tie.Need-enum-known-check
+enum-known-check c = search needs
+
+returns : tie.Need-returns
+returns c =
+    told-all (told-refused (solve-early (sheetAt (c .before .before .before .before .before .before .before .before)) _ _ _ _ (refused-some _ _ (sym (c .before .before .before .check-sheet .ensures) ∙ c .before .check .given .1))))
+
+enum-told : tie.Need-enum-told
+enum-told c = search needs
+
+accepted : (c : tie.After-enum-told) → refusal (sheetTests (sheetAt (c .before .before .before .before .before .before .before))) ≡ none
+accepted c = accepted-none _ (sym (c .before .before .check-sheet .ensures) ∙ c .enum-told .given .1)
+
+lacks-room-requires : tie.Need-lacks-room-requires
+unfolding sources sinks
+lacks-room-requires c κs =
+    let S = sheetAt (c .before .before .before .before .before .before .before) in
+    let ok = checked S (accepted c) in
+    (omega (arith, stride-is, ok .sourcesHigh), omega (arith, stride-is, ok .sinksHigh))
+
+returns-2 : tie.Need-returns-2
+unfolding sources sinks
+returns-2 c =
+    let a = c .before .before in
+    told-all (told-refused (solve-short (sheetAt (a .before .before .before .before .before .before .before)) _ _ _ (accepted a) (sym (c .before .lacks-room .ensures) ∙ c .if1 .taken)))
+
+first-tableau-requires : tie.Need-first-tableau-requires
+first-tableau-requires c κs =
+    let a = c .before .before in
+    let S = sheetAt (a .before .before .before .before .before .before .before) in
+    checked-costless S (checked S (accepted a))
+
+spread-requires : tie.Need-spread-requires
+spread-requires c κs =
+    let f = c .before .before .before in
+    let a = f .before .before .before in
+    let S = sheetAt (a .before .before .before .before .before .before .before) in
+    first-fits (checked S (accepted a)) (f .first-tableau .ensures)
+
+solve-on-requires : tie.Need-solve-on-requires
+solve-on-requires c κs =
+    let d = c .before .before .before .before .before .before in
+    let f = d .before .before .before .before in
+    let l = f .before in
+    let a = l .before .before in
+    let S = sheetAt (a .before .before .before .before .before .before .before) in
+    ((S, first-dealt (checked S (accepted a)) (f .first-tableau .ensures) (d .spread .ensures)), rooms-iff _ _ _ _ _ _ .0 (sym (l .before .lacks-room .ensures) ∙ l .if1 .left))
+
+same-length : tie.Need-same-length
+same-length c = search needs
+
+same-length-2 : tie.Need-same-length-2
+same-length-2 c = search needs
+
+same-length-3 : tie.Need-same-length-3
+same-length-3 c = search needs
+
+returns-3 : tie.Need-returns-3
+unfolding sources sinks
+returns-3 c =
+    let o = c .before .before .before .before in
+    let d = o .before .before .before .before .before .before .before in
+    let f = d .before .before .before .before in
+    let l = f .before in
+    let a = l .before .before in
+    let S = sheetAt (a .before .before .before .before .before .before .before) in
+    let dealt = first-dealt (checked S (accepted a)) (f .first-tableau .ensures) (d .spread .ensures) in
+    told-all (told-by (solve-given S _ _ _ (accepted a) (sym (l .before .lacks-room .ensures) ∙ l .if1 .left)) (o .solve-on .ensures S dealt))
+
+pub solve-spec : {M : Type 1} → statement M
+solve-spec =
+    tie.close
+    (tie.spec
+    check-sheet-requires
+    enum-known-check
+    returns
+    enum-told
+    lacks-room-requires
+    returns-2
+    first-tableau-requires
+    spread-requires
+    solve-on-requires
+    same-length
+    same-length-2
+    same-length-3
+    returns-3)

@@ -1,0 +1,96 @@
+-- Solve, case by case: its refusals in their order, and the solution that it gives.
+use mathlib.Core.Path.{_≡_, refl, sym, ap, _∙_}
+use mathlib.Core.Bool.{Bool, true, false, _||_}
+use mathlib.Core.Option.{none, some}
+use mathlib.Core.List.{List, _++_}
+use Prim.Native.Nat.{ℕ, _+_, _*_}
+use lib.IntN.{ℤ, pos}
+use lib.ListN.{length, drop, getD}
+use Rattle.transport.specs.declared.SolveAnswer.{SolveAnswer}
+use Rattle.transport.specs.declared.SolveAnswer.the-variants.{Solved, Refused}
+use Rattle.transport.specs.Lists.{at, sumTo, table}
+use Rattle.transport.specs.ListLaws.{length-table}
+use Rattle.transport.specs.Sheet.{Sheet, sources, sinks, sheetTests, refusal}
+use Rattle.transport.specs.Tableau.{start}
+use Rattle.transport.specs.Potential.{sourcePrices, sinkPrices}
+use Rattle.transport.specs.Round.{run}
+use Rattle.transport.specs.Plan.{settled}
+use Rattle.transport.specs.Calls.{Answer, given, refusedBy, lentAfter, tooShort, roundBound, Solution, solution, solveCall}
+use Rattle.transport.specs.CallLaws.{unless-before, unless-last, unless-none}
+use Rattle.transport.specs.Answers.{solveAnswer}
+use Rattle.transport.specs.Statements.{Bought}
+use Rattle.tableaux.specs.Ending.{start-finished}
+use Rattle.demands.specs.Bought.{bought}
+use Rattle.demands.specs.Demand3.{settled-length}
+use Rattle.rounds.specs.Boards.{Ran}
+use Rattle.simplex.specs.Dealt.{source-prices, sink-prices}
+use Rattle.planning.specs.Cost.{settled-cost}
+use Rattle.planning.specs.Finished.{Finished}
+
+-- ---- the call
+
+module _ (S : Sheet) (uRoom vRoom planRoom : ℕ) where
+  abbrev short : Bool
+  short = tooShort uRoom (sources S) || tooShort vRoom (sinks S) || tooShort planRoom (sources S * sinks S)
+
+  pub solve-early : (k : ℕ) → refusal (sheetTests S) ≡ some k → solveCall S uRoom vRoom planRoom ≡ refusedBy k
+  unfolding solveCall
+  solve-early k e = unless-before (sheetTests S) short 8 (solution S) k e
+
+  pub solve-short : refusal (sheetTests S) ≡ none → short ≡ true → solveCall S uRoom vRoom planRoom ≡ refusedBy 8
+  unfolding solveCall
+  solve-short e t = unless-last (sheetTests S) short 8 (solution S) e t
+
+  pub solve-given : refusal (sheetTests S) ≡ none → short ≡ false → solveCall S uRoom vRoom planRoom ≡ given (solution S)
+  unfolding solveCall
+  solve-given e t = unless-none (sheetTests S) short 8 (solution S) e t
+
+-- ---- what is told of it
+
+-- The answer r says what a call gives, and each lent list, as it was and as it is, holds its part.
+pub record Told (a : Answer Solution) (r : SolveAnswer) (u u′ v v′ : List ℤ) (plan plan′ : List ℕ) : Type 0 where
+  pub answer : r ≡ solveAnswer a
+  pub uHeld : u′ ≡ lentAfter (λ s. s .u) a u
+  pub vHeld : v′ ≡ lentAfter (λ s. s .v) a v
+  pub planHeld : plan′ ≡ lentAfter (λ s. s .plan) a plan
+
+pub told-refused : {a : Answer Solution} {k : ℕ} {u v : List ℤ} {plan : List ℕ} → a ≡ refusedBy k → Told a (Refused k) u u v v plan plan
+unfolding solveAnswer refusedBy lentAfter
+told-refused e = rw e (record { answer = refl; uHeld = refl; vHeld = refl; planHeld = refl })
+
+pub told-by : {a b : Answer Solution} {r : SolveAnswer} {u u′ v v′ : List ℤ} {plan plan′ : List ℕ} → a ≡ b → Told b r u u′ v v′ plan plan′ → Told a r u u′ v v′ plan plan′
+told-by e t = rw e t
+
+-- All that solve ensures.
+pub told-all : {S : Sheet} {r : SolveAnswer} {u u′ v v′ : List ℤ} {plan plan′ : List ℕ} → let a = solveCall S (length u) (length v) (length plan) in
+    Told a r u u′ v v′ plan plan′
+    → (r ≡ solveAnswer a)
+    × ((u′ ≡ lentAfter (λ s. s .u) a u) × ((v′ ≡ lentAfter (λ s. s .v) a v) × ((plan′ ≡ lentAfter (λ s. s .plan) a plan) × Bought S r u v plan u′ v′ plan′)))
+told-all {S} {r} {u} {u′} {v} {v′} {plan} {plan′} t =
+    (t .answer, (t .uHeld, (t .vHeld, (t .planHeld, bought S r u v plan u′ v′ plan′ (t .answer) (t .uHeld) (t .vHeld) (t .planHeld)))))
+
+-- The rounds have come from the start to the finished tableau.
+module _ {S : Sheet} {adj : List ℕ} {q e cost price : List ℤ} {m n made : ℕ} (r : Ran S (start S) (roundBound S) adj q e cost price m n true made) where
+  pub ran-finished : Finished S (run S (roundBound S) (start S) .tableau) adj q e cost price m n
+  ran-finished = record { board = r .board; done = start-finished (r .board .checked); prices = r .prices }
+
+  module _ {costs : List ℕ} {u u′ v v′ : List ℤ} {plan plan′ : List ℕ} {total : ℕ}
+      (costsAre : S .cost ≡ costs)
+      (uIs : u′ ≡ table m (λ k. getD price (0 + k) (pos 0)) ++ drop m u)
+      (vIs : v′ ≡ table n (λ k. getD price (m + k) (pos 0)) ++ drop n v)
+      (planIs : plan′ ≡ settled S ++ drop (m * n) plan)
+      (totalIs : total ≡ sumTo (length costs) (λ l. at plan′ l * at costs l)) where
+    pub told-given : Told (given (solution S)) (Solved total made) u u′ v v′ plan plan′
+    unfolding solveAnswer lentAfter solution
+    told-given =
+        let rows = source-prices (r .board) price (r .prices) in
+        let columns = sink-prices (r .board) price (r .prices) in
+        let uLong : length (sourcePrices S (run S (roundBound S) (start S) .tableau)) ≡ m = ap length (sym rows) ∙ length-table _ m in
+        let vLong : length (sinkPrices S (run S (roundBound S) (start S) .tableau)) ≡ n = ap length (sym columns) ∙ length-table _ n in
+        let planLong : length (settled S) ≡ m * n = settled-length (r .board .checked) ∙ rw (r .board .rows, r .board .columns) in
+        record {
+          answer = rw (totalIs, planIs, ← costsAre, settled-cost (r .board .checked) (drop (m * n) plan), r .rounds);
+          uHeld = uIs ∙ rw (rows, uLong);
+          vHeld = vIs ∙ rw (columns, vLong);
+          planHeld = planIs ∙ rw planLong;
+        }

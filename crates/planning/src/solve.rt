@@ -1,0 +1,97 @@
+// Solve: from a sheet to its cheapest plan, the settled one, with its prices.
+use crate::cost::plan_cost;
+use crate::finished::settle_board;
+use basis::LANES;
+use basis::NODES;
+use basis::Price;
+use board::spread::spread;
+use rounds::costs::spread_costs;
+use rounds::run::finish;
+use sheet::SheetCheck;
+use simplex::prices::write_prices;
+use simplex::start::first_tableau;
+use transport::SolveAnswer;
+ghost use mathlib.Core.Path.{_≡_};
+ghost use mathlib.Core.Bool.{_||_};
+ghost use Prim.Native.Nat.{_*_, _≤_};
+ghost use lib.ListN.{length};
+ghost use Rattle.transport.specs.Sheet.{Sheet};
+ghost use Rattle.transport.specs.Tableau.{start};
+ghost use Rattle.transport.specs.Calls.{given, lentAfter, tooShort, solution, solveCall};
+ghost use Rattle.transport.specs.Answers.{solveAnswer};
+ghost use Rattle.transport.specs.Statements.{Bought};
+ghost use Rattle.basis.specs.Layout.{stride};
+ghost use Rattle.sheet.specs.Check.{sheetOf};
+ghost use Rattle.simplex.specs.Dealt.{Dealt};
+ghost use Rattle.planning.specs.Solve.{Told};
+
+// Whether lists of these lengths lack room for m prices, for n prices, or for m × n quantities.
+fn lacks_room(u: usize, v: usize, plan: usize, m: usize, n: usize) -> bool
+    requires { ⌜ (m ≤ stride) × (n ≤ stride) ⌝ }
+    ensures { λ r. ⌜ r ≡ (tooShort u m || tooShort v n || tooShort plan (m * n)) ⌝ }
+{
+    u < m || v < n || plan < m * n
+}
+
+// Solves from the first tableau of a sheet of m sources and n sinks, which the arrays hold.
+fn solve_on(
+    cost: &[u64],
+    m: usize,
+    n: usize,
+    adj: &mut [u64; NODES],
+    q: &mut [i64; LANES],
+    e: &mut [i64; LANES],
+    u: &mut [i64],
+    v: &mut [i64],
+    plan: &mut [u64],
+) -> SolveAnswer
+    requires { ⌜ ((S : Sheet) × Dealt S (start S) (now cost) (now adj) (now q) (now e) m n) ⌝ }
+    requires { ⌜ (m ≤ length (now u)) × (n ≤ length (now v)) × (m * n ≤ length (now plan)) ⌝ }
+    ensures { λ r. ⌜ ((S : Sheet) → Dealt S (start S) (now (cost .entry)) (now (adj .entry)) (now (q .entry)) (now (e .entry)) m n → Told (given (solution S)) r (now (u .entry)) (now (u .exit)) (now (v .entry)) (now (v .exit)) (now (plan .entry)) (now (plan .exit))) ⌝ }
+{
+    let mut lane_cost: [Price; LANES] = [0; LANES];
+    let mut price: [Price; NODES] = [0; NODES];
+    spread_costs(cost, m, n, &mut lane_cost);
+    let rounds = finish(adj, q, e, &lane_cost, &mut price, m, n);
+    write_prices(&price, 0, m, u);
+    write_prices(&price, m, n, v);
+    settle_board(adj, q, e, &lane_cost, &price, plan, m, n);
+    let total = plan_cost(plan, cost);
+    SolveAnswer::Solved {
+        cost: total,
+        rounds: rounds,
+    }
+}
+
+// Solve gives the cost, the rounds from the start to the first finished tableau, its m and n prices, and its settled plan, whose cost it is. Sheet check, then 8 if a
+// lent list is too short.
+pub fn solve(
+    supply: &[u64],
+    demand: &[u64],
+    cost: &[u64],
+    u: &mut [i64],
+    v: &mut [i64],
+    plan: &mut [u64],
+) -> SolveAnswer
+    ensures { λ r. ⌜ r ≡ solveAnswer (solveCall (sheetOf (now (supply .entry)) (now (demand .entry)) (now (cost .entry))) (length (now (u .entry))) (length (now (v .entry))) (length (now (plan .entry)))) ⌝ }
+    ensures { λ _. ⌜ now (u .exit) ≡ lentAfter (λ s. s .u) (solveCall (sheetOf (now (supply .entry)) (now (demand .entry)) (now (cost .entry))) (length (now (u .entry))) (length (now (v .entry))) (length (now (plan .entry)))) (now (u .entry)) ⌝ }
+    ensures { λ _. ⌜ now (v .exit) ≡ lentAfter (λ s. s .v) (solveCall (sheetOf (now (supply .entry)) (now (demand .entry)) (now (cost .entry))) (length (now (u .entry))) (length (now (v .entry))) (length (now (plan .entry)))) (now (v .entry)) ⌝ }
+    ensures { λ _. ⌜ now (plan .exit) ≡ lentAfter (λ s. s .plan) (solveCall (sheetOf (now (supply .entry)) (now (demand .entry)) (now (cost .entry))) (length (now (u .entry))) (length (now (v .entry))) (length (now (plan .entry)))) (now (plan .entry)) ⌝ }
+    ensures { λ r. ⌜ Bought (sheetOf (now (supply .entry)) (now (demand .entry)) (now (cost .entry))) r (now (u .entry)) (now (v .entry)) (now (plan .entry)) (now (u .exit)) (now (v .exit)) (now (plan .exit)) ⌝ }
+{
+    let check = sheet::check_sheet(supply, demand, cost);
+    if let SheetCheck::Refused(number) = check {
+        return SolveAnswer::Refused(number);
+    }
+    let m = supply.len();
+    let n = demand.len();
+    if lacks_room(u.len(), v.len(), plan.len(), m, n) {
+        return SolveAnswer::Refused(8);
+    }
+    let mut adj = [0u64; NODES];
+    let mut q = [0i64; LANES];
+    let mut e = [0i64; LANES];
+    let first = first_tableau(supply, demand);
+    spread(first, m, &mut adj, &mut q, &mut e);
+    solve_on(cost, m, n, &mut adj, &mut q, &mut e, u, v, plan)
+}
