@@ -1,15 +1,8 @@
 // Writes and reads sheet texts, and prints what the calls answer.
-use libc::STDOUT_FILENO;
+use printing::print;
+use printing::print_number;
 use transport::ReadAnswer;
 use transport::WriteAnswer;
-
-fn print(bytes: &[u8]) {
-    io::write_all(STDOUT_FILENO, bytes);
-}
-
-fn print_number(n: u64) {
-    io::print_decimal(STDOUT_FILENO, n);
-}
 
 fn print_answer(answer: ReadAnswer) {
     match answer {
