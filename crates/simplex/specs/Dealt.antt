@@ -77,14 +77,14 @@ module _ {S : Sheet} {T : List Cell} {adj : List ℕ} {q e cost : List ℤ} {m n
       let w = belongs-iff S T (b .checked .sourcesLow) (b .checked .sinksLow) .0 (b .belongs) in
       rw (p k l, ← price-limit) (price-size S (b .checked) T (fits-of (b .checked) w) (spans-of (b .checked) w) k)
 
-  pub source-prices : prices (table m (λ k. getD price (0 + k) (pos 0))) ≡ prices (sourcePrices S T)
+  pub source-prices : table m (λ k. getD price (0 + k) (pos 0)) ≡ sourcePrices S T
   unfolding sourcePrices
   source-prices =
-      ap prices (table-cong m (λ k. getD price (0 + k) (pos 0)) (potential S T) (λ k l. let z : 0 + k ≡ k = omega arith in rw z (p k (omega arith))) ∙ rw (b .rows))
+      table-cong m (λ k. getD price (0 + k) (pos 0)) (potential S T) (λ k l. let z : 0 + k ≡ k = omega arith in rw z (p k (omega arith))) ∙ rw (b .rows)
 
-  pub sink-prices : prices (table n (λ k. getD price (m + k) (pos 0))) ≡ prices (sinkPrices S T)
+  pub sink-prices : table n (λ k. getD price (m + k) (pos 0)) ≡ sinkPrices S T
   unfolding sinkPrices
-  sink-prices = ap prices (table-cong n (λ k. getD price (m + k) (pos 0)) (λ k. potential S T (m + k)) (λ k l. p (m + k) (omega arith)) ∙ rw (b .rows, b .columns))
+  sink-prices = table-cong n (λ k. getD price (m + k) (pos 0)) (λ k. potential S T (m + k)) (λ k l. p (m + k) (omega arith)) ∙ rw (b .rows, b .columns)
 
 -- ---- round, case by case
 

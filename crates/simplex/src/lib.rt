@@ -1,4 +1,5 @@
 // The transportation simplex: start, round and run.
+pub mod prices;
 pub mod round;
 pub mod run;
 pub mod start;

@@ -1,4 +1,5 @@
 // Round: the next tableau of a sheet, or the prices of a finished one.
+use crate::prices::write_prices;
 use crate::tableau;
 use basis::LANES;
 use basis::NODES;
@@ -31,11 +32,7 @@ fn side_prices(price: &[Price; NODES], from: usize, count: usize) -> [i64; MAX_S
     ensures { λ r. ⌜ r ≡ prices (table count (λ k. getD (now (price .entry)) (from + k) (pos 0))) ⌝ }
 {
     let mut out = [0i64; MAX_SIDE];
-    let mut k = 0;
-    while k < count {
-        out[k] = price[from + k] as i64;
-        k += 1;
-    }
+    write_prices(price, from, count, &mut out);
     out
 }
 
