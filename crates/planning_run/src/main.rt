@@ -1,15 +1,13 @@
 // Solves and settles the paper's sheets and hostile ones, and prints what the calls answer and what the lent lists then hold. Each list holds sevens before, and has a place more than is needed.
-use printing::print;
-use printing::print_number;
-use printing::print_numbers;
-use printing::print_refusal;
-use printing::print_wholes;
-use transport::Cell;
-use transport::MAX_CELLS;
-use transport::Pair;
 use transport::SettleAnswer;
 use transport::SolveAnswer;
 use transport::Tableau;
+use trial::print;
+use trial::print_number;
+use trial::print_numbers;
+use trial::print_refusal;
+use trial::print_wholes;
+use trial::put;
 
 // What solve answers, into these lists.
 fn solve(
@@ -55,28 +53,26 @@ fn settle(supply: &[u64], demand: &[u64], cost: &[u64], t: Tableau, plan: &mut [
     print_numbers(plan);
 }
 
-// The tableau with one cell more.
-fn put(t: Tableau, row: usize, col: usize, q: i64, e: i64) -> Tableau {
-    let mut u = t;
-    let k = u.count;
-    if k < MAX_CELLS {
-        let amount = Pair { q: q, e: e };
-        u.cells[k] = Cell {
-            row: row,
-            col: col,
-            amount: amount,
-        };
-        u.count = k + 1;
-    }
-    u
-}
-
 // P1, P3, P4, P6 and P7.
 fn solved() {
     print(b"P1\n");
-    solve(&[3, 4], &[5, 2], &[4, 1, 2, 6], &mut [7; 3], &mut [7; 3], &mut [7; 5]);
+    solve(
+        &[3, 4],
+        &[5, 2],
+        &[4, 1, 2, 6],
+        &mut [7; 3],
+        &mut [7; 3],
+        &mut [7; 5],
+    );
     print(b"P3\n");
-    solve(&[5, 5], &[5, 5], &[1; 4], &mut [7; 3], &mut [7; 3], &mut [7; 5]);
+    solve(
+        &[5, 5],
+        &[5, 5],
+        &[1; 4],
+        &mut [7; 3],
+        &mut [7; 3],
+        &mut [7; 5],
+    );
     print(b"P4\n");
     solve(
         &[1, 3],
@@ -89,19 +85,61 @@ fn solved() {
     print(b"P6\n");
     solve(&[1], &[1], &[0], &mut [7; 2], &mut [7; 2], &mut [7; 2]);
     print(b"P7\n");
-    solve(&[1000000], &[1000000], &[1000000], &mut [7; 2], &mut [7; 2], &mut [7; 2]);
+    solve(
+        &[1000000],
+        &[1000000],
+        &[1000000],
+        &mut [7; 2],
+        &mut [7; 2],
+        &mut [7; 2],
+    );
 }
 
 // P7, P8, and lists that are too short.
 fn unsolved() {
     print(b"refused\n");
-    solve(&[1000000], &[1000000], &[1000001], &mut [7; 2], &mut [7; 2], &mut [7; 2]);
+    solve(
+        &[1000000],
+        &[1000000],
+        &[1000001],
+        &mut [7; 2],
+        &mut [7; 2],
+        &mut [7; 2],
+    );
     solve(&[3], &[2], &[0], &mut [7; 2], &mut [7; 2], &mut [7; 2]);
     solve(&[0], &[2], &[0], &mut [7; 2], &mut [7; 2], &mut [7; 2]);
-    solve(&[3, 4], &[5, 2], &[4, 1, 2], &mut [7; 3], &mut [7; 3], &mut [7; 5]);
-    solve(&[3, 4], &[5, 2], &[4, 1, 2, 6], &mut [7; 1], &mut [7; 3], &mut [7; 5]);
-    solve(&[3, 4], &[5, 2], &[4, 1, 2, 6], &mut [7; 3], &mut [7; 1], &mut [7; 5]);
-    solve(&[3, 4], &[5, 2], &[4, 1, 2, 6], &mut [7; 3], &mut [7; 3], &mut [7; 3]);
+    solve(
+        &[3, 4],
+        &[5, 2],
+        &[4, 1, 2],
+        &mut [7; 3],
+        &mut [7; 3],
+        &mut [7; 5],
+    );
+    solve(
+        &[3, 4],
+        &[5, 2],
+        &[4, 1, 2, 6],
+        &mut [7; 1],
+        &mut [7; 3],
+        &mut [7; 5],
+    );
+    solve(
+        &[3, 4],
+        &[5, 2],
+        &[4, 1, 2, 6],
+        &mut [7; 3],
+        &mut [7; 1],
+        &mut [7; 5],
+    );
+    solve(
+        &[3, 4],
+        &[5, 2],
+        &[4, 1, 2, 6],
+        &mut [7; 3],
+        &mut [7; 3],
+        &mut [7; 3],
+    );
 }
 
 // P5 with its list, and with one that is too short; P9.

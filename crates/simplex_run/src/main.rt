@@ -1,15 +1,15 @@
 // Runs the calls on the paper's tableaux and on hostile ones, and prints what they answer: cells as row, column, bags and marks, both from 0.
-use printing::print;
-use printing::print_number;
-use printing::print_refusal;
-use printing::print_whole;
 use transport::Cell;
 use transport::MAX_CELLS;
 use transport::MAX_SIDE;
-use transport::Pair;
 use transport::RoundOutcome;
 use transport::RunOutcome;
 use transport::Tableau;
+use trial::print;
+use trial::print_number;
+use trial::print_refusal;
+use trial::print_whole;
+use trial::put;
 
 fn print_cell(c: Cell) {
     let amount = c.amount;
@@ -103,22 +103,6 @@ fn start(supply: &[u64], demand: &[u64], cost: &[u64]) -> Tableau {
     print(b"start\n");
     print_tableau(t);
     t
-}
-
-// The tableau with one cell more.
-fn put(t: Tableau, row: usize, col: usize, q: i64, e: i64) -> Tableau {
-    let mut u = t;
-    let k = u.count;
-    if k < MAX_CELLS {
-        let amount = Pair { q: q, e: e };
-        u.cells[k] = Cell {
-            row: row,
-            col: col,
-            amount: amount,
-        };
-        u.count = k + 1;
-    }
-    u
 }
 
 // P1 and P2.

@@ -1,8 +1,8 @@
 // Writes and reads sheet texts, and prints what the calls answer.
-use printing::print;
-use printing::print_number;
 use transport::ReadAnswer;
 use transport::WriteAnswer;
+use trial::print;
+use trial::print_number;
 
 fn print_answer(answer: ReadAnswer) {
     match answer {

@@ -2,8 +2,8 @@
 use Prim.Native.Nat.{_-_, _≤_}
 use lib.ListN.{length}
 use borrow.Author.Needs.{needs}
-use Rattle.printing.proofs.print_wholes.Statement.{statement}
-use Rattle.printing.proofs.print_wholes.Tie as tie
+use Rattle.trial.proofs.print_wholes.Statement.{statement}
+use Rattle.trial.proofs.print_wholes.Tie as tie
 
 abbrev Inv-loop : tie.InvT-loop
 Inv-loop wholes k₀ t3 t4 k = k ≤ length wholes

@@ -1,6 +1,26 @@
-// What the programs of the gate print with. An output that cannot be written to is passed over: the gate then misses the lines.
+// What the programs of the gate share: tableaux put together cell by cell, and printing. An output that cannot be written to is passed over: the gate then misses the lines.
 use libc::STDOUT_FILENO;
 use text::number;
+use transport::Cell;
+use transport::MAX_CELLS;
+use transport::Pair;
+use transport::Tableau;
+
+// The tableau with one cell more.
+pub fn put(t: Tableau, row: usize, col: usize, q: i64, e: i64) -> Tableau {
+    let mut u = t;
+    let k = u.count;
+    if k < MAX_CELLS {
+        let amount = Pair { q: q, e: e };
+        u.cells[k] = Cell {
+            row: row,
+            col: col,
+            amount: amount,
+        };
+        u.count = k + 1;
+    }
+    u
+}
 
 pub fn print(bytes: &[u8]) {
     io::write_all(STDOUT_FILENO, bytes);
