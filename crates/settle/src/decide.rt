@@ -18,19 +18,9 @@ ghost use Rattle.transport.specs.Sheet.{Sheet, place};
 ghost use Rattle.transport.specs.declared.Cell.{Cell};
 ghost use Rattle.basis.specs.Layout.{nodeRoom};
 ghost use Rattle.phase.specs.PhaseLaws.{allows};
-ghost use Rattle.settle.specs.Laid.{Laid, StruckOff, Small};
+ghost use Rattle.settle.specs.Laid.{Laid, StruckOff};
 ghost use Rattle.settle.specs.Step.{Advanced};
 ghost use Rattle.settle.specs.Reach.{AtStage, Reaches};
-
-// Nothing.
-fn skip() {}
-
-// Every number of a list fits its type. The logic knows it of a slice, and not of a lent array: so masks are lent as a slice once, for the proof alone.
-fn masks_fit(masks: &[u64])
-    ensures { λ _. ⌜ Small (now (masks .entry)) ⌝ }
-{
-    skip();
-}
 
 // A step of the phase for lane (p, col): the lane itself enters while it is not basic, and then any allowed lane that improves on it. If there is none, the phase has
 // ended: its lanes are kept, and the answer is false. `leaf`, `other` and `lane` hold the strikes of the tree, and those of the new tree after a step; `minus` and
@@ -71,7 +61,6 @@ fn advance(
         to = j;
     }
     pivoting::pivot(adj, q, e, leaf, other, lane, count, m, row, to, minus, plus);
-    masks_fit(adj);
     elimination::strike(adj, leaf, other, lane, m, n);
     true
 }
@@ -138,7 +127,6 @@ pub fn settle_lanes(
     let mut lane = [0usize; NODES];
     let mut minus = [0usize; NODES];
     let mut plus = [0usize; NODES];
-    masks_fit(adj);
     elimination::strike(adj, &mut leaf, &mut other, &mut lane, m, n);
     let mut i = 0;
     while i < m {

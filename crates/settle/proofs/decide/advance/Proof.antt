@@ -97,22 +97,19 @@ moves c S T l =
     let j = c .before .before .before .before .before .before .before .before .before in
     lane-moves l (s .pre .1 .1 .0 .0) (s .pre .1 .1 .0 .1) (improves j S T l) (rw (l .cols) (c .pivot .ensures .0 S T (ready j S T l)))
 
-masks-fit-requires : tie.Need-masks-fit-requires
-masks-fit-requires c κs = search needs
-
 strike-requires : tie.Need-strike-requires
 strike-requires c κs =
-    let s = c .before .before .before .before .before .before .before .before .before .before .before .before .before .before .before .before .before .before .before in
+    let s = c .before .before .before .before .before .before .before .before .before .before .before .before .before .before .before .before in
     let (S, T, l) = s .pre .0 in
-    let l′ = moves (c .before .before .before .before .before .before .before) S T l .yes refl .laid in
+    let l′ = moves (c .before .before .before .before) S T l .yes refl .laid in
     let long = s .pre .1 .0 .long in
-    (laid-links l′ (c .before .before .before .before .masks-fit .ensures), (l′ .held .adjLong, long .0, long .1, long .2))
+    (laid-links l′, (l′ .held .adjLong, long .0, long .1, long .2))
 
 returns-2 : tie.Need-returns-2
 returns-2 c =
-    let (S, T, l) = c .before .before .before .before .before .before .before .before .before .before .before .before .before .before .before .before .before .before .before .before .pre .0 in
-    let f = moves (c .before .before .before .before .before .before .before .before) in
-    (laid-strikes (f S T l .yes refl .laid) (c .strike .ensures .0) (c .strike .ensures .1), (c .before .before .before .before .before .before .before .before .pivot .ensures .1, f))
+    let (S, T, l) = c .before .before .before .before .before .before .before .before .before .before .before .before .before .before .before .before .before .pre .0 in
+    let f = moves (c .before .before .before .before .before) in
+    (laid-strikes (f S T l .yes refl .laid) (c .strike .ensures .0) (c .strike .ensures .1), (c .before .before .before .before .before .pivot .ensures .1, f))
 
 pub advance-spec : {M : Type 1} → statement M
 advance-spec =
@@ -130,6 +127,5 @@ advance-spec =
     keep-requires
     returns
     pivot-requires
-    masks-fit-requires
     strike-requires
     returns-2)

@@ -9,7 +9,6 @@ use Rattle.transport.specs.SheetLaws.{place-below}
 use Rattle.basis.specs.Layout.{stride, nodeRoom}
 use Rattle.settle.specs.Laid.{StruckOff, laid-sides, laid-links, laid-strikes}
 use Rattle.settle.specs.Reach.{AtStage, Reaches, reaches-none, at-on, reaches-on, reaches-rest, reaches-skip, place-first, place-next, place-row, place-end}
-use borrow.Author.Needs.{needs}
 use Rattle.settle.proofs.decide.settle_lanes.Statement.{statement}
 use Rattle.settle.proofs.decide.settle_lanes.Tie as tie
 
@@ -39,25 +38,22 @@ is-decided-requires c κs = laid-sides (c .before .before .pre .stage .laid) .1
 returns : tie.Need-returns Inv-loop2 μ-loop2 Inv-loop μ-loop
 returns c = reaches-rest reaches-none (omega arith) (c .before .is-decided .ensures .0 (c .if1 .taken))
 
-masks-fit-requires : tie.Need-masks-fit-requires Inv-loop2 μ-loop2 Inv-loop μ-loop
-masks-fit-requires c κs = search needs
-
 strike-requires : tie.Need-strike-requires Inv-loop2 μ-loop2 Inv-loop μ-loop
-strike-requires c κs = let l = c .before .before .before .before .before .before .before .before .before .before .before .pre .stage .laid in (laid-links l (c .before .before .before .before .masks-fit .ensures), (l .held .adjLong, refl, refl, refl))
+strike-requires c κs = let l = c .before .before .before .before .before .before .before .before .pre .stage .laid in (laid-links l, (l .held .adjLong, refl, refl, refl))
 
 loop-holds : tie.Need-loop-holds Inv-loop2 μ-loop2 Inv-loop μ-loop
 loop-holds c =
-    let s = c .before .before .before .before .before .before .before .before .before .before .before .before in
+    let s = c .before .before .before .before .before .before .before .before .before in
     (omega arith, rw (place-first (s .args .n) 0) reaches-none, laid-strikes (s .pre .stage .laid) (c .strike .ensures .0) (c .strike .ensures .1), (refl, refl))
 
 loop2-holds : tie.Need-loop2-holds Inv-loop2 μ-loop2 Inv-loop μ-loop
 loop2-holds c = (omega arith, reaches-none, c .before .loop .inv .2, c .before .loop .inv .3)
 
 -- The stage before lane (i, j).
-here : (c : tie.In-loop2 Inv-loop2 μ-loop2 Inv-loop μ-loop) → let a = c .before .before .before .before .before .before .before .before .before .before .before .before .before .before .before .before .args in let l = c .before .loop2 in AtStage (place (a .n) (c .before .before .before .loop .i) (l .j)) (a .m) (a .n) (l .adj) (l .q) (l .e) (l .allowed)
-here c = at-on (c .before .loop2 .inv .1) (at-on (c .before .before .before .loop .inv .1) (c .before .before .before .before .before .before .before .before .before .before .before .before .before .before .before .before .pre))
+here : (c : tie.In-loop2 Inv-loop2 μ-loop2 Inv-loop μ-loop) → let a = c .before .before .before .before .before .before .before .before .before .before .before .before .before .args in let l = c .before .loop2 in AtStage (place (a .n) (c .before .before .before .loop .i) (l .j)) (a .m) (a .n) (l .adj) (l .q) (l .e) (l .allowed)
+here c = at-on (c .before .loop2 .inv .1) (at-on (c .before .before .before .loop .inv .1) (c .before .before .before .before .before .before .before .before .before .before .before .before .before .pre))
 
-sides : (c : tie.In-loop2 Inv-loop2 μ-loop2 Inv-loop μ-loop) → let a = c .before .before .before .before .before .before .before .before .before .before .before .before .before .before .before .before .args in (a .m ≤ stride) × (a .n ≤ stride) × (length (c .before .loop2 .allowed) ≡ stride)
+sides : (c : tie.In-loop2 Inv-loop2 μ-loop2 Inv-loop μ-loop) → let a = c .before .before .before .before .before .before .before .before .before .before .before .before .before .args in (a .m ≤ stride) × (a .n ≤ stride) × (length (c .before .loop2 .allowed) ≡ stride)
 sides c = let l = here c .stage .laid in (laid-sides l .1, laid-sides l .3, l .long)
 
 mul-has-bit : tie.Need-mul-has-bit Inv-loop2 μ-loop2 Inv-loop μ-loop
@@ -80,7 +76,7 @@ is-decided-requires-2 c κs = sides (c .before .before .before .before .before .
 
 returns-2 : tie.Need-returns-2 Inv-loop2 μ-loop2 Inv-loop μ-loop
 returns-2 c =
-    let a = c .before .before .before .before .before .before .before .before .before .before .before .before .before .before .before .before .before .before .before .before .before .before .before .before .before .before .before .before .before .before .before .before .before .args in
+    let a = c .before .before .before .before .before .before .before .before .before .before .before .before .before .before .before .before .before .before .before .before .before .before .before .before .before .before .before .before .before .before .args in
     let o = c .before .before .before .before .before .before .before .before .before .before .before .before .before .before .before .before .before .before .before .before .loop in
     let l = c .before .before .before .before .before .before .before .before .before .before .before .before .before .before .before .before .before .before .loop2 in
     reaches-rest (reaches-on (reaches-on (o .inv .1) (l .inv .1)) (c .before .before .before .before .decide-lane .ensures .1 .1)) (omega (arith, place-below (a .m) (a .n) (o .i) (l .j) (omega arith) (omega arith))) (c .before .is-decided2 .ensures .0 (c .if3 .taken))
@@ -93,7 +89,7 @@ loop2-less c = omega arith
 
 loop2-again : tie.Need-loop2-again Inv-loop2 μ-loop2 Inv-loop μ-loop
 loop2-again c =
-    let a = c .before .before .before .before .before .before .before .before .before .before .before .before .before .before .before .before .before .before .before .args in
+    let a = c .before .before .before .before .before .before .before .before .before .before .before .before .before .before .before .before .args in
     let i = c .before .before .before .before .before .before .loop .i in
     let l = c .before .before .before .before .loop2 in
     ⊎-elim
@@ -113,7 +109,7 @@ loop-less c = omega arith
 
 loop-again : tie.Need-loop-again Inv-loop2 μ-loop2 Inv-loop μ-loop
 loop-again c =
-    let a = c .before .before .before .before .before .before .before .before .before .before .before .before .before .before .before .before .args in
+    let a = c .before .before .before .before .before .before .before .before .before .before .before .before .before .args in
     let o = c .before .before .before .loop in
     let l = c .before .loop2 in
     let e : l .j ≡ a .n = omega arith in
@@ -121,7 +117,7 @@ loop-again c =
 
 returns-3 : tie.Need-returns-3 Inv-loop2 μ-loop2 Inv-loop μ-loop
 returns-3 c =
-    let a = c .before .before .before .before .before .before .before .before .before .before .before .before .before .before .args in
+    let a = c .before .before .before .before .before .before .before .before .before .before .before .args in
     let e : c .before .loop .i ≡ a .m = omega arith in
     rw (place-end (a .n) (a .m)) (rw e at (c .before .loop .inv .1))
 
@@ -135,7 +131,6 @@ settle-lanes-spec =
     μ-loop
     is-decided-requires
     returns
-    masks-fit-requires
     strike-requires
     loop-holds
     loop2-holds
