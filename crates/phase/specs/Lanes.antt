@@ -4,7 +4,7 @@ use mathlib.Core.Path.{_≡_, refl, ap, _∙_}
 use mathlib.Core.Logic.{by-cases}
 use mathlib.Core.Bool.{Bool, true, false, _&&_, _||_, cond}
 use mathlib.Core.List.{List}
-use Prim.Native.Nat.{ℕ, _+_, _<_, _≤_}
+use Prim.Native.Nat.{ℕ, _+_, _-_, _<_, _≤_}
 use native.Mathlib.Omega.{arith}
 use native.Mathlib.Decide.{ℕ-discrete}
 use borrow.Author.Tests.{eqb-true, eqb-false, eq-eqb, ne-eqb}
@@ -44,6 +44,13 @@ gains-none allowed rows cols i e j g = omega (arith, bit-and (getD allowed i 0) 
 -- .. or because it is on the other side.
 pub gains-off : (allowed : List ℕ) (rows cols i : ℕ) → has rows i ≡ false → (j : ℕ) → Gains allowed rows cols i j → ⊥
 gains-off allowed rows cols i e j g = eqb-false (bit rows i) 1 e (g .row)
+
+-- The rows from k on have none.
+abbrev pub NoneFrom : List ℕ → ℕ → ℕ → ℕ → ℕ → Type 0
+NoneFrom allowed rows cols m k = (i : ℕ) → k ≤ i → i < m → (j : ℕ) → Gains allowed rows cols i j → ⊥
+
+pub none-before : (allowed : List ℕ) (rows cols m k : ℕ) → NoneFrom allowed rows cols m k → ((j : ℕ) → Gains allowed rows cols (k - 1) j → ⊥) → NoneFrom allowed rows cols m (k - 1)
+none-before allowed rows cols m k later here i p l = by-cases (ℕ-discrete i (k - 1)) (λ e. rw e here) (λ e. later i (omega arith) l)
 
 -- ---- the lanes that are kept
 

@@ -20,20 +20,20 @@ pub enum Found {
     Nothing,
 }
 
-// An allowed lane with reduced cost −1. Any will do; this is the first in sheet order.
+// An allowed lane with reduced cost −1. Any will do; the last row comes first: fewer steps follow, since earlier rows are decided already.
 pub fn improving(allowed: &[u64; MAX_SIDE], cut: Cut, m: usize) -> Found
     requires { ⌜ m ≤ stride ⌝ }
     ensures { λ r. ⌜ Finds (now (allowed .entry)) (cut .rows) (cut .cols) m r ⌝ }
 {
-    let mut i = 0;
-    while i < m {
+    let mut i = m;
+    while i > 0 {
+        i -= 1;
         if has_bit(cut.rows, i) {
             let lanes = allowed[i] & cut.cols;
             if lanes > 0 {
                 return Found::Lane(i, first_bit(lanes));
             }
         }
-        i += 1;
     }
     Found::Nothing
 }

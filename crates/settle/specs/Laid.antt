@@ -2,19 +2,19 @@
 use mathlib.Core.Path.{_≡_, refl}
 use mathlib.Core.Bool.{true}
 use mathlib.Core.List.{List}
-use Prim.Native.Nat.{ℕ, _^_, _<_, _≤_}
+use Prim.Native.Nat.{ℕ, _+_, _-_, _<_, _≤_}
 use native.Mathlib.Omega.{arith}
 use lib.IntN.{ℤ, pos, negsuc, natAbs}
-use lib.ListN.{length, getD}
+use lib.ListN.{length}
 use Rattle.integers.specs.Integer.{_≼_, nat}
 use Rattle.integers.specs.Bridge.{toZ}
 use Rattle.network.specs.Round.{bags-nonneg}
 use Rattle.transport.specs.Lists.{at}
-use Rattle.transport.specs.Sheet.{Sheet, sources, sinks}
+use Rattle.transport.specs.Sheet.{Sheet, sources, sinks, Lane}
 use Rattle.transport.specs.SheetLaws.{Checked, lane}
 use Rattle.transport.specs.declared.Cell.{Cell}
-use Rattle.transport.specs.Tableau.{basisOf}
-use Rattle.transport.specs.Leaf.{cellsBelong}
+use Rattle.transport.specs.Tableau.{basisSize, basisOf}
+use Rattle.transport.specs.Leaf.{cellsBelong, spans}
 use Rattle.transport.specs.Statements.{Basic, Belongs}
 use Rattle.tableaux.specs.View.{amountAt}
 use Rattle.tableaux.specs.Lanes.{Fits}
@@ -45,14 +45,10 @@ pub record Laid (S : Sheet) (m n : ℕ) (adj : List ℕ) (q e : List ℤ) (masks
   pub belongs : cellsBelong S T ≡ true
   pub basics : (i j : ℕ) → Basic T i j → allows masks i j ≡ true
 
--- Leaves were struck off as long as there were any.
-pub record StruckOff (m n : ℕ) (T : List Cell) (leaf other lanes : List ℕ) (count : ℕ) : Type 0 where
-  pub stripped : Stripped m n (basisOf T) (strikesOf leaf other lanes count) count
-  pub long : length lanes ≡ nodeRoom
-
--- Every mask fits its type.
-abbrev pub Small : List ℕ → Type 0
-Small adj = (k : ℕ) → getD adj k 0 < 2 ^ 64
+-- The strikes of the tree that the masks make: whatever lanes the masks are those of, leaves were struck off as long as there were any, m + n − 1 of them.
+pub record StruckOff (m n : ℕ) (adj leaf other lanes : List ℕ) : Type 0 where
+  pub long : (length leaf ≡ nodeRoom) × (length other ≡ nodeRoom) × (length lanes ≡ nodeRoom)
+  pub stripped : (B : List Lane) → Masks m n B adj → Stripped m n B (strikesOf leaf other lanes (m + n - 1)) (m + n - 1)
 
 module _ {S : Sheet} {m n : ℕ} {adj : List ℕ} {q e : List ℤ} {masks : List ℕ} {T : List Cell} (l : Laid S m n adj q e masks T) where
   pub laid-belongs : Belongs S T
@@ -77,36 +73,45 @@ module _ {S : Sheet} {m n : ℕ} {adj : List ℕ} {q e : List ℤ} {masks : List
   laid-fits : Fits m n (basisOf T)
   laid-fits = rw (l .rows, l .cols) (fits-of (l .checked) laid-belongs)
 
-  pub laid-links : Small adj → Links m n adj
-  laid-links s = drawn-links laid-drawn laid-fits (laid-sides .0) (laid-sides .1) (laid-sides .2) (laid-sides .3)
+  pub laid-links : Links m n adj
+  laid-links = drawn-links laid-drawn laid-fits (laid-sides .0) (laid-sides .1) (laid-sides .2) (laid-sides .3)
 
   pub laid-masks : Masks m n (basisOf T) adj
   laid-masks = drawn-masks laid-drawn laid-fits (lanes-apart T (distinct-of (l .checked) laid-belongs))
 
   -- ---- its strikes
 
-  module _ {leaf other lanes : List ℕ} {count : ℕ} (w : StruckOff m n T leaf other lanes count) where
-    pub laid-struck : Struck (sources S) (sinks S) (basisOf T) (strikesOf leaf other lanes count)
-    laid-struck = rw (l .rows, l .cols) at (w .stripped .complete (rw (l .rows, l .cols) (spans-of (l .checked) laid-belongs)) .1)
+  spanning : spans m n (basisOf T) ≡ true
+  spanning = rw (l .rows, l .cols) (spans-of (l .checked) laid-belongs)
 
-    struck : Struck m n (basisOf T) (strikesOf leaf other lanes count)
-    struck = rw (l .rows, l .cols) laid-struck
+  -- However many were struck, they are m + n − 1.
+  pub laid-strikes : {leaf other lanes : List ℕ} {count : ℕ} → (length leaf ≡ nodeRoom) × (length other ≡ nodeRoom) × (length lanes ≡ nodeRoom)
+      → ((B : List Lane) → Masks m n B adj → Stripped m n B (strikesOf leaf other lanes count) count) → StruckOff m n adj leaf other lanes
+  unfolding basisSize
+  laid-strikes long f = record { long = long; stripped = rw (f (basisOf T) laid-masks .complete spanning .0) at f }
 
-    pub laid-room : layout.Struck leaf other lanes count
-    laid-room = strikes-room m n leaf other lanes count (laid-sides .1) (laid-sides .3) (w .long) struck
+  module _ {leaf other lanes : List ℕ} (w : StruckOff m n adj leaf other lanes) where
+    struck : Struck m n (basisOf T) (strikesOf leaf other lanes (m + n - 1))
+    struck = w .stripped (basisOf T) laid-masks .complete spanning .1
 
-    pub laid-peels : Peels m (strikesOf leaf other lanes count)
+    pub laid-struck : Struck (sources S) (sinks S) (basisOf T) (strikesOf leaf other lanes (m + n - 1))
+    laid-struck = rw (l .rows, l .cols) (rw (l .rows, l .cols) at struck)
+
+    pub laid-room : layout.Struck leaf other lanes (m + n - 1)
+    laid-room = strikes-room m n leaf other lanes (m + n - 1) (laid-sides .1) (laid-sides .3) (w .long .2) struck
+
+    pub laid-peels : Peels m (strikesOf leaf other lanes (m + n - 1))
     laid-peels = peels-of struck
 
     -- A lane that improves may enter.
-    pub laid-ready : {p c i j : ℕ} → p < m → c < n → Improving S (allows masks) p c T i j → Ready S T adj q e leaf other lanes count m i j
+    pub laid-ready : {p c i j : ℕ} → p < m → c < n → Improving S (allows masks) p c T i j → Ready S T adj q e leaf other lanes (m + n - 1) m i j
     laid-ready {p} {c} {i} {j} hp hc v =
         let fresh : ¬ Basic T i j = improving-new (l .checked) (allows masks) (omega (arith, l .rows)) (omega (arith, l .cols)) T laid-restricted v in
-        let enters : Enters S T leaf other lanes count (lane i j) = record {
+        let enters : Enters S T leaf other lanes (m + n - 1) (lane i j) = record {
           checked = l .checked;
           belongs = l .belongs;
           struck = laid-struck;
-          long = w .long;
+          long = w .long .2;
           row = v .row;
           col = v .col;
           new = fresh;

@@ -1,11 +1,10 @@
 -- What the code of settling does to its arrays: from one stage on to a later one, whatever sheet and tableaux they hold.
-use mathlib.Core.Path.{_≡_, refl, sym, _∙_}
+use mathlib.Core.Path.{_≡_, refl, _∙_}
 use mathlib.Core.Bool.{Bool, true, false}
 use mathlib.Core.List.{List}
 use Prim.Native.Nat.{ℕ, suc, _+_, _*_, _<_, _≤_}
 use native.Mathlib.Omega.{arith}
 use lib.IntN.{ℤ}
-use lib.ListN.{length}
 use Rattle.transport.specs.Sheet.{Sheet, place}
 use Rattle.transport.specs.declared.Cell.{Cell}
 use Rattle.phase.specs.Lanes as masked

@@ -15,7 +15,7 @@ use Rattle.network.specs.Settling.{most, most-cost}
 use Rattle.transport.specs.Lists.{at, total}
 use Rattle.transport.specs.ListLaws.{sumTo-bound}
 use Rattle.transport.specs.Limits.{maxSide, maxAmount}
-use Rattle.transport.specs.Sheet.{Sheet, sources, sinks, Lane, place}
+use Rattle.transport.specs.Sheet.{Sheet, sources, sinks}
 use Rattle.transport.specs.SheetLaws.{Checked, lane}
 use Rattle.transport.specs.declared.Cell.{Cell}
 use Rattle.transport.specs.Round.{pivot}
@@ -132,9 +132,9 @@ module _ {S : Sheet} {m n : ℕ} {adj : List ℕ} {q e : List ℤ} {masks : List
   pub own-improves : has (getD adj p 0) c ≡ false → allows masks p c ≡ true → Improving S (allows masks) p c T p c
   own-improves off a = phase-enters (l .checked) (laid-belongs l) row-in col-in (λ b. false≢true (sym off ∙ basic-row (l .held) p c hp b)) a
 
-  module _ {leaf other lanes : List ℕ} {count rows cols : ℕ} (w : StruckOff m n T leaf other lanes count) (cut : Cuts m n p c (strikesOf leaf other lanes count) rows cols) where
-    cuts : Cuts (sources S) (sinks S) p c (strikesOf leaf other lanes count) rows cols
-    cuts = rw (l .rows, l .cols) at cut
+  module _ {leaf other lanes : List ℕ} {rows cols : ℕ} (w : StruckOff m n adj leaf other lanes) (cut : Cuts m n p c (strikesOf leaf other lanes (m + n - 1)) rows cols) where
+    cuts : Cuts (sources S) (sinks S) p c (strikesOf leaf other lanes (m + n - 1)) rows cols
+    cuts = rw (l .rows, l .cols) (rw (l .rows, l .cols) at cut)
 
     -- A lane is found.
     pub lane-improves : (i j : ℕ) → masked.Finds masks rows cols m (found.Lane i j) → Improving S (allows masks) p c T i j

@@ -18,22 +18,13 @@ ghost use Rattle.transport.specs.Sheet.{Sheet, place};
 ghost use Rattle.transport.specs.declared.Cell.{Cell};
 ghost use Rattle.basis.specs.Layout.{nodeRoom};
 ghost use Rattle.phase.specs.PhaseLaws.{allows};
-ghost use Rattle.settle.specs.Laid.{Laid, Small};
+ghost use Rattle.settle.specs.Laid.{Laid, StruckOff};
 ghost use Rattle.settle.specs.Step.{Advanced};
 ghost use Rattle.settle.specs.Reach.{AtStage, Reaches};
 
-// Nothing.
-fn skip() {}
-
-// Every number of a list fits its type. The logic knows it of a slice, and not of a lent array: so masks are lent as a slice once, for the proof alone.
-fn masks_fit(masks: &[u64])
-    ensures { λ _. ⌜ Small (now (masks .entry)) ⌝ }
-{
-    skip();
-}
-
 // A step of the phase for lane (p, col): the lane itself enters while it is not basic, and then any allowed lane that improves on it. If there is none, the phase has
-// ended: its lanes are kept, and the answer is false. The arrays from `leaf` to `plus` are room to work in.
+// ended: its lanes are kept, and the answer is false. `leaf`, `other` and `lane` hold the strikes of the tree, and those of the new tree after a step; `minus` and
+// `plus` are room to work in.
 fn advance(
     adj: &mut [u64; NODES],
     q: &mut [i64; LANES],
@@ -50,15 +41,14 @@ fn advance(
     col: usize,
 ) -> bool
     requires { ⌜ ((S : Sheet) × (T : List Cell) × Laid S m n (now adj) (now q) (now e) (now allowed) T) ⌝ }
+    requires { ⌜ StruckOff m n (now adj) (now leaf) (now other) (now lane) ⌝ }
     requires { ⌜ (p < m) × (col < n) × (allows (now allowed) p col ≡ true) ⌝ }
-    requires { ⌜ (length (now leaf) ≡ nodeRoom) × (length (now other) ≡ nodeRoom) × (length (now lane) ≡ nodeRoom) ⌝ }
     requires { ⌜ (length (now minus) ≡ nodeRoom) × (length (now plus) ≡ nodeRoom) ⌝ }
-    ensures { λ _. ⌜ (length (now (leaf .exit)) ≡ nodeRoom) × (length (now (other .exit)) ≡ nodeRoom) × (length (now (lane .exit)) ≡ nodeRoom) ⌝ }
+    ensures { λ _. ⌜ StruckOff m n (now (adj .exit)) (now (leaf .exit)) (now (other .exit)) (now (lane .exit)) ⌝ }
     ensures { λ _. ⌜ (length (now (minus .exit)) ≡ nodeRoom) × (length (now (plus .exit)) ≡ nodeRoom) ⌝ }
     ensures { λ r. ⌜ ((S : Sheet) (T : List Cell) → Laid S m n (now (adj .entry)) (now (q .entry)) (now (e .entry)) (now (allowed .entry)) T → Advanced r S m n p col (now (q .entry)) (now (e .entry)) (now (allowed .entry)) T (now (adj .exit)) (now (q .exit)) (now (e .exit)) (now (allowed .exit))) ⌝ }
 {
-    masks_fit(adj);
-    let count = elimination::strike(adj, leaf, other, lane, m, n);
+    let count = m + n - 1;
     let mut row = p;
     let mut to = col;
     if has_bit(adj[p], col) {
@@ -71,39 +61,44 @@ fn advance(
         to = j;
     }
     pivoting::pivot(adj, q, e, leaf, other, lane, count, m, row, to, minus, plus);
+    elimination::strike(adj, leaf, other, lane, m, n);
     true
 }
 
-// Decides lane (p, col), which is allowed: its phase, step by step.
+// Decides lane (p, col), which is allowed: its phase, step by step, with the strikes and the room of `advance`.
 pub fn decide_lane(
     adj: &mut [u64; NODES],
     q: &mut [i64; LANES],
     e: &mut [i64; LANES],
     allowed: &mut [u64; MAX_SIDE],
+    leaf: &mut [usize; NODES],
+    other: &mut [usize; NODES],
+    lane: &mut [usize; NODES],
+    minus: &mut [usize; NODES],
+    plus: &mut [usize; NODES],
     m: usize,
     n: usize,
     p: usize,
     col: usize,
 )
     requires { ⌜ AtStage (place n p col) m n (now adj) (now q) (now e) (now allowed) ⌝ }
+    requires { ⌜ StruckOff m n (now adj) (now leaf) (now other) (now lane) ⌝ }
     requires { ⌜ (p < m) × (col < n) × (allows (now allowed) p col ≡ true) ⌝ }
+    requires { ⌜ (length (now minus) ≡ nodeRoom) × (length (now plus) ≡ nodeRoom) ⌝ }
+    ensures { λ _. ⌜ StruckOff m n (now (adj .exit)) (now (leaf .exit)) (now (other .exit)) (now (lane .exit)) ⌝ }
+    ensures { λ _. ⌜ (length (now (minus .exit)) ≡ nodeRoom) × (length (now (plus .exit)) ≡ nodeRoom) ⌝ }
     ensures { λ _. ⌜ Reaches (place n p col) (suc (place n p col)) m n (now (adj .entry)) (now (q .entry)) (now (e .entry)) (now (allowed .entry)) (now (adj .exit)) (now (q .exit)) (now (e .exit)) (now (allowed .exit)) ⌝ }
 {
-    let mut leaf = [0usize; NODES];
-    let mut other = [0usize; NODES];
-    let mut lane = [0usize; NODES];
-    let mut minus = [0usize; NODES];
-    let mut plus = [0usize; NODES];
     while advance(
         adj,
         q,
         e,
         allowed,
-        &mut leaf,
-        &mut other,
-        &mut lane,
-        &mut minus,
-        &mut plus,
+        leaf,
+        other,
+        lane,
+        minus,
+        plus,
         m,
         n,
         p,
@@ -112,6 +107,7 @@ pub fn decide_lane(
 }
 
 // Decides the lanes in sheet order. A lane that is not allowed carries nothing and is passed over, and once only basic lanes are allowed all are decided.
+// The tree is struck off once at first, and then anew with each step.
 pub fn settle_lanes(
     adj: &mut [u64; NODES],
     q: &mut [i64; LANES],
@@ -123,15 +119,38 @@ pub fn settle_lanes(
     requires { ⌜ AtStage 0 m n (now adj) (now q) (now e) (now allowed) ⌝ }
     ensures { λ _. ⌜ Reaches 0 (m * n) m n (now (adj .entry)) (now (q .entry)) (now (e .entry)) (now (allowed .entry)) (now (adj .exit)) (now (q .exit)) (now (e .exit)) (now (allowed .exit)) ⌝ }
 {
+    if is_decided(allowed, adj, m) {
+        return;
+    }
+    let mut leaf = [0usize; NODES];
+    let mut other = [0usize; NODES];
+    let mut lane = [0usize; NODES];
+    let mut minus = [0usize; NODES];
+    let mut plus = [0usize; NODES];
+    elimination::strike(adj, &mut leaf, &mut other, &mut lane, m, n);
     let mut i = 0;
     while i < m {
         let mut j = 0;
         while j < n {
             if has_bit(allowed[i], j) {
+                decide_lane(
+                    adj,
+                    q,
+                    e,
+                    allowed,
+                    &mut leaf,
+                    &mut other,
+                    &mut lane,
+                    &mut minus,
+                    &mut plus,
+                    m,
+                    n,
+                    i,
+                    j,
+                );
                 if is_decided(allowed, adj, m) {
                     return;
                 }
-                decide_lane(adj, q, e, allowed, m, n, i, j);
             }
             j += 1;
         }
