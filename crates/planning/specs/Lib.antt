@@ -1,4 +1,5 @@
 pub mod Cost
 pub mod Finished
 pub mod First
+pub mod Settle
 pub mod Solve

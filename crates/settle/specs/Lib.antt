@@ -4,4 +4,3 @@ pub mod Laid
 pub mod Step
 pub mod Stage
 pub mod Reach
-pub mod Call

@@ -1,16 +1,12 @@
 -- Settle, case by case: its refusals in their order, and the plan that it writes.
-use mathlib.Core.Path.{_≡_, refl, sym, ap, _∙_}
+use mathlib.Core.Path.{_≡_, refl, _∙_}
 use mathlib.Core.Bool.{Bool, true, false, not}
 use mathlib.Core.List.{List, [], _∷_, _++_}
 use mathlib.Core.Option.{none, some}
 use Prim.Native.Nat.{ℕ, _*_, _<_, _≤_}
-use borrow.Author.Tests.{lt-ltb, le-ltb}
-use lib.IntN.{ℤ}
-use lib.ListN.{length, drop}
-use Rattle.transport.specs.Lists.{table}
-use Rattle.transport.specs.ListLaws.{length-table}
+use lib.ListN.{drop}
 use Rattle.transport.specs.Sheet.{Sheet, sources, sinks, sheetTests, refusal}
-use Rattle.transport.specs.SheetLaws.{refusal-yes, refusal-no, refusal-pass, refusal-stands}
+use Rattle.transport.specs.SheetLaws.{Checked, refusal-yes, refusal-no, refusal-pass, refusal-stands}
 use Rattle.transport.specs.declared.Tableau.{Tableau}
 use Rattle.transport.specs.declared.SettleAnswer.the-variants.{Settled, Refused}
 use Rattle.transport.specs.Tableau.{cellsOf}
@@ -18,9 +14,9 @@ use Rattle.transport.specs.Leaf.{belongs}
 use Rattle.transport.specs.Potential.{isFinished}
 use Rattle.transport.specs.Plan.{settled}
 use Rattle.transport.specs.Calls.{refusedBy, lentAfter, tableauTests, tooShort, settleCall}
-use Rattle.transport.specs.CallLaws.{unless-given, unless-refused, refusal-last}
+use Rattle.transport.specs.CallLaws.{unless-given, unless-refused, refusal-last, short-yes, short-no}
 use Rattle.transport.specs.Answers.{settleAnswer}
-use Rattle.settle.specs.Plan.{bagsIn, Written}
+use Rattle.demands.specs.Demand3.{settled-length}
 
 module _ (S : Sheet) (t : Tableau) (room : ℕ) where
   abbrev late : List (Bool × ℕ)
@@ -51,12 +47,11 @@ module _ (S : Sheet) (t : Tableau) (room : ℕ) where
         last = passes ∙ refusal-no (not (isFinished S (cellsOf t)), 7) ((tooShort room (sources S * sinks S), 8) ∷ []) (rw f)
 
         pub short-refuses : room < sources S * sinks S → refusal tests ≡ some 8
-        unfolding tooShort
-        short-refuses l = last ∙ refusal-yes (tooShort room (sources S * sinks S), 8) [] (lt-ltb room (sources S * sinks S) l)
+        short-refuses l = last ∙ refusal-yes (tooShort room (sources S * sinks S), 8) [] (short-yes room (sources S * sinks S) l)
 
         pub none-refuses : sources S * sinks S ≤ room → refusal tests ≡ none
-        unfolding tooShort refusal
-        none-refuses l = last ∙ refusal-no (tooShort room (sources S * sinks S), 8) [] (le-ltb room (sources S * sinks S) l)
+        unfolding refusal
+        none-refuses l = last ∙ refusal-no (tooShort room (sources S * sinks S), 8) [] (short-no room (sources S * sinks S) l)
 
   -- Refused: the list is as it was.
   pub settle-refused : (old : List ℕ) (k : ℕ) → refusal tests ≡ some k
@@ -65,9 +60,7 @@ module _ (S : Sheet) (t : Tableau) (room : ℕ) where
   settle-refused old k e = rw (unless-refused tests (settled S) k e) (refl, refl)
 
   -- Settled: the plan stands in the list.
-  pub settle-given : {n : ℕ} {q : List ℤ} {old new : List ℕ} → refusal tests ≡ none → Written n q (sources S * sinks S) old new → table (sources S * sinks S) (bagsIn n q) ≡ settled S
+  pub settle-given : (old : List ℕ) {new : List ℕ} → Checked S → refusal tests ≡ none → new ≡ settled S ++ drop (sources S * sinks S) old
       → (Settled ≡ settleAnswer (settleCall S t room)) × (new ≡ lentAfter (λ x. x) (settleCall S t room) old)
   unfolding settleCall settleAnswer lentAfter
-  settle-given {n} {q} e w s =
-      let l : length (settled S) ≡ sources S * sinks S = ap length (sym s) ∙ length-table (bagsIn n q) (sources S * sinks S) in
-      rw (unless-given tests (settled S) e) (refl, w .is ∙ rw (s, l))
+  settle-given old ok e s = rw (unless-given tests (settled S) e) (refl, s ∙ rw (settled-length ok))
