@@ -1,5 +1,7 @@
-// Times the panel's rounds beside LEMON's network simplex on the same random sheets, in the same process, and prints the ratio.
+// Times the panel beside LEMON's network simplex on the same random sheets, in the same process, and prints the ratios: of the rounds alone, and of solve, settling included.
 // Passes are interleaved and the least time of each side is taken, since other work on the machine only ever adds to a time.
+#include "../crates/exports/panel.h"
+
 #include <lemon/network_simplex.h>
 #include <lemon/smart_graph.h>
 
@@ -10,8 +12,6 @@
 #include <random>
 #include <vector>
 
-// Exported by crate exports: the rounds from the start to the first finished tableau; a slice is a pointer and a length.
-extern "C" uint64_t panel_rounds(const uint64_t* supply, size_t m, const uint64_t* demand, size_t n, const uint64_t* cost, size_t lanes);
 
 struct Sheet {
     std::vector<uint64_t> supply, demand, cost;
@@ -74,23 +74,34 @@ static void compare(const char* name, size_t side, uint64_t bags, uint64_t top) 
     for (size_t i = 0; i < side; i++)
         for (size_t j = 0; j < side; j++) arcs.push_back(g.addArc(nodes[i], nodes[side + j]));
 
-    double ours = 1e300, lemons = 1e300;
-    uint64_t rounds = 0;
-    int64_t sink = 0;
+    double solves = 1e300, runs = 1e300, lemons = 1e300;
+    uint64_t rounds = 0, total = 0;
+    int64_t least = 0;
+    std::vector<int64_t> u(side), v(side);
+    std::vector<uint64_t> plan(side * side), figures(2);
     for (size_t p = 0; p < passes; p++) {
-        lemons = std::min(lemons, microseconds([&] { for (auto& s : all) sink += lemon_cost(g, nodes, arcs, s); }));
+        least = 0;
+        lemons = std::min(lemons, microseconds([&] { for (auto& s : all) least += lemon_cost(g, nodes, arcs, s); }));
         rounds = 0;
-        ours = std::min(ours, microseconds([&] {
-            for (auto& s : all)
-                rounds += panel_rounds(s.supply.data(), side, s.demand.data(), side, s.cost.data(), s.cost.size());
+        runs = std::min(runs, microseconds([&] {
+            for (auto& s : all) rounds += panel_rounds(s.supply.data(), side, s.demand.data(), side, s.cost.data(), s.cost.size());
+        }));
+        total = 0;
+        solves = std::min(solves, microseconds([&] {
+            for (auto& s : all) {
+                panel_solve(s.supply.data(), side, s.demand.data(), side, s.cost.data(), s.cost.size(), u.data(), side, v.data(), side, plan.data(), side * side, figures.data(), 2);
+                total += figures[0];
+            }
         }));
     }
-    std::printf("%-28s rounds %6.1f   panel %8.1f us   LEMON %8.1f us   ratio %.2f\n", name, (double)rounds / sheets, ours / sheets, lemons / sheets, ours / lemons);
-    if (sink == 42) std::puts("");
+    std::printf("%-24s rounds %6.1f   LEMON %7.1f us   start and run %7.1f us, ratio %.2f   solve %7.1f us, ratio %.2f\n", name, (double)rounds / sheets, lemons / sheets,
+                runs / sheets, runs / lemons, solves / sheets, solves / lemons);
+    if (total != (uint64_t)least) std::puts("the costs differ");
 }
 
 int main() {
     compare("32 x 32, costs to 1,000", 32, 1000, 1000);
+    compare("32 x 32, no ties", 32, 1000, 1000000);
     compare("32 x 32, many ties", 32, 5, 3);
     compare("8 x 8, costs to 1,000", 8, 1000, 1000);
     return 0;

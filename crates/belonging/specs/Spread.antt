@@ -1,19 +1,16 @@
 -- A tableau in the flat arrays: whether its lanes span and its amounts add up, as the code finds it.
-use Prim.Native.Nat.{ℕ, _+_, _*_, _^_, _<_, _≤_}
-use native.Mathlib.Omega.{arith}
-use native.Mathlib.Nat.{div-eq-of-lt, pow-le-pow-right}
-use native.Mathlib.Decide.{decLt}
+use Prim.Native.Nat.{ℕ, _+_, _*_, _<_, _≤_}
 use mathlib.Core.Path.{_≡_, refl, sym, ap, _∙_}
-use mathlib.Core.Logic.{_↔_, by-cases}
-use mathlib.Core.Bool.{Bool, true, false, _&&_, true≢false}
+use mathlib.Core.Logic.{_↔_}
+use mathlib.Core.Bool.{Bool, true, false, _&&_}
 use mathlib.Core.List.{List}
 use lib.Dec.{eqb, ltb}
 use borrow.Author.Tests.{ltb-true, eq-eqb, ne-eqb}
 use lib.IntN.{ℤ, pos}
-use lib.ListN.{length, getD, length-map, List·getD-map}
+use lib.ListN.{length, getD, length-map}
 use Rattle.transport.specs.Lists.{all, at, total}
 use Rattle.transport.specs.ListLaws.{and-left, and-right, all-at, member-table, table-member}
-use Rattle.transport.specs.Sheet.{Sheet, sources, sinks, Lane}
+use Rattle.transport.specs.Sheet.{Sheet, sources, sinks}
 use Rattle.transport.specs.SheetLaws.{lane, Checked}
 use Rattle.transport.specs.Limits.{maxSide}
 use Rattle.transport.specs.declared.Pair.{Pair}
@@ -24,14 +21,12 @@ use Rattle.transport.specs.Leaf.{spans, cellsBelong, belongs}
 use Rattle.transport.specs.Round.{flow}
 use Rattle.sheet.specs.Check.{sheetOf}
 use Rattle.tableaux.specs.View.{Distinct, Inside, rowOf, colOf, amountAt}
-use Rattle.tableaux.specs.Lanes.{has-basic}
 use Rattle.tableaux.specs.Belonging.{fits-inside, order-true}
 use Rattle.tableaux.specs.Order.{ordered-by, ordered-distinct}
-use Rattle.basis.specs.Mask.{has}
 use Rattle.basis.specs.Layout.{stride, laneAt, placeOf, place-laneAt, strikeOf, strikesOf}
 use Rattle.basis.specs.SignLaws.{weightsOf}
 use Rattle.board.specs.CellTests.{onBoard, cellsFit}
-use Rattle.board.specs.Held.{Held, row-basic, basic-row, column-basic, basic-column, inside-basic}
+use Rattle.board.specs.Held.{Held, row-lanes, column-lanes, lanes-apart}
 use Rattle.elimination.specs.Links.{Links, Masks, iff-same}
 use Rattle.elimination.specs.Drawn.{Drawn, drawn-links, drawn-masks}
 use Rattle.elimination.specs.Strip.{Stripped}
@@ -58,15 +53,6 @@ module _ {supply demand cost : List ℕ} (ok : Checked (sheetOf supply demand co
 
 -- ---- masks
 
--- No mask has a bit past its 64th.
-abbrev pub Ranged : List ℕ → Type 0
-Ranged adj = (k : ℕ) → getD adj k 0 < 2 ^ 64
-
-has-past : (x j : ℕ) → x < 2 ^ 64 → 64 ≤ j → has x j ≡ true → ⊥
-has-past x j p l e =
-    let r : 2 ^ 64 ≤ 2 ^ j = pow-le-pow-right {n = 2} (omega arith) l in
-    true≢false (sym e ∙ rw (div-eq-of-lt {n = x} {m = 2 ^ j} (omega arith)))
-
 -- The arrays hold m + n − 1 distinct cells T, all on the sheet.
 pub record Laid (m n : ℕ) (T : List Cell) (adj : List ℕ) (q e : List ℤ) : Type 0 where
   pub held : Held m n T adj q e
@@ -74,33 +60,16 @@ pub record Laid (m n : ℕ) (T : List Cell) (adj : List ℕ) (q e : List ℤ) : 
   pub distinct : Distinct T
   pub count : length T ≡ basisSize m n
 
-module _ {m n : ℕ} {T : List Cell} {adj : List ℕ} {q e : List ℤ} (sides : Sides m n) (ranged : Ranged adj) (h : Laid m n T adj q e) where
+module _ {m n : ℕ} {T : List Cell} {adj : List ℕ} {q e : List ℤ} (sides : Sides m n) (h : Laid m n T adj q e) where
   -- The masks are those of the lanes of T.
   laid-drawn : Drawn m n (basisOf T) adj
-  laid-drawn = record {
-    rows = λ i j l. (
-      (λ t. by-cases (decLt j 64) (λ r. has-basic T i j .1 (row-basic (h .held) i j l r t)) (λ r. absurd (has-past (getD adj i 0) j (ranged i) (omega arith) t))),
-      (λ d. let b = has-basic T i j .0 d in basic-row (h .held) i j l (omega (arith, inside-basic (h .inside) b, sides .colsHigh)) b),
-    );
-    cols = λ i j l. (
-      (λ t. by-cases (decLt i 64) (λ r. has-basic T i j .1 (column-basic (h .held) i j r l t)) (λ r. absurd (has-past (getD adj (m + j) 0) i (ranged (m + j)) (omega arith) t))),
-      (λ d. let b = has-basic T i j .0 d in basic-column (h .held) i j (omega (arith, inside-basic (h .inside) b, sides .rowsHigh)) l b),
-    );
-  }
+  laid-drawn = record { rows = row-lanes (h .held); cols = column-lanes (h .held) }
 
   pub laid-links : Links m n adj
   laid-links = drawn-links laid-drawn (fits-inside m n T (h .inside)) (sides .rowsLow) (sides .rowsHigh) (sides .colsLow) (sides .colsHigh)
 
   pub laid-masks : Masks m n (basisOf T) adj
-  unfolding basisOf laneOf noCell
-  laid-masks = drawn-masks laid-drawn (fits-inside m n T (h .inside))
-      (λ i k l r s. let z = h .distinct i k (omega (arith, length-map T laneOf)) (omega (arith, length-map T laneOf)) (row i k s) (col i k s) in omega arith)
-    where
-      row : (i k : ℕ) → getD (basisOf T) i (lane 0 0) ≡ getD (basisOf T) k (lane 0 0) → rowOf T i ≡ rowOf T k
-      row i k s = ap (λ (l : Lane). l .row) (sym (List·getD-map laneOf T i noCell) ∙ s ∙ List·getD-map laneOf T k noCell)
-
-      col : (i k : ℕ) → getD (basisOf T) i (lane 0 0) ≡ getD (basisOf T) k (lane 0 0) → colOf T i ≡ colOf T k
-      col i k s = ap (λ (l : Lane). l .col) (sym (List·getD-map laneOf T i noCell) ∙ s ∙ List·getD-map laneOf T k noCell)
+  laid-masks = drawn-masks laid-drawn (fits-inside m n T (h .inside)) (lanes-apart T (h .distinct))
 
   module _ (leaf other lanes : List ℕ) (r : ℕ) (w : Stripped m n (basisOf T) (strikesOf leaf other lanes r) r) where
     -- All lanes are struck off if they span ..

@@ -18,17 +18,7 @@ ghost use Rattle.transport.specs.Tableau.{cellsOf, basisOf, balanced};
 ghost use Rattle.transport.specs.Leaf.{spans, belongs};
 ghost use Rattle.sheet.specs.Check.{sheetOf};
 ghost use Rattle.board.specs.Held.{Held};
-ghost use Rattle.belonging.specs.Spread.{Ranged, Laid};
-
-// Nothing is done here. A slice's elements are known to be in the range of their type, and those of an array are not: so proofs learn that no mask has a bit past
-// its 64th.
-fn see_ranges(masks: &[u64])
-    ensures { λ _. ⌜ Ranged (now (masks .entry)) ⌝ }
-{
-    see_nothing();
-}
-
-fn see_nothing() {}
+ghost use Rattle.belonging.specs.Spread.{Laid};
 
 // Whether the basic lanes join all nodes without a loop, and the amounts on them add up to the paired supplies and demands. There are m + n - 1 lanes, so they do
 // join if all are struck off; and then the amounts that add up are one flow of the bags and one of the marks.
@@ -43,7 +33,6 @@ fn spans_and_balances(
     requires { ⌜ ((T : List Cell) × Laid (length (now supply)) (length (now demand)) T (now adj) (now q) (now e)) ⌝ }
     ensures { λ r. ⌜ ((cost : List ℕ) (T : List Cell) → Laid (length (now (supply .entry))) (length (now (demand .entry))) T (now (adj .entry)) (now (q .entry)) (now (e .entry)) → r ≡ spans (length (now (supply .entry))) (length (now (demand .entry))) (basisOf T) && balanced (sheetOf (now (supply .entry)) (now (demand .entry)) cost) T) ⌝ }
 {
-    see_ranges(adj);
     let m = supply.len();
     let n = demand.len();
     let mut leaf = [0; NODES];

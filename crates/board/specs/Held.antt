@@ -4,18 +4,22 @@ use native.Mathlib.Omega.{arith}
 use mathlib.Core.Path.{_≡_, refl, sym, ap, _∙_}
 use mathlib.Core.Bool.{Bool, true, false, _&&_, _||_, cond, false≢true}
 use mathlib.Core.List.{List, [], _∷_}
-use mathlib.Core.Logic.{_⊎_, inl, inr}
+use mathlib.Core.Logic.{_↔_, _≢_, _⊎_, inl, inr}
 use lib.Dec.{eqb}
 use lib.IntN.{ℤ, pos}
-use lib.ListN.{length, getD, set, length-set}
+use lib.ListN.{length, getD, set, length-set, length-map, List·getD-map}
 use lib.Seq.{lt-length-set, getD-set-same, getD-set-other}
 use borrow.Author.Tests.{eqb-true, eqb-false, eq-eqb, ne-eqb}
 use Rattle.transport.specs.ListLaws.{and-left, and-right}
+use Rattle.transport.specs.Sheet.{Lane}
+use Rattle.transport.specs.SheetLaws.{lane}
 use Rattle.transport.specs.Amount.{nothing}
 use Rattle.transport.specs.declared.Pair.{Pair}
 use Rattle.transport.specs.declared.Cell.{Cell}
+use Rattle.transport.specs.Tableau.{noCell, laneOf, basisOf}
 use Rattle.transport.specs.Statements.{Basic}
-use Rattle.tableaux.specs.View.{Inside, rowOf, colOf, amountAt, basic-later, amount-none}
+use Rattle.tableaux.specs.View.{Distinct, Inside, rowOf, colOf, amountAt, basic-later}
+use Rattle.tableaux.specs.Lanes.{Has, has-basic}
 use Rattle.basis.specs.Layout.{stride, nodeRoom, laneRoom, getD-set}
 use Rattle.basis.specs.Mask.{has, put, has-put, has-zero}
 
@@ -51,9 +55,16 @@ basic-at (c ∷ cs) (suc k) i j l p q = rw (basic-at cs k i j (omega arith) p q)
 pub true-isBasic : {T : List Cell} {i j : ℕ} → Basic T i j → isBasic T i j ≡ true
 true-isBasic {T} {i} {j} b = basic-at T (b .index) i j (b .below) (b .row) (b .column)
 
-pub isBasic-cons : (c : Cell) (cs : List Cell) (i j : ℕ) → isBasic (c ∷ cs) i j ≡ eqb (c .row) i && eqb (c .col) j || isBasic cs i j
-unfolding isBasic
-isBasic-cons c cs i j = refl
+-- A test for basic lanes finds the lanes of the basis.
+basis-test : (T : List Cell) (i j : ℕ) {b : Bool} → b ≡ isBasic T i j → (b ≡ true) ↔ Has (basisOf T) i j
+basis-test T i j e = ((λ s. has-basic T i j .1 (isBasic-true T i j (sym e ∙ s))), (λ l. e ∙ true-isBasic (has-basic T i j .0 l)))
+
+-- Distinct cells stand on distinct lanes.
+pub lanes-apart : (T : List Cell) → Distinct T → (h k : ℕ) → h < k → k < length (basisOf T) → getD (basisOf T) h (lane 0 0) ≢ getD (basisOf T) k (lane 0 0)
+unfolding basisOf laneOf noCell
+lanes-apart T d h k l r e =
+    let s : laneOf (getD T h noCell) ≡ laneOf (getD T k noCell) = sym (List·getD-map laneOf T h noCell) ∙ e ∙ List·getD-map laneOf T k noCell in
+    omega (arith, d h k (omega (arith, length-map T laneOf)) (omega (arith, length-map T laneOf)) (ap (λ (x : Lane). x .row) s) (ap (λ (x : Lane). x .col) s))
 
 -- ---- the arrays
 
@@ -63,33 +74,25 @@ pub record Held (m n : ℕ) (T : List Cell) (adj : List ℕ) (q e : List ℤ) : 
   pub adjLong : length adj ≡ nodeRoom
   pub qLong : length q ≡ laneRoom
   pub eLong : length e ≡ laneRoom
-  pub rows : (i j : ℕ) → i < m → j < 64 → has (getD adj i 0) j ≡ isBasic T i j
-  pub columns : (i j : ℕ) → i < 64 → j < n → has (getD adj (m + j) 0) i ≡ isBasic T i j
+  pub rows : (i j : ℕ) → i < m → has (getD adj i 0) j ≡ isBasic T i j
+  pub columns : (i j : ℕ) → j < n → has (getD adj (m + j) 0) i ≡ isBasic T i j
   pub bags : (i j : ℕ) → i < m → j < n → getD q (i * stride + j) (pos 0) ≡ amountAt T i j .q
   pub marks : (i j : ℕ) → i < m → j < n → getD e (i * stride + j) (pos 0) ≡ amountAt T i j .e
 
 module _ {m n : ℕ} {T : List Cell} {adj : List ℕ} {q e : List ℤ} (h : Held m n T adj q e) where
   -- The masks have the basic lanes, and no others.
-  pub row-basic : (i j : ℕ) → i < m → j < 64 → has (getD adj i 0) j ≡ true → Basic T i j
-  row-basic i j l r s = isBasic-true T i j (sym (h .rows i j l r) ∙ s)
+  pub row-basic : (i j : ℕ) → i < m → has (getD adj i 0) j ≡ true → Basic T i j
+  row-basic i j l s = isBasic-true T i j (sym (h .rows i j l) ∙ s)
 
-  pub basic-row : (i j : ℕ) → i < m → j < 64 → Basic T i j → has (getD adj i 0) j ≡ true
-  basic-row i j l r b = h .rows i j l r ∙ true-isBasic b
+  pub basic-row : (i j : ℕ) → i < m → Basic T i j → has (getD adj i 0) j ≡ true
+  basic-row i j l b = h .rows i j l ∙ true-isBasic b
 
-  pub column-basic : (i j : ℕ) → i < 64 → j < n → has (getD adj (m + j) 0) i ≡ true → Basic T i j
-  column-basic i j l r s = isBasic-true T i j (sym (h .columns i j l r) ∙ s)
+  -- The same, of the lanes of the basis.
+  pub row-lanes : (i j : ℕ) → i < m → (has (getD adj i 0) j ≡ true) ↔ Has (basisOf T) i j
+  row-lanes i j l = basis-test T i j (h .rows i j l)
 
-  pub basic-column : (i j : ℕ) → i < 64 → j < n → Basic T i j → has (getD adj (m + j) 0) i ≡ true
-  basic-column i j l r b = h .columns i j l r ∙ true-isBasic b
-
-  -- A lane that is not basic has no amount.
-  pub bags-none : (i j : ℕ) → i < m → j < n → ¬ Basic T i j → getD q (i * stride + j) (pos 0) ≡ pos 0
-  unfolding nothing
-  bags-none i j l r b = h .bags i j l r ∙ ap (λ a. a .q) (amount-none T i j b)
-
-  pub marks-none : (i j : ℕ) → i < m → j < n → ¬ Basic T i j → getD e (i * stride + j) (pos 0) ≡ pos 0
-  unfolding nothing
-  marks-none i j l r b = h .marks i j l r ∙ ap (λ a. a .e) (amount-none T i j b)
+  pub column-lanes : (i j : ℕ) → j < n → (has (getD adj (m + j) 0) i ≡ true) ↔ Has (basisOf T) i j
+  column-lanes i j l = basis-test T i j (h .columns i j l)
 
 pub inside-basic : {m n : ℕ} {T : List Cell} → Inside m n T → {i j : ℕ} → Basic T i j → (i < m) × (j < n)
 inside-basic p b = rw (b .row, b .column) at (p (b .index) (b .below))
@@ -102,7 +105,7 @@ held-fewer p h =
       qLong = h .qLong;
       eLong = h .eLong;
       rows = h .rows;
-      columns = λ i j l r. h .columns i j l (omega arith);
+      columns = λ i j l. h .columns i j (omega arith);
       bags = λ i j l r. h .bags i j l (omega arith);
       marks = λ i j l r. h .marks i j l (omega arith);
     }
@@ -178,8 +181,8 @@ held-more {m} {n} {T} {adj} {q} {e} c h mLow nLow p r =
       adjLong = length-linked m (c .row) (c .col) adj ∙ h .adjLong;
       qLong = length-set q _ _ ∙ h .qLong;
       eLong = length-set e _ _ ∙ h .eLong;
-      rows = λ i j l s. linked-row m (c .row) (c .col) adj p i j (omega (arith, h .adjLong)) l ∙ rw (h .rows i j l s);
-      columns = λ i j l s. linked-column m (c .row) (c .col) adj p i j (omega (arith, h .adjLong)) ∙ rw (h .columns i j l s);
+      rows = λ i j l. linked-row m (c .row) (c .col) adj p i j (omega (arith, h .adjLong)) l ∙ rw (h .rows i j l);
+      columns = λ i j l. linked-column m (c .row) (c .col) adj p i j (omega (arith, h .adjLong)) ∙ rw (h .columns i j l);
       bags = λ i j l s. on-lane q (c .row) (c .col) i j (c .amount .q) (h .qLong) (omega arith) r (omega arith) ∙ (rw (h .bags i j l s)) ∙ part (λ a. a .q) (eqb (c .row) i && eqb (c .col) j) (amountAt T i j);
       marks = λ i j l s. on-lane e (c .row) (c .col) i j (c .amount .e) (h .eLong) (omega arith) r (omega arith) ∙ (rw (h .marks i j l s)) ∙ part (λ a. a .e) (eqb (c .row) i && eqb (c .col) j) (amountAt T i j);
     }
@@ -207,8 +210,8 @@ held-none {m} z =
       adjLong = z .adjLong;
       qLong = z .qLong;
       eLong = z .eLong;
-      rows = λ i j a b. rw (z .noBits i) (has-zero j);
-      columns = λ i j a b. rw (z .noBits (m + j)) (has-zero i);
+      rows = λ i j a. rw (z .noBits i) (has-zero j);
+      columns = λ i j a. rw (z .noBits (m + j)) (has-zero i);
       bags = λ i j a b. z .noBags (i * stride + j);
       marks = λ i j a b. z .noMarks (i * stride + j);
     }

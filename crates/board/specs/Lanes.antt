@@ -304,7 +304,7 @@ module _ {m n : ℕ} {T : List Cell} {adj : List ℕ} {q e : List ℤ} (h : Held
         low = λ x k. omega arith;
         high = λ x k. high x (map-member placeOn T k);
         pass = λ x k. pass x (map-member placeOn T k);
-        every = λ x l r t. every x r t (cell-at (isBasic-true T (x / stride) (x % stride) (sym (h .rows (x / stride) (x % stride) (omega arith) (omega arith)) ∙ t)));
+        every = λ x l r t. every x r t (cell-at (isBasic-true T (x / stride) (x % stride) (sym (h .rows (x / stride) (x % stride) (omega arith)) ∙ t)));
       }
     where
       high : (x : ℕ) → (c : Cell) × List·Memᴰ c T × (x ≡ placeOn c) → x < 0 + m * stride
@@ -315,7 +315,7 @@ module _ {m n : ℕ} {T : List Cell} {adj : List ℕ} {q e : List ℤ} (h : Held
           let l = in-sheet c k in
           let d : x / stride ≡ c .row = omega arith in
           let r : x % stride ≡ c .col = omega arith in
-          rw (d, r) (h .rows (c .row) (c .col) (omega arith) (omega arith) ∙ true-isBasic (basic-member k))
+          rw (d, r) (h .rows (c .row) (c .col) (omega arith) ∙ true-isBasic (basic-member k))
 
       every : (x : ℕ) → x < 0 + m * stride → laneIn adj x ≡ true → CellAt T (x / stride) (x % stride) → List·Memᴰ x (map placeOn T)
       every x r t c =
@@ -350,7 +350,7 @@ module _ {m n : ℕ} {T : List Cell} {adj : List ℕ} {q e : List ℤ} (h : Held
   held-masks s l =
       record {
         side = s;
-        narrow = λ i r j u v. h .rows i j r v ∙ outside i j u (isBasic T i j) refl;
+        narrow = λ i r j u v. h .rows i j r ∙ outside i j u (isBasic T i j) refl;
         few = omega (arith, ap length lanes-are, length-map T placeOn);
       }
     where

@@ -146,10 +146,10 @@ module _ {S : Sheet} {T : List Cell} {adj : List ℕ} {q e : List ℤ} {leaf oth
         adjLong = length-linked _ row col _ ∙ length-unlinked _ (leaves .row) (leaves .col) adj ∙ held .adjLong;
         qLong = t .bags .long;
         eLong = t .marks .long;
-        rows = λ i j l s. exchanged-row (sources S) (leaves .row) (leaves .col) row col adj (out-inside h .0) (h .row) near far i j l
-            ∙ (rw (held .rows i j l s)) ∙ sym (isBasic-pivot (sources S) (sinks S) T (lane row col) i j);
-        columns = λ i j l s. exchanged-column (sources S) (leaves .row) (leaves .col) row col adj (out-inside h .0) (h .row) near far i j
-            ∙ (rw (held .columns i j l s)) ∙ sym (isBasic-pivot (sources S) (sinks S) T (lane row col) i j);
+        rows = λ i j l. exchanged-row (sources S) (leaves .row) (leaves .col) row col adj (out-inside h .0) (h .row) near far i j l
+            ∙ (rw (held .rows i j l)) ∙ sym (isBasic-pivot (sources S) (sinks S) T (lane row col) i j);
+        columns = λ i j l. exchanged-column (sources S) (leaves .row) (leaves .col) row col adj (out-inside h .0) (h .row) near far i j
+            ∙ (rw (held .columns i j l)) ∙ sym (isBasic-pivot (sources S) (sinks S) T (lane row col) i j);
         bags = carried-part h (λ a. a .q) (λ a b. refl) (λ a b. refl) q q' (held .bags) (carried (λ a. a .q) q q' refl (t .bags));
         marks = carried-part h (λ a. a .e) (λ a b. refl) (λ a b. refl) e e' (held .marks) (carried (λ a. a .e) e e' refl (t .marks));
       }

@@ -1,4 +1,4 @@
-// Plans: the settled plan of a sheet, by the calls settle, from a finished tableau, and solve, from the start.
+// Plans: the calls settle and solve.
 pub mod cost;
 pub mod finished;
 pub mod settling;

@@ -21,7 +21,7 @@ ghost use Rattle.transport.specs.Answers.{settleAnswer};
 ghost use Rattle.sheet.specs.Check.{sheetOf};
 ghost use Rattle.rounds.specs.Pricing.{Laid};
 
-// Whether the tableau that the masks hold is finished. The prices are then its own.
+// Whether the tableau that the masks hold is finished. Its prices then stand in `price`.
 fn is_finished(
     adj: &[u64; NODES],
     cost: &[Price; LANES],

@@ -36,8 +36,7 @@ use Rattle.board.specs.Held.{Held}
 use Rattle.board.specs.Lanes.{RowMasks, gathered, gathered-is, held-masks}
 use Rattle.pivoting.specs.Ready.{Ready}
 use Rattle.rounds.specs.Costs.{Costed}
-use Rattle.rounds.specs.Masks.{held-masked}
-use Rattle.rounds.specs.Pricing.{Laid, Priced, laid-belongs, laid-sides}
+use Rattle.rounds.specs.Pricing.{Laid, Priced, held-drawn, laid-belongs, laid-sides}
 
 -- The sheet S has m sources and n sinks, its costs lie by lane, and the arrays hold its tableau T.
 pub record Board (S : Sheet) (T : List Cell) (adj : List ℕ) (q e cost : List ℤ) (m n : ℕ) : Type 0 where
@@ -59,7 +58,15 @@ pub record Advanced (S : Sheet) (T : List Cell) (adj : List ℕ) (q e cost price
 
 module _ {S : Sheet} {T : List Cell} {adj : List ℕ} {q e cost : List ℤ} {m n : ℕ} (b : Board S T adj q e cost m n) where
   pub board-laid : Laid S T adj cost m n
-  board-laid = record { checked = b .checked; rows = b .rows; columns = b .columns; belongs = b .belongs; costs = b .costs; masks = held-masked (b .held) }
+  board-laid = record {
+    checked = b .checked;
+    rows = b .rows;
+    columns = b .columns;
+    belongs = b .belongs;
+    costs = b .costs;
+    long = b .held .adjLong;
+    masks = held-drawn (b .held);
+  }
 
   -- The tableau can be gathered from the arrays.
   board-belongs : Belongs S T

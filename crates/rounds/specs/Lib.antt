@@ -1,4 +1,3 @@
 pub mod Boards
 pub mod Costs
-pub mod Masks
 pub mod Pricing

@@ -33,10 +33,11 @@ use Rattle.tableaux.specs.Belonging.{belongs-iff, fits-of, spans-of, distinct-o
 use Rattle.basis.specs.Layout.{stride, stride-is, nodeRoom, laneAt, costOf, costOf-at, strikeOf, strikesOf}
 use Rattle.basis.specs.PotentialLaws.{potentialBy-abs}
 use Rattle.basis.specs.ScanLaws.{padCost, reducedAt, InRange, Found, Scanned}
+use Rattle.board.specs.Held.{Held, row-lanes, column-lanes, lanes-apart}
 use Rattle.board.specs.Lanes.{place-order}
 use Rattle.elimination.specs.Links.{Links, Masks}
+use Rattle.elimination.specs.Drawn.{Drawn, drawn-links, drawn-masks}
 use Rattle.rounds.specs.Costs.{Costed}
-use Rattle.rounds.specs.Masks.{Masked, SmallTo, masked-links, masked-masks}
 
 -- The sheet S has m sources and n sinks, its costs lie by lane, and the masks are those of its tableau T.
 pub record Laid (S : Sheet) (T : List Cell) (adj : List ℕ) (cost : List ℤ) (m n : ℕ) : Type 0 where
@@ -45,7 +46,12 @@ pub record Laid (S : Sheet) (T : List Cell) (adj : List ℕ) (cost : List ℤ) (
   pub columns : n ≡ sinks S
   pub belongs : cellsBelong S T ≡ true
   pub costs : Costed S cost
-  pub masks : Masked m n T adj
+  pub long : length adj ≡ nodeRoom
+  pub masks : Drawn m n (basisOf T) adj
+
+-- The masks of arrays that hold T are those of its basis.
+pub held-drawn : {m n : ℕ} {T : List Cell} {adj : List ℕ} {q e : List ℤ} → Held m n T adj q e → Drawn m n (basisOf T) adj
+held-drawn h = record { rows = row-lanes h; cols = column-lanes h }
 
 -- What pricing gives: strikes of the basis, the prices, whether the tableau is finished, and the lane that enters if it is not.
 pub record Priced (S : Sheet) (T : List Cell) (leaf other lanes : List ℕ) (price : List ℤ) (m n row col : ℕ) (reduced : ℤ) : Type 0 where
@@ -88,12 +94,11 @@ module _ {S : Sheet} {T : List Cell} {adj : List ℕ} {cost : List ℤ} {m n : �
   pub laid-spans : spans m n (basisOf T) ≡ true
   laid-spans = rw (h .rows, h .columns) (spans-of (h .checked) laid-belongs)
 
-  module _ (small : SmallTo adj nodeRoom) where
-    pub laid-links : Links m n adj
-    laid-links = masked-links (h .masks) laid-fits small (laid-sides .1) (laid-sides .3) (laid-sides .0) (laid-sides .2)
+  pub laid-links : Links m n adj
+  laid-links = drawn-links (h .masks) laid-fits (laid-sides .0) (laid-sides .1) (laid-sides .2) (laid-sides .3)
 
-    pub laid-masks : Masks m n (basisOf T) adj
-    laid-masks = masked-masks (h .masks) laid-fits small (laid-sides .1) (laid-sides .3) (distinct-of (h .checked) laid-belongs)
+  pub laid-masks : Masks m n (basisOf T) adj
+  laid-masks = drawn-masks (h .masks) laid-fits (lanes-apart T (distinct-of (h .checked) laid-belongs))
 
   -- The cost of a lane on the sheet, by its place.
   cost-at : (l : ℕ) → l / stride < m → l % stride < n → getD cost l (pos 0) ≡ laneCost S (laneAt l)

@@ -11,24 +11,7 @@ ghost use lib.ListN.{length};
 ghost use Rattle.transport.specs.Sheet.{Sheet};
 ghost use Rattle.transport.specs.declared.Cell.{Cell};
 ghost use Rattle.basis.specs.Layout.{nodeRoom};
-ghost use Rattle.rounds.specs.Masks.{Small, SmallTo};
 ghost use Rattle.rounds.specs.Pricing.{Laid, Priced};
-
-// A mask has 64 bits: the logic knows the size of a number that is passed by value, and not that of an element of a lent array.
-fn mask_size(mask: u64)
-    ensures { λ _. ⌜ Small mask ⌝ }
-{}
-
-// So each mask is passed by value once, for the proof alone: no work is left of it in the compiled program.
-fn mask_sizes(adj: &[u64; NODES])
-    ensures { λ _. ⌜ SmallTo (now (adj .entry)) nodeRoom ⌝ }
-{
-    let mut k = 0;
-    while k < NODES {
-        mask_size(adj[k]);
-        k += 1;
-    }
-}
 
 // Strikes off the basis, and prices it back through the strikes. The lane that enters has the least reduced cost; where that is not negative, the tableau is finished.
 pub fn price(
@@ -46,7 +29,6 @@ pub fn price(
     ensures { λ _. ⌜ (length (now (leaf .exit)) ≡ nodeRoom) × (length (now (other .exit)) ≡ nodeRoom) × (length (now (lane .exit)) ≡ nodeRoom) ⌝ }
     ensures { λ r. ⌜ ((S : Sheet) (T : List Cell) → Laid S T (now (adj .entry)) (now (cost .entry)) m n → Priced S T (now (leaf .exit)) (now (other .exit)) (now (lane .exit)) (now (price .exit)) m n (r .row) (r .col) (r .reduced)) ⌝ }
 {
-    mask_sizes(adj);
     let count = elimination::strike(adj, leaf, other, lane, m, n);
     potential::potentials(cost, leaf, other, lane, count, price);
     scan::entering(cost, price, m)

@@ -1,38 +1,34 @@
 -- The arrays of settling: a tableau of the sheet with the lanes that are still allowed; its masks and its strikes.
-use mathlib.Core.Path.{_≡_, refl, sym, ap, _∙_}
-use mathlib.Core.Logic.{_≢_, by-cases}
-use mathlib.Core.Bool.{true, false, false≢true}
+use mathlib.Core.Path.{_≡_, refl}
+use mathlib.Core.Bool.{true}
 use mathlib.Core.List.{List}
-use Prim.Native.Nat.{ℕ, _+_, _-_, _/_, _^_, _<_, _≤_}
+use Prim.Native.Nat.{ℕ, _^_, _<_, _≤_}
 use native.Mathlib.Omega.{arith}
-use native.Mathlib.Nat.{div-eq-of-lt}
-use native.Mathlib.Decide.{decLt}
-use lib.Pow.{pow-mono}
 use lib.IntN.{ℤ, pos, negsuc, natAbs}
-use lib.ListN.{length, getD, length-map, List·getD-map}
+use lib.ListN.{length, getD}
 use Rattle.integers.specs.Integer.{_≼_, nat}
 use Rattle.integers.specs.Bridge.{toZ}
 use Rattle.network.specs.Round.{bags-nonneg}
 use Rattle.transport.specs.Lists.{at}
-use Rattle.transport.specs.Sheet.{Sheet, sources, sinks, Lane}
+use Rattle.transport.specs.Sheet.{Sheet, sources, sinks}
 use Rattle.transport.specs.SheetLaws.{Checked, lane}
 use Rattle.transport.specs.declared.Cell.{Cell}
-use Rattle.transport.specs.Tableau.{noCell, laneOf, basisOf}
+use Rattle.transport.specs.Tableau.{basisOf}
 use Rattle.transport.specs.Leaf.{cellsBelong}
 use Rattle.transport.specs.Statements.{Basic, Belongs}
-use Rattle.tableaux.specs.View.{rowOf, colOf, amountAt}
-use Rattle.tableaux.specs.Lanes.{has-basic}
+use Rattle.tableaux.specs.View.{amountAt}
+use Rattle.tableaux.specs.Lanes.{Fits}
 use Rattle.tableaux.specs.Striking.{Struck}
-use Rattle.tableaux.specs.Belonging.{belongs-iff, inside-of, fits-of, spans-of, distinct-of}
+use Rattle.tableaux.specs.Belonging.{belongs-iff, fits-of, spans-of, distinct-of}
 use Rattle.tableaux.specs.TableauView.{belongs-seen}
 use Rattle.demands.specs.Phases.{Restricted, Improving, improving-new}
 use Rattle.basis.specs.Layout as layout
 use Rattle.basis.specs.Layout.{stride, stride-is, nodeRoom, strikesOf}
-use Rattle.basis.specs.Mask.{has}
 use Rattle.elimination.specs.Links.{Links, Masks}
+use Rattle.elimination.specs.Drawn.{Drawn, drawn-links, drawn-masks}
 use Rattle.elimination.specs.Strip.{Stripped}
 use Rattle.elimination.specs.Strikes.{strikes-room}
-use Rattle.board.specs.Held.{Held, row-basic, basic-row, column-basic, inside-basic}
+use Rattle.board.specs.Held.{Held, row-lanes, column-lanes, lanes-apart}
 use Rattle.phase.specs.Cut.{Peels}
 use Rattle.phase.specs.PhaseLaws.{allows, peels-of}
 use Rattle.pivoting.specs.Enters.{Enters}
@@ -54,13 +50,7 @@ pub record StruckOff (m n : ℕ) (T : List Cell) (leaf other lanes : List ℕ) (
   pub stripped : Stripped m n (basisOf T) (strikesOf leaf other lanes count) count
   pub long : length lanes ≡ nodeRoom
 
--- A mask of 64 bits has no others.
-small : (x j : ℕ) → x < 2 ^ 64 → 64 ≤ j → has x j ≡ false
-small x j p q =
-    let r : 2 ^ 64 ≤ 2 ^ j = pow-mono q in
-    let none : x / 2 ^ j ≡ 0 = div-eq-of-lt (omega arith) in
-    rw none
-
+-- Every mask fits its type.
 abbrev pub Small : List ℕ → Type 0
 Small adj = (k : ℕ) → getD adj k 0 < 2 ^ 64
 
@@ -79,44 +69,19 @@ module _ {S : Sheet} {m n : ℕ} {adj : List ℕ} {q e : List ℤ} {masks : List
     omega (arith, l .cols, stride-is, l .checked .sinksHigh),
   )
 
-  inside : {i j : ℕ} → Basic T i j → (i < m) × (j < n)
-  inside b = rw (l .rows, l .cols) (inside-basic (inside-of (l .checked) laid-belongs) b)
-
   -- ---- the masks of the nodes
 
+  laid-drawn : Drawn m n (basisOf T) adj
+  laid-drawn = record { rows = row-lanes (l .held); cols = column-lanes (l .held) }
+
+  laid-fits : Fits m n (basisOf T)
+  laid-fits = rw (l .rows, l .cols) (fits-of (l .checked) laid-belongs)
+
   pub laid-links : Small adj → Links m n adj
-  laid-links s = record {
-    rowsLow = laid-sides .0;
-    rowsHigh = laid-sides .1;
-    colsLow = laid-sides .2;
-    colsHigh = laid-sides .3;
-    inRow = λ i j p h. by-cases (decLt j 64)
-        (λ r. inside (row-basic (l .held) i j p r h) .1)
-        (λ r. absurd (false≢true (sym (small (getD adj i 0) j (s i) (omega arith)) ∙ h)));
-    inCol = λ j i p h. by-cases (decLt i 64)
-        (λ r. inside (column-basic (l .held) i j r p h) .0)
-        (λ r. absurd (false≢true (sym (small (getD adj (m + j) 0) i (s (m + j)) (omega arith)) ∙ h)));
-    same = λ i j p r. l .held .columns i j (omega (arith, laid-sides)) r ∙ sym (l .held .rows i j p (omega (arith, laid-sides)));
-  }
+  laid-links s = drawn-links laid-drawn laid-fits (laid-sides .0) (laid-sides .1) (laid-sides .2) (laid-sides .3)
 
   pub laid-masks : Masks m n (basisOf T) adj
-  unfolding basisOf laneOf noCell
-  laid-masks = record {
-    inside = rw (l .rows, l .cols) (fits-of (l .checked) laid-belongs);
-    distinct = λ i k p r s.
-        let z = distinct-of (l .checked) laid-belongs i k (omega (arith, length-map T laneOf)) (omega (arith, length-map T laneOf)) (row i k s) (col i k s) in
-        omega arith;
-    lanes = λ i j p r. (
-      (λ h. has-basic T i j .1 (row-basic (l .held) i j p (omega (arith, laid-sides)) h)),
-      (λ b. basic-row (l .held) i j p (omega (arith, laid-sides)) (has-basic T i j .0 b)),
-    );
-  }
-    where
-      row : (i k : ℕ) → getD (basisOf T) i (lane 0 0) ≡ getD (basisOf T) k (lane 0 0) → rowOf T i ≡ rowOf T k
-      row i k s = ap (λ (x : Lane). x .row) (sym (List·getD-map laneOf T i noCell) ∙ s ∙ List·getD-map laneOf T k noCell)
-
-      col : (i k : ℕ) → getD (basisOf T) i (lane 0 0) ≡ getD (basisOf T) k (lane 0 0) → colOf T i ≡ colOf T k
-      col i k s = ap (λ (x : Lane). x .col) (sym (List·getD-map laneOf T i noCell) ∙ s ∙ List·getD-map laneOf T k noCell)
+  laid-masks = drawn-masks laid-drawn laid-fits (lanes-apart T (distinct-of (l .checked) laid-belongs))
 
   -- ---- its strikes
 

@@ -23,7 +23,7 @@ use Rattle.tableaux.specs.PlanView.{supplies, demands, costs}
 use Rattle.tableaux.specs.Least.{rowPotential, columnPotential}
 use Rattle.demands.specs.Phases.{keptLanes}
 use Rattle.demands.specs.Settling.{tightLanes, DecidedTo, decidedTo-cong, settling-start, settling-phase, settling-skip, settling-rest, decided-settled}
-use Rattle.basis.specs.Layout.{stride, stride-is}
+use Rattle.basis.specs.Layout.{stride}
 use Rattle.board.specs.Held.{Held, row-basic}
 use Rattle.phase.specs.Lanes as masked
 use Rattle.phase.specs.PhaseLaws.{allows}
@@ -91,7 +91,7 @@ module _ {S : Sheet} {T₀ : List Cell} {m n : ℕ} {adj : List ℕ} {q e : List
       let ok = s .laid .checked in
       let le′ : t ≤ sources S * sinks S = rw (← s .laid .rows, ← s .laid .cols) le in
       let basic : (i j : ℕ) → i < sources S → j < sinks S → allows masks i j ≡ true → Basic T i j = λ i j hi hj a.
-      row-basic (s .laid .held) i j (omega (arith, s .laid .rows)) (omega (arith, stride-is, ok .sinksHigh)) (all i (omega (arith, s .laid .rows)) j a) in
+      row-basic (s .laid .held) i j (omega (arith, s .laid .rows)) (all i (omega (arith, s .laid .rows)) j a) in
       let d : DecidedTo S T₀ (sources S * sinks S) (allows masks) T = settling-rest ok T₀ (stage-first s) le′ (stage-decided s) basic in
       stage-of ok (s .laid .rows) (s .laid .cols) (s .laid .long) (s .first) (s .laid .held) (rw (s .laid .rows, s .laid .cols) d)
 

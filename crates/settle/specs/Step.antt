@@ -32,7 +32,7 @@ use Rattle.phase.specs.Cut.{Cuts}
 use Rattle.phase.specs.declared.lanes.Found.the-variants as found
 use Rattle.phase.specs.Lanes as masked
 use Rattle.phase.specs.PhaseLaws.{allows, phase-enters, found-improves, none-ends, keeps-phase}
-use Rattle.settle.specs.Laid.{Laid, StruckOff, laid-belongs, laid-restricted, laid-sides, laid-struck}
+use Rattle.settle.specs.Laid.{Laid, StruckOff, laid-belongs, laid-restricted, laid-struck}
 
 -- ---- what is left
 
@@ -130,7 +130,7 @@ module _ {S : Sheet} {m n : ℕ} {adj : List ℕ} {q e : List ℤ} {masks : List
 
   -- The lane itself is not basic.
   pub own-improves : has (getD adj p 0) c ≡ false → allows masks p c ≡ true → Improving S (allows masks) p c T p c
-  own-improves off a = phase-enters (l .checked) (laid-belongs l) row-in col-in (λ b. false≢true (sym off ∙ basic-row (l .held) p c hp (omega (arith, laid-sides l)) b)) a
+  own-improves off a = phase-enters (l .checked) (laid-belongs l) row-in col-in (λ b. false≢true (sym off ∙ basic-row (l .held) p c hp b)) a
 
   module _ {leaf other lanes : List ℕ} {count rows cols : ℕ} (w : StruckOff m n T leaf other lanes count) (cut : Cuts m n p c (strikesOf leaf other lanes count) rows cols) where
     cuts : Cuts (sources S) (sinks S) p c (strikesOf leaf other lanes count) rows cols
@@ -144,7 +144,7 @@ module _ {S : Sheet} {m n : ℕ} {adj : List ℕ} {q e : List ℤ} {masks : List
     pub none-over : {masks′ : List ℕ} → has (getD adj p 0) c ≡ true → allows masks p c ≡ true → masked.Finds masks rows cols m found.Nothing → masked.Keeps masks rows cols m p c masks′
         → Advanced false S m n p c q e masks T adj q e masks′
     none-over {masks′} on a f k =
-        let basic : Basic T p c = row-basic (l .held) p c hp (omega (arith, laid-sides l)) on in
+        let basic : Basic T p c = row-basic (l .held) p c hp on in
         let over : Over S m n p c masks T adj q e masks′ = record {
           laid = l;
           ended = none-ends (l .checked) (laid-belongs l) row-in col-in (laid-struck l w) cuts basic masks (rw (l .rows) at f);

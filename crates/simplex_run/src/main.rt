@@ -1,31 +1,15 @@
 // Runs the calls on the paper's tableaux and on hostile ones, and prints what they answer: cells as row, column, bags and marks, both from 0.
-use libc::STDOUT_FILENO;
-use text::number;
 use transport::Cell;
 use transport::MAX_CELLS;
 use transport::MAX_SIDE;
-use transport::Pair;
 use transport::RoundOutcome;
 use transport::RunOutcome;
 use transport::Tableau;
-
-fn print(bytes: &[u8]) {
-    io::write_all(STDOUT_FILENO, bytes);
-}
-
-fn print_number(n: u64) {
-    io::print_decimal(STDOUT_FILENO, n);
-}
-
-// A whole number has at most 20 bytes.
-fn print_whole(z: i64) {
-    let mut out = [0u8; 20];
-    let count = number::whole_count(z);
-    if count <= 20 {
-        number::write_whole(z, &mut out);
-        print(&out[..count]);
-    }
-}
+use trial::print;
+use trial::print_number;
+use trial::print_refusal;
+use trial::print_whole;
+use trial::put;
 
 fn print_cell(c: Cell) {
     let amount = c.amount;
@@ -81,9 +65,8 @@ fn round(supply: &[u64], demand: &[u64], cost: &[u64], t: Tableau) {
             print_prices(v, demand.len());
         }
         RoundOutcome::Refused(number) => {
-            print(b"round: refused ");
-            print_number(number as u64);
-            print(b"\n");
+            print(b"round:");
+            print_refusal(number);
         }
     }
 }
@@ -108,9 +91,8 @@ fn run(supply: &[u64], demand: &[u64], cost: &[u64], t: Tableau, allowance: u32)
             print_tableau(t);
         }
         RunOutcome::Refused(number) => {
-            print(b"run: refused ");
-            print_number(number as u64);
-            print(b"\n");
+            print(b"run:");
+            print_refusal(number);
         }
     }
 }
@@ -121,22 +103,6 @@ fn start(supply: &[u64], demand: &[u64], cost: &[u64]) -> Tableau {
     print(b"start\n");
     print_tableau(t);
     t
-}
-
-// The tableau with one cell more.
-fn put(t: Tableau, row: usize, col: usize, q: i64, e: i64) -> Tableau {
-    let mut u = t;
-    let k = u.count;
-    if k < MAX_CELLS {
-        let amount = Pair { q: q, e: e };
-        u.cells[k] = Cell {
-            row: row,
-            col: col,
-            amount: amount,
-        };
-        u.count = k + 1;
-    }
-    u
 }
 
 // P1 and P2.

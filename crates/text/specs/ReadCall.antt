@@ -1,10 +1,12 @@
 -- Read sheet: what the sections' answer says, and the call case by case.
 use mathlib.Core.Path.{_≡_, refl, sym, ap, _∙_}
 use mathlib.Core.List.{List, [], _∷_, _++_}
-use Prim.Native.Nat.{ℕ, _+_, _*_, _-_, _≤_, _<_}
+use Prim.Native.Nat.{ℕ, _+_, _*_, _-_, _≤_}
 use native.Mathlib.Omega.{arith}
-use mathlib.Core.Bool.{Bool, true, false, _||_}
+use mathlib.Core.Bool.{Bool, true, false, not, _&&_, _||_, and-eq-true-iff}
 use mathlib.Core.Option.{none, some}
+use borrow.Author.Tests.{leb-true, leb-false}
+use lib.Dec.{leb}
 use lib.ListN.{length, take, drop, length-drop}
 use Rattle.transport.specs.declared.ReadAnswer.{ReadAnswer}
 use Rattle.transport.specs.declared.ReadAnswer.the-variants as ReadAnswer
@@ -29,6 +31,30 @@ abbrev pub readFits : List ℕ → ReadAnswer → Type 0
 readFits text (ReadAnswer.Sheet m n) = (1 ≤ m) × (m ≤ 32) × (1 ≤ n) × (n ≤ 32)
 readFits text (ReadAnswer.NotSheetText place) = place ≤ length text
 readFits text (ReadAnswer.Refused number) = ⊥
+
+-- ---- rooms
+
+short-not : (room needed : ℕ) → tooShort room needed ≡ not (leb needed room)
+short-not room needed = go (leb needed room) refl
+  where
+    go : (b : Bool) → leb needed room ≡ b → tooShort room needed ≡ not (leb needed room)
+    go true e = rw e (short-no room needed (leb-true needed room e))
+    go false e = rw e (short-yes room needed (leb-false needed room e))
+
+not-all : (a b c : Bool) → not a || not b || not c ≡ not (a && b && c)
+not-all true true c = refl
+not-all true false c = refl
+not-all false b c = refl
+
+-- Three lists and what each is to hold: one is too short, or all fit.
+short-unless : (a x b y c z : ℕ) → tooShort a x || tooShort b y || tooShort c z ≡ not (leb x a && leb y b && leb z c)
+short-unless a x b y c z = rw (short-not a x, short-not b y, short-not c z) (not-all (leb x a) (leb y b) (leb z c))
+
+pub all-fit : (a b c : Bool) → a && b && c ≡ true → (a ≡ true) × (b ≡ true) × (c ≡ true)
+all-fit a b c e =
+    let h = and-eq-true-iff (a && b) c .0 e in
+    let k = and-eq-true-iff a b .0 (h .0) in
+    (k .0, k .1, h .1)
 
 -- ---- a sheet that was read
 
@@ -60,26 +86,22 @@ module _ (supply demand cost : List ℕ) where
     unfolding readTests
     stored-number k e = filled-refused _ k (unless-before (numberTests S) tight 8 S k e)
 
-    module _ (e : refusal (numberTests S) ≡ none) where
-      stored-tight : tight ≡ true → Stored S supply demand cost (ReadAnswer.Refused 8) supply demand cost
+    -- Whether each lent list has room for the sheet's.
+    abbrev roomy : Bool
+    roomy = leb (length (S .supply)) (length supply) && leb (length (S .demand)) (length demand) && leb (length (S .cost)) (length cost)
+
+    module _ (e : refusal (numberTests S) ≡ none) (whole : length (S .cost) ≡ length (S .supply) * length (S .demand)) where
+      tight-unless : tight ≡ not roomy
+      unfolding sources sinks
+      tight-unless = rw whole (short-unless (length supply) (length (S .supply)) (length demand) (length (S .demand)) (length cost) (length (S .supply) * length (S .demand)))
+
+      pub stored-tight : roomy ≡ false → Stored S supply demand cost (ReadAnswer.Refused 8) supply demand cost
       unfolding readTests
-      stored-tight t = filled-refused _ 8 (unless-last (numberTests S) tight 8 S e t)
+      stored-tight f = filled-refused _ 8 (unless-last (numberTests S) tight 8 S e (tight-unless ∙ ap not f))
 
-      pub stored-supply : length supply < length (S .supply) → Stored S supply demand cost (ReadAnswer.Refused 8) supply demand cost
-      unfolding sources
-      stored-supply p = stored-tight (rw (short-yes (length supply) (length (S .supply)) p))
-
-      pub stored-demand : length (S .supply) ≤ length supply → length demand < length (S .demand) → Stored S supply demand cost (ReadAnswer.Refused 8) supply demand cost
-      unfolding sources sinks
-      stored-demand p q = stored-tight (rw (short-no (length supply) (length (S .supply)) p, short-yes (length demand) (length (S .demand)) q))
-
-      pub stored-cost : length (S .supply) ≤ length supply → length (S .demand) ≤ length demand → length cost < length (S .supply) * length (S .demand) → Stored S supply demand cost (ReadAnswer.Refused 8) supply demand cost
-      unfolding sources sinks
-      stored-cost p q r = stored-tight (rw (short-no (length supply) (length (S .supply)) p, short-no (length demand) (length (S .demand)) q, short-yes (length cost) (length (S .supply) * length (S .demand)) r))
-
-      pub stored-given : length (S .supply) ≤ length supply → length (S .demand) ≤ length demand → length (S .supply) * length (S .demand) ≤ length cost → Stored S supply demand cost (ReadAnswer.Sheet (length (S .supply)) (length (S .demand))) (front (S .supply) supply) (front (S .demand) demand) (front (S .cost) cost)
-      unfolding readTests sources sinks
-      stored-given p q r = filled-given _ S (unless-none (numberTests S) tight 8 S e (rw (short-no _ _ p, short-no _ _ q, short-no _ _ r)))
+      pub stored-given : roomy ≡ true → Stored S supply demand cost (ReadAnswer.Sheet (length (S .supply)) (length (S .demand))) (front (S .supply) supply) (front (S .demand) demand) (front (S .cost) cost)
+      unfolding readTests
+      stored-given f = filled-given _ S (unless-none (numberTests S) tight 8 S e (tight-unless ∙ ap not f))
 
 -- ---- the call
 

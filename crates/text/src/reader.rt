@@ -1,5 +1,6 @@
 // Read sheet. Each reader starts at a place of the text, and its answer says where it ended.
 ghost use mathlib.Core.Path.{_≡_};
+ghost use mathlib.Core.Bool.{true, false};
 ghost use mathlib.Core.List.{_++_};
 ghost use Prim.Native.Nat.{ℕ, _+_, _*_, _≤_, _<_};
 ghost use lib.ListN.{length, take, drop};
@@ -304,6 +305,19 @@ fn copy_list(from: &[u64], list: &mut [u64])
     }
 }
 
+// Copies a list to the front of a longer one if that is wanted; if not, the other stays as it was, whatever its length.
+fn store_list(from: &[u64], list: &mut [u64], wanted: bool)
+    requires { ⌜ (wanted ≡ true → length (now from) ≤ length (now list)) ⌝ }
+    ensures { λ r. ⌜
+        (wanted ≡ true → now (list .exit) ≡ front (now (from .entry)) (now (list .entry)))
+        × (wanted ≡ false → now (list .exit) ≡ now (list .entry))
+        ⌝ }
+{
+    if wanted {
+        copy_list(from, list);
+    }
+}
+
 // A sheet that was read goes to the lent lists, unless 3, 4, 5 or 8 refuses it.
 fn store_sheet(
     sheet_supply: &[u64],
@@ -324,18 +338,17 @@ fn store_sheet(
     if let SheetCheck::Refused(number) = check {
         return ReadAnswer::Refused(number);
     }
-    if supply.len() < sheet_supply.len() {
+    let supply_fits = sheet_supply.len() <= supply.len();
+    let demand_fits = sheet_demand.len() <= demand.len();
+    let cost_fits = sheet_cost.len() <= cost.len();
+    // No list is stored unless all three fit.
+    let fits = supply_fits && demand_fits && cost_fits;
+    store_list(sheet_supply, supply, fits);
+    store_list(sheet_demand, demand, fits);
+    store_list(sheet_cost, cost, fits);
+    if !fits {
         return ReadAnswer::Refused(8);
     }
-    if demand.len() < sheet_demand.len() {
-        return ReadAnswer::Refused(8);
-    }
-    if cost.len() < sheet_cost.len() {
-        return ReadAnswer::Refused(8);
-    }
-    copy_list(sheet_supply, supply);
-    copy_list(sheet_demand, demand);
-    copy_list(sheet_cost, cost);
     ReadAnswer::Sheet {
         sources: sheet_supply.len(),
         sinks: sheet_demand.len(),

@@ -1,15 +1,8 @@
 // Writes and reads sheet texts, and prints what the calls answer.
-use libc::STDOUT_FILENO;
 use transport::ReadAnswer;
 use transport::WriteAnswer;
-
-fn print(bytes: &[u8]) {
-    io::write_all(STDOUT_FILENO, bytes);
-}
-
-fn print_number(n: u64) {
-    io::print_decimal(STDOUT_FILENO, n);
-}
+use trial::print;
+use trial::print_number;
 
 fn print_answer(answer: ReadAnswer) {
     match answer {

@@ -18,21 +18,15 @@ use Rattle.basis.specs.SignLaws.{weightsOf}
 use Rattle.elimination.specs.Strikes.{strikes-room, strikes-distinct}
 use Rattle.belonging.specs.Carried.{carries}
 use Rattle.belonging.specs.Balance.{Tree}
-use Rattle.belonging.specs.Spread.{Sides, checked-sides, checked-modest, Ranged, Laid, laid-links, laid-masks, laid-apart, laid-tree, balanced-is}
+use Rattle.belonging.specs.Spread.{Sides, checked-sides, checked-modest, Laid, laid-links, laid-masks, laid-apart, laid-tree, balanced-is}
 use Rattle.belonging.proofs.spans_and_balances.Statement.{statement}
 use Rattle.belonging.proofs.spans_and_balances.Tie as tie
 
-see-ranges-requires : tie.Need-see-ranges-requires
-see-ranges-requires c κs = search needs
-
-sides : (c : tie.After-lane) → let a = c .before .before .before .before .before .before .before .args in Sides (length (a .supply .now)) (length (a .demand .now))
-sides c = checked-sides (c .before .before .before .before .before .before .before .pre .0 .1)
-
-ranged : (c : tie.After-lane) → Ranged (c .before .before .before .before .before .before .before .args .adj .now)
-ranged c = c .before .before .before .see-ranges .ensures
+sides : (c : tie.After-lane) → let a = c .before .before .before .before .before .args in Sides (length (a .supply .now)) (length (a .demand .now))
+sides c = checked-sides (c .before .before .before .before .before .pre .0 .1)
 
 strike-requires : tie.Need-strike-requires
-strike-requires c κs = let (T, h) = c .before .before .before .before .before .before .before .pre .1 in (laid-links (sides c) (ranged c) h, (h .held .adjLong, refl, refl, refl))
+strike-requires c κs = let (T, h) = c .before .before .before .before .before .pre .1 in (laid-links (sides c) h, (h .held .adjLong, refl, refl, refl))
 
 add-if1 : tie.Need-add-if1
 add-if1 c = search needs
@@ -44,31 +38,31 @@ returns : tie.Need-returns
 unfolding basisSize
 returns c cost T h =
     let v = c .before .before in
-    rw (laid-apart (sides v) (ranged v) h _ _ _ _ (c .before .strike .ensures .1 (basisOf T) (laid-masks (sides v) (ranged v) h)) (c .if1 .taken))
+    rw (laid-apart (sides v) h _ _ _ _ (c .before .strike .ensures .1 (basisOf T) (laid-masks (sides v) h)) (c .if1 .taken))
 
 weigh-bags-requires : tie.Need-weigh-bags-requires
-weigh-bags-requires c κs = checked-modest (c .before .before .before .before .before .before .before .before .before .before .pre .0 .1)
+weigh-bags-requires c κs = checked-modest (c .before .before .before .before .before .before .before .before .pre .0 .1)
 
 weigh-marks-requires : tie.Need-weigh-marks-requires
 weigh-marks-requires c κs = let s = sides (c .before .before .before .before .before) in (s .rowsHigh, s .colsLow, s .colsHigh)
 
 -- All lanes are struck off, so the cells are a tree.
 tree : (c : tie.Else1) (T : List Cell)
-    → let a = c .before .before .before .before .before .before .before .before .before .args in
+    → let a = c .before .before .before .before .before .before .before .args in
     let s = c .before .strike in
     Laid (length (a .supply .now)) (length (a .demand .now)) T (a .adj .now) (a .q .now) (a .e .now)
     → Tree (length (a .supply .now)) (length (a .demand .now)) T (strikesOf (s .last .1 .0) (s .last .1 .1 .0) (s .last .1 .1 .1 .0) (s .result))
 unfolding basisSize
 tree c T h =
     let v = c .before .before in
-    laid-tree (sides v) (ranged v) h _ _ _ _ (c .before .strike .ensures .1 (basisOf T) (laid-masks (sides v) (ranged v) h)) (c .if1 .left)
+    laid-tree (sides v) h _ _ _ _ (c .before .strike .ensures .1 (basisOf T) (laid-masks (sides v) h)) (c .if1 .left)
 
 -- The strikes are within their room, and no lane comes twice.
 strikes : (c : tie.Else1)
     → let s = c .before .strike in
     layout.Struck (s .last .1 .0) (s .last .1 .1 .0) (s .last .1 .1 .1 .0) (s .result) × Distinct (s .last .1 .1 .1 .0) (s .result)
 strikes c =
-    let (T, h) = c .before .before .before .before .before .before .before .before .before .pre .1 in
+    let (T, h) = c .before .before .before .before .before .before .before .pre .1 in
     let t = tree c T h in
     let s = sides (c .before .before) in
     (strikes-room _ _ _ _ _ _ (s .rowsHigh) (s .colsHigh) (c .before .strike .ensures .0 .2) (t .struck), strikes-distinct _ _ _ _ _ _ (t .struck .peels))
@@ -78,7 +72,7 @@ flows-match-requires c κs = let (room, distinct) = strikes (c .before .before .
 
 -- What is left to find: whether both flows are carried.
 flows : (c : tie.After-lane2) (cost : List ℕ) (T : List Cell)
-    → let a = c .before .before .before .before .before .before .before .before .before .before .before .before .before .before .before .before .before .args in
+    → let a = c .before .before .before .before .before .before .before .before .before .before .before .before .before .before .before .args in
     let s = c .before .before .before .before .before .before .before .before .before .strike in
     let ss = strikesOf (s .last .1 .0) (s .last .1 .1 .0) (s .last .1 .1 .1 .0) (s .result) in
     Laid (length (a .supply .now)) (length (a .demand .now)) T (a .adj .now) (a .q .now) (a .e .now)
@@ -88,7 +82,7 @@ flows : (c : tie.After-lane2) (cost : List ℕ) (T : List Cell)
 flows c cost T h =
     let t = tree (c .before .before .before .before .before .before .before .before) T h in
     rw (t .spans)
-    (balanced-is _ _ cost (h .held) _ _ _ _ t (c .before .before .before .before .before .before .before .before .before .before .before .before .before .before .before .before .before .pre .0 .1 .balance) (c .before .before .before .before .before .before .weigh-bags .ensures) (c .before .before .before .before .weigh-marks .ensures))
+    (balanced-is _ _ cost (h .held) _ _ _ _ t (c .before .before .before .before .before .before .before .before .before .before .before .before .before .before .before .pre .0 .1 .balance) (c .before .before .before .before .before .before .weigh-bags .ensures) (c .before .before .before .before .weigh-marks .ensures))
 
 returns-2 : tie.Need-returns-2
 returns-2 c cost T h = sym (flows (c .before .before) cost T h ∙ rw (← c .before .flows-match .ensures, not-true (c .before .flows-match .result) (c .if2 .taken)))
@@ -105,7 +99,6 @@ pub spans-and-balances-spec : {M : Type 1} → statement M
 spans-and-balances-spec =
     tie.close
     (tie.spec
-    see-ranges-requires
     strike-requires
     add-if1
     sub-if1

@@ -11,26 +11,23 @@ use Rattle.rounds.specs.Pricing.{Laid, laid-sides, laid-spans, laid-link
 use Rattle.rounds.proofs.pricing.price.Statement.{statement}
 use Rattle.rounds.proofs.pricing.price.Tie as tie
 
-mask-sizes-requires : tie.Need-mask-sizes-requires
-mask-sizes-requires c κs = tt
-
 strike-requires : tie.Need-strike-requires
 strike-requires c κs =
-    let s = c .before .before .before .before in
+    let s = c .before .before .before in
     let h = s .pre .0 .2 in
-    (laid-links h (c .before .before .before .mask-sizes .ensures), (h .masks .long, s .pre .1 .0, s .pre .1 .1, s .pre .1 .2))
+    (laid-links h, (h .long, s .pre .1 .0, s .pre .1 .1, s .pre .1 .2))
 
 struck : (c : tie.After-strike) (S : Sheet) (T : List Cell)
-    → let a = c .before .before .before .before .before .args in
+    → let a = c .before .before .before .before .args in
     let l = c .strike .last in
     Laid S T (a .adj .now) (a .cost .now) (a .m) (a .n)
     → (c .strike .result ≡ basisSize (a .m) (a .n)) × Struck (a .m) (a .n) (basisOf T) (strikesOf (l .1 .0) (l .1 .1 .0) (l .1 .1 .1 .0) (c .strike .result))
-struck c S T h = c .strike .ensures .1 (basisOf T) (laid-masks h (c .before .before .before .before .mask-sizes .ensures)) .complete (laid-spans h)
+struck c S T h = c .strike .ensures .1 (basisOf T) (laid-masks h) .complete (laid-spans h)
 
 potentials-requires : tie.Need-potentials-requires
 potentials-requires c κs =
     let a = c .before .before .before .before in
-    let s = a .before .before .before .before .before in
+    let s = a .before .before .before .before in
     let h = s .pre .0 .2 in
     let l = a .strike .last in
     let w = struck a (s .pre .0 .0) (s .pre .0 .1) h .1 in
@@ -39,7 +36,7 @@ potentials-requires c κs =
 entering-requires : tie.Need-entering-requires
 entering-requires c κs =
     let a = c .before .before .before .before .before .before in
-    let s = a .before .before .before .before .before in
+    let s = a .before .before .before .before in
     let h = s .pre .0 .2 in
     in-range h (struck a (s .pre .0 .0) (s .pre .0 .1) h .1) (c .before .potentials .last .1 .1 .1 .1 .1 .0) (c .before .potentials .ensures .1)
 
@@ -57,4 +54,4 @@ returns c =
 pub price-spec : {M : Type 1} → statement M
 price-spec =
     tie.close
-    (tie.spec mask-sizes-requires strike-requires potentials-requires entering-requires returns)
+    (tie.spec strike-requires potentials-requires entering-requires returns)

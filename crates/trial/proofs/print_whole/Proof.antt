@@ -3,8 +3,8 @@ use mathlib.Core.Path.{sym}
 use native.Mathlib.Omega.{arith}
 use lib.Seq.{length-take-le}
 use borrow.Author.Needs.{needs}
-use Rattle.simplex_run.proofs.print_whole.Statement.{statement}
-use Rattle.simplex_run.proofs.print_whole.Tie as tie
+use Rattle.trial.proofs.print_whole.Statement.{statement}
+use Rattle.trial.proofs.print_whole.Tie as tie
 
 whole-count-requires : tie.Need-whole-count-requires
 whole-count-requires c κs = search needs

@@ -1,0 +1,352 @@
+// Holds solve to answers found another way: small sheets to a search through all plans, and to rounds made on paper's terms; large sheets to a certificate; and refusals.
+#include "../../crates/exports/panel.h"
+
+#include <algorithm>
+#include <cstdio>
+#include <functional>
+#include <random>
+#include <string>
+#include <utility>
+#include <vector>
+
+using Numbers = std::vector<uint64_t>;
+using Whole = std::vector<int64_t>;
+
+struct Sheet {
+    Numbers supply, demand, cost;
+    size_t m() const { return supply.size(); }
+    size_t n() const { return demand.size(); }
+};
+
+// What solve answers, with lists that are `spare` places longer than needed and were filled with a mark before.
+const uint64_t mark = 0x5a5a5a5a;
+struct Answer {
+    int refused;
+    uint64_t cost, rounds;
+    Whole u, v;
+    Numbers plan;
+    bool rest_kept;
+};
+
+static Answer solve(const Sheet &s, size_t spare) {
+    size_t m = s.m(), n = s.n();
+    Whole u(m + spare, (int64_t)mark), v(n + spare, (int64_t)mark);
+    Numbers plan(m * n + spare, mark), figures(2, 0);
+    Answer a;
+    a.refused = panel_solve(s.supply.data(), m, s.demand.data(), n, s.cost.data(), s.cost.size(), u.data(), u.size(), v.data(), v.size(),
+                            plan.data(), plan.size(), figures.data(), figures.size());
+    a.cost = figures[0];
+    a.rounds = figures[1];
+    a.rest_kept = true;
+    for (size_t k = m; k < u.size(); k++) a.rest_kept &= u[k] == (int64_t)mark;
+    for (size_t k = n; k < v.size(); k++) a.rest_kept &= v[k] == (int64_t)mark;
+    for (size_t k = m * n; k < plan.size(); k++) a.rest_kept &= plan[k] == mark;
+    u.resize(m);
+    v.resize(n);
+    plan.resize(m * n);
+    a.u = u;
+    a.v = v;
+    a.plan = plan;
+    return a;
+}
+
+// A balanced sheet: bags up to `bags` a party before the totals are made equal, costs up to `top`.
+static Sheet random_sheet(std::mt19937_64 &rng, size_t m, size_t n, uint64_t bags, uint64_t top) {
+    Sheet s;
+    int64_t over = 0;
+    for (size_t i = 0; i < m; i++) {
+        s.supply.push_back(1 + rng() % bags);
+        over += (int64_t)s.supply[i];
+    }
+    for (size_t j = 0; j < n; j++) {
+        s.demand.push_back(1 + rng() % bags);
+        over -= (int64_t)s.demand[j];
+    }
+    for (; over < 0; over++) s.supply[rng() % m]++;
+    for (; over > 0; over--) s.demand[rng() % n]++;
+    for (size_t k = 0; k < m * n; k++) s.cost.push_back(rng() % (top + 1));
+    return s;
+}
+
+static uint64_t cost_of(const Sheet &s, const Numbers &plan) {
+    uint64_t sum = 0;
+    for (size_t k = 0; k < plan.size(); k++) sum += plan[k] * s.cost[k];
+    return sum;
+}
+
+// ---- a search through all plans: the first of least cost, where more on an earlier lane comes first
+
+static Numbers best_plan(const Sheet &s) {
+    size_t m = s.m(), n = s.n();
+    Numbers plan(m * n, 0), best, left = s.supply, wanted = s.demand;
+    uint64_t least = UINT64_MAX;
+    std::function<void(size_t)> go = [&](size_t k) {
+        if (k == m * n) {
+            for (uint64_t d : wanted)
+                if (d != 0) return;
+            uint64_t c = cost_of(s, plan);
+            if (c < least) {
+                least = c;
+                best = plan;
+            }
+            return;
+        }
+        size_t i = k / n, j = k % n;
+        uint64_t top = std::min(left[i], wanted[j]);
+        uint64_t low = j + 1 == n ? left[i] : 0;
+        for (uint64_t x = top + 1; x-- > low;) {
+            plan[k] = x;
+            left[i] -= x;
+            wanted[j] -= x;
+            go(k + 1);
+            left[i] += x;
+            wanted[j] += x;
+        }
+        plan[k] = 0;
+    };
+    go(0);
+    return best;
+}
+
+// ---- rounds in the plainest way: amounts are pairs of bags and marks, and the loop is found by a walk through the basic cells
+
+using Amount = std::pair<int64_t, int64_t>;
+struct Basic {
+    size_t row, col;
+    Amount amount;
+};
+
+static Amount plus(Amount a, Amount b, int sign) { return {a.first + sign * b.first, a.second + sign * b.second}; }
+
+static std::vector<Basic> corner_start(const Sheet &s) {
+    size_t m = s.m(), n = s.n(), i = 0, j = 0;
+    std::vector<Amount> left, wanted;
+    for (uint64_t x : s.supply) left.push_back({(int64_t)x, 1});
+    for (uint64_t x : s.demand) wanted.push_back({(int64_t)x, 0});
+    wanted[n - 1].second = (int64_t)m;
+    std::vector<Basic> cells;
+    while (cells.size() < m + n - 1) {
+        Amount x = std::min(left[i], wanted[j]);
+        cells.push_back({i, j, x});
+        left[i] = plus(left[i], x, -1);
+        wanted[j] = plus(wanted[j], x, -1);
+        if (left[i] == Amount{0, 0}) i++;
+        else j++;
+    }
+    return cells;
+}
+
+static void price(const Sheet &s, const std::vector<Basic> &cells, Whole &u, Whole &v) {
+    std::vector<bool> row(s.m(), false), col(s.n(), false);
+    u.assign(s.m(), 0);
+    v.assign(s.n(), 0);
+    row[0] = true;
+    for (size_t pass = 0; pass < cells.size(); pass++)
+        for (auto &c : cells) {
+            int64_t cost = (int64_t)s.cost[c.row * s.n() + c.col];
+            if (row[c.row] && !col[c.col]) {
+                v[c.col] = cost - u[c.row];
+                col[c.col] = true;
+            } else if (col[c.col] && !row[c.row]) {
+                u[c.row] = cost - v[c.col];
+                row[c.row] = true;
+            }
+        }
+}
+
+// The cells from a row to a column, in turn by row and by column.
+static bool walk(const std::vector<Basic> &cells, bool at_row, size_t at, size_t to, size_t last, std::vector<size_t> &path) {
+    if (!at_row && at == to) return true;
+    for (size_t k = 0; k < cells.size(); k++) {
+        if (k == last || (at_row ? cells[k].row : cells[k].col) != at) continue;
+        path.push_back(k);
+        if (walk(cells, !at_row, at_row ? cells[k].col : cells[k].row, to, k, path)) return true;
+        path.pop_back();
+    }
+    return false;
+}
+
+// The rounds to the first finished tableau, and its prices.
+static uint64_t plain_rounds(const Sheet &s, Whole &u, Whole &v) {
+    std::vector<Basic> cells = corner_start(s);
+    for (uint64_t rounds = 0;; rounds++) {
+        price(s, cells, u, v);
+        int64_t least = 0;
+        size_t row = 0, col = 0;
+        for (size_t i = 0; i < s.m(); i++)
+            for (size_t j = 0; j < s.n(); j++) {
+                int64_t reduced = (int64_t)s.cost[i * s.n() + j] - u[i] - v[j];
+                if (reduced < least) {
+                    least = reduced;
+                    row = i;
+                    col = j;
+                }
+            }
+        if (least == 0) return rounds;
+        std::vector<size_t> path;
+        walk(cells, true, row, col, cells.size(), path);
+        size_t out = path[0];
+        for (size_t k = 0; k < path.size(); k += 2)
+            if (cells[path[k]].amount < cells[out].amount) out = path[k];
+        Amount step = cells[out].amount;
+        for (size_t k = 0; k < path.size(); k++) cells[path[k]].amount = plus(cells[path[k]].amount, step, k % 2 == 0 ? -1 : 1);
+        cells[out] = {row, col, step};
+    }
+}
+
+// ---- a certificate for large sheets
+
+static bool meets(const Sheet &s, const Numbers &plan) {
+    Numbers left = s.supply, wanted = s.demand;
+    for (size_t i = 0; i < s.m(); i++)
+        for (size_t j = 0; j < s.n(); j++) {
+            uint64_t x = plan[i * s.n() + j];
+            if (x > left[i] || x > wanted[j]) return false;
+            left[i] -= x;
+            wanted[j] -= x;
+        }
+    for (uint64_t x : left)
+        if (x != 0) return false;
+    for (uint64_t x : wanted)
+        if (x != 0) return false;
+    return true;
+}
+
+// No lane costs less than its prices, and a lane with bags costs just them: the plan is of least cost.
+static bool priced(const Sheet &s, const Answer &a) {
+    for (size_t i = 0; i < s.m(); i++)
+        for (size_t j = 0; j < s.n(); j++) {
+            int64_t reduced = (int64_t)s.cost[i * s.n() + j] - a.u[i] - a.v[j];
+            if (reduced < 0 || (a.plan[i * s.n() + j] > 0 && reduced > 0)) return false;
+        }
+    return a.u[0] == 0;
+}
+
+// On no lane of reduced cost 0 more can be carried by moving bags on such lanes after it: no way leads back from its sink to its source.
+static bool settled(const Sheet &s, const Answer &a) {
+    size_t m = s.m(), n = s.n();
+    for (size_t lane = 0; lane < m * n; lane++) {
+        auto tight = [&](size_t k) { return (int64_t)s.cost[k] == a.u[k / n] + a.v[k % n]; };
+        if (!tight(lane)) continue;
+        std::vector<bool> row(m, false), col(n, false);
+        std::vector<std::pair<bool, size_t>> open = {{false, lane % n}};
+        col[lane % n] = true;
+        while (!open.empty()) {
+            auto [is_row, at] = open.back();
+            open.pop_back();
+            for (size_t k = lane + 1; k < m * n; k++) {
+                if (is_row && k / n == at && tight(k) && !col[k % n]) {
+                    col[k % n] = true;
+                    open.push_back({false, k % n});
+                }
+                if (!is_row && k % n == at && a.plan[k] > 0 && !row[k / n]) {
+                    row[k / n] = true;
+                    open.push_back({true, k / n});
+                }
+            }
+        }
+        if (row[lane / n]) return false;
+    }
+    return true;
+}
+
+// ---- the tests
+
+static int passed = 0, failed = 0;
+
+static void test(const std::string &name, bool good) {
+    (good ? passed : failed)++;
+    if (!good) std::printf("failed: %s\n", name.c_str());
+}
+
+static void small_sheets() {
+    std::mt19937_64 rng(11);
+    bool plans = true, costs = true, rounds = true, prices = true, kept = true;
+    for (int k = 0; k < 3000; k++) {
+        size_t m = 1 + rng() % 4, n = 1 + rng() % 4;
+        const uint64_t tops[] = {0, 1, 2, 5, 1000000};
+        Sheet s = random_sheet(rng, m, n, m * n > 9 ? 3 : 5, tops[rng() % 5]);
+        Answer a = solve(s, rng() % 3);
+        Numbers best = best_plan(s);
+        Whole u, v;
+        plans &= a.refused == 0 && a.plan == best;
+        costs &= a.cost == cost_of(s, best);
+        rounds &= a.rounds == plain_rounds(s, u, v);
+        prices &= a.u == u && a.v == v;
+        kept &= a.rest_kept;
+    }
+    test("3,000 small sheets: the plan is the one that a search through all plans finds", plans);
+    test("3,000 small sheets: the cost is that plan's", costs);
+    test("3,000 small sheets: the rounds are those of the plainest way", rounds);
+    test("3,000 small sheets: so are the prices", prices);
+    test("3,000 small sheets: places past the result are as they were", kept);
+}
+
+static void large_sheets() {
+    std::mt19937_64 rng(13);
+    bool least = true, first = true, rounds = true, kept = true;
+    for (int k = 0; k < 300; k++) {
+        const uint64_t tops[] = {0, 1, 3, 50, 1000000}, bags[] = {1, 2, 5, 1000};
+        size_t m = 1 + rng() % 32, n = 1 + rng() % 32;
+        Sheet s = random_sheet(rng, m, n, bags[rng() % 4], tops[rng() % 5]);
+        Answer a = solve(s, 2);
+        Whole u, v;
+        least &= a.refused == 0 && meets(s, a.plan) && priced(s, a) && a.cost == cost_of(s, a.plan);
+        first &= settled(s, a);
+        rounds &= a.rounds == plain_rounds(s, u, v) && a.u == u && a.v == v;
+        kept &= a.rest_kept;
+    }
+    test("300 large sheets: the plan meets the sheet, and prices show that none costs less", least);
+    test("300 large sheets: on no lane more can be carried by moving later ones", first);
+    test("300 large sheets: the rounds and the prices are those of the plainest way", rounds);
+    test("300 large sheets: places past the result are as they were", kept);
+}
+
+// A call that is refused by `number`, and changes nothing.
+static void refused(const std::string &name, int number, const Sheet &s, size_t u_room, size_t v_room, size_t plan_room) {
+    Whole u(u_room, (int64_t)mark), v(v_room, (int64_t)mark);
+    Numbers plan(plan_room, mark), figures(2, mark);
+    int r = panel_solve(s.supply.data(), s.m(), s.demand.data(), s.n(), s.cost.data(), s.cost.size(), u.data(), u_room, v.data(), v_room,
+                        plan.data(), plan_room, figures.data(), 2);
+    bool kept = u == Whole(u_room, (int64_t)mark) && v == Whole(v_room, (int64_t)mark) && plan == Numbers(plan_room, mark) && figures == Numbers(2, mark);
+    test(name, r == number && kept);
+}
+
+static void refusals() {
+    Sheet worked = {{3, 4}, {5, 2}, {4, 1, 2, 6}};
+    refused("no source: 1", 1, {{}, {1}, {}}, 32, 32, 1024);
+    refused("33 sinks: 1", 1, {{33}, Numbers(33, 1), Numbers(33, 0)}, 64, 64, 2048);
+    refused("a cost too few: 2", 2, {{3, 4}, {5, 2}, {4, 1, 2}}, 2, 2, 4);
+    refused("a cost too many: 2", 2, {{3, 4}, {5, 2}, {4, 1, 2, 6, 6}}, 2, 2, 4);
+    refused("a supply of 0: 3", 3, {{0}, {2}, {1}}, 1, 1, 1);
+    refused("a supply of 1,000,001: 3", 3, {{1000001}, {1000001}, {1}}, 1, 1, 1);
+    refused("a demand of 2^64 - 1: 3", 3, {{1}, {UINT64_MAX}, {1}}, 1, 1, 1);
+    refused("a cost of 1,000,001: 4", 4, {{1000000}, {1000000}, {1000001}}, 1, 1, 1);
+    refused("unequal totals: 5", 5, {{3}, {2}, {0}}, 1, 1, 1);
+    refused("unequal totals before short lists: 5", 5, {{3}, {2}, {0}}, 0, 0, 0);
+    refused("u too short: 8", 8, worked, 1, 2, 4);
+    refused("v too short: 8", 8, worked, 2, 1, 4);
+    refused("the plan too short: 8", 8, worked, 2, 2, 3);
+    refused("no lists at all: 8", 8, worked, 0, 0, 0);
+}
+
+static void samples() {
+    Sheet full = {Numbers(32, 1000000), Numbers(32, 1000000), Numbers(1024, 1000000)};
+    Answer a = solve(full, 0);
+    test("the fullest sheet: 32 million bags at a million each", a.refused == 0 && a.cost == 32000000000000u && meets(full, a.plan));
+    Sheet worked = {{3, 4}, {5, 2}, {4, 1, 2, 6}};
+    a = solve(worked, 0);
+    test("the worked sheet: 14 in 1 round", a.refused == 0 && a.cost == 14 && a.rounds == 1 && a.u == Whole{0, -2} && a.v == Whole{4, 1} && a.plan == Numbers{1, 2, 4, 0});
+    Sheet tied = {{1, 3}, {2, 1, 1}, {9, 0, 0, 0, 0, 0}};
+    a = solve(tied, 0);
+    test("the tied sheet: 0 in 2 rounds, settled", a.refused == 0 && a.cost == 0 && a.rounds == 2 && a.plan == Numbers{0, 1, 0, 2, 0, 1});
+}
+
+int main() {
+    small_sheets();
+    large_sheets();
+    refusals();
+    samples();
+    std::printf("%d passed, %d failed\n", passed, failed);
+    return failed == 0 ? 0 : 1;
+}
