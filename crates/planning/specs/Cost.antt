@@ -29,21 +29,21 @@ meets-small {S} {Q} ok meets l p =
     let most = sumTo-each (sinks S) (λ j. at Q (place (sinks S) (w .row) j)) (w .col) (w .colBelow) in
     rw (← w .placed) (omega (arith, most, meets .rows (w .row) (w .rowBelow), ok .supplyHigh (w .row)))
 
--- A list that begins with the settled plan.
-module _ {S : Sheet} (ok : Checked S) (rest : List ℕ) where
+-- A list that begins with the settled plan of a sheet, and the sheet's costs.
+module _ {S : Sheet} (ok : Checked S) {plan costs : List ℕ} (rest : List ℕ) (planIs : plan ≡ settled S ++ rest) (costsAre : S .cost ≡ costs) where
   settled-at : (l : ℕ) → l < length (S .cost) → at (settled S ++ rest) l ≡ at (settled S) l
   unfolding at
   settled-at l p = List·getD-append (settled S) rest 0 l (omega (arith, ok .costLength, settled-length ok))
 
-  pub settled-summable : Summable (settled S ++ rest) (S .cost)
+  pub settled-summable : Summable plan costs
   unfolding solution
-  settled-summable = record {
+  settled-summable = rw (planIs, ← costsAre) (record {
     few = rw (ok .costLength) (mul-le-mul (ok .sourcesHigh) (ok .sinksHigh));
     long = omega (arith, ok .costLength, settled-length ok, length-append (settled S) rest);
     quantities = λ l p. rw (settled-at l p) (meets-small ok (solution-best ok .meets) l (omega (arith, ok .costLength)));
     costs = ok .costHigh;
-  }
+  })
 
-  pub settled-cost : sumTo (length (S .cost)) (λ l. at (settled S ++ rest) l * at (S .cost) l) ≡ planCost S (settled S)
+  pub settled-cost : sumTo (length costs) (λ l. at plan l * at costs l) ≡ planCost S (settled S)
   unfolding planCost
-  settled-cost = sumTo-cong (length (S .cost)) _ _ (λ l p. ap (λ (x : ℕ). x * at (S .cost) l) (settled-at l p))
+  settled-cost = rw (planIs, ← costsAre) (sumTo-cong (length (S .cost)) _ _ (λ l p. ap (λ (x : ℕ). x * at (S .cost) l) (settled-at l p)))

@@ -89,7 +89,7 @@ module _ {S : Sheet} {adj : List ℕ} {q e cost price : List ℤ} {m n made : �
         let vLong : length (sinkPrices S (run S (roundBound S) (start S) .tableau)) ≡ n = ap length (sym columns) ∙ length-table _ n in
         let planLong : length (settled S) ≡ m * n = settled-length (r .board .checked) ∙ rw (r .board .rows, r .board .columns) in
         record {
-          answer = rw (totalIs, planIs, ← costsAre, settled-cost (r .board .checked) (drop (m * n) plan), r .rounds);
+          answer = rw (totalIs, settled-cost (r .board .checked) (drop (m * n) plan) planIs costsAre, r .rounds);
           uHeld = uIs ∙ rw (rows, uLong);
           vHeld = vIs ∙ rw (columns, vLong);
           planHeld = planIs ∙ rw planLong;

@@ -59,7 +59,7 @@ fn solve_on(
     let total = plan_cost(plan, cost);
     SolveAnswer::Solved {
         cost: total,
-        rounds: rounds,
+        rounds,
     }
 }
 

@@ -45,7 +45,7 @@ plan-cost-requires c κs =
     let s = f .before .before .before .before .before .before .before .before .before .before in
     let (S, d) = s .pre .0 in
     let r = f .finish .ensures S (start S) (dealt-board d (f .before .before .before .before .before .before .spread-costs .ensures)) in
-    rw (b .settle-board .ensures S _ (ran-finished r), ← d .costs) (settled-summable (d .checked) _)
+    settled-summable (d .checked) _ (b .settle-board .ensures S _ (ran-finished r)) (d .costs)
 
 same-length : tie.Need-same-length
 same-length c = search needs
