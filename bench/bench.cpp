@@ -1,45 +1,14 @@
 // Times the panel beside LEMON's network simplex on the same random sheets, in the same process, and prints the ratios: of the rounds alone, and of solve, settling included.
 // Passes are interleaved and the least time of each side is taken, since other work on the machine only ever adds to a time.
 #include "../crates/exports/panel.h"
+#include "../tests/sheets.h"
 
 #include <lemon/network_simplex.h>
 #include <lemon/smart_graph.h>
 
 #include <algorithm>
 #include <chrono>
-#include <cstdint>
 #include <cstdio>
-#include <random>
-#include <vector>
-
-
-struct Sheet {
-    std::vector<uint64_t> supply, demand, cost;
-};
-
-// A balanced sheet: bags up to `bags` a party before the totals are made equal, costs up to `top`.
-static Sheet random_sheet(std::mt19937_64& rng, size_t m, size_t n, uint64_t bags, uint64_t top) {
-    Sheet s;
-    uint64_t supply = 0, demand = 0;
-    for (size_t i = 0; i < m; i++) {
-        s.supply.push_back(1 + rng() % bags);
-        supply += s.supply.back();
-    }
-    for (size_t j = 0; j < n; j++) {
-        s.demand.push_back(1 + rng() % bags);
-        demand += s.demand.back();
-    }
-    while (supply < demand) {
-        s.supply[rng() % m]++;
-        supply++;
-    }
-    while (demand < supply) {
-        s.demand[rng() % n]++;
-        demand++;
-    }
-    for (size_t k = 0; k < m * n; k++) s.cost.push_back(rng() % (top + 1));
-    return s;
-}
 
 using Graph = lemon::SmartDigraph;
 using Simplex = lemon::NetworkSimplex<Graph, int64_t, int64_t>;

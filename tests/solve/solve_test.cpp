@@ -1,22 +1,14 @@
-// Holds solve to answers found another way: small sheets to a search through all plans, and to rounds made on paper's terms; large sheets to a certificate; and refusals.
+// Holds solve to answers found another way: small sheets to a search through all plans and to rounds made in the plainest way, large sheets to such rounds and to a certificate; and refusals.
 #include "../../crates/exports/panel.h"
+#include "../sheets.h"
 
 #include <algorithm>
 #include <cstdio>
 #include <functional>
-#include <random>
 #include <string>
 #include <utility>
-#include <vector>
 
-using Numbers = std::vector<uint64_t>;
 using Whole = std::vector<int64_t>;
-
-struct Sheet {
-    Numbers supply, demand, cost;
-    size_t m() const { return supply.size(); }
-    size_t n() const { return demand.size(); }
-};
 
 // What solve answers, with lists that are `spare` places longer than needed and were filled with a mark before.
 const uint64_t mark = 0x5a5a5a5a;
@@ -48,24 +40,6 @@ static Answer solve(const Sheet &s, size_t spare) {
     a.v = v;
     a.plan = plan;
     return a;
-}
-
-// A balanced sheet: bags up to `bags` a party before the totals are made equal, costs up to `top`.
-static Sheet random_sheet(std::mt19937_64 &rng, size_t m, size_t n, uint64_t bags, uint64_t top) {
-    Sheet s;
-    int64_t over = 0;
-    for (size_t i = 0; i < m; i++) {
-        s.supply.push_back(1 + rng() % bags);
-        over += (int64_t)s.supply[i];
-    }
-    for (size_t j = 0; j < n; j++) {
-        s.demand.push_back(1 + rng() % bags);
-        over -= (int64_t)s.demand[j];
-    }
-    for (; over < 0; over++) s.supply[rng() % m]++;
-    for (; over > 0; over--) s.demand[rng() % n]++;
-    for (size_t k = 0; k < m * n; k++) s.cost.push_back(rng() % (top + 1));
-    return s;
 }
 
 static uint64_t cost_of(const Sheet &s, const Numbers &plan) {

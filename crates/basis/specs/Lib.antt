@@ -4,4 +4,3 @@ pub mod PotentialLaws
 pub mod SignLaws
 pub mod StepLaws
 pub mod ScanLaws
-pub mod EnteringLaws

@@ -9,12 +9,11 @@ use lib.Dec.{eqb}
 use lib.IntN.{ℤ, pos, natAbs, _-ℤ_}
 use lib.ListN.{length, getD, set, length-drop}
 use lib.Seq.{getD-drop}
-use Rattle.transport.specs.Limits.{maxCost}
 use Rattle.transport.specs.Sheet.{Lane}
 use Rattle.transport.specs.Leaf.{Strike}
 use Rattle.transport.specs.Potential.{potentialBy}
 use Rattle.transport.specs.RangeLaws.{abs-diff}
-use Rattle.basis.specs.Layout.{nodeRoom, maxPotential, costOf, costOf-at, strikeOf, strikesOf, strikesFrom, strikesFrom-cons, length-strikes, getD-strikes, getD-set, Struck}
+use Rattle.basis.specs.Layout.{nodeRoom, costOf, costOf-at, strikeOf, strikesOf, strikesFrom, strikesFrom-cons, length-strikes, getD-strikes, getD-set, Struck}
 
 module _ (cost : Lane → ℤ) where
   pub potentialBy-nil : (k : ℕ) → potentialBy cost [] k ≡ pos 0
@@ -95,13 +94,3 @@ priced-room cost leaf other lane count price k most w small p h =
       mul-le-mul-right {m = suc (count - suc k)} {n = nodeRoom} most (omega (arith, w .few)),
       suc-mul (count - suc k) most,
     )
-
--- Prices are in the range of the scan.
-pub priced-range : (cost : List ℤ) (leaf other lane : List ℕ) (count : ℕ) (price : List ℤ) → Struck leaf other lane count
-    → ((i : ℕ) → i < count → natAbs (getD cost (getD lane i 0) (pos 0)) ≤ maxCost)
-    → ((k : ℕ) → k < nodeRoom → getD price k (pos 0) ≡ potentialBy (costOf cost) (strikesOf leaf other lane count) k)
-    → (k : ℕ) → k < nodeRoom → natAbs (getD price k (pos 0)) ≤ maxPotential
-unfolding maxCost
-priced-range cost leaf other lane count price w small is k p =
-    rw (is k p)
-    (omega (arith, priced-abs cost leaf other lane count price 0 maxCost small k, mul-le-mul-right {m = count} {n = nodeRoom} maxCost (w .few)))

@@ -4,7 +4,7 @@ use crate::NODES;
 use crate::Price;
 ghost use mathlib.Core.Path.{_≡_};
 ghost use Prim.Native.Nat.{ℕ, _<_, _≤_};
-ghost use lib.IntN.{ℤ, pos, natAbs};
+ghost use lib.IntN.{pos, natAbs};
 ghost use lib.ListN.{length, getD};
 ghost use Rattle.transport.specs.Limits.{maxCost};
 ghost use Rattle.transport.specs.Potential.{potentialBy};

@@ -5,7 +5,6 @@ use crate::Price;
 use transport::MAX_SIDE;
 ghost use mathlib.Core.Path.{_≡_};
 ghost use Prim.Native.Nat.{ℕ, _+_, _<_, _≤_};
-ghost use lib.IntN.{ℤ, pos, _-ℤ_};
 ghost use Rattle.basis.specs.Layout.{stride};
 ghost use Rattle.basis.specs.ScanLaws.{InRange, slackAt, rowLeast, Scanned};
 

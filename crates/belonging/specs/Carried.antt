@@ -16,7 +16,6 @@ use mir.Val.{toZ, ofZ}
 use Rattle.transport.specs.RangeLaws.{back}
 use Rattle.transport.specs.Lists.{all, below}
 use Rattle.transport.specs.ListLaws.{all-below, all-below-at}
-use Rattle.transport.specs.Sheet.{Lane}
 use Rattle.transport.specs.Amount.{eqZ}
 use Rattle.transport.specs.AmountLaws.{eqZ-true, eqZ-same}
 use Rattle.transport.specs.Leaf.{Strike}

@@ -9,9 +9,9 @@ use lib.Dec.{ltb, leb}
 use borrow.Author.Tests.{ltb-true, ltb-false, lt-leb, le-leb}
 use Rattle.transport.specs.Lists.{all}
 use Rattle.transport.specs.ListLaws.{and-left, and-right}
-use Rattle.transport.specs.Sheet.{Sheet, sources, sinks, place}
+use Rattle.transport.specs.Sheet.{place}
 use Rattle.transport.specs.declared.Cell.{Cell}
-use Rattle.transport.specs.Tableau.{onSheet, inOrder, aboveZero}
+use Rattle.transport.specs.Tableau.{inOrder, aboveZero}
 use Rattle.basis.specs.Layout.{stride}
 
 -- A cell of m rows and n columns.
@@ -21,10 +21,6 @@ onBoard m n c = ltb (c .row) m && ltb (c .col) n
 -- Every cell is one of m rows and n columns, they stand in sheet order, and every pair is above (0, 0).
 unfoldable pub cellsFit : ℕ → ℕ → List Cell → Bool
 cellsFit m n T = all (onBoard m n) T && (inOrder n T && all aboveZero T)
-
-pub cellsFit-is : (S : Sheet) (T : List Cell) → cellsFit (sources S) (sinks S) T ≡ all (onSheet S) T && (inOrder (sinks S) T && all aboveZero T)
-unfolding cellsFit onBoard onSheet
-cellsFit-is S T = refl
 
 -- ---- one cell, at place `least` or later
 

@@ -1,7 +1,7 @@
 -- Accepted sheets and sheets that have a text.
 use mathlib.Core.Path.{_≡_, _∙_}
 use mathlib.Core.Logic.{_↔_}
-use mathlib.Core.Bool.{false, not}
+use mathlib.Core.Bool.{false}
 use mathlib.Core.List.{_∷_}
 use mathlib.Core.Option.{none}
 use Prim.Native.Nat.{_*_}

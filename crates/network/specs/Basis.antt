@@ -7,7 +7,7 @@ use native.Mathlib.Omega.{arith}
 use native.Mathlib.Decide.{ℕ-discrete, decLt}
 use Rattle.integers.specs.Integer.{Z, _≈_, ≈-dec, _⊖_, _⊗_, neg, nat, Within}
 use Rattle.integers.specs.Sum.{point}
-use Rattle.integers.specs.SumLaws.{sum-zero, sum-point}
+use Rattle.integers.specs.SumLaws.{sum-point}
 use Rattle.network.specs.Flow.{Flow, Circulation}
 use Rattle.network.specs.FlowLaws.{flow-on}
 use Rattle.transport.specs.Statements.{Joined, Closed}
@@ -120,32 +120,11 @@ module _ {m n K : ℕ} {r c : ℕ → ℕ} (t : Basis m n K r c) where
       go (yes e) (no e′) = cell (g .on i j hi hj e′)
       go (no e) e′ = cell (f .on i j hi hj e)
 
-  -- so a circulation on a basis is 0: there is no loop in it
-  pub no-circulation : {δ : ℕ → ℕ → Z} → Circulation m n (In r c (suc K)) δ → (i j : ℕ) → i < m → j < n → δ i j ≈ nat 0
-  no-circulation f = flow-unique f (record {
-    on = λ i j hi hj e. absurd (e (omega arith));
-    rows = λ i l. sum-zero n (λ j. nat 0) (λ j l. omega arith);
-    cols = λ j l. sum-zero m (λ i. nat 0) (λ i l. omega arith);
-  })
-
   -- The loop signs of an entering cell (p, q) are the flow of −1 at row p and −1 at column q. A cut's balance of these is −1, 0 or 1, so they are.
   pub unit : {σ : ℕ → ℕ → Z} {p q : ℕ} → p < m → q < n → Flow m n (In r c (suc K)) σ (point p (neg (nat 1))) (point q (neg (nat 1)))
       → (ℓ : ℕ) → ℓ < suc K → Within 1 (σ (r ℓ) (c ℓ))
   unit {σ} {p} {q} hp hq f ℓ hl = let g : Cut K r c ℓ = cut-at ℓ hl in flow-within f hl g 1
       (omega (arith, sum-point m (λ i. ind (g .A i)) p (neg (nat 1)) hp, sum-point n (λ j. ind (g .B j)) q (neg (nat 1)) hq, bit-le (g .A p), bit-le (g .B q)))
-
-  -- the order of the cells does not matter
-  pub reordered : {r′ c′ : ℕ → ℕ} → ((k : ℕ) → k < suc K → r′ k < m) → ((k : ℕ) → k < suc K → c′ k < n)
-      → ((i j : ℕ) → i < m → j < n → In r c (suc K) i j → In r′ c′ (suc K) i j) → Basis m n K r′ c′
-  reordered hr hc h = record {
-    size = t .size;
-    rows = hr;
-    cols = hc;
-    joined = record {
-      rows = λ A B z w. t .joined .rows A B z (λ i j hi hj s. w i j hi hj (h i j hi hj s));
-      cols = λ A B z w. t .joined .cols A B z (λ i j hi hj s. w i j hi hj (h i j hi hj s));
-    };
-  }
 
   -- The leaving cell ℓ gives way to the entering cell (p, q): a basis again, if a circulation on the basis and the entering cell is not 0 at the
   -- leaving one.

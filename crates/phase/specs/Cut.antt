@@ -76,10 +76,6 @@ off true false true e = let z : _≡_ {A = ℕ} 0 1 = cc in absurd (omega arith)
 off true false false e = let z : _≡_ {A = ℕ} 0 1 = cc in absurd (omega arith)
 off false b r e = refl
 
-pub beyond-absent : {m : ℕ} {l : Lane} {ss : List Strike} {nodes : ℕ} {fromRow : Bool} → Beyond m l ss nodes fromRow
-    → ((s : Strike) → List·Memᴰ s ss → s .lane ≢ l) → (k : ℕ) → has nodes k ≡ false
-beyond-absent {m} {l} {ss} {nodes} {fromRow} h d k = off (has nodes k) fromRow (ltb k m) (sym (h .potential k) ∙ none-beyond l ss d k)
-
 -- A strike's other end is a column if its leaf is a row, and the other way round.
 ends-kinds : {m n : ℕ} {s : Strike} {later : List Strike} → Step m n s later → ltb (s .other) m ≡ not (ltb (s .leaf) m)
 ends-kinds {m} {n} {s} st = go (st .ends)

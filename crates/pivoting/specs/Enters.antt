@@ -1,5 +1,5 @@
 -- A lane that enters a tableau: the strikes in the code's arrays, and the lanes of the loop that stand in its lists, have the signs of the specification.
-use Prim.Native.Nat.{ℕ, zero, suc, _+_, _*_, _/_, _%_, _<_, _≤_}
+use Prim.Native.Nat.{ℕ, _+_, _*_, _/_, _%_, _<_, _≤_}
 use native.Mathlib.Omega.{arith}
 use mathlib.Core.Path.{_≡_, sym, ap, _∙_, subst}
 use mathlib.Core.Logic.{by-cases}
@@ -10,7 +10,7 @@ use lib.ListN.{length, take, getD}
 use lib.Seq.{getD-take, length-take-le}
 use Rattle.integers.specs.Bridge.{eq-z}
 use Rattle.transport.specs.Lists.{keep}
-use Rattle.transport.specs.ListLaws.{member-at, member-place, member-table, table-member, keep-member}
+use Rattle.transport.specs.ListLaws.{member-place, member-table, table-member, keep-member}
 use Rattle.transport.specs.Sheet.{Sheet, sources, sinks, Lane}
 use Rattle.transport.specs.SheetLaws.{lane, Checked}
 use Rattle.transport.specs.declared.Cell.{Cell}
@@ -19,15 +19,15 @@ use Rattle.transport.specs.Leaf.{Strike, cellsBelong}
 use Rattle.transport.specs.Round.{flow, sign}
 use Rattle.transport.specs.Statements.{Basic, Belongs}
 use Rattle.tableaux.specs.Lanes.{has-basic}
-use Rattle.tableaux.specs.Leaves.{Ends, row-struck, column-struck}
-use Rattle.tableaux.specs.Striking.{Struck, Step, Peeled, bare, peel, step-of, lane-once, leaf-below}
+use Rattle.tableaux.specs.Striking.{Struck}
 use Rattle.tableaux.specs.Flows.{struck-signs, signs-of, flow-only, sign-off}
 use Rattle.tableaux.specs.Belonging.{belongs-iff, inside-of, fits-of, spans-of}
 use Rattle.tableaux.specs.Order.{basic-dec}
 use Rattle.tableaux.specs.PivotView.{signs}
 use Rattle.board.specs.Held.{inside-basic}
+use Rattle.elimination.specs.Strikes.{strikes-room, strikes-distinct}
 use Rattle.basis.specs.Layout as layout
-use Rattle.basis.specs.Layout.{stride, stride-is, nodeRoom, laneAt, placeOf, place-laneAt, strikeOf, strikesOf, length-strikes, Distinct}
+use Rattle.basis.specs.Layout.{stride, stride-is, nodeRoom, laneAt, placeOf, place-laneAt, strikeOf, strikesOf, Distinct}
 use Rattle.basis.specs.SignLaws.{enterWeight, sign-is}
 use Rattle.basis.specs.StepLaws.{among, among-keep}
 use Rattle.pivoting.specs.Carry.{member-among, no-member-among, member-first}
@@ -47,13 +47,6 @@ laneAt-place i j l =
     let p : (i * stride + j) / stride ≡ i = omega arith in
     let q : (i * stride + j) % stride ≡ j = omega arith in
     λ t. lane (p t) (q t)
-
--- No lane is struck twice.
-peeled-once : {m n : ℕ} (d : Strike) (ss : List Strike) → Peeled m n ss → (i k : ℕ) → i < k → k < length ss → getD ss k d .lane ≡ getD ss i d .lane → ⊥
-peeled-once d _ bare i k p l = absurd (omega arith)
-peeled-once d _ (peel {s} {later} st rest) zero (suc k) p l = lane-once st rest (getD later k d) (member-at later d k (omega arith))
-peeled-once d _ (peel {s} {later} st rest) (suc i) (suc k) p l = peeled-once d later rest i k (omega arith) (omega arith)
-peeled-once d _ (peel {s} {later} st rest) i zero p l = absurd (omega arith)
 
 module _ {S : Sheet} {T : List Cell} {leaf other lanes : List ℕ} {count : ℕ} {e : Lane} (h : Enters S T leaf other lanes count e) where
   abbrev m : ℕ
@@ -86,36 +79,15 @@ module _ {S : Sheet} {T : List Cell} {leaf other lanes : List ℕ} {count : ℕ}
 
   -- ---- strikes in arrays
 
-  few : count ≤ nodeRoom
-  few = omega (arith, h .struck .size, length-strikes leaf other lanes count, sides)
-
   strike-at : (k : ℕ) → k < count → List·Memᴰ (strikeOf leaf other lanes k) ss
   unfolding strikesOf
   strike-at k l = member-table count (strikeOf leaf other lanes) k l
 
-  step-at : (k : ℕ) → k < count → (later : List Strike) × Step m n (strikeOf leaf other lanes k) later
-  step-at k l = step-of (h .struck .peels) (strikeOf leaf other lanes k) (strike-at k l)
-
-  other-below : (s : Strike) (later : List Strike) → Step m n s later → s .other < m + n
-  other-below s later st = go (st .ends)
-    where
-      go : Ends m s → s .other < m + n
-      go (row-struck a b) = omega (arith, st .col)
-      go (column-struck a b) = omega (arith, st .row)
-
   pub enters-struck : layout.Struck leaf other lanes count
-  enters-struck = record {
-    few = few;
-    laneLong = h .long;
-    leafIn = λ k l. omega (arith, leaf-below (step-at k l .1), sides);
-    otherIn = λ k l. omega (arith, other-below _ _ (step-at k l .1), sides);
-    laneIn = λ k l. let st = step-at k l .1 in omega (arith, st .row, st .col, sides, place-laneAt (getD lanes k 0));
-  }
+  enters-struck = strikes-room m n leaf other lanes count (sides .0) (sides .1) (h .long) (h .struck)
 
   pub enters-distinct : Distinct lanes count
-  unfolding strikesOf
-  enters-distinct i k p l q = peeled-once (strikeOf leaf other lanes 0) ss (h .struck .peels) i k p (omega (arith, length-strikes leaf other lanes count))
-      (ap (λ s. s .lane) (layout.getD-strikes leaf other lanes count k _ l) ∙ ap laneAt q ∙ sym (ap (λ s. s .lane) (layout.getD-strikes leaf other lanes count i _ (omega arith))))
+  enters-distinct = strikes-distinct m n leaf other lanes count (h .struck .peels)
 
   -- The lanes of the strikes are the basic lanes.
   listed-basic : (p : ℕ) → List·Memᴰ p (take count lanes) → Basic T (p / stride) (p % stride)
@@ -123,7 +95,7 @@ module _ {S : Sheet} {T : List Cell} {leaf other lanes : List ℕ} {count : ℕ}
     where
       go : (k : ℕ) × (k < length (take count lanes)) × (getD (take count lanes) k 0 ≡ p) → Basic T (p / stride) (p % stride)
       go (k, l, s) =
-          let l : k < count = omega (arith, length-take-le count lanes (omega (arith, few))) in
+          let l : k < count = omega (arith, length-take-le count lanes (omega (arith, enters-struck .few))) in
           let s : getD lanes k 0 ≡ p = sym (getD-take count lanes k 0 l) ∙ s in
           has-basic T (p / stride) (p % stride) .0 (rw (← s) (h .struck .lanes (strikeOf leaf other lanes k) (strike-at k l)))
 
@@ -133,7 +105,7 @@ module _ {S : Sheet} {T : List Cell} {leaf other lanes : List ℕ} {count : ℕ}
       let (s, mem, at) = h .struck .struck (lane i j) (has-basic T i j .1 b) in
       let (k, l, is) = table-member count (strikeOf leaf other lanes) mem in
       let here : getD lanes k 0 ≡ i * stride + j = sym (place-laneAt (getD lanes k 0)) ∙ ap placeOf (sym (ap (λ s. s .lane) is) ∙ at) in
-      rw (← here) (member-first lanes count k (omega (arith, few)) l)
+      rw (← here) (member-first lanes count k (omega (arith, enters-struck .few)) l)
 
   -- ---- the lanes with a sign
 

@@ -19,15 +19,14 @@ use Rattle.transport.specs.declared.Cell.{Cell}
 use Rattle.transport.specs.Amount.{nothing, add, subtract, less}
 use Rattle.transport.specs.AmountLaws.{less-weak, less-q, less-e, ltZ-tie, Compared, fewer, equal, more, compared}
 use Rattle.transport.specs.Tableau.{laneOf}
-use Rattle.transport.specs.Leaf.{cellsBelong}
 use Rattle.transport.specs.Round.{gain, pivot}
 use Rattle.transport.specs.Statements.{Basic, Belongs}
 use Rattle.tableaux.specs.View.{amountAt, amount-none}
-use Rattle.tableaux.specs.Belonging.{belongs-iff, inside-of, distinct-of}
+use Rattle.tableaux.specs.Belonging.{inside-of, distinct-of}
 use Rattle.tableaux.specs.PairLaws.{subtract-self}
 use Rattle.tableaux.specs.Order.{Ordered, ordered-by, cell-at, basic-dec, amount-member}
 use Rattle.tableaux.specs.PivotView.{Stands, stands-dec, signs, leaver, step, Leaves, inside-member, amount-enters, amount-stays, amount-leaves, amount-elsewhere}
-use Rattle.tableaux.specs.Pivoting.{pivot-leaves, pivot-belongs, pivot-no-tie}
+use Rattle.tableaux.specs.Pivoting.{pivot-leaves, pivot-no-tie}
 use Rattle.basis.specs.Layout.{stride, laneAt, place-laneAt}
 use Rattle.basis.specs.StepLaws.{pairAt, lessAt}
 use Rattle.pivoting.specs.Carry.{among-member, moved, Carried}
@@ -81,11 +80,6 @@ module _ {S : Sheet} {T : List Cell} {leaf other lanes : List ℕ} {count : ℕ}
 
   leaves : Leaves (signs m n T e) T out
   leaves = pivot-leaves (h .checked) belongs (h .row) (h .col) (h .new)
-
-  -- The tableau after it belongs to the sheet again.
-  pub entered-belongs : cellsBelong S (pivot (sources S) (sinks S) T e) ≡ true
-  entered-belongs =
-      belongs-iff S (pivot m n T e) (h .checked .sourcesLow) (h .checked .sinksLow) .1 (pivot-belongs (h .checked) belongs (h .row) (h .col) (h .new))
 
   -- ---- the leaving lane
 

@@ -3,7 +3,7 @@ use Prim.Native.Nat.{ℕ, _+_, _*_, _/_, _%_, _<_, _≤_}
 use native.Mathlib.Omega.{arith}
 use mathlib.Core.Path.{_≡_, refl, sym, ap, _∙_}
 use mathlib.Core.List.{List, List·Memᴰ}
-use mathlib.Core.Bool.{Bool, true, false}
+use mathlib.Core.Bool.{Bool, false}
 use lib.Seq.{length-take-le}
 use lib.IntN.{ℤ, pos, negsuc, natAbs}
 use lib.ListN.{length, take, getD}
@@ -15,7 +15,6 @@ use Rattle.transport.specs.SheetLaws.{lane, Checked}
 use Rattle.transport.specs.declared.Cell.{Cell}
 use Rattle.transport.specs.declared.Pair.{Pair}
 use Rattle.transport.specs.Amount.{add, subtract}
-use Rattle.transport.specs.Leaf.{cellsBelong}
 use Rattle.transport.specs.Round.{pivot}
 use Rattle.transport.specs.Statements.{Basic, Belongs}
 use Rattle.tableaux.specs.View.{amountAt}
@@ -29,7 +28,7 @@ use Rattle.basis.specs.StepLaws.{pairAt, minus-lanes, plus-lanes}
 use Rattle.board.specs.Held.{Held, inside-basic, length-linked}
 use Rattle.pivoting.specs.Carry.{Light, Carried, Turns, Turned}
 use Rattle.pivoting.specs.Enters.{Enters, enters-belongs, sides, enters-struck, enters-distinct, signed, signed-basic}
-use Rattle.pivoting.specs.Pivoted.{isMinus, isPlus, cellPlace, Laid, entered-belongs, out-inside, some-minus, out-holds, least-leaves, carried-part}
+use Rattle.pivoting.specs.Pivoted.{isMinus, isPlus, cellPlace, Laid, out-inside, some-minus, out-holds, least-leaves, carried-part}
 use Rattle.pivoting.specs.Masks.{exchanged, length-unlinked, exchanged-row, exchanged-column, isBasic-pivot}
 
 -- The arrays hold the tableau T of the sheet S, of m sources, and the lane from row to col enters it.
@@ -70,10 +69,6 @@ module _ {S : Sheet} {T : List Cell} {adj : List ℕ} {q e : List ℤ} {leaf oth
 
   pub ready-room : (row < m) × (m ≤ stride) × (col < stride)
   ready-room = (omega (arith, r .rows, h .row), omega (arith, r .rows, sides h), omega (arith, h .col, sides h))
-
-  -- So the arrays are ready for the next round, with what `held-pivot` says.
-  pub ready-belongs : cellsBelong S (pivot m (sinks S) T (lane row col)) ≡ true
-  ready-belongs = rw (r .rows) (entered-belongs h)
 
   laid : Laid (sources S) (sinks S) T q e
   laid i j hi hj t = record { q = held .bags i j hi hj t; e = held .marks i j hi hj t }

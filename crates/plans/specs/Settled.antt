@@ -3,14 +3,14 @@ use Prim.Native.Nat.{ℕ, _≤_, _<_}
 use native.Mathlib.Omega.{arith}
 use native.Mathlib.Nat.{one-mul}
 use native.Mathlib.Decide.{decLt}
-use mathlib.Core.Path.{_≡_, refl, sym, ap, _∙_}
+use mathlib.Core.Path.{_≡_, refl, sym, _∙_}
 use mathlib.Core.Bool.{Bool, true, false}
 use mathlib.Core.List.{List, [], _∷_}
 use lib.Dec.{ltb}
 use lib.ListN.{length, getD}
-use borrow.Author.Tests.{ltb-true, ltb-false, lt-ltb, le-ltb}
+use borrow.Author.Tests.{lt-ltb, le-ltb}
 use Rattle.transport.specs.Lists.{at}
-use Rattle.transport.specs.ListLaws.{StrictWeak, FirstLeast, by-key, ltb-weak, firstLeast-is, firstLeast-unique}
+use Rattle.transport.specs.ListLaws.{StrictWeak, FirstLeast, by-key, ltb-weak, firstLeast-unique}
 use Rattle.transport.specs.Sheet.{Sheet}
 use Rattle.transport.specs.Plan.{planCost, plans, settled}
 use Rattle.transport.specs.Statements.{Meets, FirstDifference, Best, scaled}
@@ -23,18 +23,10 @@ pub record Settled (S : Sheet) (x : List ℕ) : Type 0 where
   pub least : (y : List ℕ) → Meets S 1 y → planCost S x ≤ planCost S y
   pub first : (y : List ℕ) → Meets S 1 y → planCost S y ≡ planCost S x → (l : ℕ) → FirstDifference x y l → at y l < at x l
 
--- ---- first differences
+-- ---- a first difference
 
 difference-sym : (x y : List ℕ) (l : ℕ) → length x ≡ length y → FirstDifference x y l → FirstDifference y x l
 difference-sym x y l e d = record { lane = omega (arith, d .lane); differ = λ f. d .differ (sym f); before = λ h p. sym (d .before h p) }
-
-difference-unique : (x y : List ℕ) (l k : ℕ) → FirstDifference x y l → FirstDifference x y k → l ≡ k
-difference-unique x y l k d f = go (decLt l k) (decLt k l)
-  where
-    go : Dec (l < k) → Dec (k < l) → l ≡ k
-    go (yes p) q = absurd (d .differ (f .before l p))
-    go (no p) (yes q) = absurd (f .differ (d .before k q))
-    go (no p) (no q) = omega arith
 
 -- ---- the settled plan
 
@@ -67,49 +59,12 @@ settled-first S x b =
         let d : FirstDifference x y (a .lane) = difference-sym y x (a .lane) (g .quantities ∙ sym (b .meets .quantities)) (a .difference) in
         absurd (omega (arith, a .more, b .first y g same (a .lane) d))
 
--- And the other way round: a plan of the same cost that differs from the first stands after it, so it carries less on the first lane where they differ.
-first-settled : (S : Sheet) (x : List ℕ) (k : ℕ) → FirstLeast (cheaper S) [] (plans S) x k → Settled S x
-unfolding cheaper
-first-settled S x k f = record { meets = meets; least = least; first = first }
-  where
-    meets : Meets S 1 x
-    meets = rw (f .stands) at (plans-sound S k (f .inside))
-
-    least : (y : List ℕ) → Meets S 1 y → planCost S x ≤ planCost S y
-    least y g =
-        let (h, p, e) = plans-complete S y g in
-        ltb-false (planCost S y) (planCost S x) (rw e at (f .least h p))
-
-    later : (y : List ℕ) (h l : ℕ) → h < length (plans S) → getD (plans S) h [] ≡ y → planCost S y ≡ planCost S x → FirstDifference x y l
-        → Dec (h < k) → Dec (k < h) → at y l < at x l
-    later y h l p e c d (yes q) r = absurd (omega (arith, ltb-true (planCost S x) (planCost S y) (rw e at (f .first h q))))
-    later y h l p e c d (no q) (yes r) =
-        let a : Ahead x y = rw (f .stands, e) at (plans-descending S k h r p) in
-        rw (difference-unique x y l (a .lane) d (a .difference)) (a .more)
-    later y h l p e c d (no q) (no r) =
-        let i : h ≡ k = omega arith in
-        let s : x ≡ y = sym (f .stands) ∙ ap (λ (i : ℕ). getD (plans S) i []) (sym i) ∙ e in
-        absurd (d .differ (ap (λ (z : List ℕ). at z l) s))
-
-    first : (y : List ℕ) → Meets S 1 y → planCost S y ≡ planCost S x → (l : ℕ) → FirstDifference x y l → at y l < at x l
-    first y g c l d =
-        let (h, p, e) = plans-complete S y g in
-        later y h l p e c d (decLt h k) (decLt k h)
-
 -- No other plan is the settled one.
 pub settled-best : (S : Sheet) (x : List ℕ) → Settled S x → settled S ≡ x
 unfolding settled cheaper
 settled-best S x b =
     let (k, f) = settled-first S x b in
     firstLeast-unique (cheaper S) (cheaper-weak S) [] (plans S) x k f
-
--- Where some plan meets the sheet, `settled` gives the settled one.
-pub settled-is : (S : Sheet) (y : List ℕ) → Meets S 1 y → Settled S (settled S)
-unfolding settled cheaper
-settled-is S y g =
-    let (h, p, e) = plans-complete S y g in
-    let (k, f) = firstLeast-is (cheaper S) (cheaper-weak S) [] (plans S) (omega arith) in
-    first-settled S (settled S) k f
 
 -- ---- demand 3
 

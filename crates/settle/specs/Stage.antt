@@ -11,7 +11,7 @@ use Rattle.network.specs.Flow.{Tight}
 use Rattle.network.specs.Settling.{Decided}
 use Rattle.transport.specs.Lists.{at, table}
 use Rattle.transport.specs.Sheet.{Sheet, sources, sinks, place}
-use Rattle.transport.specs.SheetLaws.{Checked, lane}
+use Rattle.transport.specs.SheetLaws.{Checked}
 use Rattle.transport.specs.declared.Cell.{Cell}
 use Rattle.transport.specs.Leaf.{cellsBelong}
 use Rattle.transport.specs.Potential.{isFinished}

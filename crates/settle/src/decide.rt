@@ -12,7 +12,7 @@ use transport::MAX_SIDE;
 ghost use mathlib.Core.Path.{_≡_};
 ghost use mathlib.Core.Bool.{true};
 ghost use mathlib.Core.List.{List};
-ghost use Prim.Native.Nat.{ℕ, suc, _*_, _<_};
+ghost use Prim.Native.Nat.{suc, _*_, _<_};
 ghost use lib.ListN.{length};
 ghost use Rattle.transport.specs.Sheet.{Sheet, place};
 ghost use Rattle.transport.specs.declared.Cell.{Cell};

@@ -3,14 +3,13 @@ use mathlib.Core.Path.{_≡_}
 use mathlib.Core.Bool.{Bool, true, false}
 use mathlib.Core.Option.{none, some}
 use Prim.Native.Nat.{_*_, _≤_}
-use native.Mathlib.Omega.{arith}
 use native.Mathlib.Nat.{mul-le-mul}
 use lib.Dec.{eqb}
 use lib.ListN.{length}
 use Rattle.transport.specs.Lists.{all, within, total}
 use Rattle.transport.specs.Limits.{maxSide, maxAmount, maxCost}
 use Rattle.transport.specs.Sheet.{Sheet, sources, sinks, badSides, badLength, badAmount, badCost, unbalanced, numberTests, sheetTests, refusal}
-use Rattle.transport.specs.SheetLaws.{checked, within-true, true-within, all-within}
+use Rattle.transport.specs.SheetLaws.{Checked}
 use Rattle.sheet.specs.Laws.{side-limit}
 
 module _ (S : Sheet) where
@@ -63,43 +62,24 @@ module _ (S : Sheet) where
     unfolding refusal sheetTests badSides badLength sources sinks
     sheet-numbers l = rw (m, n, l)
 
--- ---- what nothing refused says
+-- ---- an accepted sheet, in numbers
 
--- A sheet that the sheet check accepts, or whose numbers are accepted: each test in the form that code and proofs use.
-module _ (S : Sheet) where
-  pub record Passed : Type 0 where
-    pub sourcesFit : within 1 maxSide (length (S .supply)) ≡ true
-    pub sinksFit : within 1 maxSide (length (S .demand)) ≡ true
-    pub costLength : length (S .cost) ≡ length (S .supply) * length (S .demand)
-    pub suppliesFit : all (within 1 maxAmount) (S .supply) ≡ true
-    pub demandsFit : all (within 1 maxAmount) (S .demand) ≡ true
-    pub costsFit : all (within 0 maxCost) (S .cost) ≡ true
-    pub evenTotals : total (S .supply) ≡ total (S .demand)
+module _ (S : Sheet) (c : Checked S) where
+  pub sources-few : length (S .supply) ≤ 32
+  unfolding sources
+  sources-few = rw side-limit at (c .sourcesHigh)
 
-  pub passed : refusal (sheetTests S) ≡ none → Passed
+  pub sinks-some : 1 ≤ length (S .demand)
+  unfolding sinks
+  sinks-some = c .sinksLow
+
+  pub sinks-few : length (S .demand) ≤ 32
+  unfolding sinks
+  sinks-few = rw side-limit at (c .sinksHigh)
+
+  pub costs-whole : length (S .cost) ≡ length (S .supply) * length (S .demand)
   unfolding sources sinks
-  passed e =
-      let c = checked S e in
-      record {
-        sourcesFit = true-within 1 maxSide _ (c .sourcesLow) (c .sourcesHigh);
-        sinksFit = true-within 1 maxSide _ (c .sinksLow) (c .sinksHigh);
-        costLength = c .costLength;
-        suppliesFit = all-within 1 maxAmount (S .supply) (c .supplyLow) (c .supplyHigh);
-        demandsFit = all-within 1 maxAmount (S .demand) (c .demandLow) (c .demandHigh);
-        costsFit = all-within 0 maxCost (S .cost) (λ k l. omega arith) (c .costHigh);
-        evenTotals = c .balance;
-      }
+  costs-whole = c .costLength
 
-  -- .. and in numbers.
-  module _ (p : Passed) where
-    pub sources-few : length (S .supply) ≤ 32
-    sources-few = rw side-limit at (within-true 1 maxSide _ (p .sourcesFit) .1)
-
-    pub sinks-some : 1 ≤ length (S .demand)
-    sinks-some = within-true 1 maxSide _ (p .sinksFit) .0
-
-    pub sinks-few : length (S .demand) ≤ 32
-    sinks-few = rw side-limit at (within-true 1 maxSide _ (p .sinksFit) .1)
-
-    pub costs-few : length (S .cost) ≤ 1024
-    costs-few = rw (p .costLength) (mul-le-mul sources-few sinks-few)
+  pub costs-few : length (S .cost) ≤ 1024
+  costs-few = rw costs-whole (mul-le-mul sources-few sinks-few)

@@ -257,10 +257,6 @@ signed (negsuc (suc k)) h = absurd (omega arith)
 -- ---- the flow and the signs on lanes that span
 
 module _ {m n : ℕ} {B : List Lane} (p : 1 ≤ m) (h : Fits m n B) (s : spans m n B ≡ true) where
-  pub flow-of : (w : ℕ → ℤ) → sum m (λ i. toZ (w i)) ≈ sum n (λ j. toZ (w (m + j)))
-      → Flow m n (Has B) (λ i j. toZ (flow w (strikes m n B) (lane i j))) (λ i. toZ (w i)) (λ j. toZ (w (m + j)))
-  flow-of w even = struck-flow p (struck-of p h s) w even
-
   pub signs-of : (enter : Lane) → enter .row < m → enter .col < n
       → Flow m n (Has B) (λ i j. toZ (sign m (strikes m n B) enter (lane i j))) (point (enter .row) (neg (nat 1))) (point (enter .col) (neg (nat 1)))
   signs-of enter hr hc = struck-signs hr hc p (struck-of p h s)

@@ -59,13 +59,6 @@ way-odd : {enter k : Lane} {ls : List Lane} → Way enter k ls → (h : ℕ) × 
 way-odd (closes a b) = (0, omega arith)
 way-odd (goes a b rest) = let (h, e) = way-odd rest in (suc h, omega arith)
 
-pub loop-even : {B : List Lane} {enter : Lane} {others : List Lane} → Loop B enter others → (h : ℕ) × (length (enter ∷ others) ≡ 2 * h) × (2 ≤ h)
-loop-even {B} {enter} w = go (w .way) (w .apart)
-  where
-    go : {ls : List Lane} → Way enter enter ls → Apart (enter ∷ ls) → (h : ℕ) × (length (enter ∷ ls) ≡ 2 * h) × (2 ≤ h)
-    go (closes a b) (fresh d rest) = absurd (d (List·Memᴰ·head (λ t. lane (sym a t) (sym b t))))
-    go (goes a b rest) s = let (h, e) = way-odd rest in (suc (suc h), omega arith, omega arith)
-
 -- ---- there is a loop
 
 -- A walk from node a to node b along lanes.

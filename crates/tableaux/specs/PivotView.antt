@@ -143,11 +143,6 @@ module _ (m n : ℕ) (T : List Cell) (e : Lane) where
       stays : Basic T i j × ¬ Stands out i j → Basic (pivot m n T e) i j
       stays (b, d) = let x = cell-at b in at (x .cell) (x .member) (x .row) (x .col) d
 
--- A set of lanes that has the basic ones and the entering one has those of the pivot.
-pub pivot-within : (m n : ℕ) (T : List Cell) (e : Lane) (P : ℕ → ℕ → Type 0) → ((i j : ℕ) → Basic T i j → P i j) → P (e .row) (e .col)
-    → (i j : ℕ) → Basic (pivot m n T e) i j → P i j
-pivot-within m n T e P h p i j b = ⊎-elim (λ s. rw (s .0, s .1) p) (λ s. h i j (s .0)) (pivot-basic m n T e i j .0 b)
-
 -- ---- its order, number and amounts, where the tableau is in order and the entering lane is new
 
 length-without : (n : ℕ) (T : List Cell) → Ordered n T → {out : Cell} → List·Memᴰ out T → suc (length (keep (other out) T)) ≡ length T

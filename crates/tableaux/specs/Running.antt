@@ -5,7 +5,6 @@ use mathlib.Core.Bool.{Bool, true, false, true≢false}
 use mathlib.Core.List.{List}
 use Prim.Native.Nat.{ℕ, zero, suc, _≤_, _<_}
 use native.Mathlib.Omega.{arith}
-use native.Mathlib.Decide.{decLt}
 use Rattle.transport.specs.Sheet.{Sheet}
 use Rattle.transport.specs.declared.Cell.{Cell}
 use Rattle.transport.specs.Potential.{isFinished}
@@ -37,14 +36,6 @@ module _ (S : Sheet) where
       before : (h : ℕ) → h < suc k → isFinished S (after S h T) ≡ false
       before zero l = e
       before (suc h) l = r .before h (omega arith)
-
-  pub reached-unique : (T : List Cell) (h k : ℕ) → Reached S T h → Reached S T k → h ≡ k
-  reached-unique T h k r s = go (decLt h k) (decLt k h)
-    where
-      go : Dec (h < k) → Dec (k < h) → h ≡ k
-      go (yes l) q = absurd (true≢false (sym (r .finished) ∙ s .before h l))
-      go (no l) (yes q) = absurd (true≢false (sym (s .finished) ∙ r .before k q))
-      go (no l) (no q) = omega arith
 
   -- Within k rounds a finished tableau is reached, or not.
   pub reached-or : (k : ℕ) (T : List Cell) → ((h : ℕ) × (h ≤ k) × Reached S T h) ⊎ Unreached S T k
@@ -111,12 +102,6 @@ module _ (S : Sheet) where
     (λ (h, l, r). ap (λ x. x .done) (run-reached h k T l r)),
   )
 
-  pub run-undone : (k : ℕ) (T : List Cell) → run S k T .done ≡ false → run S k T ≡ record { done = false; tableau = after S k T; rounds = k }
-  run-undone k T e = ⊎-elim
-      (λ (h, l, r). absurd (true≢false (sym (ap (λ x. x .done) (run-reached h k T l r)) ∙ e)))
-      (run-spent k T)
-      (reached-or k T)
-
   -- Whether it is done, its tableau says.
   pub run-finished : (k : ℕ) (T : List Cell) → isFinished S (run S k T .tableau) ≡ run S k T .done
   run-finished k T = ⊎-elim
@@ -135,10 +120,3 @@ module _ (S : Sheet) where
       (λ (h, l, r). rw (run-reached h k T l r))
       (λ none. rw (run-spent k T none))
       (reached-or k T)
-
-  -- An allowance that suffices gives what any other does.
-  pub run-enough : (h k : ℕ) (T : List Cell) → run S h T .done ≡ true → run S k T .done ≡ true → run S h T ≡ run S k T
-  run-enough h k T p q =
-      let (a, l, r) = run-done-iff h T .0 p in
-      let (b, m, s) = run-done-iff k T .0 q in
-      run-reached a h T l r ∙ sym (run-reached a k T (omega (arith, reached-unique T a b r s)) r)

@@ -1,16 +1,15 @@
 -- Numbers read in lines of `width`, one after the other, as Lines has them: what the columns and rows of the specification read.
 use mathlib.Core.Path.{_≡_, refl, sym, ap, _∙_}
 use mathlib.Core.Bool.{Bool, true, false}
-use mathlib.Core.List.{List, [], _∷_, _++_, flatten, append-assoc, append-nil}
-use Prim.Native.Nat.{ℕ, zero, suc, _+_, _*_, _-_, _≤_, _<_}
+use mathlib.Core.List.{List, [], _∷_, _++_, flatten, append-assoc}
+use Prim.Native.Nat.{ℕ, zero, suc, _+_, _*_, _-_}
 use native.Mathlib.Omega.{arith}
-use native.Mathlib.Numerals.{add-one}
 use native.Mathlib.Nat.{suc-mul, suc-add, zero-add, zero-mul}
-use lib.ListN.{length, drop, length-append}
+use lib.ListN.{drop}
 use Rattle.transport.specs.Text.{bytes}
 use Rattle.transport.specs.SheetText.{Reading, stuck, got, Reader, _>>=_, _>>_, pure, times, word, number, line, row}
 use Rattle.text.specs.Lines.{ending, leftAfter, ending-last, ending-more, left-last, left-more}
-use Rattle.text.specs.Reading.{byteNext, bind-got, bind-stuck, then-got, then-stuck, endReading, end-stuck, end-yes, end-no, one-yes, one-no, line-end}
+use Rattle.text.specs.Reading.{byteNext, bind-got, bind-stuck, endReading, end-stuck, end-yes, end-no, one-yes, one-no, line-end}
 
 module _ {A : Type 0} where
   -- Values that were read before.

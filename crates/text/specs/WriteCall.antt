@@ -1,5 +1,5 @@
 -- Write sheet, case by case.
-use mathlib.Core.Path.{_≡_, refl, sym, ap, _∙_}
+use mathlib.Core.Path.{_≡_, sym, ap, _∙_}
 use mathlib.Core.List.{List}
 use mathlib.Core.Option.{none, some}
 use Prim.Native.Nat.{ℕ, _≤_, _<_}
@@ -7,7 +7,7 @@ use lib.ListN.{length}
 use Rattle.transport.specs.declared.WriteAnswer.{WriteAnswer}
 use Rattle.transport.specs.declared.WriteAnswer.the-variants.{Written, Refused}
 use Rattle.transport.specs.Sheet.{Sheet, refusal, sheetTests}
-use Rattle.transport.specs.Calls.{Answer, given, refusedBy, lentAfter}
+use Rattle.transport.specs.Calls.{Answer, refusedBy, lentAfter}
 use Rattle.transport.specs.SheetText.{sheetText, writeSheetCall}
 use Rattle.transport.specs.Answers.{writeAnswer}
 use Rattle.transport.specs.CallLaws.{unless-before, unless-last, unless-none, short-yes, short-no, lent-refused, lent-given}

@@ -1,8 +1,7 @@
 // Read sheet. Each reader starts at a place of the text, and its answer says where it ended.
 ghost use mathlib.Core.Path.{_≡_};
 ghost use mathlib.Core.Bool.{true, false};
-ghost use mathlib.Core.List.{_++_};
-ghost use Prim.Native.Nat.{ℕ, _+_, _*_, _≤_, _<_};
+ghost use Prim.Native.Nat.{_+_, _*_, _≤_, _<_};
 ghost use lib.ListN.{length, take, drop};
 ghost use Rattle.transport.specs.Text.{kindOf};
 ghost use Rattle.transport.specs.SheetText.{isDigit, word, moreDigits, number, side, sheetReader, readSheetCall};

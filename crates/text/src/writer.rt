@@ -7,8 +7,8 @@ ghost use Rattle.transport.specs.Text.{digits};
 ghost use Rattle.transport.specs.SheetText.{sheetText, writeSheetCall};
 ghost use Rattle.transport.specs.Calls.{lentAfter};
 ghost use Rattle.transport.specs.Answers.{writeAnswer};
+ghost use Rattle.transport.specs.SheetLaws.{Checked};
 ghost use Rattle.sheet.specs.Check.{sheetOf};
-ghost use Rattle.sheet.specs.Refusals.{Passed};
 ghost use Rattle.text.specs.Front.{front};
 ghost use Rattle.text.specs.Lines.{ended, linesFrom, numbersLength, sectionText};
 use crate::lines;
@@ -107,7 +107,7 @@ fn section_len(name: &[u8], count: usize, numbers: &[u64]) -> usize
 
 // The length of the text of an accepted sheet.
 fn text_len(supply: &[u64], demand: &[u64], cost: &[u64]) -> usize
-    requires { ⌜ Passed (sheetOf (now supply) (now demand) (now cost)) ⌝ }
+    requires { ⌜ Checked (sheetOf (now supply) (now demand) (now cost)) ⌝ }
     ensures { λ r. ⌜ r ≡ length (sheetText (sheetOf (now (supply .entry)) (now (demand .entry)) (now (cost .entry)))) ⌝ }
 {
     let m = supply.len();
@@ -120,7 +120,7 @@ fn text_len(supply: &[u64], demand: &[u64], cost: &[u64]) -> usize
 // The text of an accepted sheet: each section is written in what is left of the output.
 fn write_text(supply: &[u64], demand: &[u64], cost: &[u64], out: &mut [u8]) -> usize
     requires { ⌜
-        (Passed (sheetOf (now supply) (now demand) (now cost)))
+        (Checked (sheetOf (now supply) (now demand) (now cost)))
         × (length (sheetText (sheetOf (now supply) (now demand) (now cost))) ≤ length (now out))
         ⌝ }
     ensures { λ r. ⌜

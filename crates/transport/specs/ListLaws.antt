@@ -6,7 +6,7 @@ use native.Mathlib.Nat.{eq-or-lt-of-le, mul-add, add-suc, add-zero, suc-mul, zer
 use native.Mathlib.Decide.{decLt}
 use mathlib.Core.Path.{_≡_, refl, sym, ap, _∙_}
 use mathlib.Core.Logic.{⊎-elim, _⊎_, inl, inr}
-use mathlib.Core.Bool.{Bool, true, false, not, _&&_, cond, true≢false, false≢true, and-true, and-assoc}
+use mathlib.Core.Bool.{Bool, true, false, not, _&&_, cond, true≢false, false≢true, and-assoc}
 use mathlib.Core.List.{List, [], _∷_, _++_, map, flatMap, append-assoc, append-nil, List·Memᴰ, List·Memᴰ·head, List·Memᴰ·tail, List·Memᴰ·not-nil, List·Memᴰ·cases-cons, List·Memᴰ·append-cases, Memᴰ·append-left, Memᴰ·append-right}
 use lib.ListN.{length, take, drop, getD, set, length-append, List·getD-append, List·getD-eq-default}
 use lib.Seq.{drop-cons, set-at, getD-at, getD-append-add, ext-getD, take-suc, length-take-le}
@@ -44,10 +44,6 @@ module _ {A : Type 0} (f : ℕ → A) where
   fill-one xs n d p =
       rw (drop-cons xs n d p, set-at (table n f) (getD xs n d) (drop (suc n) xs) (f n) n (length-table n), table-one n, append-assoc, add-one)
 
-  -- .. and the next place is not filled yet.
-  pub fill-get : (xs : List A) (n : ℕ) (d : A) → n < length xs → getD (table n f ++ drop n xs) n d ≡ getD xs n d
-  fill-get xs n d p = rw (drop-cons xs n d p, getD-at (table n f) (getD xs n d) (drop (suc n) xs) d n (length-table n))
-
   pub table-split : (n m : ℕ) → table (n + m) f ≡ table n f ++ table m (λ k. f (n + k))
   unfolding table
   table-split n zero = rw (add-zero, append-nil)
@@ -80,10 +76,6 @@ getD-map f (x ∷ xs) zero d e l = refl
 getD-map f (x ∷ xs) (suc k) d e l = getD-map f xs k d e (omega arith)
 
 -- ---- below
-
-pub length-below : (n : ℕ) → length (below n) ≡ n
-unfolding below
-length-below n = length-table _ n
 
 -- ---- members: an element of a list, and the place where it stands
 
@@ -187,9 +179,6 @@ module _ {A : Type 0} (p : A → Bool) where
   all-of [] d h = refl
   all-of (x ∷ xs) d h = rw (h 0 (omega arith), all-of xs d (λ k l. h (suc k) (omega arith)))
 
-  pub all-member : {x : A} {xs : List A} → all p xs ≡ true → List·Memᴰ x xs → p x ≡ true
-  all-member {x} {xs} e m = let (k, l, q) = member-place x m in ap p (sym q) ∙ all-at xs x k e l
-
   pub all-members : (xs : List A) → ((x : A) → List·Memᴰ x xs → p x ≡ true) → all p xs ≡ true
   unfolding all
   all-members [] h = refl
@@ -199,11 +188,6 @@ module _ {A : Type 0} (p : A → Bool) where
   unfolding all
   all-append [] ys = refl
   all-append (x ∷ xs) ys = rw (all-append xs ys, and-assoc)
-
-  -- One element more is tested.
-  pub all-one : (xs : List A) (d : A) (k : ℕ) → k < length xs → all p (take (k + 1) xs) ≡ all p (take k xs) && p (getD xs k d)
-  unfolding all
-  all-one xs d k l = rw (add-one, take-suc xs k d l, all-append, and-true)
 
   pub all-table : (n : ℕ) (f : ℕ → A) → ((k : ℕ) → k < n → p (f k) ≡ true) → all p (table n f) ≡ true
   all-table n f h =
@@ -307,10 +291,6 @@ module _ {A : Type 0} (p : A → Bool) where
       go false q e = e
 
 module _ {A : Type 0} where
-  -- A test that all elements pass is passed by those that are kept.
-  pub all-kept : (p q : A → Bool) (xs : List A) → all q xs ≡ true → all q (keep p xs) ≡ true
-  all-kept p q xs e = all-members q (keep p xs) (λ x m. all-member q e (keep-member p xs m .0))
-
   pub keep-cong : (p q : A → Bool) (xs : List A) → ((x : A) → List·Memᴰ x xs → p x ≡ q x) → keep p xs ≡ keep q xs
   unfolding keep
   keep-cong p q [] h = refl

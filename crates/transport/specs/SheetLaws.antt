@@ -10,7 +10,7 @@ use mathlib.Core.List.{List, [], _∷_, _++_, flatMap, append-nil}
 use mathlib.Core.Option.{Option, none, some}
 use lib.Dec.{leb}
 use lib.ListN.{length, getD, length-append, List·getD-append}
-use borrow.Author.Tests.{leb-true, le-leb, lt-leb, eqb-true, eq-eqb, not-false}
+use borrow.Author.Tests.{leb-true, le-leb, lt-leb, eqb-true, not-false}
 use Rattle.transport.specs.Lists.{all, at, total, within, table, below}
 use Rattle.transport.specs.ListLaws.{and-left, and-right, flatMap-append, getD-append-at, length-table, getD-table, all-at, all-of, at-past}
 use Rattle.transport.specs.Limits.{maxSide, maxAmount, maxCost}
@@ -210,16 +210,3 @@ checked S e =
     let (costs, e) = refusal-clear (badCost S) (unbalanced S ∷ []) e in
     let (totals, e) = refusal-clear (unbalanced S) [] e in
     checked-by S sides lengths amounts costs totals
-
-pub unrefused : (S : Sheet) → Checked S → refusal (sheetTests S) ≡ none
-unfolding sheetTests numberTests badSides badLength badAmount badCost unbalanced sources sinks refusal
-unrefused S c =
-    rw (
-      true-within 1 maxSide (sources S) (c .sourcesLow) (c .sourcesHigh),
-      true-within 1 maxSide (sinks S) (c .sinksLow) (c .sinksHigh),
-      eq-eqb (length (S .cost)) (sources S * sinks S) (c .costLength),
-      all-within 1 maxAmount (S .supply) (c .supplyLow) (c .supplyHigh),
-      all-within 1 maxAmount (S .demand) (c .demandLow) (c .demandHigh),
-      all-within 0 maxCost (S .cost) (λ k l. omega arith) (c .costHigh),
-      eq-eqb (total (S .supply)) (total (S .demand)) (c .balance),
-    )

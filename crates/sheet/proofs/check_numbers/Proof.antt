@@ -1,8 +1,8 @@
 -- Each way out is a case of `refusal`; the totals are taken where both lists are known to be within their limits.
-use mathlib.Core.Path.{_≡_, refl, sym, ap, _∙_}
-use mathlib.Core.Bool.{Bool, true, false}
+use mathlib.Core.Path.{_≡_, sym, _∙_}
+use mathlib.Core.Bool.{true}
 use borrow.Author.Tests.{not-true, not-false, eq-eqb, ne-eqb}
-use Rattle.transport.specs.Lists.{all, within, total}
+use Rattle.transport.specs.Lists.{all, within}
 use Rattle.transport.specs.Limits.{maxAmount, maxCost}
 use Rattle.sheet.specs.Check.{sheetOf, check-none, check-some}
 use Rattle.sheet.specs.Refusals.{refused-supply, refused-demand, refused-cost, refused-totals, numbers-accepted}

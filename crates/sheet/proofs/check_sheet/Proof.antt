@@ -1,14 +1,12 @@
 -- Each way out is a case of `refusal`; what is left of the tests is check_numbers.
-use mathlib.Core.Path.{_≡_, refl, sym, ap, _∙_}
-use mathlib.Core.Bool.{Bool, true, false}
-use Prim.Native.Nat.{ℕ, _*_, _≤_}
-use native.Mathlib.Omega.{arith}
+use mathlib.Core.Path.{_≡_, sym, _∙_}
+use mathlib.Core.Bool.{true}
 use lib.ListN.{length}
 use borrow.Author.Tests.{not-true, not-false, eq-eqb, ne-eqb}
 use Rattle.transport.specs.Lists.{within}
 use Rattle.transport.specs.Limits.{maxSide}
 use Rattle.transport.specs.SheetLaws.{within-true}
-use Rattle.sheet.specs.Check.{sheetOf, check-none, check-some}
+use Rattle.sheet.specs.Check.{sheetOf, check-some}
 use Rattle.sheet.specs.Laws.{sides-product}
 use Rattle.sheet.specs.Refusals.{refused-sources, refused-sinks, refused-length, sheet-numbers}
 use borrow.Author.Needs.{needs}

@@ -1,5 +1,4 @@
 -- The two cases of the definition.
-use borrow.Author.Needs.{needs}
 use Rattle.text.specs.Lines.{ending-last, ending-more}
 use Rattle.text.proofs.lines.ending.Statement.{statement}
 use Rattle.text.proofs.lines.ending.Tie as tie

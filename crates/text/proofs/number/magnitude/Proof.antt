@@ -1,12 +1,10 @@
 -- −1 − z is in range for every negative z, the least one too, and one less than its magnitude.
-use mathlib.Core.Path.{_≡_, refl, sym, ap, _∙_}
-use mathlib.Core.Bool.{true, false}
-use Prim.Native.Nat.{_<_, _^_, _+_, _-_}
+use mathlib.Core.Path.{_≡_}
+use mathlib.Core.Bool.{true}
+use Prim.Native.Nat.{_<_, _^_, _-_}
 use native.Mathlib.Omega.{arith}
-use lib.IntN.{ℤ, pos, natAbs}
+use lib.IntN.{pos}
 use lib.Signed.{ltZ, mag}
-use mir.Syntax.{w64}
-use mir.Val.{toZ, ofZ}
 use Rattle.text.specs.Whole.{bits-back, turned-fits, turned-back, magnitude-le, magnitude-pos, not-negative}
 use borrow.Author.Needs.{needs}
 use Rattle.text.proofs.number.magnitude.Statement.{statement}

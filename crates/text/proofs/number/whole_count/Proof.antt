@@ -1,12 +1,12 @@
 -- The digits of the magnitude, and one byte for the minus.
-use mathlib.Core.Path.{_≡_, refl, sym, ap, _∙_}
+use mathlib.Core.Path.{_≡_, sym, ap, _∙_}
 use mathlib.Core.Bool.{true, false}
-use Prim.Native.Nat.{_<_, _≤_, _^_, _+_, _-_}
+use Prim.Native.Nat.{_<_, _^_, _-_}
 use native.Mathlib.Omega.{arith}
-use lib.IntN.{ℤ, pos, natAbs}
+use lib.IntN.{pos, natAbs}
 use lib.ListN.{length}
 use lib.Signed.{ltZ, mag}
-use Rattle.transport.specs.Text.{digits, wholeDigits}
+use Rattle.transport.specs.Text.{digits}
 use Rattle.text.specs.Digits.{length-digits-le}
 use Rattle.text.specs.Whole.{bits-back, magnitude-le, whole-negative, whole-positive}
 use borrow.Author.Needs.{needs}

@@ -1,8 +1,8 @@
 -- The loop's invariant: the output holds the digits from place `at` on, and those before are the digits of what is left of n.
 use borrow.Author.Needs.{needs}
-use mathlib.Core.Path.{_≡_, refl, sym, ap, _∙_}
-use mathlib.Core.List.{_∷_, _++_}
-use Prim.Native.Nat.{_≤_, _<_, _+_, _-_, _/_, suc}
+use mathlib.Core.Path.{_≡_, refl, _∙_}
+use mathlib.Core.List.{_++_}
+use Prim.Native.Nat.{_≤_, _<_, _+_, _-_, suc}
 use native.Mathlib.Omega.{arith}
 use lib.ListN.{length, take, drop, length-set}
 use lib.Seq.{take-length, drop-length}

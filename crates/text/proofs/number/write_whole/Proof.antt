@@ -1,13 +1,12 @@
 -- A negative number is its minus, and then its magnitude in what is left of the output.
 use mathlib.Core.Path.{_≡_, refl, sym, ap, _∙_}
-use mathlib.Core.Bool.{true, false}
-use mathlib.Core.List.{[], _∷_, _++_}
+use mathlib.Core.List.{[], _∷_}
 use Prim.Native.Nat.{_<_, _≤_, _^_, _+_, _-_}
 use native.Mathlib.Omega.{arith}
-use lib.IntN.{ℤ, pos, natAbs}
+use lib.IntN.{natAbs}
 use borrow.Rule.Slice.PartMut.{putMid}
 use lib.ListN.{length, set, length-set}
-use lib.Signed.{ltZ, mag}
+use lib.Signed.{mag}
 use Rattle.transport.specs.Text.{digits, wholeDigits}
 use Rattle.text.specs.Front.{front, front-first, front-then, lent-length, length-front}
 use Rattle.text.specs.Whole.{bits-back, whole-negative, whole-positive}

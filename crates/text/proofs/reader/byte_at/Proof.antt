@@ -1,5 +1,5 @@
 -- At the end no byte comes next, and before it the byte at the place does.
-use mathlib.Core.Path.{sym, _∙_}
+use mathlib.Core.Path.{sym}
 use Rattle.text.specs.Reading.{byte-end, byte-here}
 use borrow.Author.Needs.{needs}
 use Rattle.text.proofs.reader.byte_at.Statement.{statement}

@@ -1,6 +1,5 @@
 -- Each arm is a range of bytes, and `kindOf` is known on it.
-use borrow.Author.Needs.{needs}
-use mathlib.Core.Path.{_≡_, refl, sym}
+use mathlib.Core.Path.{sym}
 use native.Mathlib.Omega.{arith}
 use Rattle.transport.specs.Lists.{within}
 use Rattle.transport.specs.Text.{kindOf}

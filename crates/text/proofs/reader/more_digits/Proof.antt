@@ -1,14 +1,11 @@
 -- The loop's invariant: the rest of the digits is to be read from the present place on; `count` digits make a value below 10 ^ count.
 use borrow.Author.Needs.{needs}
-use mathlib.Core.Path.{_≡_, refl, sym, ap, _∙_}
-use mathlib.Core.Bool.{true, false}
-use mathlib.Core.List.{_∷_, []}
-use Prim.Native.Nat.{ℕ, _≤_, _<_, _+_, _*_, _-_, _^_, suc}
+use mathlib.Core.Path.{_≡_, refl, sym, _∙_}
+use mathlib.Core.Bool.{true}
+use Prim.Native.Nat.{_≤_, _<_, _+_, _*_, _-_, _^_, suc}
 use native.Mathlib.Omega.{arith}
-use native.Mathlib.Numerals.{add-one}
 use borrow.Author.Tests.{not-true, not-false}
-use lib.ListN.{length, drop, getD, drop-of-length-le}
-use lib.Seq.{drop-cons}
+use lib.ListN.{length, drop, getD}
 use Rattle.transport.specs.SheetText.{isDigit, moreDigits}
 use Rattle.text.specs.Reading.{always, digitNext, digit-inside, digit-found, digit-low, digit-high, more-none, more-stop, more-step, value-next, value-fits}
 use Rattle.text.proofs.reader.more_digits.Statement.{statement}

@@ -1,23 +1,17 @@
 -- The head line that must come is written first; then it is read as a word, and the lines after it.
-use mathlib.Core.Path.{_≡_, refl, sym, ap, _∙_}
-use mathlib.Core.Bool.{true, false}
-use mathlib.Core.List.{_∷_, []}
-use Prim.Native.Nat.{ℕ, _≤_, _<_, _+_, _*_, _-_, _^_, suc}
+use mathlib.Core.Path.{_≡_, sym, ap, _∙_}
+use Prim.Native.Nat.{_≤_, _-_}
 use native.Mathlib.Omega.{arith}
-use native.Mathlib.Numerals.{add-one}
-use borrow.Author.Tests.{not-true, not-false}
-use lib.ListN.{length, drop, getD, drop-of-length-le}
-use lib.Seq.{drop-cons}
-use mathlib.Core.List.{_++_}
+use lib.ListN.{length, drop}
 use lib.ListN.{take}
 use lib.Seq.{length-take-le}
-use Rattle.transport.specs.Text.{bytes, digits, headLine}
-use Rattle.transport.specs.SheetText.{Reading, stuck, got, word}
+use Rattle.transport.specs.Text.{bytes, headLine}
+use Rattle.transport.specs.SheetText.{word}
 use Rattle.sheet.specs.Laws.{sides-product, side-limit}
 use Rattle.text.specs.Digits.{length-digits-le}
 use Rattle.text.specs.Front.{front-take, length-front}
 use Rattle.text.specs.Lines.{ended, length-ended, head-cost}
-use Rattle.text.specs.Reading.{Taken, Got, Stuck, readingOf, placeOf, valueOf}
+use Rattle.text.specs.Reading.{readingOf}
 use Rattle.text.specs.SheetRead.{cost-unnamed, cost-named}
 use borrow.Author.Needs.{needs}
 use Rattle.text.proofs.reader.read_costs.Statement.{statement}

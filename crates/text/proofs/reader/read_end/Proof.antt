@@ -1,14 +1,11 @@
 -- A number that was not read stays as it is; else the byte decides.
-use mathlib.Core.Path.{_≡_, refl, sym, ap, _∙_}
-use mathlib.Core.Bool.{true, false}
-use mathlib.Core.List.{_∷_, []}
-use Prim.Native.Nat.{ℕ, _≤_, _<_, _+_, _*_, _-_, _^_, suc}
+use mathlib.Core.Path.{_≡_, sym, _∙_}
+use mathlib.Core.Bool.{true}
+use Prim.Native.Nat.{_≤_, _-_}
 use native.Mathlib.Omega.{arith}
-use native.Mathlib.Numerals.{add-one}
 use borrow.Author.Tests.{not-true, not-false}
-use lib.ListN.{length, drop, getD, drop-of-length-le}
-use lib.Seq.{drop-cons}
-use Rattle.text.specs.Reading.{byteNext, byte-inside, drop-next, endReading, end-stuck, end-no, end-yes, placeOf, readingOf, Got}
+use lib.ListN.{length, drop}
+use Rattle.text.specs.Reading.{byteNext, byte-inside, drop-next, end-stuck, end-no, end-yes, Got}
 use borrow.Author.Needs.{needs}
 use Rattle.text.proofs.reader.read_end.Statement.{statement}
 use Rattle.text.proofs.reader.read_end.Tie as tie

@@ -1,20 +1,16 @@
 -- The loop's invariant: the numbers read so far stand in the list, and the others are to be read from the present place on.
 use borrow.Author.Needs.{needs}
-use mathlib.Core.Path.{_≡_, refl, sym, ap, _∙_}
-use mathlib.Core.Bool.{true, false}
-use mathlib.Core.List.{_∷_, []}
-use Prim.Native.Nat.{ℕ, _≤_, _<_, _+_, _*_, _-_, _^_, suc}
+use mathlib.Core.Path.{_≡_, refl, sym, _∙_}
+use Prim.Native.Nat.{_≤_, _+_, _-_, suc}
 use native.Mathlib.Omega.{arith}
 use native.Mathlib.Numerals.{add-one}
-use borrow.Author.Tests.{not-true, not-false}
-use lib.ListN.{length, drop, getD, drop-of-length-le}
-use lib.Seq.{drop-cons}
+use lib.ListN.{length, drop}
 use mathlib.Core.List.{append-nil}
 use lib.ListN.{take, length-set}
 use lib.Seq.{take-suc-set}
-use Rattle.transport.specs.SheetText.{Reading, stuck, got, number}
-use Rattle.text.specs.Lines.{ending, leftAfter, left-pos}
-use Rattle.text.specs.Reading.{Taken, Got, Stuck, readingOf, placeOf, valueOf, endReading}
+use Rattle.transport.specs.SheetText.{stuck, got, number}
+use Rattle.text.specs.Lines.{ending, left-pos}
+use Rattle.text.specs.Reading.{readingOf, endReading}
 use Rattle.text.specs.LinesRead.{readLines, read-none, read-stuck, read-got, after, after-nil, after-stuck, after-got, after-after}
 use Rattle.text.proofs.reader.read_lines.Statement.{statement}
 use Rattle.text.proofs.reader.read_lines.Tie as tie

@@ -1,19 +1,13 @@
 -- The word, the count and the lines, each from the place where the one before it ended.
-use mathlib.Core.Path.{_≡_, refl, sym, ap, _∙_}
-use mathlib.Core.Bool.{true, false}
-use mathlib.Core.List.{_∷_, []}
-use Prim.Native.Nat.{ℕ, _≤_, _<_, _+_, _*_, _-_, _^_, suc}
+use mathlib.Core.Path.{_≡_, ap, _∙_}
+use Prim.Native.Nat.{ℕ, _≤_, _-_}
 use native.Mathlib.Omega.{arith}
-use native.Mathlib.Numerals.{add-one}
-use borrow.Author.Tests.{not-true, not-false}
-use lib.ListN.{length, drop, getD, drop-of-length-le}
-use lib.Seq.{drop-cons}
-use lib.ListN.{take}
-use Rattle.transport.specs.SheetText.{Reading, stuck, got, word, line, side}
+use lib.ListN.{length, drop}
+use Rattle.transport.specs.SheetText.{got, word, line, side}
 use Rattle.transport.specs.Limits.{maxSide}
 use Rattle.transport.specs.SheetLaws.{within-true}
 use Rattle.sheet.specs.Laws.{side-limit}
-use Rattle.text.specs.Reading.{Taken, Got, Stuck, readingOf, placeOf, valueOf, value-le, line-end, line-side-within}
+use Rattle.text.specs.Reading.{readingOf, value-le, line-end, line-side-within}
 use Rattle.text.specs.SheetRead.{list-unnamed, list-uncounted, list-counted}
 use borrow.Author.Needs.{needs}
 use Rattle.text.proofs.reader.read_list.Statement.{statement}

@@ -1,21 +1,18 @@
 -- Section by section, each from the place where the one before it ended: the cases of the sheet reader.
-use mathlib.Core.Path.{_≡_, refl, sym, ap, _∙_}
-use mathlib.Core.Bool.{true, false}
-use mathlib.Core.List.{_∷_, []}
-use Prim.Native.Nat.{ℕ, _≤_, _<_, _+_, _*_, _-_, _^_, suc}
+use mathlib.Core.Path.{_≡_, ap, _∙_}
+use Prim.Native.Nat.{ℕ, _≤_, _*_, _-_}
 use native.Mathlib.Omega.{arith}
-use native.Mathlib.Numerals.{add-one}
 use native.Mathlib.Nat.{le-trans, mul-le-mul}
-use lib.ListN.{length, drop, getD, drop-of-length-le}
+use lib.ListN.{length, drop, drop-of-length-le}
 use lib.Seq.{drop-cons}
 use mathlib.Core.List.{List}
 use lib.ListN.{take}
 use lib.Seq.{length-take-le}
 use Rattle.transport.specs.Text.{bytes}
 use Rattle.transport.specs.Limits.{maxSide}
-use Rattle.transport.specs.SheetText.{Reading, stuck, got, sheetReader}
+use Rattle.transport.specs.SheetText.{got}
 use Rattle.transport.specs.SheetLaws.{within-true}
-use Rattle.text.specs.Reading.{Taken, Got, Stuck, readingOf, placeOf, valueOf, valueIs}
+use Rattle.text.specs.Reading.{readingOf}
 use Rattle.text.specs.SheetRead.{listReader, costReader, list-within, sheet-stuck, sheet-stuck-demand, sheet-stuck-cost, sheet-stuck-end, sheet-got}
 use borrow.Author.Needs.{needs}
 use Rattle.text.proofs.reader.read_sections.Statement.{statement}

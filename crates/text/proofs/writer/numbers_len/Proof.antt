@@ -1,10 +1,9 @@
 -- The loop's invariant: the length so far and that of the numbers left make up the whole; no number has more than 20 digits.
 use borrow.Author.Needs.{needs}
-use mathlib.Core.Path.{_≡_, refl, sym, ap, _∙_}
-use Prim.Native.Nat.{_≤_, _<_, _+_, _-_, _*_}
+use mathlib.Core.Path.{_≡_}
+use Prim.Native.Nat.{_≤_, _+_, _-_, _*_}
 use native.Mathlib.Omega.{arith}
 use lib.ListN.{length, drop, getD}
-use Rattle.transport.specs.Text.{digits}
 use Rattle.text.specs.Digits.{length-digits-le}
 use Rattle.text.specs.Lines.{numbersLength, numbers-next, numbers-end}
 use Rattle.text.proofs.writer.numbers_len.Statement.{statement}

@@ -1,11 +1,11 @@
 -- The lengths of the three sections.
-use mathlib.Core.Path.{_≡_, refl, sym, ap, _∙_}
+use mathlib.Core.Path.{ap}
 use native.Mathlib.Omega.{arith}
 use mathlib.Core.List.{_++_}
 use lib.ListN.{length, length-append}
 use Rattle.transport.specs.Text.{bytes}
 use Rattle.sheet.specs.Check.{sheetOf}
-use Rattle.sheet.specs.Refusals.{sources-few, sinks-few, sinks-some, costs-few}
+use Rattle.sheet.specs.Refusals.{sources-few, sinks-few, sinks-some, costs-few, costs-whole}
 use Rattle.text.specs.Lines.{supplySection, demandSection, costSection, length-section, sheet-sections}
 use borrow.Author.Needs.{needs}
 use Rattle.text.proofs.writer.text_len.Statement.{statement}
@@ -50,7 +50,7 @@ returns c =
     let a = c .before .before .before .before .before .before .before .before .before .args in
     let S = sheetOf (a .supply .now) (a .demand .now) (a .cost .now) in
     let p = c .before .before .before .before .before .before .before .before .before .pre in
-    omega (arith, ap length (sheet-sections S (sinks-some S p) (p .costLength)), length-append (supplySection S ++ demandSection S) (costSection S), length-append (supplySection S) (demandSection S), c .before .before .before .before .section-len .ensures .0, c .before .before .section-len2 .ensures .0, c .section-len3 .ensures .0, length-section (bytes "supply ") (length (a .supply .now)) 1 (a .supply .now), length-section (bytes "demand ") (length (a .demand .now)) 1 (a .demand .now), length-section (bytes "cost ") (length (a .supply .now)) (length (a .demand .now)) (a .cost .now))
+    omega (arith, ap length (sheet-sections S (sinks-some S p) (costs-whole S p)), length-append (supplySection S ++ demandSection S) (costSection S), length-append (supplySection S) (demandSection S), c .before .before .before .before .section-len .ensures .0, c .before .before .section-len2 .ensures .0, c .section-len3 .ensures .0, length-section (bytes "supply ") (length (a .supply .now)) 1 (a .supply .now), length-section (bytes "demand ") (length (a .demand .now)) 1 (a .demand .now), length-section (bytes "cost ") (length (a .supply .now)) (length (a .demand .now)) (a .cost .now))
 
 pub text-len-spec : {M : Type 1} → statement M
 text-len-spec =

@@ -1,10 +1,9 @@
 -- The digits, and one byte more.
-use mathlib.Core.Path.{_≡_, refl, sym, ap, _∙_}
-use Prim.Native.Nat.{_≤_, _<_, _+_}
+use Prim.Native.Nat.{_<_}
 use native.Mathlib.Omega.{arith}
 use lib.ListN.{length}
 use Rattle.transport.specs.Text.{digits}
-use Rattle.text.specs.Front.{front, front-byte}
+use Rattle.text.specs.Front.{front-byte}
 use Rattle.text.specs.Lines.{ended, length-ended}
 use borrow.Author.Needs.{needs}
 use Rattle.text.proofs.writer.write_ended.Statement.{statement}

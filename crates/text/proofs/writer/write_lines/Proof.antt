@@ -1,8 +1,8 @@
 -- The loop's invariant: the output holds the first `at` bytes of the lines, and the bytes after them are the lines of the numbers left.
 use borrow.Author.Needs.{needs}
 use mathlib.Core.Path.{_≡_, refl, sym, ap, _∙_}
-use mathlib.Core.List.{_++_, _∷_, []}
-use Prim.Native.Nat.{_≤_, _<_, _+_, _-_, suc}
+use mathlib.Core.List.{_++_}
+use Prim.Native.Nat.{_≤_, _+_, _-_}
 use native.Mathlib.Omega.{arith}
 use borrow.Rule.Slice.PartMut.{putMid}
 use lib.ListN.{length, take, drop, getD, length-drop, length-take}

@@ -1,10 +1,10 @@
 -- The head line, and then the lines in what is left of the output.
-use mathlib.Core.Path.{_≡_, refl, sym, ap, _∙_}
+use mathlib.Core.Path.{_≡_}
 use mathlib.Core.List.{_++_}
 use Prim.Native.Nat.{_≤_, _+_}
 use native.Mathlib.Omega.{arith}
 use lib.ListN.{length, length-append}
-use Rattle.text.specs.Front.{front, front-then, first-room, second-start, second-room}
+use Rattle.text.specs.Front.{front-then, first-room, second-start, second-room}
 use Rattle.text.specs.Lines.{ended, linesFrom, sectionText}
 use borrow.Author.Needs.{needs}
 use Rattle.text.proofs.writer.write_section.Statement.{statement}

@@ -1,12 +1,10 @@
 -- Each way out is a case of the call.
-use mathlib.Core.Path.{_≡_, refl, sym, ap, _∙_}
+use mathlib.Core.Path.{_≡_, sym, _∙_}
 use mathlib.Core.Option.{none}
-use Prim.Native.Nat.{ℕ, _≤_}
 use native.Mathlib.Omega.{arith}
-use lib.ListN.{length}
 use Rattle.transport.specs.Sheet.{Sheet, refusal, sheetTests}
 use Rattle.sheet.specs.Check.{sheetOf, accepted-none, refused-some}
-use Rattle.sheet.specs.Refusals.{passed}
+use Rattle.transport.specs.SheetLaws.{checked}
 use Rattle.text.specs.WriteCall.{wrote-check, wrote-short, wrote-given}
 use borrow.Author.Needs.{needs}
 use Rattle.text.proofs.writer.write_sheet.Statement.{statement}
@@ -33,7 +31,7 @@ accepted : (c : tie.After-enum-told) → refusal (sheetTests (sheetAt (c .before
 accepted c = accepted-none _ (sym (c .before .before .check-sheet .ensures) ∙ c .enum-told .given .1)
 
 text-len-requires : tie.Need-text-len-requires
-text-len-requires c κs = passed (sheetAt (c .before .before .before .before .before .before .before)) (accepted c)
+text-len-requires c κs = checked (sheetAt (c .before .before .before .before .before .before .before)) (accepted c)
 
 returns-2 : tie.Need-returns-2
 returns-2 c =
@@ -41,7 +39,7 @@ returns-2 c =
     wrote-short (sheetAt t) (t .args .out .now) (accepted (c .before .before)) (omega (arith, c .before .text-len .ensures))
 
 write-text-requires : tie.Need-write-text-requires
-write-text-requires c κs = (passed (sheetAt (c .before .before .before .before .before .before .before .before .before .before)) (accepted (c .before .before .before)), omega (arith, c .before .before .text-len .ensures))
+write-text-requires c κs = (checked (sheetAt (c .before .before .before .before .before .before .before .before .before .before)) (accepted (c .before .before .before)), omega (arith, c .before .before .text-len .ensures))
 
 same-length : tie.Need-same-length
 same-length c = search needs

@@ -1,5 +1,5 @@
 -- Each section stands where the one before it ended: `front-then`, twice.
-use mathlib.Core.Path.{_≡_, refl, sym, ap, _∙_}
+use mathlib.Core.Path.{_≡_, ap}
 use mathlib.Core.List.{List, _++_}
 use Prim.Native.Nat.{ℕ, _≤_, _+_, _-_}
 use native.Mathlib.Omega.{arith}
@@ -9,7 +9,7 @@ use Rattle.transport.specs.Text.{bytes}
 use Rattle.transport.specs.Sheet.{Sheet}
 use Rattle.transport.specs.SheetText.{sheetText}
 use Rattle.sheet.specs.Check.{sheetOf}
-use Rattle.sheet.specs.Refusals.{sinks-some}
+use Rattle.sheet.specs.Refusals.{sinks-some, costs-whole}
 use Rattle.text.specs.Front.{front, front-then, first-room, second-start, second-room}
 use Rattle.text.specs.Lines.{supplySection, demandSection, costSection, sheet-sections}
 use borrow.Author.Needs.{needs}
@@ -20,7 +20,7 @@ abbrev sheetAt : (c : tie.Start) → Sheet
 sheetAt c = sheetOf (c .args .supply .now) (c .args .demand .now) (c .args .cost .now)
 
 sections : (c : tie.Start) → sheetText (sheetAt c) ≡ supplySection (sheetAt c) ++ demandSection (sheetAt c) ++ costSection (sheetAt c)
-sections c = sheet-sections (sheetAt c) (sinks-some (sheetAt c) (c .pre .0)) (c .pre .0 .costLength)
+sections c = sheet-sections (sheetAt c) (sinks-some (sheetAt c) (c .pre .0)) (costs-whole (sheetAt c) (c .pre .0))
 
 room : (c : tie.Start) → length (supplySection (sheetAt c) ++ demandSection (sheetAt c) ++ costSection (sheetAt c)) ≤ length (c .args .out .now)
 room c = rw (sections c) at (c .pre .1)
