@@ -10,8 +10,6 @@ use Rattle.transport.specs.Limits.{maxAmount}
 use Rattle.belonging.specs.Weighing.{Put, put-none, put-more}
 use Rattle.belonging.proofs.weights.put_from.Statement.{statement}
 use Rattle.belonging.proofs.weights.put_from.Tie as tie
-use Rattle.belonging.proofs.weights.put_from.Reads as reads
-use Rattle.belonging.proofs.weights.put_from.Lts as lts
 
 abbrev Inv-loop : tie.InvT-loop
 Inv-loop amounts from weight₀ k₀ weight k = (k ≤ length amounts) × Put amounts from weight₀ weight k

@@ -10,8 +10,6 @@ use Rattle.basis.specs.Layout.{nodeRoom, getD-all}
 use Rattle.belonging.specs.Weighing.{Marked, marked-none, marked-more, marks-put}
 use Rattle.belonging.proofs.weights.weigh_marks.Statement.{statement}
 use Rattle.belonging.proofs.weights.weigh_marks.Tie as tie
-use Rattle.belonging.proofs.weights.weigh_marks.Reads as reads
-use Rattle.belonging.proofs.weights.weigh_marks.Lts as lts
 
 abbrev Inv-loop : tie.InvT-loop
 Inv-loop m n weight₀ i₀ weight i = (i ≤ m) × Marked weight i

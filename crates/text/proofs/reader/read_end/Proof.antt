@@ -9,9 +9,6 @@ use Rattle.text.specs.Reading.{byteNext, byte-inside, drop-next, end-stu
 use borrow.Author.Needs.{needs}
 use Rattle.text.proofs.reader.read_end.Statement.{statement}
 use Rattle.text.proofs.reader.read_end.Tie as tie
-use Rattle.text.proofs.reader.read_end.Reads as reads
-use Rattle.text.proofs.reader.read_end.Lts as lts
-use Rattle.text.proofs.reader.byte_at.Reads as byte-at-reads
 
 enum-known-number : tie.Need-enum-known-number
 enum-known-number c = search needs

@@ -10,10 +10,6 @@ use Rattle.text.specs.Reading.{digitNext, digit-inside, digit-found, dig
 use borrow.Author.Needs.{needs}
 use Rattle.text.proofs.reader.read_number.Statement.{statement}
 use Rattle.text.proofs.reader.read_number.Tie as tie
-use Rattle.text.proofs.reader.read_number.Reads as reads
-use Rattle.text.proofs.reader.read_number.Lts as lts
-use Rattle.text.proofs.reader.digit_at.Reads as digit-at-reads
-use Rattle.text.proofs.reader.more_digits.Reads as more-digits-reads
 
 digit-at-requires : tie.Need-digit-at-requires
 digit-at-requires c κs = search needs
