@@ -95,8 +95,8 @@ fn solved() {
     );
 }
 
-// P7, P8, and lists that are too short.
-fn unsolved() {
+// P7 and P8, and a cost too few.
+fn refused_sheets() {
     print(b"refused\n");
     solve(
         &[1000000],
@@ -116,30 +116,11 @@ fn unsolved() {
         &mut [7; 3],
         &mut [7; 5],
     );
-    solve(
-        &[3, 4],
-        &[5, 2],
-        &[4, 1, 2, 6],
-        &mut [7; 1],
-        &mut [7; 3],
-        &mut [7; 5],
-    );
-    solve(
-        &[3, 4],
-        &[5, 2],
-        &[4, 1, 2, 6],
-        &mut [7; 3],
-        &mut [7; 1],
-        &mut [7; 5],
-    );
-    solve(
-        &[3, 4],
-        &[5, 2],
-        &[4, 1, 2, 6],
-        &mut [7; 3],
-        &mut [7; 3],
-        &mut [7; 3],
-    );
+}
+
+// P1's sheet, with lists that are too short.
+fn short_lists(u: &mut [i64], v: &mut [i64], plan: &mut [u64]) {
+    solve(&[3, 4], &[5, 2], &[4, 1, 2, 6], u, v, plan);
 }
 
 // P5 with its list, and with one that is too short; P9.
@@ -165,6 +146,9 @@ fn settled() {
 
 fn main() {
     solved();
-    unsolved();
+    refused_sheets();
+    short_lists(&mut [7; 1], &mut [7; 3], &mut [7; 5]);
+    short_lists(&mut [7; 3], &mut [7; 1], &mut [7; 5]);
+    short_lists(&mut [7; 3], &mut [7; 3], &mut [7; 3]);
     settled();
 }
