@@ -10,7 +10,7 @@ use lib.Dec.{eqb}
 use lib.ListN.{length, drop, getD, set, replicate, drop-of-length-le}
 use lib.Seq.{drop-cons, getD-set-same, getD-set-other}
 use borrow.Author.Tests.{eqb-true, eqb-false}
-use Rattle.transport.specs.Limits.{maxSide}
+use Rattle.transport.specs.Limits.{maxSide, maxCost}
 use Rattle.transport.specs.Lists.{table}
 use Rattle.transport.specs.ListLaws.{length-table, getD-table}
 use Rattle.transport.specs.Sheet.{Lane}
@@ -26,14 +26,14 @@ stride-is = refl
 
 -- The room for nodes (sources, then sinks) and for lanes.
 abbrev pub nodeRoom : ℕ
-nodeRoom = 64
+nodeRoom = 2 * stride
 
 abbrev pub laneRoom : ℕ
-laneRoom = 1024
+laneRoom = stride * stride
 
--- No potential by strikes within the room passes this.
+-- No potential by strikes within the room passes this: each strike adds a cost at most.
 abbrev pub maxPotential : ℕ
-maxPotential = 64_000_000
+maxPotential = nodeRoom * maxCost
 
 abbrev pub laneAt : ℕ → Lane
 laneAt l = record { row = l / stride; col = l % stride }

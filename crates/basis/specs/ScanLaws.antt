@@ -13,6 +13,7 @@ use lib.Signed.{ltZ}
 use lib.ListN.{getD}
 use Rattle.integers.specs.Bridge.{z-add, eq!, !, _-'_}
 use Rattle.integers.specs.Tests.{lt-yes, lt-no, yes-lt, no-lt, abs-z}
+use Rattle.transport.specs.Limits.{maxCost}
 use Rattle.transport.specs.AmountLaws.{ltZ-tie}
 use Rattle.transport.specs.RangeLaws.{abs-diff}
 use Rattle.basis.specs.Layout.{stride, nodeRoom, maxPotential}
@@ -150,14 +151,15 @@ module _ (cost price : List ℤ) (m : ℕ) (w : InRange cost price m) (i : ℕ) 
   place-in : (j : ℕ) → j < stride → i * stride + j < m * stride
   place-in j q = omega (arith, w .rows)
 
-  pub slack-room : (j : ℕ) → j < stride → natAbs (getD cost (i * stride + j) (pos 0)) + natAbs (getD price (m + j) (pos 0)) ≤ 564_000_000
+  pub slack-room : (j : ℕ) → j < stride → natAbs (getD cost (i * stride + j) (pos 0)) + natAbs (getD price (m + j) (pos 0)) ≤ padCost + maxPotential
   slack-room j q = omega (arith, w .costs (i * stride + j) (place-in j q), w .prices (m + j) (omega (arith, w .rows)))
 
-  pub slack-abs : (j : ℕ) → j < stride → natAbs (slackAt cost price m i j) ≤ 564_000_000
+  pub slack-abs : (j : ℕ) → j < stride → natAbs (slackAt cost price m i j) ≤ padCost + maxPotential
   slack-abs j q = omega (arith, slack-room j q, abs-diff (getD cost (i * stride + j) (pos 0)) (getD price (m + j) (pos 0)))
 
   -- The row's least is below `far`.
   pub row-near : ltZ (lowest (pos far) (slackAt cost price m i) stride) (pos far) ≡ true
+  unfolding maxCost
   row-near = lowest-below (pos far) (slackAt cost price m i) stride 0 (omega arith) (near (slackAt cost price m i 0) far (omega (arith, slack-abs 0 (omega arith))))
 
   pub row-place : FirstLow (slackAt cost price m i) stride (lowestPlace (pos far) (slackAt cost price m i) stride)
@@ -166,10 +168,10 @@ module _ (cost price : List ℤ) (m : ℕ) (w : InRange cost price m) (i : ℕ) 
   pub row-is : slackAt cost price m i (lowestPlace (pos far) (slackAt cost price m i) stride) ≡ lowest (pos far) (slackAt cost price m i) stride
   row-is = lowest-at (pos far) (slackAt cost price m i) stride row-near .0
 
-  pub row-abs : natAbs (lowest (pos far) (slackAt cost price m i) stride) ≤ 564_000_000
+  pub row-abs : natAbs (lowest (pos far) (slackAt cost price m i) stride) ≤ padCost + maxPotential
   row-abs = rw (← row-is) (slack-abs _ (row-place .inside))
 
-  pub row-room : natAbs (lowest (pos far) (slackAt cost price m i) stride) + natAbs (getD price i (pos 0)) ≤ 628_000_000
+  pub row-room : natAbs (lowest (pos far) (slackAt cost price m i) stride) + natAbs (getD price i (pos 0)) ≤ padCost + 2 * maxPotential
   row-room = omega (arith, row-abs, w .prices i (omega (arith, w .rows)))
 
   -- No reduced cost of the row is below the row's least.
@@ -287,7 +289,7 @@ module _ (cost price : List ℤ) (m : ℕ) (w : InRange cost price m) (best : �
     pub scanned-row : row < m
     scanned-row = rw s (scan-row cost price m w (rw e at h))
 
-    pub scanned-room : natAbs best + natAbs (getD price row (pos 0)) ≤ 692_000_000
+    pub scanned-room : natAbs best + natAbs (getD price row (pos 0)) ≤ padCost + 3 * maxPotential
     scanned-room =
         omega (
           arith,

@@ -1,5 +1,5 @@
 -- The laws of flows by strikes: the step through one strike, that the weights that are left never grow, and the same on the arrays of the code.
-use Prim.Native.Nat.{ℕ, zero, suc, _+_, _<_, _≤_}
+use Prim.Native.Nat.{ℕ, zero, suc, _+_, _*_, _<_, _≤_}
 use native.Mathlib.Omega.{arith}
 use native.Mathlib.Numerals.{add-one}
 use native.Mathlib.Nat.{eq-or-lt-of-le}
@@ -28,16 +28,16 @@ use Rattle.basis.specs.Layout.{nodeRoom, laneAt, placeOf, place-laneAt, 
 abbrev pub leftBy : (ℕ → ℤ) → Strike → ℕ → ℤ
 leftBy weight s = takeFrom (takeFrom weight (s .leaf) (weight (s .leaf))) (s .other) (weight (s .leaf))
 
-pub flow-here : (weight : ℕ → ℤ) (s : Strike) (ss : List Strike) (l : Lane) → sameLane l (s .lane) ≡ true → flow weight (s ∷ ss) l ≡ weight (s .leaf)
+flow-here : (weight : ℕ → ℤ) (s : Strike) (ss : List Strike) (l : Lane) → sameLane l (s .lane) ≡ true → flow weight (s ∷ ss) l ≡ weight (s .leaf)
 unfolding flow
 flow-here weight s ss l e = rw (flow, e)
 
-pub flow-later : (weight : ℕ → ℤ) (s : Strike) (ss : List Strike) (l : Lane) → sameLane l (s .lane) ≡ false
+flow-later : (weight : ℕ → ℤ) (s : Strike) (ss : List Strike) (l : Lane) → sameLane l (s .lane) ≡ false
     → flow weight (s ∷ ss) l ≡ flow (leftBy weight s) ss l
 unfolding flow
 flow-later weight s ss l e = rw (flow, e)
 
-pub sameLane-self : (l : Lane) → sameLane l l ≡ true
+sameLane-self : (l : Lane) → sameLane l l ≡ true
 unfolding sameLane
 sameLane-self l = rw (eq-eqb (l .row) (l .row) refl, eq-eqb (l .col) (l .col) refl)
 
@@ -49,7 +49,7 @@ sameLane-true k l e =
     λ i. record { row = p i; col = q i }
 
 -- Lanes at different places differ.
-pub sameLane-places : (k l : ℕ) → (k ≡ l → ⊥) → sameLane (laneAt k) (laneAt l) ≡ false
+sameLane-places : (k l : ℕ) → (k ≡ l → ⊥) → sameLane (laneAt k) (laneAt l) ≡ false
 sameLane-places k l n = go (sameLane (laneAt k) (laneAt l)) refl
   where
     go : (b : Bool) → sameLane (laneAt k) (laneAt l) ≡ b → sameLane (laneAt k) (laneAt l) ≡ false
@@ -93,12 +93,12 @@ size-takeFrom weight k y p =
     at j true e = let s : j ≡ k = eqb-true j k e in ap natAbs (takeFrom-cond weight k y j) ∙ rw (e, s)
     at j false e = ap natAbs (takeFrom-cond weight k y j) ∙ rw e
 
-pub size-each : (weight : ℕ → ℤ) (k : ℕ) → k < nodeRoom → natAbs (weight k) ≤ size weight
+size-each : (weight : ℕ → ℤ) (k : ℕ) → k < nodeRoom → natAbs (weight k) ≤ size weight
 unfolding size
 size-each weight k p = sumTo-each nodeRoom (λ j. natAbs (weight j)) k p
 
 -- A strike leaves no greater weights.
-pub size-leftBy : (weight : ℕ → ℤ) (s : Strike) → s .leaf < nodeRoom → s .other < nodeRoom → size (leftBy weight s) ≤ size weight
+size-leftBy : (weight : ℕ → ℤ) (s : Strike) → s .leaf < nodeRoom → s .other < nodeRoom → size (leftBy weight s) ≤ size weight
 size-leftBy weight s p q =
     let y = weight (s .leaf) in
     let mid = takeFrom weight (s .leaf) y in
@@ -144,7 +144,7 @@ need-enters need row node z p q n =
     ∙ ap (λ (w : ℕ → ℤ). takeFrom w node (pos 1)) (ap weightsOf (sym first) ∙ need-take need row (pos 1) p ∙ ap (λ (w : ℕ → ℤ). takeFrom w row (pos 1)) (λ i j. z j i))
 
 -- .. and what a strike leaves.
-pub need-left : (need : List ℤ) (s : Strike) → s .leaf < length need → s .other < length need
+need-left : (need : List ℤ) (s : Strike) → s .leaf < length need → s .other < length need
     → let y = getD need (s .leaf) (pos 0) in
     let mid = set need (s .leaf) (pos 0) in
     weightsOf (set mid (s .other) (getD mid (s .other) (pos 0) -ℤ y)) ≡ leftBy (weightsOf need) s
@@ -179,13 +179,13 @@ pub record LoopLanes (leaf other lane : List ℕ) (count row sink : ℕ) (minus 
   pub minusIs : take a minus ≡ keep (λ p. ltZ (flow (enterWeight row sink) (strikesOf leaf other lane count) (laneAt p)) (pos 0)) (take k lane)
   pub plusIs : take b plus ≡ keep (λ p. ltZ (pos 0) (flow (enterWeight row sink) (strikesOf leaf other lane count) (laneAt p))) (take k lane)
 
--- Before strike k, `need` is what the nodes still need: it is little, and the strikes that are left make it up.
-pub record Needed (leaf other lane : List ℕ) (count row sink : ℕ) (need : List ℤ) (k : ℕ) : Type 0 where
+-- Before strike k of the flow of `start`, `need` is what the nodes still need: `most` at most, and the strikes that are left make it up.
+pub record Needed (start : ℕ → ℤ) (most : ℕ) (leaf other lane : List ℕ) (count : ℕ) (need : List ℤ) (k : ℕ) : Type 0 where
   pub within : k ≤ count
   pub needLong : length need ≡ nodeRoom
-  pub small : size (weightsOf need) ≤ 2
+  pub small : size (weightsOf need) ≤ most
   pub same : (i : ℕ) → k ≤ i → i < count
-      → flow (enterWeight row sink) (strikesOf leaf other lane count) (laneAt (getD lane i 0)) ≡ flow (weightsOf need) (strikesFrom leaf other lane count k) (laneAt (getD lane i 0))
+      → flow start (strikesOf leaf other lane count) (laneAt (getD lane i 0)) ≡ flow (weightsOf need) (strikesFrom leaf other lane count k) (laneAt (getD lane i 0))
 
 size-none : size (λ k. pos 0) ≡ 0
 unfolding size
@@ -201,7 +201,7 @@ size-enters row node p q =
 
 -- .. and stand in an array of zeros.
 pub needed-starts : (leaf other lane : List ℕ) (count row sink : ℕ) (zeros : List ℤ) → ((j : ℕ) → getD zeros j (pos 0) ≡ pos 0)
-    → length zeros ≡ nodeRoom → row < sink → sink < nodeRoom → Needed leaf other lane count row sink (set (set zeros row (negsuc 0)) sink (negsuc 0)) 0
+    → length zeros ≡ nodeRoom → row < sink → sink < nodeRoom → Needed (enterWeight row sink) 2 leaf other lane count (set (set zeros row (negsuc 0)) sink (negsuc 0)) 0
 needed-starts leaf other lane count row sink zeros z l p q =
     let enters = need-enters zeros row sink z (omega arith) (omega arith) (λ e. omega arith) in
     record {
@@ -221,24 +221,26 @@ cond-le : (t : Bool) (a k : ℕ) → a ≤ k → cond t (a + 1) a ≤ k + 1
 cond-le true a k p = omega arith
 cond-le false a k p = omega arith
 
--- Strike k: its lane has the sign of what its leaf needs.
-module _ (leaf other lane : List ℕ) (count row sink : ℕ) (need : List ℤ) (k : ℕ) (w : Struck leaf other lane count) (p : k < count)
-    (h : Needed leaf other lane count row sink need k) where
+-- Strike k.
+module _ {start : ℕ → ℤ} {most : ℕ} {leaf other lane : List ℕ} {count : ℕ} {need : List ℤ} {k : ℕ} (w : Struck leaf other lane count) (p : k < count)
+    (h : Needed start most leaf other lane count need k) where
   abbrev y : ℤ
   y = getD need (getD leaf k 0) (pos 0)
 
   abbrev l : Lane
   l = laneAt (getD lane k 0)
 
-  sign-here : flow (enterWeight row sink) (strikesOf leaf other lane count) l ≡ y
-  sign-here =
+  -- Its lane carries what its leaf needs ..
+  pub flow-now : flow start (strikesOf leaf other lane count) l ≡ y
+  flow-now =
       h .same k (omega arith) p
       ∙ (rw (strikesFrom-cons leaf other lane count k p))
       ∙ flow-here (weightsOf need) (strikeOf leaf other lane k) (strikesFrom leaf other lane count (suc k)) l (sameLane-self l)
 
+  -- .. and that is taken from both its ends.
   pub needed-step : Distinct lane count
       → let mid = set need (getD leaf k 0) (pos 0) in
-      Needed leaf other lane count row sink (set mid (getD other k 0) (getD mid (getD other k 0) (pos 0) -ℤ y)) (k + 1)
+      Needed start most leaf other lane count (set mid (getD other k 0) (getD mid (getD other k 0) (pos 0) -ℤ y)) (k + 1)
   needed-step n =
       let s = strikeOf leaf other lane k in
       let rest = strikesFrom leaf other lane count (suc k) in
@@ -255,20 +257,8 @@ module _ (leaf other lane : List ℕ) (count row sink : ℕ) (need : List ℤ) (
             ∙ rw add-one;
       }
 
-  pub lanes-step : (minus plus : List ℕ) (a b : ℕ) → LoopLanes leaf other lane count row sink minus plus a b k
-      → LoopLanes leaf other lane count row sink (set minus a (getD lane k 0)) (set plus b (getD lane k 0)) (cond (ltZ y (pos 0)) (a + 1) a) (cond (ltZ (pos 0) y) (b + 1) b) (k + 1)
-  lanes-step minus plus a b g =
-      record {
-        fewMinus = cond-le (ltZ y (pos 0)) a k (g .fewMinus);
-        fewPlus = cond-le (ltZ (pos 0) y) b k (g .fewPlus);
-        minusLong = simp length-set (g .minusLong);
-        plusLong = simp length-set (g .plusLong);
-        minusIs = keep-store _ lane minus 0 k a (ltZ y (pos 0)) (omega (arith, w .few, w .laneLong)) (omega (arith, w .few)) (g .minusIs) (ap (λ (z : ℤ). ltZ z (pos 0)) sign-here);
-        plusIs = keep-store _ lane plus 0 k b (ltZ (pos 0) y) (omega (arith, w .few, w .laneLong)) (omega (arith, w .few)) (g .plusIs) (ap (λ (z : ℤ). ltZ (pos 0) z) sign-here);
-      }
-
   -- Neither what the leaf needs nor what its neighbour needs is great.
-  pub needed-room : natAbs (getD (set need (getD leaf k 0) (pos 0)) (getD other k 0) (pos 0)) + natAbs y ≤ 4
+  pub needed-room : natAbs (getD (set need (getD leaf k 0) (pos 0)) (getD other k 0) (pos 0)) + natAbs y ≤ 2 * most
   needed-room =
       omega (
         arith,
@@ -282,3 +272,19 @@ module _ (leaf other lane : List ℕ) (count row sink : ℕ) (need : List ℤ) (
       zero-or : (t : Bool) → natAbs (cond t (pos 0) (getD need (getD other k 0) (pos 0))) ≤ natAbs (getD need (getD other k 0) (pos 0))
       zero-or true = omega arith
       zero-or false = omega arith
+
+-- Of the flow of the entering lane, its lane has the sign of what its leaf needs.
+pub lanes-step : {leaf other lane minus plus : List ℕ} {count row sink a b k : ℕ} {need : List ℤ} → Struck leaf other lane count → k < count
+    → Needed (enterWeight row sink) 2 leaf other lane count need k → LoopLanes leaf other lane count row sink minus plus a b k
+    → let y = getD need (getD leaf k 0) (pos 0) in
+    LoopLanes leaf other lane count row sink (set minus a (getD lane k 0)) (set plus b (getD lane k 0)) (cond (ltZ y (pos 0)) (a + 1) a) (cond (ltZ (pos 0) y) (b + 1) b) (k + 1)
+lanes-step {leaf} {lane = lane} {minus} {plus} {a = a} {b} {k} {need} w p h g =
+    let y = getD need (getD leaf k 0) (pos 0) in
+    record {
+      fewMinus = cond-le (ltZ y (pos 0)) a k (g .fewMinus);
+      fewPlus = cond-le (ltZ (pos 0) y) b k (g .fewPlus);
+      minusLong = simp length-set (g .minusLong);
+      plusLong = simp length-set (g .plusLong);
+      minusIs = keep-store _ lane minus 0 k a (ltZ y (pos 0)) (omega (arith, w .few, w .laneLong)) (omega (arith, w .few)) (g .minusIs) (ap (λ (z : ℤ). ltZ z (pos 0)) (flow-now w p h));
+      plusIs = keep-store _ lane plus 0 k b (ltZ (pos 0) y) (omega (arith, w .few, w .laneLong)) (omega (arith, w .few)) (g .plusIs) (ap (λ (z : ℤ). ltZ (pos 0) z) (flow-now w p h));
+    }

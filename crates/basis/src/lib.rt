@@ -11,5 +11,5 @@ pub const NODES: usize = 2 * transport::MAX_SIDE;
 
 pub const LANES: usize = transport::MAX_SIDE * transport::MAX_SIDE;
 
-// A cost or a potential, wide enough for potentials up to 64,000,000.
+// A cost or a potential: wide enough for NODES costs together.
 pub type Price = i32;

@@ -1,15 +1,13 @@
 -- Whether lanes carry the flow of weights, in the arrays of the code.
-use Prim.Native.Nat.{ℕ, suc, _+_, _^_, _<_, _≤_}
+use Prim.Native.Nat.{ℕ, _+_, _^_, _<_, _≤_}
 use native.Mathlib.Omega.{arith}
-use native.Mathlib.Numerals.{add-one}
 use native.Mathlib.Decide.{decLt}
 use mathlib.Core.Path.{_≡_, refl, sym, ap, _∙_}
 use mathlib.Core.Logic.{by-cases}
-use mathlib.Core.Bool.{Bool, true, false, cond}
+use mathlib.Core.Bool.{Bool, true, false}
 use mathlib.Core.List.{List}
-use lib.Dec.{eqb}
-use lib.IntN.{ℤ, pos, natAbs, _-ℤ_}
-use lib.ListN.{length, getD, set, length-set}
+use lib.IntN.{ℤ, pos, _-ℤ_}
+use lib.ListN.{length, getD, set}
 use lib.Signed.{mag}
 use mir.Syntax.{w64}
 use mir.Val.{toZ, ofZ}
@@ -20,8 +18,8 @@ use Rattle.transport.specs.Amount.{eqZ}
 use Rattle.transport.specs.AmountLaws.{eqZ-true, eqZ-same}
 use Rattle.transport.specs.Leaf.{Strike}
 use Rattle.transport.specs.Round.{flow}
-use Rattle.basis.specs.Layout.{nodeRoom, laneAt, strikeOf, strikesOf, strikesFrom, strikesFrom-cons, getD-set, Distinct, Struck}
-use Rattle.basis.specs.SignLaws.{flow-here, flow-later, sameLane-self, sameLane-places, size, size-each, size-leftBy, weightsOf, need-left}
+use Rattle.basis.specs.Layout.{nodeRoom, laneAt, strikesOf, Distinct, Struck}
+use Rattle.basis.specs.SignLaws.{size, weightsOf, Needed, flow-now, needed-step}
 
 -- Two numbers in range with the same bits are the same.
 pub eq-test : (a b : ℤ) → mag a < 2 ^ 63 → mag b < 2 ^ 63 → ofZ w64 a ≡ ofZ w64 b → a ≡ b
@@ -58,65 +56,28 @@ module _ (weight : ℕ → ℤ) (ss : List Strike) (amount : List ℤ) (lane : L
 -- ---- forwards through the strikes
 
 -- Weights so small that no sum of them leaves the range.
+abbrev lightSize : ℕ
+lightSize = 2 ^ 40
+
 pub record Light (weight : List ℤ) : Type 0 where
   pub long : length weight ≡ nodeRoom
-  pub small : size (weightsOf weight) ≤ 2 ^ 40
+  pub small : size (weightsOf weight) ≤ lightSize
 
 -- Before strike k: the first k lanes carry the flow of `start`, and `weight` is what is left for the other strikes.
 pub record Passed (start : ℕ → ℤ) (leaf other lane : List ℕ) (count : ℕ) (amount weight : List ℤ) (k : ℕ) : Type 0 where
-  pub within : k ≤ count
-  pub light : Light weight
+  pub needed : Needed start lightSize leaf other lane count weight k
   pub done : (i : ℕ) → i < k → CarriedAt start (strikesOf leaf other lane count) amount lane i
-  pub same : (i : ℕ) → k ≤ i → i < count
-      → flow start (strikesOf leaf other lane count) (laneAt (getD lane i 0)) ≡ flow (weightsOf weight) (strikesFrom leaf other lane count k) (laneAt (getD lane i 0))
 
 pub passed-none : (leaf other lane : List ℕ) (count : ℕ) (amount weight : List ℤ) → Light weight → Passed (weightsOf weight) leaf other lane count amount weight 0
-passed-none leaf other lane count amount weight l = record { within = omega arith; light = l; done = λ i p. absurd (omega arith); same = λ i p q. refl }
+passed-none leaf other lane count amount weight l =
+    record { needed = record { within = omega arith; needLong = l .long; small = l .small; same = λ i p q. refl }; done = λ i p. absurd (omega arith) }
 
-module _ {start : ℕ → ℤ} {leaf other lane : List ℕ} {count : ℕ} {amount weight : List ℤ} {k : ℕ} (w : Struck leaf other lane count) (p : k < count)
-    (h : Passed start leaf other lane count amount weight k) where
-  -- The lane of strike k is to carry what its leaf needs.
-  pub flow-now : flow start (strikesOf leaf other lane count) (laneAt (getD lane k 0)) ≡ getD weight (getD leaf k 0) (pos 0)
-  flow-now =
-      h .same k (omega arith) p
-      ∙ (rw (strikesFrom-cons leaf other lane count k p))
-      ∙ flow-here (weightsOf weight) (strikeOf leaf other lane k) (strikesFrom leaf other lane count (suc k)) (laneAt (getD lane k 0)) (sameLane-self (laneAt (getD lane k 0)))
-
-  -- If it does, that is taken from both its ends.
-  pub passed-more : Distinct lane count → getD amount (getD lane k 0) (pos 0) ≡ getD weight (getD leaf k 0) (pos 0)
-      → let mid = set weight (getD leaf k 0) (pos 0) in
-      Passed start leaf other lane count amount (set mid (getD other k 0) (getD mid (getD other k 0) (pos 0) -ℤ getD weight (getD leaf k 0) (pos 0))) (k + 1)
-  passed-more d e =
-      let s = strikeOf leaf other lane k in
-      let rest = strikesFrom leaf other lane count (suc k) in
-      let left = need-left weight s (omega (arith, w .leafIn k p, h .light .long)) (omega (arith, w .otherIn k p, h .light .long)) in
-      record {
-        within = omega arith;
-        light = record {
-          long = simp length-set (h .light .long);
-          small = omega (arith, h .light .small, ap size left, size-leftBy (weightsOf weight) s (w .leafIn k p) (w .otherIn k p));
-        };
-        done = λ i q. by-cases (decLt i k) (h .done i) (λ r. let t : i ≡ k = omega arith in rw t (e ∙ sym flow-now));
-        same = λ i q r.
-            h .same i (omega arith) r
-            ∙ (rw (strikesFrom-cons leaf other lane count k p))
-            ∙ flow-later (weightsOf weight) s rest (laneAt (getD lane i 0)) (sameLane-places (getD lane i 0) (getD lane k 0) (d k i (omega arith) r))
-            ∙ ap (λ (v : ℕ → ℤ). flow v rest (laneAt (getD lane i 0))) (sym left)
-            ∙ rw add-one;
-      }
-
-  -- Neither what the leaf needs nor what its neighbour needs is great.
-  pub passed-room : natAbs (getD (set weight (getD leaf k 0) (pos 0)) (getD other k 0) (pos 0)) + natAbs (getD weight (getD leaf k 0) (pos 0)) ≤ 2 ^ 41
-  passed-room =
-      omega (
-        arith,
-        h .light .small,
-        size-each (weightsOf weight) (getD leaf k 0) (w .leafIn k p),
-        size-each (weightsOf weight) (getD other k 0) (w .otherIn k p),
-        ap natAbs (getD-set weight (getD leaf k 0) (getD other k 0) (pos 0) (pos 0) (omega (arith, w .leafIn k p, h .light .long))),
-        zero-or (eqb (getD other k 0) (getD leaf k 0)),
-      )
-    where
-      zero-or : (t : Bool) → natAbs (cond t (pos 0) (getD weight (getD other k 0) (pos 0))) ≤ natAbs (getD weight (getD other k 0) (pos 0))
-      zero-or true = omega arith
-      zero-or false = omega arith
+-- If lane k carries what its leaf needs, that is taken from both its ends.
+pub passed-more : {start : ℕ → ℤ} {leaf other lane : List ℕ} {count : ℕ} {amount weight : List ℤ} {k : ℕ} → Struck leaf other lane count → k < count
+    → Passed start leaf other lane count amount weight k → Distinct lane count → getD amount (getD lane k 0) (pos 0) ≡ getD weight (getD leaf k 0) (pos 0)
+    → let mid = set weight (getD leaf k 0) (pos 0) in
+    Passed start leaf other lane count amount (set mid (getD other k 0) (getD mid (getD other k 0) (pos 0) -ℤ getD weight (getD leaf k 0) (pos 0))) (k + 1)
+passed-more {k = k} w p h d e = record {
+  needed = needed-step w p (h .needed) d;
+  done = λ i q. by-cases (decLt i k) (h .done i) (λ r. let t : i ≡ k = omega arith in rw t (e ∙ sym (flow-now w p (h .needed))));
+}

@@ -36,7 +36,7 @@ use Rattle.belonging.specs.Weighing.{Modest}
 
 -- ---- the sheet
 
--- There are 1 to 32 rows and 1 to 32 columns.
+-- There are 1 to `stride` rows and 1 to `stride` columns.
 pub record Sides (m n : ℕ) : Type 0 where
   pub rowsLow : 1 ≤ m
   pub rowsHigh : m ≤ stride

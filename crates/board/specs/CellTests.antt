@@ -1,7 +1,7 @@
 -- The tests of belonging that look at cells one by one, made in one pass.
 use Prim.Native.Nat.{ℕ, _+_, _*_, _<_, _≤_}
 use native.Mathlib.Omega.{arith}
-use native.Mathlib.Nat.{mul-le-mul-right}
+use native.Mathlib.Nat.{mul-le-mul}
 use mathlib.Core.Path.{_≡_, refl, _∙_}
 use mathlib.Core.Bool.{Bool, true, false, _&&_}
 use mathlib.Core.List.{List, [], _∷_}
@@ -12,7 +12,7 @@ use Rattle.transport.specs.ListLaws.{and-left, and-right}
 use Rattle.transport.specs.Sheet.{place}
 use Rattle.transport.specs.declared.Cell.{Cell}
 use Rattle.transport.specs.Tableau.{inOrder, aboveZero}
-use Rattle.basis.specs.Layout.{stride}
+use Rattle.basis.specs.Layout.{stride, laneRoom}
 
 -- A cell of m rows and n columns.
 unfoldable pub onBoard : ℕ → ℕ → Cell → Bool
@@ -37,8 +37,8 @@ module _ (m n least : ℕ) (c : Cell) where
   unfolding fitsAt
   fits-column e = ltb-true (c .col) n (and-left (ltb (c .col) n) _ (and-right (ltb (c .row) m) _ e))
 
-pub row-small : (i n : ℕ) → i < stride → n ≤ stride → i * n ≤ 992
-row-small i n p q = let l : i ≤ 31 = omega arith in omega (arith, mul-le-mul-right n l)
+pub row-small : (i n : ℕ) → i < stride → n ≤ stride → i * n ≤ laneRoom
+row-small i n p q = let l : i ≤ stride = omega arith in mul-le-mul l q
 
 -- ---- all cells
 

@@ -65,10 +65,10 @@ Narrow x = (j : ℕ) → stride ≤ j → j < 64 → has x j ≡ false
 narrow-bits : (x : ℕ) → Narrow x → bitsOf x ≡ keep (has x) (table stride (λ k. k))
 unfolding bitsOf below
 narrow-bits x h =
-    let none : keep (has x) (table 32 (λ k. stride + k)) ≡ [] =
-    keep-none (has x) (table 32 (λ k. stride + k)) 0
-    (λ k l. let r : k < 32 = omega (arith, length-table (λ k. stride + k) 32) in ap (has x) (getD-table (λ k. stride + k) 32 k 0 r) ∙ h (stride + k) (omega arith) (omega arith)) in
-    ap (keep (has x)) (table-split (λ k. k) stride 32) ∙ keep-append (has x) (table stride (λ k. k)) (table 32 (λ k. stride + k)) ∙ (rw none) ∙ append-nil _
+    let none : keep (has x) (table stride (λ k. stride + k)) ≡ [] =
+    keep-none (has x) (table stride (λ k. stride + k)) 0
+    (λ k l. let r : k < stride = omega (arith, length-table (λ k. stride + k) stride) in ap (has x) (getD-table (λ k. stride + k) stride k 0 r) ∙ h (stride + k) (omega arith) (omega arith)) in
+    ap (keep (has x)) (table-split (λ k. k) stride stride) ∙ keep-append (has x) (table stride (λ k. k)) (table stride (λ k. stride + k)) ∙ (rw none) ∙ append-nil _
 
 -- ---- the lanes in the mask x of a row that begins at the lane `first`
 

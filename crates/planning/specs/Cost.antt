@@ -15,7 +15,7 @@ use Rattle.transport.specs.Statements.{Meets}
 use Rattle.transport.specs.Calls.{solution}
 use Rattle.demands.specs.Demand3.{solution-best, settled-length}
 
--- The costs are those of at most 32 × 32 lanes, the plan has a quantity for each, and all are within their limits.
+-- The costs are those of at most maxSide × maxSide lanes, the plan has a quantity for each, and all are within their limits.
 pub record Summable (plan cost : List ℕ) : Type 0 where
   pub few : length cost ≤ maxSide * maxSide
   pub long : length cost ≤ length plan

@@ -30,7 +30,7 @@ use Rattle.tableaux.specs.Lanes.{Fits}
 use Rattle.tableaux.specs.Striking.{Struck}
 use Rattle.tableaux.specs.Potentials.{potential-root, potential-tight, potential-only, potential-any}
 use Rattle.tableaux.specs.Belonging.{belongs-iff, fits-of, spans-of, distinct-of}
-use Rattle.basis.specs.Layout.{stride, stride-is, nodeRoom, laneAt, costOf, costOf-at, strikeOf, strikesOf}
+use Rattle.basis.specs.Layout.{stride, stride-is, nodeRoom, maxPotential, laneAt, costOf, costOf-at, strikeOf, strikesOf}
 use Rattle.basis.specs.PotentialLaws.{potentialBy-abs}
 use Rattle.basis.specs.ScanLaws.{padCost, reducedAt, InRange, Found, Scanned}
 use Rattle.board.specs.Held.{Held, row-lanes, column-lanes, lanes-apart}
@@ -141,7 +141,7 @@ module _ {S : Sheet} {T : List Cell} {adj : List ℕ} {cost : List ℤ} {m n : �
           noStrike : Strike
           noStrike = record { leaf = 0; other = 0; lane = lane 0 0 }
 
-          prices : (k : ℕ) → k < nodeRoom → natAbs (getD price k (pos 0)) ≤ 64_000_000
+          prices : (k : ℕ) → k < nodeRoom → natAbs (getD price k (pos 0)) ≤ maxPotential
           prices k r = rw (p k r) (omega (
             arith,
             potentialBy-abs (costOf cost) maxCost noStrike ss (λ i l. strike-cost (getD ss i noStrike) (member-at ss noStrike i l)) k,
@@ -161,6 +161,7 @@ module _ {S : Sheet} {T : List Cell} {adj : List ℕ} {cost : List ℤ} {m n : �
 
       -- A column past the sheet costs too much.
       pad-high : (i j : ℕ) → i < m → n ≤ j → j < stride → ltZ (reducedAt cost price m i j) (pos 0) ≡ false
+      unfolding maxCost
       pad-high i j a b c =
           let x = getD cost (i * stride + j) (pos 0) in
           let u = getD price i (pos 0) in

@@ -1,6 +1,5 @@
 -- One step of a phase: a lane that improves enters, and the value on the phase's lane rises; or there is none, and the phase is over.
 use mathlib.Core.Path.{_≡_, refl, sym, _∙_}
-use mathlib.Core.Logic.{_≢_}
 use mathlib.Core.Bool.{Bool, true, false, false≢true}
 use mathlib.Core.List.{List}
 use Prim.Native.Nat.{ℕ, _+_, _*_, _-_, _<_, _≤_}
@@ -38,7 +37,7 @@ use Rattle.settle.specs.Laid.{Laid, StruckOff, laid-belongs, laid-restri
 
 -- All values together are no more than this.
 abbrev pub mostValue : ℕ
-mostValue = 2_080_000_032
+mostValue = (2 * maxSide + 1) * (maxSide * maxAmount) + maxSide
 
 -- How far the value on the lane at place p of the arrays is below that.
 abbrev pub leftOn : ℕ → List ℤ → List ℤ → ℕ → ℕ
@@ -53,7 +52,7 @@ allValue-high {S} ok = omega (
   sumTo-bound (sources S) maxAmount (at (S .supply)) (λ k l. ok .supplyHigh k),
 )
   where
-    sides : 2 * sources S + 1 ≤ 65
+    sides : 2 * sources S + 1 ≤ 2 * maxSide + 1
     sides = omega (arith, ok .sourcesHigh)
 
 less-left : (A : ℕ) (x x′ v v′ : Z) → A ≤ mostValue → x ≈ neg v → x′ ≈ neg v′ → x′ .up + A - x′ .dn < x .up + A - x .dn

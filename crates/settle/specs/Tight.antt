@@ -22,7 +22,7 @@ use Rattle.transport.specs.Potential.{potential, reducedCost}
 use Rattle.tableaux.specs.Belonging.{belongs-iff, fits-of, spans-of}
 use Rattle.tableaux.specs.Potentials.{price-size, price-limit}
 use Rattle.demands.specs.Settling.{tightLanes}
-use Rattle.basis.specs.Layout.{stride, stride-is}
+use Rattle.basis.specs.Layout.{stride, stride-is, maxPotential}
 use Rattle.basis.specs.Mask.{has, put, has-put, has-zero}
 use Rattle.basis.specs.ScanLaws.{slackAt, reducedAt}
 
@@ -33,8 +33,8 @@ isTight cost price m i j = eqZ (reducedAt cost price m i j) (pos 0)
 pub record Ranged (cost price : List ℤ) (m n : ℕ) : Type 0 where
   pub rows : m ≤ stride
   pub cols : n ≤ stride
-  pub costs : (i j : ℕ) → i < m → j < n → natAbs (getD cost (i * stride + j) (pos 0)) ≤ 1_000_000
-  pub prices : (k : ℕ) → k < m + n → natAbs (getD price k (pos 0)) ≤ 63_000_000
+  pub costs : (i j : ℕ) → i < m → j < n → natAbs (getD cost (i * stride + j) (pos 0)) ≤ maxCost
+  pub prices : (k : ℕ) → k < m + n → natAbs (getD price k (pos 0)) ≤ maxPotential
 
 -- Of the first n columns just those are in where row i has reduced cost 0, and no others.
 pub record TightRow (cost price : List ℤ) (m i n mask : ℕ) : Type 0 where
@@ -119,5 +119,5 @@ tight-ranged S T ok b costs prices =
       rows = omega (arith, stride-is, ok .sourcesHigh);
       cols = omega (arith, stride-is, ok .sinksHigh);
       costs = λ i j hi hj. rw (costs i j hi hj) (ok .costHigh (place (sinks S) i j));
-      prices = λ k l. rw (prices k l, ← price-limit) (price-size S ok T (fits-of ok w) (spans-of ok w) k);
+      prices = λ k l. rw (prices k l) (omega (arith, price-limit, price-size S ok T (fits-of ok w) (spans-of ok w) k));
     }

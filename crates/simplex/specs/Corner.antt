@@ -117,25 +117,25 @@ corner-next S left p = go (less (p .demand) (p .supply)) refl
 
 -- ---- where the rule stands
 
--- The rule stands at p: the cells of the start from number row + col on are those that it puts from p on. Each step so far added at most 1,000,000 to the sizes of
+-- The rule stands at p: the cells of the start from number row + col on are those that it puts from p on. Each step so far added at most maxAmount to the sizes of
 -- the two pairs.
 pub record Standing (S : Sheet) (p : Corner) : Type 0 where
   pub left : ℕ
   pub state : State S left (p .row) (p .col) (p .supply) (p .demand)
   pub cells : drop (p .row + p .col) (start S) ≡ corner S (suc left) (p .row) (p .col) (p .supply) (p .demand)
-  pub bags : natAbs (p .supply .q) + natAbs (p .demand .q) ≤ (p .row + p .col + 2) * 1_000_000
-  pub marks : natAbs (p .supply .e) + natAbs (p .demand .e) ≤ (p .row + p .col + 2) * 1_000_000
+  pub bags : natAbs (p .supply .q) + natAbs (p .demand .q) ≤ (p .row + p .col + 2) * maxAmount
+  pub marks : natAbs (p .supply .e) + natAbs (p .demand .e) ≤ (p .row + p .col + 2) * maxAmount
 
 module _ (S : Sheet) (ok : Checked S) where
-  supply-size : (i : ℕ) → Within 1_000_000 (pairedSupply S i)
+  supply-size : (i : ℕ) → Within maxAmount (pairedSupply S i)
   unfolding pairedSupply maxAmount
   supply-size i = record { q = ok .supplyHigh i; e = omega arith }
 
-  demand-size : (j : ℕ) → Within 1_000_000 (pairedDemand S j)
+  demand-size : (j : ℕ) → Within maxAmount (pairedDemand S j)
   unfolding pairedDemand maxAmount maxSide
   demand-size j = record { q = ok .demandHigh j; e = go (eqb j (sinks S - 1)) }
     where
-      go : (b : Bool) → cond b (sources S) 0 ≤ 1_000_000
+      go : (b : Bool) → cond b (sources S) 0 ≤ maxAmount
       go true = omega (arith, ok .sourcesHigh)
       go false = omega arith
 
@@ -156,7 +156,7 @@ module _ (S : Sheet) (ok : Checked S) where
   module _ (p : Corner) (st : Standing S p) where
     -- The two pairs can be taken from each other.
     pub standing-fit : Fit (p .supply) (p .demand) × Fit (p .demand) (p .supply)
-    unfolding maxSide
+    unfolding maxSide maxAmount
     standing-fit = omega (arith, st .bags, st .marks, st .state .size, ok .sourcesHigh, ok .sinksHigh)
 
     -- Its cell has a place in the array.

@@ -26,7 +26,7 @@ use Rattle.transport.specs.CallLaws.{unless-before, unless-last, unless-none}
 use Rattle.transport.specs.Answers.{prices, noPrices, roundAnswer, runAnswer, runOutcome}
 use Rattle.tableaux.specs.Belonging.{belongs-iff, fits-of, spans-of}
 use Rattle.tableaux.specs.Potentials.{price-size, price-limit}
-use Rattle.basis.specs.Layout.{stride, stride-is}
+use Rattle.basis.specs.Layout.{stride, stride-is, maxPotential}
 use Rattle.board.specs.Held.{Held}
 use Rattle.rounds.specs.Costs.{Spread, spread-costed}
 use Rattle.rounds.specs.Boards.{Board}
@@ -72,10 +72,11 @@ dealt-loaded S t ok w h =
 
 module _ {S : Sheet} {T : List Cell} {adj : List ℕ} {q e cost : List ℤ} {m n : ℕ} (b : Board S T adj q e cost m n) (price : List ℤ)
     (p : (k : ℕ) → k < m + n → getD price k (pos 0) ≡ potential S T k) where
-  pub prices-small : (k : ℕ) → k < m + n → natAbs (getD price k (pos 0)) ≤ 63_000_000
+  pub prices-small : (k : ℕ) → k < m + n → natAbs (getD price k (pos 0)) ≤ maxPotential
+  unfolding maxCost
   prices-small k l =
       let w = belongs-iff S T (b .checked .sourcesLow) (b .checked .sinksLow) .0 (b .belongs) in
-      rw (p k l, ← price-limit) (price-size S (b .checked) T (fits-of (b .checked) w) (spans-of (b .checked) w) k)
+      rw (p k l) (omega (arith, price-limit, price-size S (b .checked) T (fits-of (b .checked) w) (spans-of (b .checked) w) k))
 
   pub source-prices : table m (λ k. getD price (0 + k) (pos 0)) ≡ sourcePrices S T
   unfolding sourcePrices

@@ -7,11 +7,11 @@ ghost use Prim.Native.Nat.{ℕ, _+_, _<_, _≤_};
 ghost use lib.IntN.{pos, natAbs};
 ghost use lib.ListN.{length, drop, getD};
 ghost use Rattle.transport.specs.Lists.{table};
-ghost use Rattle.basis.specs.Layout.{stride};
+ghost use Rattle.basis.specs.Layout.{stride, maxPotential};
 
 // Writes the prices of `count` nodes, from the node `from` on, and leaves the rest of the list as it is.
 pub fn write_prices(price: &[Price; NODES], from: usize, count: usize, out: &mut [i64])
-    requires { ⌜ (from ≤ stride) × (count ≤ stride) × (count ≤ length (now out)) × ((k : ℕ) → k < from + count → natAbs (getD (now price) k (pos 0)) ≤ 63_000_000) ⌝ }
+    requires { ⌜ (from ≤ stride) × (count ≤ stride) × (count ≤ length (now out)) × ((k : ℕ) → k < from + count → natAbs (getD (now price) k (pos 0)) ≤ maxPotential) ⌝ }
     ensures { λ _. ⌜ now (out .exit) ≡ table count (λ k. getD (now (price .entry)) (from + k) (pos 0)) ++ drop count (now (out .entry)) ⌝ }
 {
     let mut k = 0;

@@ -22,13 +22,13 @@ ghost use Rattle.transport.specs.declared.Cell.{Cell};
 ghost use Rattle.transport.specs.Round.{round};
 ghost use Rattle.transport.specs.Calls.{given, refusedBy, roundCall};
 ghost use Rattle.transport.specs.Answers.{prices, roundAnswer};
-ghost use Rattle.basis.specs.Layout.{stride};
+ghost use Rattle.basis.specs.Layout.{stride, maxPotential};
 ghost use Rattle.sheet.specs.Check.{sheetOf};
 ghost use Rattle.simplex.specs.Dealt.{Dealt};
 
 // The prices of one side, from the node `from` on, as an answer holds them.
 fn side_prices(price: &[Price; NODES], from: usize, count: usize) -> [i64; MAX_SIDE]
-    requires { ⌜ (from ≤ stride) × (count ≤ stride) × ((k : ℕ) → k < from + count → natAbs (getD (now price) k (pos 0)) ≤ 63_000_000) ⌝ }
+    requires { ⌜ (from ≤ stride) × (count ≤ stride) × ((k : ℕ) → k < from + count → natAbs (getD (now price) k (pos 0)) ≤ maxPotential) ⌝ }
     ensures { λ r. ⌜ r ≡ prices (table count (λ k. getD (now (price .entry)) (from + k) (pos 0))) ⌝ }
 {
     let mut out = [0i64; MAX_SIDE];

@@ -7,7 +7,7 @@ use borrow.Author.Needs.{needs}
 use borrow.Author.Tests.{not-true, not-false}
 use lib.ListN.{length}
 use Rattle.transport.specs.Tableau.{cellsOf, basisSize}
-use Rattle.board.specs.Cells.{long, length-cells}
+use Rattle.board.specs.Cells.{cellRoom, long, length-cells}
 use Rattle.board.specs.CellTests.{cellsFit}
 use Rattle.belonging.specs.Spread.{Sides, checked-sides, Laid, fit-inside, fit-distinct, other-count, other-cells, belongs-whole}
 use Rattle.belonging.proofs.load.Statement.{statement}
@@ -31,10 +31,10 @@ counted : (c : tie.Else1) → let a = c .before .before .before .before .args in
 unfolding basisSize
 counted c = c .if1 .left
 
-roomy : (c : tie.After-struct-known) → length (c .before .before .before .args .t .cells) ≡ 63
+roomy : (c : tie.After-struct-known) → length (c .before .before .before .args .t .cells) ≡ cellRoom
 roomy c = search (needs, long)
 
-few : (c : tie.Else1) → c .before .before .before .before .args .t .count ≤ 63
+few : (c : tie.Else1) → c .before .before .before .before .args .t .count ≤ cellRoom
 unfolding basisSize
 few c = omega (arith, counted c, sides (c .before .before .before .before) .rowsHigh, sides (c .before .before .before .before) .colsHigh)
 

@@ -11,12 +11,12 @@ use lib.Signed.{ltZ}
 use mir.Syntax.{w32}
 use Rattle.transport.specs.RangeLaws.{mag-abs, back, diff-in, diff-back}
 use Rattle.basis.specs.Layout.{nodeRoom, getD-all}
-use Rattle.basis.specs.SignLaws.{Needed, LoopLanes, counted-yes, counted-no, needed-starts, needed-step, needed-room, lanes-start, lanes-step}
+use Rattle.basis.specs.SignLaws.{enterWeight, Needed, LoopLanes, counted-yes, counted-no, needed-starts, needed-step, needed-room, lanes-start, lanes-step}
 use Rattle.basis.proofs.signs.loop_signs.Statement.{statement}
 use Rattle.basis.proofs.signs.loop_signs.Tie as tie
 
 abbrev Inv-loop : tie.InvT-loop
-Inv-loop leaf other lane count row sink minus₀ plus₀ need₀ a₀ b₀ k₀ minus plus need a b k = Needed leaf other lane count row sink need k × LoopLanes leaf other lane count row sink minus plus a b k
+Inv-loop leaf other lane count row sink minus₀ plus₀ need₀ a₀ b₀ k₀ minus plus need a b k = Needed (enterWeight row sink) 2 leaf other lane count need k × LoopLanes leaf other lane count row sink minus plus a b k
 
 abbrev μ-loop : tie.MeasureT-loop
 μ-loop leaf other lane count row sink minus₀ plus₀ need₀ a₀ b₀ k₀ minus plus need a b k = count - k
@@ -79,9 +79,8 @@ room : (c : tie.After-need Inv-loop μ-loop)
     let i = c .before .before .before .before .before .before .loop in
     natAbs (getD (set (i .need) (getD (a .leaf .now) (i .k) 0) (pos 0)) (getD (a .other .now) (i .k) 0) (pos 0)) + natAbs (getD (i .need) (getD (a .leaf .now) (i .k) 0) (pos 0)) < 2 ^ 31
 room c =
-    let a = c .before .before .before .before .before .before .before .args in
     let i = c .before .before .before .before .before .before .loop in
-    omega (arith, needed-room (a .leaf .now) (a .other .now) (a .lane .now) (a .count) (a .row) (a .sink) (i .need) (i .k) (c .before .before .before .before .before .before .before .pre .0) (omega arith) (i .inv .0))
+    omega (arith, needed-room (c .before .before .before .before .before .before .before .pre .0) (omega arith) (i .inv .0))
 
 sub-need : tie.Need-sub-need Inv-loop μ-loop
 sub-need c = search (needs, diff-in, room c)
@@ -148,8 +147,8 @@ loop-again c =
     let w = c .before .before .before .before .before .before .before .before .before .pre .0 in
     let p : i .k < a .count = omega arith in
     rw (v, minus-count (c .before), plus-count c) (
-      needed-step (a .leaf .now) (a .other .now) (a .lane .now) (a .count) (a .row) (a .sink) (i .need) (i .k) w p (i .inv .0) (c .before .before .before .before .before .before .before .before .before .pre .1 .0),
-      lanes-step (a .leaf .now) (a .other .now) (a .lane .now) (a .count) (a .row) (a .sink) (i .need) (i .k) w p (i .inv .0) (i .minus) (i .plus) (i .a) (i .b) (i .inv .1),
+      needed-step w p (i .inv .0) (c .before .before .before .before .before .before .before .before .before .pre .1 .0),
+      lanes-step w p (i .inv .0) (i .inv .1),
     )
 
 returns : tie.Need-returns Inv-loop μ-loop

@@ -1,4 +1,4 @@
--- `planning::cost::plan_cost` meets its contract. The loop's invariant: the sum over the lanes before l, each of which is at most 1,000,000,000,000.
+-- `planning::cost::plan_cost` meets its contract. The loop's invariant: the sum over the lanes before l, each of which is at most maxAmount * maxCost.
 use Prim.Native.Nat.{ℕ, _*_, _-_, _≤_}
 use native.Mathlib.Omega.{arith}
 use native.Mathlib.Nat.{mul-le-mul}
@@ -11,7 +11,7 @@ use Rattle.planning.proofs.cost.plan_cost.Statement.{statement}
 use Rattle.planning.proofs.cost.plan_cost.Tie as tie
 
 abbrev Inv-loop : tie.InvT-loop
-Inv-loop plan cost sum₀ l₀ sum l = (l ≤ length cost) × (sum ≤ l * 1_000_000_000_000) × (sum ≡ sumTo l (λ k. at plan k * at cost k))
+Inv-loop plan cost sum₀ l₀ sum l = (l ≤ length cost) × (sum ≤ l * (maxAmount * maxCost)) × (sum ≡ sumTo l (λ k. at plan k * at cost k))
 
 abbrev μ-loop : tie.MeasureT-loop
 μ-loop plan cost sum₀ l₀ sum l = length cost - l
@@ -19,18 +19,16 @@ abbrev μ-loop : tie.MeasureT-loop
 loop-holds : tie.Need-loop-holds Inv-loop μ-loop
 loop-holds c = (omega arith, omega arith, rw sumTo-zero)
 
-few : (c : tie.In-loop Inv-loop μ-loop) → length (c .before .before .args .cost .now) ≤ 1024
-unfolding maxSide
-few c = c .before .before .pre .few
-
 mul-sum : tie.Need-mul-sum Inv-loop μ-loop
-mul-sum c = omega (arith, few c)
+unfolding maxSide
+mul-sum c = omega (arith, c .before .before .pre .few)
 
 shared-slice-read-sum : tie.Need-shared-slice-read-sum Inv-loop μ-loop
 shared-slice-read-sum c = omega arith
 
 mul-sum-2 : tie.Need-mul-sum-2 Inv-loop μ-loop
-mul-sum-2 c = omega (arith, few (c .before))
+unfolding maxSide
+mul-sum-2 c = omega (arith, c .before .before .before .pre .few)
 
 shared-slice-read-sum-2 : tie.Need-shared-slice-read-sum-2 Inv-loop μ-loop
 shared-slice-read-sum-2 c = omega arith
@@ -38,18 +36,21 @@ shared-slice-read-sum-2 c = omega arith
 small : (c : tie.In-loop Inv-loop μ-loop)
     → let a = c .before .before .args in
     let l = c .before .loop .l in
-    getD (a .plan .now) l 0 * getD (a .cost .now) l 0 ≤ 1_000_000_000_000
-unfolding at maxAmount maxCost
+    getD (a .plan .now) l 0 * getD (a .cost .now) l 0 ≤ maxAmount * maxCost
+unfolding at
 small c = let p = c .before .before .pre in mul-le-mul (p .quantities (c .before .loop .l) (omega arith)) (p .costs (c .before .loop .l))
 
 mul-sum-3 : tie.Need-mul-sum-3 Inv-loop μ-loop
+unfolding maxAmount maxCost
 mul-sum-3 c = omega (arith, small (c .before .before))
 
 add-sum : tie.Need-add-sum Inv-loop μ-loop
-add-sum c = omega (arith, small (c .before .before), few (c .before .before))
+unfolding maxSide maxAmount maxCost
+add-sum c = omega (arith, small (c .before .before), c .before .before .before .before .pre .few)
 
 add-l : tie.Need-add-l Inv-loop μ-loop
-add-l c = omega (arith, few (c .before .before))
+unfolding maxSide
+add-l c = omega (arith, c .before .before .before .before .pre .few)
 
 loop-less : tie.Need-loop-less Inv-loop μ-loop
 loop-less c = omega arith

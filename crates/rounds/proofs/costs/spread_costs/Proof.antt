@@ -10,6 +10,7 @@ use Rattle.transport.specs.Lists.{at}
 use Rattle.transport.specs.Limits.{maxCost}
 use Rattle.transport.specs.Sheet.{place}
 use Rattle.transport.specs.SheetLaws.{place-below}
+use Rattle.basis.specs.Layout.{stride, laneRoom}
 use Rattle.rounds.specs.Costs.{Part, part-none, part-one, part-row, part-all}
 use Rattle.rounds.proofs.costs.spread_costs.Statement.{statement}
 use Rattle.rounds.proofs.costs.spread_costs.Tie as tie
@@ -35,12 +36,12 @@ loop2-holds c = (omega arith, c .before .loop .inv .1)
 -- The lane of row i and column j has its cost in the list.
 inside : (c : tie.In-loop2 Inv-loop2 μ-loop2 Inv-loop μ-loop)
     → let a = c .before .before .before .before .before .args in
-    (c .before .before .before .loop .i * a .n + c .before .loop2 .j < length (a .cost .now)) × (length (a .cost .now) ≤ 1024)
+    (c .before .before .before .loop .i * a .n + c .before .loop2 .j < length (a .cost .now)) × (length (a .cost .now) ≤ laneRoom)
 unfolding place
 inside c =
     let a = c .before .before .before .before .before in
     let i = c .before .before .before .loop .i in
-    let size : a .args .m * a .args .n ≤ 32 * a .args .n = mul-le-mul-right (a .args .n) (a .pre .0) in
+    let size : a .args .m * a .args .n ≤ stride * a .args .n = mul-le-mul-right (a .args .n) (a .pre .0) in
     (omega (arith, place-below (a .args .m) (a .args .n) i (c .before .loop2 .j) (omega arith) (omega arith)), omega arith)
 
 mul-out : tie.Need-mul-out Inv-loop2 μ-loop2 Inv-loop μ-loop

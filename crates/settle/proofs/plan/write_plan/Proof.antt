@@ -11,7 +11,7 @@ use mir.Syntax.{w64}
 use mir.Val.{toZ, ofZ}
 use Rattle.transport.specs.Sheet.{place}
 use Rattle.transport.specs.SheetLaws.{place-below}
-use Rattle.basis.specs.Layout.{stride}
+use Rattle.basis.specs.Layout.{stride, laneRoom}
 use Rattle.settle.specs.Plan.{bagsIn, bagsIn-place, Written, written-none, written-one, written-again, written-on}
 use Rattle.settle.proofs.plan.write_plan.Statement.{statement}
 use Rattle.settle.proofs.plan.write_plan.Tie as tie
@@ -41,12 +41,12 @@ loop2-holds c =
 -- The place of row i and column j is in the list.
 inside : (c : tie.In-loop2 Inv-loop2 μ-loop2 Inv-loop μ-loop)
     → let a = c .before .before .before .before .args in
-    (c .before .before .before .loop .i * a .n + c .before .loop2 .j < length (c .before .loop2 .plan)) × (length (c .before .before .before .loop .plan) ≡ length (a .plan .now)) × (a .m * a .n ≤ 1024)
+    (c .before .before .before .loop .i * a .n + c .before .loop2 .j < length (c .before .loop2 .plan)) × (length (c .before .before .before .loop .plan) ≡ length (a .plan .now)) × (a .m * a .n ≤ laneRoom)
 unfolding place
 inside c =
     let a = c .before .before .before .before in
     let i = c .before .before .before .loop in
-    let size : a .args .m * a .args .n ≤ 32 * a .args .n = mul-le-mul-right (a .args .n) (a .pre .0) in
+    let size : a .args .m * a .args .n ≤ stride * a .args .n = mul-le-mul-right (a .args .n) (a .pre .0) in
     (omega (arith, i .inv .1 .long, c .before .loop2 .inv .1 .long, place-below (a .args .m) (a .args .n) (i .i) (c .before .loop2 .j) (omega arith) (omega arith)), i .inv .1 .long, omega arith)
 
 mul-plan : tie.Need-mul-plan Inv-loop2 μ-loop2 Inv-loop μ-loop

@@ -7,9 +7,11 @@ use lib.IntN.{pos, natAbs}
 use lib.ListN.{length, drop, getD, length-set}
 use mir.Syntax.{w32, w64}
 use mir.Val.{toZ, ofZ}
+use Rattle.transport.specs.Limits.{maxCost}
 use Rattle.transport.specs.RangeLaws.{mag-abs, abs-fits, back}
 use Rattle.transport.specs.Lists.{table}
 use Rattle.transport.specs.ListLaws.{table-zero, fill-one}
+use Rattle.basis.specs.Layout.{maxPotential}
 use Rattle.simplex.proofs.prices.write_prices.Statement.{statement}
 use Rattle.simplex.proofs.prices.write_prices.Tie as tie
 
@@ -32,19 +34,21 @@ element-copy-out-out : tie.Need-element-copy-out-out Inv-loop μ-loop
 element-copy-out-out c = omega arith
 
 -- The price is small, so it is read and written as it is.
-small : (c : tie.After-out Inv-loop μ-loop) → let a = c .before .before .before .args in natAbs (getD (a .price .now) (a .from + c .before .before .loop .k) (pos 0)) ≤ 63_000_000
+small : (c : tie.After-out Inv-loop μ-loop) → let a = c .before .before .before .args in natAbs (getD (a .price .now) (a .from + c .before .before .loop .k) (pos 0)) ≤ maxPotential
 small c = let s = c .before .before .before in s .pre .3 (s .args .from + c .before .before .loop .k) (omega arith)
 
 whole : (c : tie.After-out Inv-loop μ-loop)
     → let a = c .before .before .before .args in
     let z = getD (a .price .now) (a .from + c .before .before .loop .k) (pos 0) in
     toZ w32 (ofZ w32 z) ≡ z
+unfolding maxCost
 whole c =
     let a = c .before .before .before .args in
     let z = getD (a .price .now) (a .from + c .before .before .loop .k) (pos 0) in
     back w32 z (omega (arith, mag-abs z, small c))
 
 cast-out : tie.Need-cast-out Inv-loop μ-loop
+unfolding maxCost
 cast-out c =
     let a = c .before .before .before .args in
     rw (whole c) (abs-fits w64 (getD (a .price .now) (a .from + c .before .before .loop .k) (pos 0)) (omega (arith, small c)))
@@ -62,6 +66,7 @@ loop-less : tie.Need-loop-less Inv-loop μ-loop
 loop-less c = omega arith
 
 loop-again : tie.Need-loop-again Inv-loop μ-loop
+unfolding maxCost
 loop-again c =
     let a = c .before .before .before .args in
     let l = c .before .before .loop in

@@ -6,6 +6,7 @@ use lib.IntN.{pos}
 use lib.ListN.{getD}
 use Rattle.transport.specs.Limits.{maxSide}
 use Rattle.transport.specs.Answers.{prices}
+use Rattle.basis.specs.Layout.{stride}
 use Rattle.simplex.specs.Filling.{padded-fill}
 use Rattle.simplex.proofs.round.side_prices.Statement.{statement}
 use Rattle.simplex.proofs.round.side_prices.Tie as tie
@@ -20,7 +21,7 @@ returns : tie.Need-returns
 unfolding prices maxSide
 returns c =
     let a = c .before .before .before .args in
-    c .before .write-prices .ensures ∙ padded-fill (λ k. getD (a .price .now) (a .from + k) (pos 0)) (a .count) 32 (pos 0)
+    c .before .write-prices .ensures ∙ padded-fill (λ k. getD (a .price .now) (a .from + k) (pos 0)) (a .count) stride (pos 0)
 
 pub side-prices-spec : {M : Type 1} → statement M
 side-prices-spec = tie.close (tie.spec slice-aggregate-write-prices write-prices-requires returns)

@@ -7,6 +7,7 @@ use lib.ListN.{length, set}
 use Rattle.transport.specs.Limits.{maxSide, maxCells}
 use Rattle.transport.specs.Sheet.{Sheet, sources, sinks}
 use Rattle.transport.specs.Tableau.{start}
+use Rattle.board.specs.Cells.{cellRoom}
 use Rattle.simplex.specs.Corner.{costless, cellOf, next-number, Standing, standing-first, standing-room, standing-cell, standing-next, length-start}
 use Rattle.simplex.specs.Filling.{filled, filled-none, filled-one, filled-all}
 use Rattle.simplex.proofs.start.first_tableau.Statement.{statement}
@@ -22,7 +23,7 @@ abbrev sheetAt : (c : tie.At-loop Inv-loop μ-loop) → Sheet
 sheetAt c = costless (c .before .before .before .before .before .args .supply .now) (c .before .before .before .before .before .args .demand .now)
 
 -- Cell k has its place in the array ..
-room : (c : tie.At-loop Inv-loop μ-loop) → c .loop .k < 63
+room : (c : tie.At-loop Inv-loop μ-loop) → c .loop .k < cellRoom
 unfolding maxCells maxSide
 room c = rw (c .loop .inv .0) (standing-room (sheetAt c) (c .before .before .before .before .before .pre) (c .loop .at) (c .loop .inv .1))
 
