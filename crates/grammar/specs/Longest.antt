@@ -44,7 +44,8 @@ row-length : (n : ℕ) → 1 ≤ n → (xs : List ℕ) → Count Small n xs → 
 row-length n l [] h = absurd (omega arith)
 row-length n l (x ∷ xs) h = omega (arith, rowLine-length x xs (h .1))
 
-side-length : (m : ℕ) → m ≤ 32 → length (digits m) ≤ 2
+side-length : (m : ℕ) → m ≤ maxSide → length (digits m) ≤ 2
+unfolding maxSide
 side-length m h = digits-length 1 m .1 (omega arith)
 
 -- ---- the whole
@@ -55,8 +56,8 @@ unfolding sheetText headLine bytes sources sinks maxSide maxText
 text-length S h =
     let m : ℕ = sources S in
     let n : ℕ = sinks S in
-    let ms : (1 ≤ m) × (m ≤ 32) = within-iff 1 32 m .0 (h .sides .0) in
-    let ns : (1 ≤ n) × (n ≤ 32) = within-iff 1 32 n .0 (h .sides .1) in
+    let ms : (1 ≤ m) × (m ≤ maxSide) = within-iff 1 maxSide m .0 (h .sides .0) in
+    let ns : (1 ≤ n) × (n ≤ maxSide) = within-iff 1 maxSide n .0 (h .sides .1) in
     let rows : List (List ℕ) = rowsOf m n (S .cost) in
     let costs : Every (Count Small n) rows = rowsOf-every Small n m (S .cost) (h .lengths) (at-every (S .cost) (λ k. h .numbers k .2)) in
     let supplies : length (flatMap numberLine (S .supply)) ≤ m * 8 =
@@ -68,15 +69,15 @@ text-length S h =
     let lanes : length (flatMap rowLine rows) ≤ m * (n * 8) =
     rw (rowsOf-length n m (S .cost)) at (lines-length (Count Small n) rowLine (n * 8) (row-length n (ns .0)) rows costs)
     in
-    let most : m * n ≤ 32 * 32 = mul-le-mul (ms .1) (ns .1) in
+    let most : m * n ≤ maxSide * maxSide = mul-le-mul (ms .1) (ns .1) in
     simp length-append (omega (arith, side-length m (ms .1), side-length n (ns .1)))
 
--- The bound is met, and by a sheet that the sheet check accepts: 32 sources and 32 sinks, and 1,000,000 everywhere.
+-- The bound is met, and by a sheet that the sheet check accepts: every count, amount and cost is at its limit.
 unfoldable pub largest : Sheet
-largest = record { supply = replicate 32 1_000_000; demand = replicate 32 1_000_000; cost = replicate 1024 1_000_000 }
+largest = record { supply = replicate maxSide maxAmount; demand = replicate maxSide maxAmount; cost = replicate (maxSide * maxSide) maxCost }
 
 pub largest-length : length (sheetText largest) ≡ maxText
-unfolding largest sheetText sources sinks headLine bytes digits digitsUpTo flatMap numberLine rowsOf rowLine maxText
+unfolding largest sheetText sources sinks headLine bytes digits digitsUpTo flatMap numberLine rowsOf rowLine maxSide maxAmount maxCost maxText
 largest-length = refl
 
 pub largest-accepted : Accepted largest

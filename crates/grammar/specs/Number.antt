@@ -71,7 +71,7 @@ module _ (c : ℕ) (plain : isDigit c ≡ false) where
 
 side-begins : Beginnings (within 1 maxSide)
 unfolding maxSide
-side-begins n l e = let k = within-iff 1 32 n .0 e in within-iff 1 32 (n / 10) .1 (omega arith)
+side-begins n l e = let k = within-iff 1 maxSide n .0 e in within-iff 1 maxSide (n / 10) .1 (omega arith)
 
 isFirst : ℕ → Bool
 isFirst b = isDigit b && within 1 maxSide (digitValue b)
@@ -103,10 +103,10 @@ module _ (c : ℕ) (plain : isDigit c ≡ false) where
   side-back : (n : ℕ) (t : List ℕ) → Closed Side c n t → Begun c isFirst (within 1 maxSide) (λ b. 1) n t
   unfolding isFirst maxSide
   side-back n t h =
-      let k = within-iff 1 32 n .0 (h .0) in
-      let x = numeral (within 1 32) side-begins 1 n (k .0) (omega arith) (h .0) in
+      let k = within-iff 1 maxSide n .0 (h .0) in
+      let x = numeral (within 1 maxSide) side-begins 1 n (k .0) (omega arith) (h .0) in
       let d : isDigit (48 + x .first) ≡ true = digit-of (x .first) (x .small) in
-      numeral-begun c isFirst (within 1 32) (λ b. 1) 1 n t x (rw (d, value-of (x .first)) (x .passes)) refl (h .1)
+      numeral-begun c isFirst (within 1 maxSide) (λ b. 1) 1 n t x (rw (d, value-of (x .first)) (x .passes)) refl (h .1)
 
   pub side-exact : Exact (closedBy c side) (Closed Side c) Any
   unfolding side first-then isFirst

@@ -18,7 +18,6 @@ use Rattle.transport.specs.declared.ByteKind.the-variants.{Digit, Space, LineEn
 use Rattle.transport.specs.Text.{bytes, kindOf}
 use Rattle.transport.specs.SheetText.{Reading, stuck, got, Reader, _>>=_, _>>_, pure, byteThat, word, isDigit, digitValue, moreDigits, number, side, line}
 use Rattle.transport.specs.SheetLaws.{within-true, true-within, within-low, within-high}
-use Rattle.sheet.specs.Laws.{side-limit}
 pub use Rattle.text.specs.declared.Taken.{Taken}
 pub use Rattle.text.specs.declared.Taken.the-variants.{Got, Stuck}
 
@@ -305,10 +304,11 @@ module _ (text : List ℕ) (at : ℕ) (p : at < length text) (d : isDigit (getD 
       (side-is _ ∙ bind-stuck (byteThat startsSide) _ _ _ (byte-no startsSide b (drop (suc at) text) (and-yes (isDigit b) _ d ∙ within-low 1 maxSide (b - 48) (omega arith))))
 
   pub side-more : (getD text at 0 - 48 ≡ 0 → ⊥) → side (drop at text) ≡ moreDigits (within 1 maxSide) 1 (getD text at 0 - 48) (drop (at + 1) text)
+  unfolding maxSide
   side-more n =
       let b = getD text at 0 in
       rw (drop-cons text at 0 p, add-one)
-      (side-is _ ∙ bind-got (byteThat startsSide) _ (drop (suc at) text) _ b (byte-yes startsSide b (drop (suc at) text) (and-yes (isDigit b) _ d ∙ true-within 1 maxSide (b - 48) (omega arith) (rw side-limit (omega (arith, digit-high b d))))))
+      (side-is _ ∙ bind-got (byteThat startsSide) _ (drop (suc at) text) _ b (byte-yes startsSide b (drop (suc at) text) (and-yes (isDigit b) _ d ∙ true-within 1 maxSide (b - 48) (omega arith) (omega (arith, digit-high b d)))))
 
 -- A side that was read is within 1 to 32.
 more-passes : (test : ℕ → Bool) (k x : ℕ) (t : List ℕ) (m : ℕ) (rest : List ℕ) → test x ≡ true → moreDigits test k x t ≡ got m rest → test m ≡ true
