@@ -1,9 +1,9 @@
 // Read sheet. Each reader starts at a place of the text, and its answer says where it ended.
 ghost use mathlib.Core.Path.{_≡_};
 ghost use mathlib.Core.Bool.{true, false};
-ghost use Prim.Native.Nat.{_+_, _*_, _≤_, _<_};
+ghost use Prim.Native.Nat.{_+_, _*_, _-_, _≤_, _<_};
 ghost use lib.ListN.{length, take, drop};
-ghost use Rattle.transport.specs.Limits.{maxSide};
+ghost use Rattle.transport.specs.Limits.{maxSide, maxDigits};
 ghost use Rattle.transport.specs.Text.{kindOf};
 ghost use Rattle.transport.specs.SheetText.{isDigit, word, moreDigits, number, side, sheetReader, readSheetCall};
 ghost use Rattle.transport.specs.Calls.{lentAfter};
@@ -98,7 +98,7 @@ fn read_word(text: &[u8], at: usize, expected: &[u8]) -> Taken
 fn more_digits(text: &[u8], at: usize, first: u64) -> Taken
     requires { ⌜ (at ≤ length (now text)) × (first < 10) ⌝ }
     ensures { λ r. ⌜
-        (moreDigits always 6 first (drop at (now (text .entry))) ≡ readingOf (now (text .entry)) (λ v. v) r)
+        (moreDigits always (maxDigits - 1) first (drop at (now (text .entry))) ≡ readingOf (now (text .entry)) (λ v. v) r)
         × (placeOf r ≤ length (now (text .entry)))
         ⌝ }
 {
@@ -132,7 +132,7 @@ fn read_number(text: &[u8], at: usize) -> Taken
     more_digits(text, next, leading)
 }
 
-// A count of sources or sinks: 1 to 32.
+// A count of sources or sinks: 1 to MAX_SIDE.
 fn read_side(text: &[u8], at: usize) -> Taken
     requires { ⌜ at ≤ length (now text) ⌝ }
     ensures { λ r. ⌜ (side (drop at (now (text .entry))) ≡ readingOf (now (text .entry)) (λ v. v) r) × (placeOf r ≤ length (now (text .entry))) ⌝ }

@@ -34,7 +34,6 @@ few c =
     omega (arith, c .digit-count .ensures, length-digits-le 19 x (omega (arith, c .before .shared-slice-known2 .given (c .before .before .before .loop .i))))
 
 add-len : tie.Need-add-len Inv-loop μ-loop
-unfolding maxSide
 add-len c = omega (arith, few c)
 
 add-len-2 : tie.Need-add-len-2 Inv-loop μ-loop
@@ -51,7 +50,6 @@ loop-again : tie.Need-loop-again Inv-loop μ-loop
 loop-again c = omega (arith, few c, c .digit-count .ensures, numbers-next (c .before .before .before .before .before .args .numbers .now) (c .before .before .before .loop .i) (omega arith))
 
 returns : tie.Need-returns Inv-loop μ-loop
-unfolding maxSide
 returns c = omega (arith, c .before .before .before .pre, numbers-end (c .before .before .before .args .numbers .now) (c .before .loop .i) (omega arith))
 
 pub numbers-len-spec : {M : Type 1} → statement M

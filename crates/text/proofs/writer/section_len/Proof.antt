@@ -27,7 +27,6 @@ unfolding maxSide
 add-result-3 c = omega (arith, few (c .before))
 
 returns : tie.Need-returns
-unfolding maxSide
 returns c = omega (arith, few (c .before), c .numbers-len .ensures, c .before .digit-count .ensures)
 
 pub section-len-spec : {M : Type 1} → statement M
