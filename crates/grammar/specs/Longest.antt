@@ -1,7 +1,7 @@
 -- The longest sheet text has 8,732 bytes.
 use mathlib.Core.Path.{_≡_, refl}
 use mathlib.Core.List.{List, [], _∷_, flatMap}
-use Prim.Native.Nat.{ℕ, suc, _*_, _≤_}
+use Prim.Native.Nat.{ℕ, suc, _*_, _-_, _≤_}
 use native.Mathlib.Omega.{arith}
 use native.Mathlib.Nat.{mul-le-mul}
 use lib.ListN.{length, length-append, replicate}
@@ -27,56 +27,58 @@ lines-length Good write most h [] e = omega arith
 lines-length Good write most h (x ∷ xs) e =
     simp length-append (omega (arith, h x (e .0), lines-length Good write most h xs (e .1)))
 
-number-length : (x : ℕ) → Small x → length (digits x) ≤ 7
+number-length : (x : ℕ) → Small x → length (digits x) ≤ maxDigits
 unfolding maxDigits
-number-length x h = digits-length 6 x .1 h
+number-length x h = digits-length (maxDigits - 1) x .1 h
 
-numberLine-length : (x : ℕ) → Small x → length (numberLine x) ≤ 8
+numberLine-length : (x : ℕ) → Small x → length (numberLine x) ≤ suc maxDigits
 unfolding numberLine bytes
 numberLine-length x h = simp length-append (omega (arith, number-length x h))
 
-rowLine-length : (x : ℕ) (xs : List ℕ) → Every Small (x ∷ xs) → length (rowLine (x ∷ xs)) ≤ suc (length xs) * 8
-unfolding rowLine bytes
+rowLine-length : (x : ℕ) (xs : List ℕ) → Every Small (x ∷ xs) → length (rowLine (x ∷ xs)) ≤ suc (length xs) * suc maxDigits
+unfolding rowLine bytes maxDigits
 rowLine-length x [] h = numberLine-length x (h .0)
 rowLine-length x (y ∷ ys) h = simp length-append (omega (arith, number-length x (h .0), rowLine-length y ys (h .1)))
 
-row-length : (n : ℕ) → 1 ≤ n → (xs : List ℕ) → Count Small n xs → length (rowLine xs) ≤ n * 8
+row-length : (n : ℕ) → 1 ≤ n → (xs : List ℕ) → Count Small n xs → length (rowLine xs) ≤ n * suc maxDigits
+unfolding maxDigits
 row-length n l [] h = absurd (omega arith)
 row-length n l (x ∷ xs) h = omega (arith, rowLine-length x xs (h .1))
 
-side-length : (m : ℕ) → m ≤ 32 → length (digits m) ≤ 2
+side-length : (m : ℕ) → m ≤ maxSide → length (digits m) ≤ 2
+unfolding maxSide
 side-length m h = digits-length 1 m .1 (omega arith)
 
 -- ---- the whole
 
 -- No sheet text is longer: 10 bytes for each of the first two heads and 8 for the third, 8 for each supply and demand, and 8 for each cost.
 pub text-length : (S : Sheet) → HasText S → length (sheetText S) ≤ maxText
-unfolding sheetText headLine bytes sources sinks maxSide maxText
+unfolding sheetText headLine bytes sources sinks maxSide maxDigits maxText
 text-length S h =
     let m : ℕ = sources S in
     let n : ℕ = sinks S in
-    let ms : (1 ≤ m) × (m ≤ 32) = within-iff 1 32 m .0 (h .sides .0) in
-    let ns : (1 ≤ n) × (n ≤ 32) = within-iff 1 32 n .0 (h .sides .1) in
+    let ms : (1 ≤ m) × (m ≤ maxSide) = within-iff 1 maxSide m .0 (h .sides .0) in
+    let ns : (1 ≤ n) × (n ≤ maxSide) = within-iff 1 maxSide n .0 (h .sides .1) in
     let rows : List (List ℕ) = rowsOf m n (S .cost) in
     let costs : Every (Count Small n) rows = rowsOf-every Small n m (S .cost) (h .lengths) (at-every (S .cost) (λ k. h .numbers k .2)) in
-    let supplies : length (flatMap numberLine (S .supply)) ≤ m * 8 =
-    lines-length Small numberLine 8 numberLine-length (S .supply) (at-every (S .supply) (λ k. h .numbers k .0))
+    let supplies : length (flatMap numberLine (S .supply)) ≤ m * suc maxDigits =
+    lines-length Small numberLine (suc maxDigits) numberLine-length (S .supply) (at-every (S .supply) (λ k. h .numbers k .0))
     in
-    let demands : length (flatMap numberLine (S .demand)) ≤ n * 8 =
-    lines-length Small numberLine 8 numberLine-length (S .demand) (at-every (S .demand) (λ k. h .numbers k .1))
+    let demands : length (flatMap numberLine (S .demand)) ≤ n * suc maxDigits =
+    lines-length Small numberLine (suc maxDigits) numberLine-length (S .demand) (at-every (S .demand) (λ k. h .numbers k .1))
     in
-    let lanes : length (flatMap rowLine rows) ≤ m * (n * 8) =
-    rw (rowsOf-length n m (S .cost)) at (lines-length (Count Small n) rowLine (n * 8) (row-length n (ns .0)) rows costs)
+    let lanes : length (flatMap rowLine rows) ≤ m * (n * suc maxDigits) =
+    rw (rowsOf-length n m (S .cost)) at (lines-length (Count Small n) rowLine (n * suc maxDigits) (row-length n (ns .0)) rows costs)
     in
-    let most : m * n ≤ 32 * 32 = mul-le-mul (ms .1) (ns .1) in
+    let most : m * n ≤ maxSide * maxSide = mul-le-mul (ms .1) (ns .1) in
     simp length-append (omega (arith, side-length m (ms .1), side-length n (ns .1)))
 
--- The bound is met, and by a sheet that the sheet check accepts: 32 sources and 32 sinks, and 1,000,000 everywhere.
+-- The bound is met, and by a sheet that the sheet check accepts: every count, amount and cost is at its limit.
 unfoldable pub largest : Sheet
-largest = record { supply = replicate 32 1_000_000; demand = replicate 32 1_000_000; cost = replicate 1024 1_000_000 }
+largest = record { supply = replicate maxSide maxAmount; demand = replicate maxSide maxAmount; cost = replicate (maxSide * maxSide) maxCost }
 
 pub largest-length : length (sheetText largest) ≡ maxText
-unfolding largest sheetText sources sinks headLine bytes digits digitsUpTo flatMap numberLine rowsOf rowLine maxText
+unfolding largest sheetText sources sinks headLine bytes digits digitsUpTo flatMap numberLine rowsOf rowLine maxSide maxAmount maxCost maxText
 largest-length = refl
 
 pub largest-accepted : Accepted largest

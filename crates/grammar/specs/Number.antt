@@ -2,7 +2,7 @@
 use mathlib.Core.Path.{_≡_, refl, _∙_}
 use mathlib.Core.Bool.{Bool, true, false, _&&_, cond, and-eq-true-iff}
 use mathlib.Core.List.{List, [], _∷_}
-use Prim.Native.Nat.{ℕ, zero, suc, _+_, _-_, _/_, _^_, _≤_, _<_}
+use Prim.Native.Nat.{ℕ, zero, suc, _+_, _-_, _/_, _≤_, _<_}
 use native.Mathlib.Omega.{arith}
 use lib.Dec.{eqb}
 use borrow.Author.Tests.{eqb-false, ne-eqb}
@@ -22,8 +22,8 @@ use Rattle.grammar.specs.Closing.{closedBy, Closed, first-then, Begun, f
 room : ℕ → ℕ
 room b = cond (eqb (digitValue b) 0) 0 (maxDigits - 1)
 
-room-after : (d : ℕ) → 1 ≤ d → room (48 + d) ≡ 6
-unfolding room maxDigits
+room-after : (d : ℕ) → 1 ≤ d → room (48 + d) ≡ maxDigits - 1
+unfolding room
 room-after d l = rw (value-of d, ne-eqb d 0 (omega arith))
 
 number-digits : (b : ℕ) (ds : List ℕ) → isDigit b ≡ true → Follows (λ x. true) (room b) (digitValue b) ds
@@ -34,14 +34,14 @@ number-digits b ds d f = go (eqb (digitValue b) 0) refl ds f
     v : (48 + digitValue b ≡ b) × (digitValue b < 10)
     v = digit-value b d
 
-    go : (o : Bool) → eqb (digitValue b) 0 ≡ o → (es : List ℕ) → Follows (λ x. true) (cond o 0 6) (digitValue b) es
-        → (value (digitValue b) es < 10 ^ 7) × (digits (value (digitValue b) es) ≡ b ∷ es)
+    go : (o : Bool) → eqb (digitValue b) 0 ≡ o → (es : List ℕ) → Follows (λ x. true) (cond o 0 (maxDigits - 1)) (digitValue b) es
+        → Small (value (digitValue b) es) × (digits (value (digitValue b) es) ≡ b ∷ es)
     go true e [] i = (omega (arith, v .1), digits-small (digitValue b) (v .1) ∙ rw (v .0))
     go true e (c ∷ es) i = absurd i
     go false e es i =
         let n : digitValue b ≡ 0 → ⊥ = eqb-false (digitValue b) 0 e in
-        let w : digits (value (digitValue b) es) ≡ b ∷ es = first-digits (λ x. true) 6 b es d (omega arith) i in
-        (digits-length 6 (value (digitValue b) es) .0 (rw w (omega (arith, follows-length (λ x. true) 6 (digitValue b) es i))), w)
+        let w : digits (value (digitValue b) es) ≡ b ∷ es = first-digits (λ x. true) (maxDigits - 1) b es d (omega arith) i in
+        (digits-length (maxDigits - 1) (value (digitValue b) es) .0 (rw w (omega (arith, follows-length (λ x. true) (maxDigits - 1) (digitValue b) es i))), w)
 
 module _ (c : ℕ) (plain : isDigit c ≡ false) where
   number-there : (n : ℕ) (t : List ℕ) → Begun c isDigit (λ x. true) room n t → Closed Small c n t
@@ -60,18 +60,18 @@ module _ (c : ℕ) (plain : isDigit c ≡ false) where
     joined = h .1 ∙ rw (digits-small 0 (omega arith));
   }
   number-back (suc n) t h =
-      let x = numeral (λ y. true) (λ y l e. refl) 6 (suc n) (omega arith) (h .0) refl in
-      numeral-begun c isDigit (λ y. true) room 6 (suc n) t x (digit-of (x .first) (x .small)) (room-after (x .first) (x .above)) (h .1)
+      let x = numeral (λ y. true) (λ y l e. refl) (maxDigits - 1) (suc n) (omega arith) (h .0) refl in
+      numeral-begun c isDigit (λ y. true) room (maxDigits - 1) (suc n) t x (digit-of (x .first) (x .small)) (room-after (x .first) (x .above)) (h .1)
 
   pub number-exact : Exact (closedBy c number) (Closed Small c) Any
   unfolding number first-then room
   number-exact = reworded (λ n t. (number-there n t, number-back n t)) (first-exact c plain isDigit (λ x. true) room 48 (digit-of 0 (omega arith)))
 
--- ---- the counts m and n: 1 to 32
+-- ---- the counts m and n
 
 side-begins : Beginnings (within 1 maxSide)
 unfolding maxSide
-side-begins n l e = let k = within-iff 1 32 n .0 e in within-iff 1 32 (n / 10) .1 (omega arith)
+side-begins n l e = let k = within-iff 1 maxSide n .0 e in within-iff 1 maxSide (n / 10) .1 (omega arith)
 
 isFirst : ℕ → Bool
 isFirst b = isDigit b && within 1 maxSide (digitValue b)
@@ -103,10 +103,10 @@ module _ (c : ℕ) (plain : isDigit c ≡ false) where
   side-back : (n : ℕ) (t : List ℕ) → Closed Side c n t → Begun c isFirst (within 1 maxSide) (λ b. 1) n t
   unfolding isFirst maxSide
   side-back n t h =
-      let k = within-iff 1 32 n .0 (h .0) in
-      let x = numeral (within 1 32) side-begins 1 n (k .0) (omega arith) (h .0) in
+      let k = within-iff 1 maxSide n .0 (h .0) in
+      let x = numeral (within 1 maxSide) side-begins 1 n (k .0) (omega arith) (h .0) in
       let d : isDigit (48 + x .first) ≡ true = digit-of (x .first) (x .small) in
-      numeral-begun c isFirst (within 1 32) (λ b. 1) 1 n t x (rw (d, value-of (x .first)) (x .passes)) refl (h .1)
+      numeral-begun c isFirst (within 1 maxSide) (λ b. 1) 1 n t x (rw (d, value-of (x .first)) (x .passes)) refl (h .1)
 
   pub side-exact : Exact (closedBy c side) (Closed Side c) Any
   unfolding side first-then isFirst

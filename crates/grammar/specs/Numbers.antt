@@ -1,4 +1,4 @@
--- The numbers of a sheet text: those of at most seven digits, and the counts 1 to 32.
+-- The numbers of a sheet text: those of at most seven digits, and the counts of a side.
 use mathlib.Core.Path.{_≡_}
 use mathlib.Core.Logic.{_↔_}
 use mathlib.Core.Bool.{true}

@@ -10,7 +10,6 @@ use Rattle.transport.specs.Lists.{all, within, total}
 use Rattle.transport.specs.Limits.{maxSide, maxAmount, maxCost}
 use Rattle.transport.specs.Sheet.{Sheet, sources, sinks, badSides, badLength, badAmount, badCost, unbalanced, numberTests, sheetTests, refusal}
 use Rattle.transport.specs.SheetLaws.{Checked}
-use Rattle.sheet.specs.Laws.{side-limit}
 
 module _ (S : Sheet) where
   abbrev supplies : Bool
@@ -65,21 +64,21 @@ module _ (S : Sheet) where
 -- ---- an accepted sheet, in numbers
 
 module _ (S : Sheet) (c : Checked S) where
-  pub sources-few : length (S .supply) ≤ 32
+  pub sources-few : length (S .supply) ≤ maxSide
   unfolding sources
-  sources-few = rw side-limit at (c .sourcesHigh)
+  sources-few = c .sourcesHigh
 
   pub sinks-some : 1 ≤ length (S .demand)
   unfolding sinks
   sinks-some = c .sinksLow
 
-  pub sinks-few : length (S .demand) ≤ 32
+  pub sinks-few : length (S .demand) ≤ maxSide
   unfolding sinks
-  sinks-few = rw side-limit at (c .sinksHigh)
+  sinks-few = c .sinksHigh
 
   pub costs-whole : length (S .cost) ≡ length (S .supply) * length (S .demand)
   unfolding sources sinks
   costs-whole = c .costLength
 
-  pub costs-few : length (S .cost) ≤ 1024
+  pub costs-few : length (S .cost) ≤ maxSide * maxSide
   costs-few = rw costs-whole (mul-le-mul sources-few sinks-few)

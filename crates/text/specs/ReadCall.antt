@@ -10,6 +10,7 @@ use lib.Dec.{leb}
 use lib.ListN.{length, take, drop, length-drop}
 use Rattle.transport.specs.declared.ReadAnswer.{ReadAnswer}
 use Rattle.transport.specs.declared.ReadAnswer.the-variants as ReadAnswer
+use Rattle.transport.specs.Limits.{maxSide}
 use Rattle.transport.specs.Sheet.{Sheet as SheetRecord, sources, sinks, refusal, numberTests}
 use Rattle.transport.specs.Calls.{Answer, refused, given, refusedBy, unless, lentAfter, tooShort}
 use Rattle.transport.specs.Answers.{readAnswer}
@@ -28,7 +29,7 @@ sheetRead text supply demand cost (ReadAnswer.Refused number) = stuck text
 
 -- Sides within their limits, and a place in the text.
 abbrev pub readFits : List ℕ → ReadAnswer → Type 0
-readFits text (ReadAnswer.Sheet m n) = (1 ≤ m) × (m ≤ 32) × (1 ≤ n) × (n ≤ 32)
+readFits text (ReadAnswer.Sheet m n) = (1 ≤ m) × (m ≤ maxSide) × (1 ≤ n) × (n ≤ maxSide)
 readFits text (ReadAnswer.NotSheetText place) = place ≤ length text
 readFits text (ReadAnswer.Refused number) = ⊥
 

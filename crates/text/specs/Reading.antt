@@ -18,7 +18,6 @@ use Rattle.transport.specs.declared.ByteKind.the-variants.{Digit, Space, LineEn
 use Rattle.transport.specs.Text.{bytes, kindOf}
 use Rattle.transport.specs.SheetText.{Reading, stuck, got, Reader, _>>=_, _>>_, pure, byteThat, word, isDigit, digitValue, moreDigits, number, side, line}
 use Rattle.transport.specs.SheetLaws.{within-true, true-within, within-low, within-high}
-use Rattle.sheet.specs.Laws.{side-limit}
 pub use Rattle.text.specs.declared.Taken.{Taken}
 pub use Rattle.text.specs.declared.Taken.the-variants.{Got, Stuck}
 
@@ -207,8 +206,8 @@ module _ (test : ℕ → Bool) (x : ℕ) where
     more-over e = rw (drop-cons text at 0 p, moreDigits, d, e)
 
 -- The first digit decides how many may follow.
-number-is : (t : List ℕ) → number t ≡ (byteThat isDigit >>= λ b. moreDigits always (cond (eqb (b - 48) 0) 0 6) (b - 48)) t
-unfolding number digitValue maxDigits
+number-is : (t : List ℕ) → number t ≡ (byteThat isDigit >>= λ b. moreDigits always (cond (eqb (b - 48) 0) 0 (maxDigits - 1)) (b - 48)) t
+unfolding number digitValue
 number-is t = refl
 
 pub number-stuck : (t : List ℕ) → digitNext t ≡ false → number t ≡ stuck t
@@ -217,7 +216,7 @@ number-stuck [] e = number-is [] ∙ bind-stuck (byteThat isDigit) [] [] _ (byte
 number-stuck (b ∷ t) e = number-is (b ∷ t) ∙ bind-stuck (byteThat isDigit) (b ∷ t) (b ∷ t) _ (byte-no isDigit b t e)
 
 module _ (text : List ℕ) (at : ℕ) (p : at < length text) (d : isDigit (getD text at 0) ≡ true) where
-  first-digit : number (drop at text) ≡ moreDigits always (cond (eqb (getD text at 0 - 48) 0) 0 6) (getD text at 0 - 48) (drop (at + 1) text)
+  first-digit : number (drop at text) ≡ moreDigits always (cond (eqb (getD text at 0 - 48) 0) 0 (maxDigits - 1)) (getD text at 0 - 48) (drop (at + 1) text)
   first-digit =
       rw (drop-cons text at 0 p, add-one)
       (number-is _ ∙ bind-got (byteThat isDigit) _ (drop (suc at) text) _ (getD text at 0) (byte-yes isDigit (getD text at 0) (drop (suc at) text) d))
@@ -225,7 +224,7 @@ module _ (text : List ℕ) (at : ℕ) (p : at < length text) (d : isDigit (getD 
   pub number-zero : getD text at 0 - 48 ≡ 0 → number (drop at text) ≡ got 0 (drop (at + 1) text)
   number-zero e = first-digit ∙ (rw e (more-none always 0 (drop (at + 1) text)))
 
-  pub number-more : (getD text at 0 - 48 ≡ 0 → ⊥) → number (drop at text) ≡ moreDigits always 6 (getD text at 0 - 48) (drop (at + 1) text)
+  pub number-more : (getD text at 0 - 48 ≡ 0 → ⊥) → number (drop at text) ≡ moreDigits always (maxDigits - 1) (getD text at 0 - 48) (drop (at + 1) text)
   number-more n = first-digit ∙ (rw (ne-eqb (getD text at 0 - 48) 0 n))
 
 -- ---- the value of digits
@@ -233,7 +232,7 @@ module _ (text : List ℕ) (at : ℕ) (p : at < length text) (d : isDigit (getD 
 pub value-next : (x d k : ℕ) → x < 10 ^ k → d ≤ 9 → x * 10 + d < 10 ^ (k + 1)
 value-next x d k p q = rw (add-one) (omega (arith, pow-suc 10 k))
 
-pub value-fits : (x k : ℕ) → x < 10 ^ k → k ≤ 7 → x < 10000000
+pub value-fits : (x k : ℕ) → x < 10 ^ k → k ≤ maxDigits → x < 10 ^ maxDigits
 value-fits x k p q = lt-of-lt-of-le p (pow-le-pow-right (omega arith) q)
 
 -- ---- a number, and the byte that ends it
@@ -305,12 +304,13 @@ module _ (text : List ℕ) (at : ℕ) (p : at < length text) (d : isDigit (getD 
       (side-is _ ∙ bind-stuck (byteThat startsSide) _ _ _ (byte-no startsSide b (drop (suc at) text) (and-yes (isDigit b) _ d ∙ within-low 1 maxSide (b - 48) (omega arith))))
 
   pub side-more : (getD text at 0 - 48 ≡ 0 → ⊥) → side (drop at text) ≡ moreDigits (within 1 maxSide) 1 (getD text at 0 - 48) (drop (at + 1) text)
+  unfolding maxSide
   side-more n =
       let b = getD text at 0 in
       rw (drop-cons text at 0 p, add-one)
-      (side-is _ ∙ bind-got (byteThat startsSide) _ (drop (suc at) text) _ b (byte-yes startsSide b (drop (suc at) text) (and-yes (isDigit b) _ d ∙ true-within 1 maxSide (b - 48) (omega arith) (rw side-limit (omega (arith, digit-high b d))))))
+      (side-is _ ∙ bind-got (byteThat startsSide) _ (drop (suc at) text) _ b (byte-yes startsSide b (drop (suc at) text) (and-yes (isDigit b) _ d ∙ true-within 1 maxSide (b - 48) (omega arith) (omega (arith, digit-high b d)))))
 
--- A side that was read is within 1 to 32.
+-- A side that was read is within its limits.
 more-passes : (test : ℕ → Bool) (k x : ℕ) (t : List ℕ) (m : ℕ) (rest : List ℕ) → test x ≡ true → moreDigits test k x t ≡ got m rest → test m ≡ true
 unfolding moreDigits
 more-passes test zero x t m rest p e = let z : x ≡ m = cc in rw z at p

@@ -110,7 +110,7 @@ module _ {B : Type 0} (name t : List ℕ) (K : ℕ → List ℕ → Reader B) wh
   list-then : whole t ≡ bySection t
   list-then = by-word (word name t) refl
 
--- A list that was read has 1 to 32 numbers.
+-- A list that was read has a length within the limits of a side.
 module _ (name t xs rest : List ℕ) (e : listReader name t ≡ got xs rest) where
   within-numbers : (m : ℕ) (v : List ℕ) (u : List ℕ) → line side u ≡ got m v → times m (line number) v ≡ got xs rest → within 1 maxSide (length xs) ≡ true
   within-numbers m v u s h = rw (times-length m (line number) v xs rest h) (line-side-within m v u s)

@@ -1,8 +1,9 @@
 // Read sheet. Each reader starts at a place of the text, and its answer says where it ended.
 ghost use mathlib.Core.Path.{_≡_};
 ghost use mathlib.Core.Bool.{true, false};
-ghost use Prim.Native.Nat.{_+_, _*_, _≤_, _<_};
+ghost use Prim.Native.Nat.{_+_, _*_, _-_, _≤_, _<_};
 ghost use lib.ListN.{length, take, drop};
+ghost use Rattle.transport.specs.Limits.{maxSide, maxDigits};
 ghost use Rattle.transport.specs.Text.{kindOf};
 ghost use Rattle.transport.specs.SheetText.{isDigit, word, moreDigits, number, side, sheetReader, readSheetCall};
 ghost use Rattle.transport.specs.Calls.{lentAfter};
@@ -97,7 +98,7 @@ fn read_word(text: &[u8], at: usize, expected: &[u8]) -> Taken
 fn more_digits(text: &[u8], at: usize, first: u64) -> Taken
     requires { ⌜ (at ≤ length (now text)) × (first < 10) ⌝ }
     ensures { λ r. ⌜
-        (moreDigits always 6 first (drop at (now (text .entry))) ≡ readingOf (now (text .entry)) (λ v. v) r)
+        (moreDigits always (maxDigits - 1) first (drop at (now (text .entry))) ≡ readingOf (now (text .entry)) (λ v. v) r)
         × (placeOf r ≤ length (now (text .entry)))
         ⌝ }
 {
@@ -131,7 +132,7 @@ fn read_number(text: &[u8], at: usize) -> Taken
     more_digits(text, next, leading)
 }
 
-// A count of sources or sinks: 1 to 32.
+// A count of sources or sinks: 1 to MAX_SIDE.
 fn read_side(text: &[u8], at: usize) -> Taken
     requires { ⌜ at ≤ length (now text) ⌝ }
     ensures { λ r. ⌜ (side (drop at (now (text .entry))) ≡ readingOf (now (text .entry)) (λ v. v) r) × (placeOf r ≤ length (now (text .entry))) ⌝ }
@@ -205,11 +206,11 @@ fn read_lines(text: &[u8], at: usize, width: usize, count: usize, list: &mut [u6
 
 // A section of one list: its name, with the space after it, its count, and so many lines of one number. The value is the count.
 fn read_list(text: &[u8], at: usize, name: &[u8], list: &mut [u64]) -> Taken
-    requires { ⌜ (at ≤ length (now text)) × (32 ≤ length (now list)) ⌝ }
+    requires { ⌜ (at ≤ length (now text)) × (maxSide ≤ length (now list)) ⌝ }
     ensures { λ r. ⌜
         (listReader (now (name .entry)) (drop at (now (text .entry))) ≡ readingOf (now (text .entry)) (λ v. take v (now (list .exit))) r)
         × (placeOf r ≤ length (now (text .entry)))
-        × (valueOf r ≤ 32)
+        × (valueOf r ≤ maxSide)
         ⌝ }
 {
     let head = read_word(text, at, name);
@@ -225,7 +226,7 @@ fn read_list(text: &[u8], at: usize, name: &[u8], list: &mut [u64]) -> Taken
 
 // The section of the costs: its head line with the count of sources, and as many lines of as many numbers as there are sinks.
 fn read_costs(text: &[u8], at: usize, m: usize, n: usize, list: &mut [u64]) -> Taken
-    requires { ⌜ (at ≤ length (now text)) × (m ≤ 32) × (1 ≤ n) × (n ≤ 32) × (m * n ≤ length (now list)) ⌝ }
+    requires { ⌜ (at ≤ length (now text)) × (m ≤ maxSide) × (1 ≤ n) × (n ≤ maxSide) × (m * n ≤ length (now list)) ⌝ }
     ensures { λ r. ⌜
         (costReader m n (drop at (now (text .entry))) ≡ readingOf (now (text .entry)) (λ v. take v (now (list .exit))) r)
         × (placeOf r ≤ length (now (text .entry)))
@@ -258,7 +259,7 @@ fn read_sections(
     demand: &mut [u64],
     cost: &mut [u64],
 ) -> ReadAnswer
-    requires { ⌜ (32 ≤ length (now supply)) × (32 ≤ length (now demand)) × (1024 ≤ length (now cost)) ⌝ }
+    requires { ⌜ (maxSide ≤ length (now supply)) × (maxSide ≤ length (now demand)) × (maxSide * maxSide ≤ length (now cost)) ⌝ }
     ensures { λ r. ⌜
         (sheetReader (now (text .entry)) ≡ sheetRead (now (text .entry)) (now (supply .exit)) (now (demand .exit)) (now (cost .exit)) r)
         × (readFits (now (text .entry)) r)
@@ -327,8 +328,8 @@ fn store_sheet(
     cost: &mut [u64],
 ) -> ReadAnswer
     requires { ⌜
-        (length (now «sheet_supply») ≤ 32)
-        × (length (now «sheet_demand») ≤ 32)
+        (length (now «sheet_supply») ≤ maxSide)
+        × (length (now «sheet_demand») ≤ maxSide)
         × (length (now «sheet_cost») ≡ length (now «sheet_supply») * length (now «sheet_demand»))
         ⌝ }
     ensures { λ r. ⌜ Stored (sheetOf (now («sheet_supply» .entry)) (now («sheet_demand» .entry)) (now («sheet_cost» .entry))) (now (supply .entry)) (now (demand .entry)) (now (cost .entry)) r (now (supply .exit)) (now (demand .exit)) (now (cost .exit)) ⌝ }

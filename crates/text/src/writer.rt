@@ -1,8 +1,9 @@
 // Write sheet. Each part of the text is written at the front of what the parts before it left of the output, and its writer gives its length.
 ghost use mathlib.Core.Path.{_≡_};
 ghost use mathlib.Core.List.{_++_};
-ghost use Prim.Native.Nat.{_+_, _≤_};
+ghost use Prim.Native.Nat.{_+_, _*_, _≤_};
 ghost use lib.ListN.{length};
+ghost use Rattle.transport.specs.Limits.{maxSide};
 ghost use Rattle.transport.specs.Text.{digits};
 ghost use Rattle.transport.specs.SheetText.{sheetText, writeSheetCall};
 ghost use Rattle.transport.specs.Calls.{lentAfter};
@@ -18,8 +19,8 @@ use transport::WriteAnswer;
 
 // The length of numbers in lines: each with the byte that ends it.
 fn numbers_len(numbers: &[u64]) -> usize
-    requires { ⌜ length (now numbers) ≤ 1024 ⌝ }
-    ensures { λ r. ⌜ (r ≡ numbersLength (now (numbers .entry))) × (r ≤ 21504) ⌝ }
+    requires { ⌜ length (now numbers) ≤ maxSide * maxSide ⌝ }
+    ensures { λ r. ⌜ (r ≡ numbersLength (now (numbers .entry))) × (r ≤ maxSide * maxSide * 21) ⌝ }
 {
     let mut len: usize = 0;
     let mut i: usize = 0;
@@ -99,8 +100,8 @@ fn write_section(name: &[u8], count: usize, width: usize, numbers: &[u64], out: 
 
 // The length of a section.
 fn section_len(name: &[u8], count: usize, numbers: &[u64]) -> usize
-    requires { ⌜ (length (now name) ≤ 8) × (length (now numbers) ≤ 1024) ⌝ }
-    ensures { λ r. ⌜ (r ≡ length (now (name .entry)) + (length (digits count) + 1) + numbersLength (now (numbers .entry))) × (r ≤ 21533) ⌝ }
+    requires { ⌜ (length (now name) ≤ 8) × (length (now numbers) ≤ maxSide * maxSide) ⌝ }
+    ensures { λ r. ⌜ (r ≡ length (now (name .entry)) + (length (digits count) + 1) + numbersLength (now (numbers .entry))) × (r ≤ maxSide * maxSide * 21 + 29) ⌝ }
 {
     name.len() + (number::digit_count(count as u64) + 1) + numbers_len(numbers)
 }

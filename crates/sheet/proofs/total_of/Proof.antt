@@ -1,19 +1,18 @@
--- The loop's invariant: the sum of the first i amounts, each of which is at most 1,000,000.
+-- The loop's invariant: the sum of the first i amounts, each of which is within its limit.
 use borrow.Author.Needs.{needs}
 use mathlib.Core.Path.{_≡_, ap, _∙_}
 use Prim.Native.Nat.{ℕ, _≤_, _-_, _*_}
 use native.Mathlib.Omega.{arith}
 use lib.ListN.{length, getD}
 use Rattle.transport.specs.Lists.{sumTo, at, total}
-use Rattle.transport.specs.Limits.{maxAmount}
+use Rattle.transport.specs.Limits.{maxSide, maxAmount}
 use Rattle.transport.specs.ListLaws.{sumTo-zero, sumTo-one}
 use Rattle.transport.specs.SheetLaws.{all-within-high}
-use Rattle.sheet.specs.Laws.{side-limit, amount-limit}
 use Rattle.sheet.proofs.total_of.Statement.{statement}
 use Rattle.sheet.proofs.total_of.Tie as tie
 
 abbrev Inv-loop : tie.InvT-loop
-Inv-loop amounts sum₀ i₀ sum i = (i ≤ length amounts) × (sum ≤ i * 1000000) × (sum ≡ sumTo i (at amounts))
+Inv-loop amounts sum₀ i₀ sum i = (i ≤ length amounts) × (sum ≤ i * maxAmount) × (sum ≡ sumTo i (at amounts))
 
 abbrev μ-loop : tie.MeasureT-loop
 μ-loop amounts sum₀ i₀ sum i = length amounts - i
@@ -27,12 +26,13 @@ mul-sum c = search needs
 shared-slice-read-sum : tie.Need-shared-slice-read-sum Inv-loop μ-loop
 shared-slice-read-sum c = search needs
 
-small : (c : tie.In-loop Inv-loop μ-loop) → getD (c .before .before .args .amounts .now) (c .before .loop .i) 0 ≤ 1000000
+small : (c : tie.In-loop Inv-loop μ-loop) → getD (c .before .before .args .amounts .now) (c .before .loop .i) 0 ≤ maxAmount
 unfolding at
-small c = omega (arith, amount-limit, all-within-high 1 maxAmount (c .before .before .args .amounts .now) (c .before .before .pre .1) (c .before .loop .i))
+small c = all-within-high 1 maxAmount (c .before .before .args .amounts .now) (c .before .before .pre .1) (c .before .loop .i)
 
 add-sum : tie.Need-add-sum Inv-loop μ-loop
-add-sum c = omega (arith, small (c .before), side-limit)
+unfolding maxSide maxAmount
+add-sum c = omega (arith, small (c .before))
 
 add-i : tie.Need-add-i Inv-loop μ-loop
 add-i c = search needs

@@ -5,9 +5,10 @@ use native.Mathlib.Omega.{arith}
 use lib.ListN.{length, drop}
 use lib.ListN.{take}
 use lib.Seq.{length-take-le}
+use Rattle.transport.specs.Limits.{maxSide}
 use Rattle.transport.specs.Text.{bytes, headLine}
 use Rattle.transport.specs.SheetText.{word}
-use Rattle.sheet.specs.Laws.{sides-product, side-limit}
+use Rattle.sheet.specs.Laws.{sides-product}
 use Rattle.text.specs.Digits.{length-digits-le}
 use Rattle.text.specs.Front.{front-take, length-front}
 use Rattle.text.specs.Lines.{ended, length-ended, head-cost}
@@ -24,6 +25,7 @@ slice-aggregate-write-head-2 : tie.Need-slice-aggregate-write-head-2
 slice-aggregate-write-head-2 c = search needs
 
 short : (c : tie.Start) → length (ended (c .args .m) 10) ≤ 3
+unfolding maxSide
 short c = omega (arith, length-ended (c .args .m) 10, length-digits-le 1 (c .args .m) (omega (arith, c .pre .1)))
 
 write-head-requires : tie.Need-write-head-requires
@@ -63,7 +65,7 @@ returns c =
     (rw stopped (cost-unnamed (a .m) (a .n) (drop (a .at) (a .text .now)) _ (headed (c .before .before) ∙ (rw stopped))), w .ensures .1, rw stopped tt)
 
 mul-read-lines : tie.Need-mul-read-lines
-mul-read-lines c = record { fits = sides-product _ _ (rw side-limit (c .before .before .before .before .before .before .before .before .before .before .before .pre .1)) (rw side-limit (c .before .before .before .before .before .before .before .before .before .before .before .pre .3)) }
+mul-read-lines c = record { fits = sides-product _ _ (c .before .before .before .before .before .before .before .before .before .before .before .pre .1) (c .before .before .before .before .before .before .before .before .before .before .before .pre .3) }
 
 read-lines-requires : tie.Need-read-lines-requires
 read-lines-requires c κs =

@@ -6,7 +6,6 @@ use lib.ListN.{length, drop}
 use Rattle.transport.specs.SheetText.{got, word, line, side}
 use Rattle.transport.specs.Limits.{maxSide}
 use Rattle.transport.specs.SheetLaws.{within-true}
-use Rattle.sheet.specs.Laws.{side-limit}
 use Rattle.text.specs.Reading.{readingOf, value-le, line-end, line-side-within}
 use Rattle.text.specs.SheetRead.{list-unnamed, list-uncounted, list-counted}
 use borrow.Author.Needs.{needs}
@@ -72,8 +71,8 @@ module _ (c : tie.After-known-told2) where
   counted-as : line side (drop (next (c .before .before .before .before .before)) (c .before .before .before .before .before .before .before .before .before .before .before .before .args .text .now)) ≡ got count (drop after (c .before .before .before .before .before .before .before .before .before .before .before .before .args .text .now))
   counted-as = counted (c .before .before .before) ∙ ap (readingOf (c .before .before .before .before .before .before .before .before .before .before .before .before .args .text .now) (λ v. v)) (c .before .count .given .1)
 
-  few : count ≤ 32
-  few = rw side-limit at (within-true 1 maxSide count (line-side-within count _ _ counted-as) .1)
+  few : count ≤ maxSide
+  few = within-true 1 maxSide count (line-side-within count _ _ counted-as) .1
 
   after-inside : after ≤ length (c .before .before .before .before .before .before .before .before .before .before .before .before .args .text .now)
   after-inside = rw (c .before .count .given .1) at (c .before .before .before .read-end .ensures .1)

@@ -64,7 +64,7 @@ module _ (c : tie.After-known-told) where
   supply-inside : supplyEnd ≤ length (c .before .before .before .before .before .before .before .before .before .before .before .before .args .text .now)
   supply-inside = rw (c .before .first .given .1) at (c .before .before .before .before .before .read-list .ensures .1)
 
-  m-few : m ≤ 32
+  m-few : m ≤ maxSide
   m-few = rw (c .before .first .given .1) at (c .before .before .before .before .before .read-list .ensures .2)
 
   m-length : length (take m supplies) ≡ m
@@ -117,7 +117,7 @@ module _ (c : tie.After-known-told2) where
   demand-inside : demandEnd ≤ length (c .before .before .before .before .before .before .before .before .before .before .before .before .before .before .before .before .before .before .before .before .args .text .now)
   demand-inside = rw (c .before .second .given .1) at (c .before .before .before .before .before .read-list2 .ensures .1)
 
-  n-few : n ≤ 32
+  n-few : n ≤ maxSide
   n-few = rw (c .before .second .given .1) at (c .before .before .before .before .before .read-list2 .ensures .2)
 
   n-length : length (take n demands) ≡ n

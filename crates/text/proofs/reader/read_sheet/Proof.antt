@@ -14,8 +14,9 @@ use native.Mathlib.Nat.{le-trans, mul-le-mul}
 use lib.Seq.{length-take-le}
 use Rattle.transport.specs.declared.ReadAnswer.{ReadAnswer}
 use Rattle.transport.specs.declared.ReadAnswer.the-variants as ReadAnswer
+use Rattle.transport.specs.Limits.{maxSide}
 use Rattle.transport.specs.SheetText.{got, sheetReader}
-use Rattle.sheet.specs.Laws.{sides-product, side-limit}
+use Rattle.sheet.specs.Laws.{sides-product}
 use Rattle.text.specs.ReadCall.{sheetRead, readFits, frontSheet, Read, read-stuck, read-got}
 use borrow.Author.Needs.{needs}
 use Rattle.text.proofs.reader.read_sheet.Statement.{statement}
@@ -31,6 +32,7 @@ slice-aggregate-read-sections-3 : tie.Need-slice-aggregate-read-sections-3
 slice-aggregate-read-sections-3 c = search needs
 
 read-sections-requires : tie.Need-read-sections-requires
+unfolding maxSide
 read-sections-requires c κs = search needs
 
 enum-known-answer : tie.Need-enum-known-answer
@@ -70,12 +72,15 @@ module _ (c : tie.After-known-told) where
   sheet-is = c .before .before .before .before .before .before .read-sections .ensures .0 ∙ ap (sheetRead (c .before .before .before .before .before .before .before .before .before .before .before .before .before .before .args .text .now) supplies demands costs) (c .before .answer .given .1)
 
   m-room : m ≤ length supplies
+  unfolding maxSide
   m-room = omega (arith, fits .1, c .before .before .before .before .before .before .read-sections .kept)
 
   n-room : n ≤ length demands
+  unfolding maxSide
   n-room = omega (arith, fits .3, c .before .before .before .before .before .before .read-sections .kept)
 
   lanes-room : m * n ≤ length costs
+  unfolding maxSide
   lanes-room = le-trans (mul-le-mul (fits .1) (fits .3)) (omega (arith, c .before .before .before .before .before .before .read-sections .kept))
 
   m-length : length (take m supplies) ≡ m
@@ -88,7 +93,7 @@ module _ (c : tie.After-known-told) where
   lanes-length = length-take-le (m * n) costs lanes-room
 
 mul-lanes : tie.Need-mul-lanes
-mul-lanes c = record { fits = sides-product (m c) (n c) (rw side-limit (fits c .1)) (rw side-limit (fits c .3)) }
+mul-lanes c = record { fits = sides-product (m c) (n c) (fits c .1) (fits c .3) }
 
 array-share-prefix-supplies : tie.Need-array-share-prefix-supplies
 array-share-prefix-supplies c = m-room c

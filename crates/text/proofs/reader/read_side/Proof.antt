@@ -1,4 +1,4 @@
--- The first digit decides whether there is a side, and the second belongs to it as long as it stays within 32.
+-- The first digit decides whether there is a side, and the second belongs to it as long as it stays within the limit.
 use mathlib.Core.Path.{_≡_, sym, _∙_}
 use mathlib.Core.Bool.{true}
 use Prim.Native.Nat.{_<_, _+_, _-_}
@@ -9,7 +9,6 @@ use Rattle.transport.specs.Lists.{within}
 use Rattle.transport.specs.Limits.{maxSide}
 use Rattle.transport.specs.SheetText.{isDigit}
 use Rattle.transport.specs.SheetLaws.{true-within, within-high}
-use Rattle.sheet.specs.Laws.{side-limit}
 use Rattle.text.specs.Reading.{digitNext, digit-inside, digit-found, digit-low, digit-high, more-none, more-stop, more-step, more-over, side-stuck, side-zero, side-more}
 use borrow.Author.Needs.{needs}
 use Rattle.text.proofs.reader.read_side.Statement.{statement}
@@ -85,11 +84,12 @@ add-both : tie.Need-add-both
 add-both c = omega (arith, digit-high _ (first-digit (c .before .before .before .before .before)), digit-high _ (second-digit (c .before)))
 
 returns-4 : tie.Need-returns-4
+unfolding maxSide
 returns-4 c =
     let a = c .before .before .before .before .before .before .before .before .before .args in
     let e = c .before .before .before .before .before .before in (
       side-more (a .text .now) (a .at) (first-inside e) (first-digit e) (c .before .before .before .before .if2 .left)
-          ∙ more-over (within 1 maxSide) _ 0 (a .text .now) (a .at + 1) (second-inside (c .before .before)) (second-digit (c .before .before)) (within-high 1 maxSide _ (rw side-limit (c .if4 .taken))),
+          ∙ more-over (within 1 maxSide) _ 0 (a .text .now) (a .at + 1) (second-inside (c .before .before)) (second-digit (c .before .before)) (within-high 1 maxSide _ (c .if4 .taken)),
       omega (arith, first-inside e),
     )
 
@@ -97,11 +97,12 @@ add-t14 : tie.Need-add-t14
 add-t14 c = search needs
 
 returns-5 : tie.Need-returns-5
+unfolding maxSide
 returns-5 c =
     let a = c .before .before .before .before .before .before .before .before .before .args in
     let e = c .before .before .before .before .before .before in (
       side-more (a .text .now) (a .at) (first-inside e) (first-digit e) (c .before .before .before .before .if2 .left)
-          ∙ more-step (within 1 maxSide) _ 0 (a .text .now) (a .at + 1) (second-inside (c .before .before)) (second-digit (c .before .before)) (true-within 1 maxSide _ (omega arith) (rw side-limit (c .if4 .left)))
+          ∙ more-step (within 1 maxSide) _ 0 (a .text .now) (a .at + 1) (second-inside (c .before .before)) (second-digit (c .before .before)) (true-within 1 maxSide _ (omega arith) (c .if4 .left))
           ∙ more-none (within 1 maxSide) _ _,
       omega (arith, second-inside (c .before .before)),
     )

@@ -10,7 +10,6 @@ use lib.Dec.{leb}
 use lib.ListN.{length}
 use Rattle.transport.specs.Sheet.{Sheet, refusal, numberTests}
 use Rattle.sheet.specs.Check.{sheetOf, accepted-none, refused-some}
-use Rattle.sheet.specs.Laws.{side-limit}
 use Rattle.text.specs.ReadCall.{all-fit, stored-number, stored-tight, stored-given}
 use Rattle.text.proofs.reader.store_sheet.Statement.{statement}
 use Rattle.text.proofs.reader.store_sheet.Tie as tie
@@ -31,7 +30,7 @@ abbrev startOf : (c : tie.After-enum-told) → tie.Start
 startOf c = c .before .before .before .before .before .before .before .before .before
 
 check-numbers-requires : tie.Need-check-numbers-requires
-check-numbers-requires c κs = rw side-limit (c .before .before .before .before .before .before .pre .0, c .before .before .before .before .before .before .pre .1)
+check-numbers-requires c κs = (c .before .before .before .before .before .before .pre .0, c .before .before .before .before .before .before .pre .1)
 
 enum-known-check : tie.Need-enum-known-check
 enum-known-check c = search needs

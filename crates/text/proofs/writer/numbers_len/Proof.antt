@@ -4,6 +4,7 @@ use mathlib.Core.Path.{_≡_}
 use Prim.Native.Nat.{_≤_, _+_, _-_, _*_}
 use native.Mathlib.Omega.{arith}
 use lib.ListN.{length, drop, getD}
+use Rattle.transport.specs.Limits.{maxSide}
 use Rattle.text.specs.Digits.{length-digits-le}
 use Rattle.text.specs.Lines.{numbersLength, numbers-next, numbers-end}
 use Rattle.text.proofs.writer.numbers_len.Statement.{statement}
@@ -36,6 +37,7 @@ add-len : tie.Need-add-len Inv-loop μ-loop
 add-len c = omega (arith, few c)
 
 add-len-2 : tie.Need-add-len-2 Inv-loop μ-loop
+unfolding maxSide
 add-len-2 c = omega (arith, few c)
 
 add-i : tie.Need-add-i Inv-loop μ-loop

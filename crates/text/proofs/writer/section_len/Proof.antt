@@ -1,6 +1,7 @@
 -- The lengths of the parts; a count has at most 20 digits.
 use Prim.Native.Nat.{_≤_}
 use native.Mathlib.Omega.{arith}
+use Rattle.transport.specs.Limits.{maxSide}
 use Rattle.text.specs.Digits.{length-digits-le}
 use borrow.Author.Needs.{needs}
 use Rattle.text.proofs.writer.section_len.Statement.{statement}
@@ -22,6 +23,7 @@ numbers-len-requires : tie.Need-numbers-len-requires
 numbers-len-requires c κs = search needs
 
 add-result-3 : tie.Need-add-result-3
+unfolding maxSide
 add-result-3 c = omega (arith, few (c .before))
 
 returns : tie.Need-returns

@@ -3,6 +3,7 @@ use mathlib.Core.Path.{ap}
 use native.Mathlib.Omega.{arith}
 use mathlib.Core.List.{_++_}
 use lib.ListN.{length, length-append}
+use Rattle.transport.specs.Limits.{maxSide}
 use Rattle.transport.specs.Text.{bytes}
 use Rattle.sheet.specs.Check.{sheetOf}
 use Rattle.sheet.specs.Refusals.{sources-few, sinks-few, sinks-some, costs-few, costs-whole}
@@ -15,6 +16,7 @@ slice-aggregate-section-len : tie.Need-slice-aggregate-section-len
 slice-aggregate-section-len c = search needs
 
 section-len-requires : tie.Need-section-len-requires
+unfolding maxSide
 section-len-requires c κs =
     let a = c .before .before .before .before .args in
     let S = sheetOf (a .supply .now) (a .demand .now) (a .cost .now) in
@@ -24,12 +26,14 @@ slice-aggregate-section-len-2 : tie.Need-slice-aggregate-section-len-2
 slice-aggregate-section-len-2 c = search needs
 
 section-len-requires-2 : tie.Need-section-len-requires-2
+unfolding maxSide
 section-len-requires-2 c κs =
     let a = c .before .before .before .before .before .before .args in
     let S = sheetOf (a .supply .now) (a .demand .now) (a .cost .now) in
     omega (arith, sinks-few S (c .before .before .before .before .before .before .pre))
 
 add-result : tie.Need-add-result
+unfolding maxSide
 add-result c = search needs
 
 slice-aggregate-section-len-3 : tie.Need-slice-aggregate-section-len-3
@@ -42,6 +46,7 @@ section-len-requires-3 c κs =
     (omega arith, costs-few S (c .before .before .before .before .before .before .before .before .pre))
 
 add-result-2 : tie.Need-add-result-2
+unfolding maxSide
 add-result-2 c = search needs
 
 returns : tie.Need-returns
