@@ -14,6 +14,7 @@ use Rattle.transport.specs.Limits.{maxSide, maxCost}
 use Rattle.transport.specs.Lists.{table}
 use Rattle.transport.specs.ListLaws.{length-table, getD-table}
 use Rattle.transport.specs.Sheet.{Lane}
+use Rattle.transport.specs.SheetLaws.{lane}
 use Rattle.transport.specs.Leaf.{Strike}
 
 -- The lane of row i and column j lies at i * stride + j.
@@ -43,6 +44,13 @@ placeOf l = l .row * stride + l .col
 
 pub place-laneAt : (l : ℕ) → placeOf (laneAt l) ≡ l
 place-laneAt l = div-add-mod' l stride
+
+-- The lane of row i and column j lies at i * stride + j.
+pub laneAt-place : (i j : ℕ) → j < stride → laneAt (i * stride + j) ≡ lane i j
+laneAt-place i j l =
+    let p : (i * stride + j) / stride ≡ i = omega arith in
+    let q : (i * stride + j) % stride ≡ j = omega arith in
+    λ t. lane (p t) (q t)
 
 -- A cost for each lane.
 abbrev pub costOf : List ℤ → Lane → ℤ

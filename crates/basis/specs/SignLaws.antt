@@ -4,9 +4,9 @@ use native.Mathlib.Omega.{arith}
 use native.Mathlib.Numerals.{add-one}
 use native.Mathlib.Nat.{eq-or-lt-of-le}
 use mathlib.Core.Path.{_≡_, refl, sym, ap, _∙_}
-use mathlib.Core.Logic.{⊎-elim}
+use mathlib.Core.Logic.{_≢_, ⊎-elim}
 use mathlib.Core.Bool.{Bool, true, false, cond}
-use mathlib.Core.List.{List, _∷_, append-nil}
+use mathlib.Core.List.{List, append-nil}
 use lib.Dec.{eqb}
 use lib.IntN.{ℤ, pos, negsuc, natAbs, _-ℤ_, +ℤ-invr}
 use lib.Signed.{ltZ}
@@ -14,47 +14,19 @@ use lib.ListN.{length, take, getD, set, length-set}
 use lib.Seq.{getD-set-other, lt-length-set, take-suc-set, take-set-le}
 use borrow.Author.Tests.{eqb-true, eq-eqb, ne-eqb}
 use Rattle.transport.specs.Lists.{sumTo, keep}
-use Rattle.transport.specs.ListLaws.{sumTo-none, sumTo-each, sumTo-cong, and-left, and-right, keep-one}
+use Rattle.transport.specs.ListLaws.{sumTo-none, sumTo-each, sumTo-cong, keep-one}
 use Rattle.transport.specs.Sheet.{Lane}
-use Rattle.transport.specs.Tableau.{sameLane}
 use Rattle.transport.specs.Leaf.{Strike}
 use Rattle.transport.specs.Round.{takeFrom, flow, sign}
+use Rattle.transport.specs.RoundLaws.{leftBy, flow-here, flow-later}
 use Rattle.transport.specs.RangeLaws.{abs-diff}
 use Rattle.basis.specs.Layout.{nodeRoom, laneAt, placeOf, place-laneAt, strikeOf, strikesOf, strikesFrom, strikesFrom-cons, getD-set, Distinct, Struck}
 
 -- ---- one strike
 
--- The weights that are left after a strike.
-abbrev pub leftBy : (ℕ → ℤ) → Strike → ℕ → ℤ
-leftBy weight s = takeFrom (takeFrom weight (s .leaf) (weight (s .leaf))) (s .other) (weight (s .leaf))
-
-flow-here : (weight : ℕ → ℤ) (s : Strike) (ss : List Strike) (l : Lane) → sameLane l (s .lane) ≡ true → flow weight (s ∷ ss) l ≡ weight (s .leaf)
-unfolding flow
-flow-here weight s ss l e = rw (flow, e)
-
-flow-later : (weight : ℕ → ℤ) (s : Strike) (ss : List Strike) (l : Lane) → sameLane l (s .lane) ≡ false
-    → flow weight (s ∷ ss) l ≡ flow (leftBy weight s) ss l
-unfolding flow
-flow-later weight s ss l e = rw (flow, e)
-
-sameLane-self : (l : Lane) → sameLane l l ≡ true
-unfolding sameLane
-sameLane-self l = rw (eq-eqb (l .row) (l .row) refl, eq-eqb (l .col) (l .col) refl)
-
-pub sameLane-true : (k l : Lane) → sameLane k l ≡ true → k ≡ l
-unfolding sameLane
-sameLane-true k l e =
-    let p = eqb-true (k .row) (l .row) (and-left (eqb (k .row) (l .row)) (eqb (k .col) (l .col)) e) in
-    let q = eqb-true (k .col) (l .col) (and-right (eqb (k .row) (l .row)) (eqb (k .col) (l .col)) e) in
-    λ i. record { row = p i; col = q i }
-
 -- Lanes at different places differ.
-sameLane-places : (k l : ℕ) → (k ≡ l → ⊥) → sameLane (laneAt k) (laneAt l) ≡ false
-sameLane-places k l n = go (sameLane (laneAt k) (laneAt l)) refl
-  where
-    go : (b : Bool) → sameLane (laneAt k) (laneAt l) ≡ b → sameLane (laneAt k) (laneAt l) ≡ false
-    go true e = absurd (n (sym (place-laneAt k) ∙ ap placeOf (sameLane-true (laneAt k) (laneAt l) e) ∙ place-laneAt l))
-    go false e = e
+places-apart : (k l : ℕ) → (k ≡ l → ⊥) → laneAt k ≢ laneAt l
+places-apart k l n e = n (sym (place-laneAt k) ∙ ap placeOf e ∙ place-laneAt l)
 
 pub takeFrom-cond : (weight : ℕ → ℤ) (k : ℕ) (y : ℤ) (j : ℕ) → takeFrom weight k y j ≡ cond (eqb j k) (weight j -ℤ y) (weight j)
 unfolding takeFrom
@@ -235,7 +207,7 @@ module _ {start : ℕ → ℤ} {most : ℕ} {leaf other lane : List ℕ} {count 
   flow-now =
       h .same k (omega arith) p
       ∙ (rw (strikesFrom-cons leaf other lane count k p))
-      ∙ flow-here (weightsOf need) (strikeOf leaf other lane k) (strikesFrom leaf other lane count (suc k)) l (sameLane-self l)
+      ∙ flow-here (weightsOf need) (strikeOf leaf other lane k) (strikesFrom leaf other lane count (suc k))
 
   -- .. and that is taken from both its ends.
   pub needed-step : Distinct lane count
@@ -252,7 +224,7 @@ module _ {start : ℕ → ℤ} {most : ℕ} {leaf other lane : List ℕ} {count 
         same = λ i q r.
             h .same i (omega arith) r
             ∙ (rw (strikesFrom-cons leaf other lane count k p))
-            ∙ flow-later (weightsOf need) s rest (laneAt (getD lane i 0)) (sameLane-places (getD lane i 0) (getD lane k 0) (n k i (omega arith) r))
+            ∙ flow-later (weightsOf need) s rest (laneAt (getD lane i 0)) (places-apart (getD lane i 0) (getD lane k 0) (n k i (omega arith) r))
             ∙ ap (λ (v : ℕ → ℤ). flow v rest (laneAt (getD lane i 0))) (sym left)
             ∙ rw add-one;
       }

@@ -9,7 +9,7 @@ pub mod step;
 // The room for nodes, and for lanes.
 pub const NODES: usize = 2 * transport::MAX_SIDE;
 
-pub const LANES: usize = transport::MAX_SIDE * transport::MAX_SIDE;
+pub const LANES: usize = transport::MAX_LANES;
 
 // A cost or a potential: wide enough for NODES costs together.
 pub type Price = i32;

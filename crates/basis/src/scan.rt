@@ -15,7 +15,7 @@ pub const PAD: Price = 500_000_000;
 const FAR: Price = 1_000_000_000;
 
 // The least reduced cost of row i, over all columns that there is room for.
-pub fn least_in_row(cost: &[Price; LANES], price: &[Price; NODES], m: usize, i: usize) -> Price
+fn least_in_row(cost: &[Price; LANES], price: &[Price; NODES], m: usize, i: usize) -> Price
     requires { ⌜ InRange (now cost) (now price) m ⌝ }
     requires { ⌜ i < m ⌝ }
     ensures { λ r. ⌜ r ≡ rowLeast (now (cost .entry)) (now (price .entry)) m i ⌝ }
@@ -33,7 +33,7 @@ pub fn least_in_row(cost: &[Price; LANES], price: &[Price; NODES], m: usize, i: 
 }
 
 // The first column of row i where the cost less the sink's potential is `slack`; MAX_SIDE if there is none.
-pub fn place_in_row(
+fn place_in_row(
     cost: &[Price; LANES],
     price: &[Price; NODES],
     m: usize,

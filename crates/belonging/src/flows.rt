@@ -8,7 +8,7 @@ ghost use Rattle.belonging.specs.Carried.{Light, carries};
 
 // Forwards through the strikes: a leaf's lane must carry exactly what the leaf still needs, which is then taken from both ends of the lane. Amounts are compared
 // and never added up, so that none can be too great. The weights are used up.
-pub fn flows_match(
+pub(crate) fn flows_match(
     weight: &mut [i64; NODES],
     amount: &[i64; LANES],
     leaf: &[usize; NODES],

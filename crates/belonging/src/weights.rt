@@ -22,7 +22,7 @@ fn put_from(amounts: &[u64], from: usize, weight: &mut [i64; NODES])
 }
 
 // Bags: each supply at its row's node, each demand at its column's.
-pub fn weigh_bags(supply: &[u64], demand: &[u64], weight: &mut [i64; NODES])
+pub(crate) fn weigh_bags(supply: &[u64], demand: &[u64], weight: &mut [i64; NODES])
     requires { ⌜ Modest (now supply) × Modest (now demand) ⌝ }
     ensures { λ _. ⌜ Weights (length (now (supply .entry))) (length (now (demand .entry))) (at (now (supply .entry))) (at (now (demand .entry))) (now (weight .exit)) ⌝ }
 {
@@ -32,7 +32,7 @@ pub fn weigh_bags(supply: &[u64], demand: &[u64], weight: &mut [i64; NODES])
 }
 
 // Marks: one at each row's node, and as many as there are rows at the last column's.
-pub fn weigh_marks(m: usize, n: usize, weight: &mut [i64; NODES])
+pub(crate) fn weigh_marks(m: usize, n: usize, weight: &mut [i64; NODES])
     requires { ⌜ (m ≤ stride) × (1 ≤ n) × (n ≤ stride) ⌝ }
     ensures { λ _. ⌜ Weights m n (λ i. 1) (markOf m n) (now (weight .exit)) ⌝ }
 {

@@ -2,7 +2,7 @@
 use Prim.Native.Nat.{ℕ, zero, suc, _+_, _*_, _<_, _≤_}
 use native.Mathlib.Omega.{arith}
 use mathlib.Core.Path.{_≡_, refl, sym, ap, _∙_}
-use mathlib.Core.Bool.{Bool, true, false, _&&_, _||_, cond, false≢true}
+use mathlib.Core.Bool.{Bool, true, false, _&&_, _||_, cond, false≢true, or-true, and-comm}
 use mathlib.Core.List.{List, [], _∷_}
 use mathlib.Core.Logic.{_↔_, _≢_, _⊎_, inl, inr}
 use lib.Dec.{eqb}
@@ -47,10 +47,6 @@ unfolding isBasic
 basic-at [] k i j l p q = absurd (omega arith)
 basic-at (c ∷ cs) zero i j l p q = rw (eq-eqb (c .row) i p, eq-eqb (c .col) j q)
 basic-at (c ∷ cs) (suc k) i j l p q = rw (basic-at cs k i j (omega arith) p q) (or-true (eqb (c .row) i && eqb (c .col) j))
-  where
-    or-true : (b : Bool) → b || true ≡ true
-    or-true true = refl
-    or-true false = refl
 
 pub true-isBasic : {T : List Cell} {i j : ℕ} → Basic T i j → isBasic T i j ≡ true
 true-isBasic {T} {i} {j} b = basic-at T (b .index) i j (b .below) (b .row) (b .column)
@@ -150,17 +146,11 @@ module _ (m i j : ℕ) (adj : List ℕ) (p : i < m) where
   linked-column h k l =
       let masks = set adj i (put (getD adj i 0) j) in
       has-set-put masks (m + j) i (m + k) h (lt-length-set adj i (put (getD adj i 0) j) l)
-      ∙ rw (same-offset (eqb j k) refl, getD-set-other adj i (m + k) (put (getD adj i 0) j) 0 (λ s. omega arith), and-turn (eqb j k) (eqb i h))
+      ∙ rw (same-offset (eqb j k) refl, getD-set-other adj i (m + k) (put (getD adj i 0) j) 0 (λ s. omega arith), and-comm (eqb j k) (eqb i h))
     where
       same-offset : (t : Bool) → eqb j k ≡ t → eqb (m + j) (m + k) ≡ eqb j k
       same-offset true s = rw s (eq-eqb (m + j) (m + k) (omega (arith, eqb-true j k s)))
       same-offset false s = rw s (ne-eqb (m + j) (m + k) (λ r. eqb-false j k s (omega arith)))
-
-      and-turn : (a b : Bool) → a && b ≡ b && a
-      and-turn true true = refl
-      and-turn true false = refl
-      and-turn false true = refl
-      and-turn false false = refl
 
 -- An amount is put on the lane (i, j).
 on-lane : (xs : List ℤ) (i j h k : ℕ) (v : ℤ) → length xs ≡ laneRoom → i < stride → j < stride → k < stride

@@ -32,7 +32,7 @@ fn row_lanes(mask: u64, first: usize, lanes: &mut [usize; NODES], count: usize) 
 }
 
 // The basic lanes of the first `m` rows, in sheet order; how many they are.
-pub fn basic_lanes(adj: &[u64; NODES], m: usize, lanes: &mut [usize; NODES]) -> usize
+fn basic_lanes(adj: &[u64; NODES], m: usize, lanes: &mut [usize; NODES]) -> usize
     requires { ⌜ RowMasks (now adj) m × (length (now lanes) ≡ nodeRoom) ⌝ }
     ensures { λ r. ⌜ Lanes (now (adj .entry)) m (now (lanes .exit)) r ⌝ }
 {

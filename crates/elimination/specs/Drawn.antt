@@ -1,4 +1,4 @@
--- Lanes drawn into masks one by one: what the masks then are, for whoever fills them.
+-- Lanes drawn into masks: which bits are set, and that the masks are then those of the lanes.
 use mathlib.Core.Path.{_≡_}
 use mathlib.Core.Logic.{_↔_, _≢_}
 use mathlib.Core.Bool.{true}

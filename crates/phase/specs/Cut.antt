@@ -4,7 +4,7 @@ use mathlib.Core.Path.{_≡_, refl, sym, ap, _∙_}
 use mathlib.Core.Logic.{_≢_}
 use mathlib.Core.Bool.{Bool, true, false, not, _||_, cond}
 use mathlib.Core.List.{List, [], _∷_, List·Memᴰ, List·Memᴰ·head, List·Memᴰ·tail}
-use Prim.Native.Nat.{ℕ, zero, suc, _+_, _*_, _/_, _%_, _^_, _<_, _≤_}
+use Prim.Native.Nat.{ℕ, zero, suc, _+_, _/_, _^_, _<_, _≤_}
 use native.Mathlib.Omega.{arith}
 use borrow.Author.Tests.{eqb-true, eqb-false, lt-ltb, le-ltb}
 use lib.Bits.{bitAnd}
@@ -15,12 +15,12 @@ use Rattle.transport.specs.Sheet.{Lane}
 use Rattle.transport.specs.SheetLaws.{lane}
 use Rattle.transport.specs.Leaf.{Strike}
 use Rattle.transport.specs.Potential.{potentialBy}
-use Rattle.tableaux.specs.Lanes.{lane-same, lane-other}
+use Rattle.transport.specs.RoundLaws.{lane-same, lane-other}
 use Rattle.tableaux.specs.Leaves.{Ends, row-struck, column-struck}
 use Rattle.tableaux.specs.Striking.{Step, Peeled, bare, peel, lane-once, root-no-leaf}
 use Rattle.tableaux.specs.Potentials.{potential-off}
 use Rattle.demands.specs.Phases.{mostOn}
-use Rattle.basis.specs.Layout.{stride, laneAt, placeOf, place-laneAt, strikeOf, strikesOf, strikesFrom, strikesFrom-cons, strikesFrom-nil}
+use Rattle.basis.specs.Layout.{laneAt, placeOf, place-laneAt, strikeOf, strikesOf, strikesFrom, strikesFrom-cons, strikesFrom-nil}
 use Rattle.basis.specs.Mask.{bit, has, put, has-put, has-zero, bit-and}
 use Rattle.phase.specs.MaskLaws.{firstBits, first-below, first-above, minus, bit-minus, bit-shift}
 use Rattle.basis.specs.PotentialLaws.{potentialBy-nil, potentialBy-cons}
@@ -166,13 +166,6 @@ module _ (m : ℕ) (leaf other lane : List ℕ) (count at : ℕ) where
     back-none d e = rw (strikesFrom-cons leaf other lane count k p) (beyond-none (at-strike .0) h (elsewhere d) e)
 
 -- ---- the two sides
-
--- The lane of row p and column q lies at p * stride + q.
-pub laneAt-place : (p q : ℕ) → q < stride → laneAt (p * stride + q) ≡ lane p q
-laneAt-place p q l =
-    let a : (p * stride + q) / stride ≡ p = omega arith in
-    let b : (p * stride + q) % stride ≡ q = omega arith in
-    rw (a, b)
 
 -- `rows` are the rows on the side of column q, and `cols` the columns on the side of row p: the potentials are their bits, less those on the root's side.
 pub record Cuts (m n p q : ℕ) (ss : List Strike) (rows cols : ℕ) : Type 0 where

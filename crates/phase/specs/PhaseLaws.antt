@@ -23,7 +23,9 @@ use Rattle.transport.specs.Tableau.{basisOf, sameLane}
 use Rattle.transport.specs.Leaf.{Strike, strikes}
 use Rattle.transport.specs.Potential.{potentialBy}
 use Rattle.transport.specs.Statements.{Basic, Belongs}
-use Rattle.tableaux.specs.Lanes.{has-basic, lane-other, lane-dec}
+use Rattle.transport.specs.ListLaws.{is-false}
+use Rattle.transport.specs.RoundLaws.{lane-other, lane-dec}
+use Rattle.tableaux.specs.Lanes.{has-basic}
 use Rattle.tableaux.specs.Striking.{Struck, struck-of}
 use Rattle.tableaux.specs.Potentials.{potential-tight, potential-any}
 use Rattle.tableaux.specs.Belonging.{fits-of, spans-of}
@@ -48,9 +50,9 @@ most-one p q = rw (← most-on p q p q) (omega (arith, z-eq (most-here (lane p q
 most-zero : (p q i j : ℕ) → lane i j ≢ lane p q → most p q i j ≈ nat 0
 most-zero p q i j d = rw (← most-on p q i j) (omega (arith, z-eq (most-off (lane p q) (lane i j) d)))
 
-most-low : (p q i j : ℕ) → most p q i j ≼ nat 0
+most-high : (p q i j : ℕ) → most p q i j ≼ nat 0
 unfolding mostOn
-most-low p q i j = rw (← most-on p q i j) (go (sameLane (lane i j) (lane p q)))
+most-high p q i j = rw (← most-on p q i j) (go (sameLane (lane i j) (lane p q)))
   where
     go : (b : Bool) → toZ (cond b (negsuc 0) (pos 0)) ≼ nat 0
     go true = omega arith
@@ -58,10 +60,6 @@ most-low p q i j = rw (← most-on p q i j) (go (sameLane (lane i j) (lane p q))
 
 same-ends : {i j p q : ℕ} → lane i j ≡ lane p q → (i ≡ p) × (j ≡ q)
 same-ends e = (ap (λ (l : Lane). l .row) e, ap (λ (l : Lane). l .col) e)
-
-not-so : (t : Bool) → t ≢ true → t ≡ false
-not-so true d = absurd (d refl)
-not-so false d = refl
 
 module _ {S : Sheet} (ok : Checked S) {T : List Cell} (b : Belongs S T) {p q : ℕ} (row : p < sources S) (col : q < sinks S) where
   -- A basic lane has reduced cost 0.
@@ -110,7 +108,7 @@ module _ {S : Sheet} (ok : Checked S) {T : List Cell} (b : Belongs S T) {p q : �
         row = hi;
         col = hj;
         allows = eq-eqb (bit (getD masks i 0) j) 1 (g .allows);
-        negative = omega (arith, most-low p q i j, cut-sum i j hi hj, g .row, g .col);
+        negative = omega (arith, most-high p q i j, cut-sum i j hi hj, g .row, g .col);
       }
         where
           hj : j < sinks S
@@ -147,7 +145,7 @@ module _ {S : Sheet} (ok : Checked S) {T : List Cell} (b : Belongs S T) {p q : �
             another : lane i j ≢ lane p q → keptBit old rows cols p q i j ≡ allows old i j && eqZ (phaseReduced S p q T i j) (pos 0)
             another d =
                 let n : eqb i p && eqb j q ≡ false = lane-other (lane i j) (lane p q) d in
-                rw (n, by-cases (ℕ-discrete (bit rows i + bit cols j) 1) one (λ e. ne-eqb _ 1 e ∙ sym (not-so _ (zero e))))
+                rw (n, by-cases (ℕ-discrete (bit rows i + bit cols j) 1) one (λ e. ne-eqb _ 1 e ∙ sym (is-false _ (zero e))))
               where
                 one : bit rows i + bit cols j ≡ 1 → eqb (bit rows i + bit cols j) 1 ≡ eqZ (phaseReduced S p q T i j) (pos 0)
                 one e = eq-eqb (bit rows i + bit cols j) 1 e ∙ sym (eqZ-zero (phaseReduced S p q T i j) .1 (omega (arith, cut-reduced i j hi hj d)))

@@ -18,7 +18,7 @@ pub struct Far {
 
 // The nodes whose way to the root goes over the lane at the place `at`, back through the strikes: a leaf is beyond the lane if this is its lane, or if the node it
 // hangs on is beyond. None is if no strike has the lane.
-pub fn beyond(
+fn beyond(
     leaf: &[usize; NODES],
     other: &[usize; NODES],
     lane: &[usize; NODES],

@@ -4,7 +4,7 @@ ghost use Prim.Native.Nat.{_<_};
 ghost use Rattle.phase.specs.MaskLaws.{firstBits, minus};
 
 // The first n bits.
-pub fn first_bits(n: usize) -> u64
+pub(crate) fn first_bits(n: usize) -> u64
     requires { ⌜ n < 64 ⌝ }
     ensures { λ r. ⌜ r ≡ firstBits n ⌝ }
 {
@@ -12,7 +12,7 @@ pub fn first_bits(n: usize) -> u64
 }
 
 // The bits of a that are not in b.
-pub fn without(a: u64, b: u64) -> u64
+pub(crate) fn without(a: u64, b: u64) -> u64
     ensures { λ r. ⌜ r ≡ minus a b ⌝ }
 {
     (a | b) ^ b

@@ -27,7 +27,7 @@ use Rattle.tableaux.specs.PivotView.{signs}
 use Rattle.board.specs.Held.{inside-basic}
 use Rattle.elimination.specs.Strikes.{strikes-room, strikes-distinct}
 use Rattle.basis.specs.Layout as layout
-use Rattle.basis.specs.Layout.{stride, stride-is, nodeRoom, laneAt, placeOf, place-laneAt, strikeOf, strikesOf, Distinct}
+use Rattle.basis.specs.Layout.{stride, stride-is, nodeRoom, laneAt, placeOf, place-laneAt, laneAt-place, strikeOf, strikesOf, Distinct}
 use Rattle.basis.specs.SignLaws.{enterWeight, sign-is}
 use Rattle.basis.specs.StepLaws.{among, among-keep}
 use Rattle.pivoting.specs.Carry.{member-among, no-member-among, member-first}
@@ -41,12 +41,6 @@ pub record Enters (S : Sheet) (T : List Cell) (leaf other lanes : List ℕ) (cou
   pub row : e .row < sources S
   pub col : e .col < sinks S
   pub new : ¬ Basic T (e .row) (e .col)
-
-pub laneAt-place : (i j : ℕ) → j < stride → laneAt (i * stride + j) ≡ lane i j
-laneAt-place i j l =
-    let p : (i * stride + j) / stride ≡ i = omega arith in
-    let q : (i * stride + j) % stride ≡ j = omega arith in
-    λ t. lane (p t) (q t)
 
 module _ {S : Sheet} {T : List Cell} {leaf other lanes : List ℕ} {count : ℕ} {e : Lane} (h : Enters S T leaf other lanes count e) where
   abbrev m : ℕ

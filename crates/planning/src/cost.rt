@@ -6,7 +6,7 @@ ghost use Rattle.transport.specs.Lists.{at, sumTo};
 ghost use Rattle.planning.specs.Cost.{Summable};
 
 // The sum of quantity times cost, over the lanes that have a cost.
-pub fn plan_cost(plan: &[u64], cost: &[u64]) -> u64
+pub(crate) fn plan_cost(plan: &[u64], cost: &[u64]) -> u64
     requires { ⌜ Summable (now plan) (now cost) ⌝ }
     ensures { λ r. ⌜ r ≡ sumTo (length (now (cost .entry))) (λ l. at (now (plan .entry)) l * at (now (cost .entry)) l) ⌝ }
 {

@@ -16,7 +16,7 @@ ghost use Rattle.transport.specs.Plan.{settled};
 ghost use Rattle.planning.specs.Finished.{Finished};
 
 // Settles the board of a finished tableau: the settled plan stands in the first m × n places of the list, and the rest of it is as it was. The arrays are used up.
-pub fn settle_board(
+pub(crate) fn settle_board(
     adj: &mut [u64; NODES],
     q: &mut [i64; LANES],
     e: &mut [i64; LANES],

@@ -11,6 +11,7 @@ use lib.IntN.{ℤ, pos, natAbs, _-ℤ_}
 use lib.ListN.{length, getD, set, replicate, length-set}
 use lib.Seq.{getD-set-same, getD-set-other}
 use Rattle.integers.specs.Bridge.{eq-z, z-eq, z-ev, !, _-'_}
+use Rattle.transport.specs.ListLaws.{is-false}
 use Rattle.transport.specs.Limits.{maxCost}
 use Rattle.transport.specs.Sheet.{Sheet, sources, sinks, place, laneCost}
 use Rattle.transport.specs.SheetLaws.{Checked, lane}
@@ -78,14 +79,10 @@ module _ {cost price : List ℤ} {m i : ℕ} where
     pub tight-out : (slackAt cost price m i j ≡ getD price i (pos 0) → ⊥) → TightRow cost price m i (j + 1) mask
     tight-out d = record {
       here = λ k p. by-cases (ℕ-discrete k j)
-          (λ s. rw s (h .past j (omega arith) ∙ sym (not-tight (isTight cost price m i j) (λ t. d (tight-slack cost price m i j t)))))
+          (λ s. rw s (h .past j (omega arith) ∙ sym (is-false (isTight cost price m i j) (λ t. d (tight-slack cost price m i j t)))))
           (λ s. h .here k (omega arith));
       past = λ k p. h .past k (omega arith);
     }
-      where
-        not-tight : (b : Bool) → (b ≡ true → ⊥) → b ≡ false
-        not-tight true f = absurd (f refl)
-        not-tight false f = refl
 
 module _ {cost price : List ℤ} {m n : ℕ} where
   pub lanes-none : TightLanes cost price m n 0 (replicate stride 0)

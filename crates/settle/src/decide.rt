@@ -66,7 +66,7 @@ fn advance(
 }
 
 // Decides lane (p, col), which is allowed: its phase, step by step, with the strikes and the room of `advance`.
-pub fn decide_lane(
+fn decide_lane(
     adj: &mut [u64; NODES],
     q: &mut [i64; LANES],
     e: &mut [i64; LANES],

@@ -9,6 +9,7 @@ use lib.IntN.{ℤ, pos, negsuc}
 use lib.Signed.{ltZ, nonNeg}
 use lib.ListN.{getD}
 use Rattle.integers.specs.Integer.{_≺_, _⊕_}
+use Rattle.integers.specs.Tests.{lt-yes, lt-no}
 use Rattle.transport.specs.ListLaws.{by-key, FirstLeast, firstLeast-is}
 use Rattle.transport.specs.AmountLaws.{ltZ-weak}
 use Rattle.transport.specs.Sheet.{Sheet, sources, sinks, Lane, lanes, place}
@@ -18,14 +19,13 @@ use Rattle.transport.specs.Tableau.{laneOf, noCell}
 use Rattle.transport.specs.Potential.{reducedCost, isFinished}
 use Rattle.transport.specs.Round.{entering}
 use Rattle.transport.specs.Statements.{Basic, Belongs}
-use Rattle.tableaux.specs.PairLaws.{ltZ-true, ltZ-false}
 use Rattle.tableaux.specs.PlanView.{costs}
 use Rattle.tableaux.specs.Belonging.{prices-tight}
 use Rattle.tableaux.specs.Least.{rowPotential, columnPotential, reduced-parts}
 
 not-negative : (x y : ℤ) → ltZ x (pos 0) ≡ false → ltZ y x ≡ false → nonNeg y ≡ true
 not-negative x (pos b) p q = refl
-not-negative x (negsuc b) p q = absurd (omega (arith, ltZ-false x (pos 0) p, ltZ-false (negsuc b) x q))
+not-negative x (negsuc b) p q = absurd (omega (arith, lt-no x (pos 0) p, lt-no (negsuc b) x q))
 
 module _ {S : Sheet} (ok : Checked S) (T : List Cell) where
   abbrev m : ℕ
@@ -66,7 +66,7 @@ module _ {S : Sheet} (ok : Checked S) (T : List Cell) where
         go false p = absurd (true≢false (sym (all-lanes (λ l. nonNeg (reducedCost S T l)) m n (λ i j hi hj. not-negative (reducedCost S T (entering S T)) (reducedCost S T (lane i j)) p (entering-least i j hi hj))) ∙ unfinished))
 
     pub entering-below : costs S (entering S T .row) (entering S T .col) ≺ rowPotential S T (entering S T .row) ⊕ columnPotential S T (entering S T .col)
-    entering-below = omega (arith, reduced-parts S T (entering S T .row) (entering S T .col), ltZ-true (reducedCost S T (entering S T)) (pos 0) entering-negative)
+    entering-below = omega (arith, reduced-parts S T (entering S T .row) (entering S T .col), lt-yes (reducedCost S T (entering S T)) (pos 0) entering-negative)
 
     -- On basic lanes it is 0.
     pub entering-new : Belongs S T → ¬ Basic T (entering S T .row) (entering S T .col)

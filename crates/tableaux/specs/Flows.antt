@@ -18,10 +18,11 @@ use Rattle.transport.specs.SheetLaws.{lane}
 use Rattle.transport.specs.Tableau.{basisSize}
 use Rattle.transport.specs.Leaf.{Strike, strikes, spans}
 use Rattle.transport.specs.Round.{takeFrom, flow, sign}
+use Rattle.transport.specs.RoundLaws.{lane-dec, leftBy, flow-here, flow-later}
 use Rattle.network.specs.Flow.{Flow}
 use Rattle.network.specs.FlowLaws.{flow-on}
 use Rattle.network.specs.Basis.{In, unit, flow-unique}
-use Rattle.tableaux.specs.Lanes.{Has, Fits, member-dec, lane-same, lane-other, lane-dec, on-lane, on-lane-at, on-lane-off, on-lane-row, on-lane-column}
+use Rattle.tableaux.specs.Lanes.{Has, Fits, member-dec, on-lane, on-lane-at, on-lane-off, on-lane-row, on-lane-column}
 use Rattle.tableaux.specs.Leaves.{Ends, row-struck, column-struck, ends-differ}
 use Rattle.tableaux.specs.Striking.{Step, Peeled, bare, peel, IsLeaf, Struck, struck-of, lane-once, spans-iff}
 use Rattle.tableaux.specs.Bases.{rowAt, colAt, has-in, spans-basis}
@@ -38,10 +39,6 @@ point-up m p y j = by-cases (ℕ-discrete j p)
     (λ e. rw (point-off (m + p) y (m + j) (omega arith), point-off p y j e) (omega arith))
 
 -- ---- the weights after a strike
-
--- The strike's lane carries what its leaf has left, which is taken from both ends.
-abbrev after : (ℕ → ℤ) → Strike → ℕ → ℤ
-after w s = takeFrom (takeFrom w (s .leaf) (w (s .leaf))) (s .other) (w (s .leaf))
 
 take-at : (w : ℕ → ℤ) (p : ℕ) (y : ℤ) → takeFrom w p y p ≡ w p -ℤ y
 unfolding takeFrom
@@ -60,47 +57,39 @@ take-both : (w : ℕ → ℤ) (a b : ℕ) (y : ℤ) (k : ℕ) → toZ (takeFrom 
 take-both w a b y k = omega (arith, take-z (takeFrom w a y) b y k, take-z w a y k)
 
 -- Each end of its lane loses what it carries.
-after-z : {m : ℕ} (w : ℕ → ℤ) {s : Strike} → Ends m s → (k : ℕ)
-    → toZ (after w s k) ≈ toZ (w k) ⊖ (point (s .lane .row) (toZ (w (s .leaf))) k ⊕ point (m + s .lane .col) (toZ (w (s .leaf))) k)
-after-z {m} w {s} (row-struck p q) k = rw (← p, ← q) (take-both w (s .leaf) (s .other) (w (s .leaf)) k)
-after-z {m} w {s} (column-struck p q) k = rw (← p, ← q) (omega (arith, take-both w (s .leaf) (s .other) (w (s .leaf)) k))
+leftBy-z : {m : ℕ} (w : ℕ → ℤ) {s : Strike} → Ends m s → (k : ℕ)
+    → toZ (leftBy w s k) ≈ toZ (w k) ⊖ (point (s .lane .row) (toZ (w (s .leaf))) k ⊕ point (m + s .lane .col) (toZ (w (s .leaf))) k)
+leftBy-z {m} w {s} (row-struck p q) k = rw (← p, ← q) (take-both w (s .leaf) (s .other) (w (s .leaf)) k)
+leftBy-z {m} w {s} (column-struck p q) k = rw (← p, ← q) (omega (arith, take-both w (s .leaf) (s .other) (w (s .leaf)) k))
 
 -- ---- what a lane carries
-
-flow-here : (w : ℕ → ℤ) (s : Strike) (ss : List Strike) → flow w (s ∷ ss) (s .lane) ≡ w (s .leaf)
-unfolding flow
-flow-here w s ss = rw (lane-same (s .lane), flow)
-
-flow-later : (w : ℕ → ℤ) (s : Strike) (ss : List Strike) (l : Lane) → l ≢ s .lane → flow w (s ∷ ss) l ≡ flow (after w s) ss l
-unfolding flow
-flow-later w s ss l e = rw (lane-other l (s .lane) e, flow)
 
 -- nothing, where it is the lane of no strike
 flow-off : (w : ℕ → ℤ) (ss : List Strike) (l : Lane) → ((s : Strike) → List·Memᴰ s ss → s .lane ≢ l) → flow w ss l ≡ pos 0
 unfolding flow
 flow-off w [] l d = refl
 flow-off w (s ∷ ss) l d =
-    flow-later w s ss l (λ e. d s (List·Memᴰ·head refl) (sym e)) ∙ flow-off (after w s) ss l (λ t h. d t (List·Memᴰ·tail h))
+    flow-later w s ss l (λ e. d s (List·Memᴰ·head refl) (sym e)) ∙ flow-off (leftBy w s) ss l (λ t h. d t (List·Memᴰ·tail h))
 
 -- A strike adds what its lane carries.
 flow-splits : {m n : ℕ} (w : ℕ → ℤ) {s : Strike} {later : List Strike} → Step m n s later → Peeled m n later → (i j : ℕ)
-    → toZ (flow w (s ∷ later) (lane i j)) ≈ on-lane (s .lane) (toZ (w (s .leaf))) i j ⊕ toZ (flow (after w s) later (lane i j))
+    → toZ (flow w (s ∷ later) (lane i j)) ≈ on-lane (s .lane) (toZ (w (s .leaf))) i j ⊕ toZ (flow (leftBy w s) later (lane i j))
 flow-splits {m} {n} w {s} {later} st rest i j = by-cases (lane-dec (lane i j) (s .lane))
     (λ e. here i j (ap (λ (l : Lane). l .row) e) (ap (λ (l : Lane). l .col) e))
     (λ e. rw (flow-later w s later (lane i j) e) (omega (arith, on-lane-off (s .lane) (toZ (w (s .leaf))) i j e)))
   where
-    gone : flow (after w s) later (s .lane) ≡ pos 0
-    gone = flow-off (after w s) later (s .lane) (lane-once st rest)
+    gone : flow (leftBy w s) later (s .lane) ≡ pos 0
+    gone = flow-off (leftBy w s) later (s .lane) (lane-once st rest)
 
     here : (i j : ℕ) → i ≡ s .lane .row → j ≡ s .lane .col
-        → toZ (flow w (s ∷ later) (lane i j)) ≈ on-lane (s .lane) (toZ (w (s .leaf))) i j ⊕ toZ (flow (after w s) later (lane i j))
+        → toZ (flow w (s ∷ later) (lane i j)) ≈ on-lane (s .lane) (toZ (w (s .leaf))) i j ⊕ toZ (flow (leftBy w s) later (lane i j))
     here i j e f = rw (e, f, flow-here w s later, gone) (omega (arith, on-lane-at (s .lane) (toZ (w (s .leaf)))))
 
 -- ---- what the nodes have left in the end
 
 unfoldable left : (ℕ → ℤ) → List Strike → ℕ → ℤ
 left w [] k = w k
-left w (s ∷ ss) k = left (after w s) ss k
+left w (s ∷ ss) k = left (leftBy w s) ss k
 
 -- What a row gets of the flow and what it has left add up to its weight: so it is at the end, and each strike takes from a row what its lane brings it.
 row-weight : {m n : ℕ} (w : ℕ → ℤ) {ss : List Strike} → Peeled m n ss → (i : ℕ) → i < m → sum n (λ j. toZ (flow w ss (lane i j))) ⊕ toZ (left w ss i) ≈ toZ (w i)
@@ -110,11 +99,11 @@ row-weight {m} {n} w (peel {s} {later} st rest) i l =
     let y = toZ (w (s .leaf)) in
     omega (
       arith,
-      sum-cong n (λ j. toZ (flow w (s ∷ later) (lane i j))) (λ j. on-lane (s .lane) y i j ⊕ toZ (flow (after w s) later (lane i j))) (λ j q. flow-splits w st rest i j),
-      sum-add n (on-lane (s .lane) y i) (λ j. toZ (flow (after w s) later (lane i j))),
+      sum-cong n (λ j. toZ (flow w (s ∷ later) (lane i j))) (λ j. on-lane (s .lane) y i j ⊕ toZ (flow (leftBy w s) later (lane i j))) (λ j q. flow-splits w st rest i j),
+      sum-add n (on-lane (s .lane) y i) (λ j. toZ (flow (leftBy w s) later (lane i j))),
       on-lane-row (s .lane) y n (st .col) i,
-      row-weight (after w s) rest i l,
-      after-z w (st .ends) i,
+      row-weight (leftBy w s) rest i l,
+      leftBy-z w (st .ends) i,
       point-zero (m + s .lane .col) y i (omega arith),
     )
 
@@ -126,11 +115,11 @@ column-weight {m} {n} w (peel {s} {later} st rest) j =
     let y = toZ (w (s .leaf)) in
     omega (
       arith,
-      sum-cong m (λ i. toZ (flow w (s ∷ later) (lane i j))) (λ i. on-lane (s .lane) y i j ⊕ toZ (flow (after w s) later (lane i j))) (λ i q. flow-splits w st rest i j),
-      sum-add m (λ i. on-lane (s .lane) y i j) (λ i. toZ (flow (after w s) later (lane i j))),
+      sum-cong m (λ i. toZ (flow w (s ∷ later) (lane i j))) (λ i. on-lane (s .lane) y i j ⊕ toZ (flow (leftBy w s) later (lane i j))) (λ i q. flow-splits w st rest i j),
+      sum-add m (λ i. on-lane (s .lane) y i j) (λ i. toZ (flow (leftBy w s) later (lane i j))),
       on-lane-column (s .lane) y m (st .row) j,
-      column-weight (after w s) rest j,
-      after-z w (st .ends) (m + j),
+      column-weight (leftBy w s) rest j,
+      leftBy-z w (st .ends) (m + j),
       point-zero (s .lane .row) y (m + j) (omega (arith, st .row)),
       point-up m (s .lane .col) y j,
     )
@@ -140,7 +129,7 @@ unfolding left
 left-clear w [] k d = refl
 left-clear w (s ∷ ss) k d =
     let (a, b) = d s (List·Memᴰ·head refl) in
-    left-clear (after w s) ss k (λ t h. d t (List·Memᴰ·tail h))
+    left-clear (leftBy w s) ss k (λ t h. d t (List·Memᴰ·tail h))
     ∙ take-off (takeFrom w (s .leaf) (w (s .leaf))) (s .other) (w (s .leaf)) k (λ e. b (sym e))
     ∙ take-off w (s .leaf) (w (s .leaf)) k (λ e. a (sym e))
 
@@ -150,11 +139,11 @@ unfolding left
 left-leaf w bare k (t, h, e) = absurd (List·Memᴰ·not-nil h)
 left-leaf {m} {n} w (peel {s} {later} st rest) k (t, h, e) = ⊎-elim
     (λ q. let r : k ≡ s .leaf = sym e ∙ ap (λ (v : Strike). v .leaf) q in rw r struck)
-    (λ q. left-leaf (after w s) rest k (t, q, e))
+    (λ q. left-leaf (leftBy w s) rest k (t, q, e))
     (List·Memᴰ·cases-cons h)
   where
-    struck : toZ (left (after w s) later (s .leaf)) ≈ nat 0
-    struck = rw (left-clear (after w s) later (s .leaf) (st .clear)) (omega (
+    struck : toZ (left (leftBy w s) later (s .leaf)) ≈ nat 0
+    struck = rw (left-clear (leftBy w s) later (s .leaf) (st .clear)) (omega (
       arith,
       take-both w (s .leaf) (s .other) (w (s .leaf)) (s .leaf),
       point-zero (s .other) (toZ (w (s .leaf))) (s .leaf) (ends-differ (st .ends) (st .row)),

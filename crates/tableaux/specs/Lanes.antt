@@ -1,21 +1,19 @@
--- Lanes: those in a list, whether two are the same, and an amount on one lane alone.
-use mathlib.Core.Path.{_≡_, refl, ap, sym, _∙_}
+-- Lanes: those in a list, and an amount on one lane alone.
+use mathlib.Core.Path.{ap, sym}
 use mathlib.Core.Logic.{_↔_, _≢_, ⊎-elim, by-cases}
-use mathlib.Core.Bool.{Bool, true, false, true≢false}
 use mathlib.Core.List.{List, [], _∷_, map, Memᴰ·cast, List·Memᴰ, List·Memᴰ·head, List·Memᴰ·tail, List·Memᴰ·not-nil, List·Memᴰ·cases-cons}
 use Prim.Native.Nat.{ℕ, _<_}
 use native.Mathlib.Omega.{arith}
 use native.Mathlib.Decide.{ℕ-discrete}
-use borrow.Author.Tests.{eq-eqb, eqb-true}
-use lib.Dec.{eqb}
 use Rattle.integers.specs.Integer.{Z, _≈_, _⊗_, nat}
 use Rattle.integers.specs.Sum.{sum, point}
 use Rattle.integers.specs.SumLaws.{sum-cong, sum-point, point-at, point-off}
-use Rattle.transport.specs.ListLaws.{member-at, member-place, member-map, map-member, and-left, and-right}
+use Rattle.transport.specs.ListLaws.{member-at, member-place, member-map, map-member}
 use Rattle.transport.specs.Sheet.{Lane}
 use Rattle.transport.specs.SheetLaws.{lane}
 use Rattle.transport.specs.declared.Cell.{Cell}
-use Rattle.transport.specs.Tableau.{noCell, laneOf, basisOf, sameLane}
+use Rattle.transport.specs.Tableau.{noCell, laneOf, basisOf}
+use Rattle.transport.specs.RoundLaws.{lane-dec}
 use Rattle.transport.specs.Statements.{Basic}
 use Rattle.tableaux.specs.View.{point-one}
 
@@ -48,32 +46,7 @@ has-basic T i j = (to, from)
     from : Basic T i j → Has (map laneOf T) i j
     from b = Memᴰ·cast (λ t. lane (sym (b .row) t) (sym (b .column) t)) (member-map laneOf (member-at T noCell (b .index) (b .below)))
 
--- ---- the same lane
-
-same-lane : (k l : Lane) → sameLane k l ≡ true → k ≡ l
-unfolding sameLane
-same-lane k l e =
-    let p : k .row ≡ l .row = eqb-true (k .row) (l .row) (and-left (eqb (k .row) (l .row)) (eqb (k .col) (l .col)) e) in
-    let q : k .col ≡ l .col = eqb-true (k .col) (l .col) (and-right (eqb (k .row) (l .row)) (eqb (k .col) (l .col)) e) in
-    λ t. lane (p t) (q t)
-
-pub lane-same : (l : Lane) → sameLane l l ≡ true
-unfolding sameLane
-lane-same l = rw (eq-eqb (l .row) (l .row) refl, eq-eqb (l .col) (l .col) refl)
-
-pub lane-other : (k l : Lane) → k ≢ l → sameLane k l ≡ false
-lane-other k l d = go (sameLane k l) refl
-  where
-    go : (b : Bool) → sameLane k l ≡ b → sameLane k l ≡ false
-    go true e = absurd (d (same-lane k l e))
-    go false e = e
-
-pub lane-dec : (k l : Lane) → Dec (k ≡ l)
-lane-dec k l = go (sameLane k l) refl
-  where
-    go : (b : Bool) → sameLane k l ≡ b → Dec (k ≡ l)
-    go true e = yes (same-lane k l e)
-    go false e = no (λ q. true≢false (sym (lane-same l) ∙ ap (λ (v : Lane). sameLane v l) (sym q) ∙ e))
+-- ---- members
 
 pub member-dec : (l : Lane) (ls : List Lane) → Dec (List·Memᴰ l ls)
 member-dec l [] = no List·Memᴰ·not-nil

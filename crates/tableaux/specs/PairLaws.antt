@@ -5,13 +5,12 @@ use native.Mathlib.Decide.{ℕ-discrete}
 use mathlib.Core.Path.{_≡_, refl, ap, sym, _∙_}
 use mathlib.Core.Logic.{_⊎_, inl, inr, ⊎-elim, by-cases}
 use mathlib.Core.Bool.{true, false, true≢false}
-use borrow.Author.Tests.{ltb-true, ltb-false, lt-ltb, eq-eqb, ne-eqb}
-use lib.IntN.{ℤ, pos, negsuc}
-use lib.Signed.{ltZ}
+use borrow.Author.Tests.{eq-eqb, ne-eqb}
 use Rattle.integers.specs.Integer.{Z, _≈_, _≼_, _≺_, _⊕_, _⊖_, nat}
 use Rattle.integers.specs.Bridge.{toZ, z-eq, eq-z, z-add, z-ev, !, _-'_}
 use Rattle.integers.specs.Sum.{point}
 use Rattle.integers.specs.SumLaws.{point-at, point-off}
+use Rattle.integers.specs.Tests.{lt-yes, lt-no, yes-lt}
 use Rattle.network.specs.Pivot.{PairLess}
 use Rattle.transport.specs.Lists.{at}
 use Rattle.transport.specs.Sheet.{Sheet, sources, sinks}
@@ -67,24 +66,6 @@ subtract-nothing a b e =
 
 -- ---- order
 
-pub ltZ-true : (x y : ℤ) → ltZ x y ≡ true → toZ x ≺ toZ y
-ltZ-true (pos a) (pos b) e = omega (arith, ltb-true a b e)
-ltZ-true (pos a) (negsuc b) e = absurd (true≢false (sym e))
-ltZ-true (negsuc a) (pos b) e = omega arith
-ltZ-true (negsuc a) (negsuc b) e = omega (arith, ltb-true b a e)
-
-pub ltZ-false : (x y : ℤ) → ltZ x y ≡ false → toZ y ≼ toZ x
-ltZ-false (pos a) (pos b) e = omega (arith, ltb-false a b e)
-ltZ-false (pos a) (negsuc b) e = omega arith
-ltZ-false (negsuc a) (pos b) e = absurd (true≢false e)
-ltZ-false (negsuc a) (negsuc b) e = omega (arith, ltb-false b a e)
-
-pub true-ltZ : (x y : ℤ) → toZ x ≺ toZ y → ltZ x y ≡ true
-true-ltZ (pos a) (pos b) l = lt-ltb a b (omega arith)
-true-ltZ (pos a) (negsuc b) l = absurd (omega arith)
-true-ltZ (negsuc a) (pos b) l = refl
-true-ltZ (negsuc a) (negsuc b) l = lt-ltb b a (omega arith)
-
 -- By bags first, then by marks.
 abbrev pub Less : Pair → Pair → Type 0
 Less a b = PairLess (bags a) (marks a) (bags b) (marks b)
@@ -96,8 +77,8 @@ pub less-true : (a b : Pair) → less a b ≡ true → Less a b
 less-true a b p = go (compared (a .q) (b .q))
   where
     go : Compared (a .q) (b .q) → Less a b
-    go (fewer s) = inl (ltZ-true (a .q) (b .q) s)
-    go (equal s) = inr (z-eq s, ltZ-true (a .e) (b .e) (sym (less-e a b s) ∙ p))
+    go (fewer s) = inl (lt-yes (a .q) (b .q) s)
+    go (equal s) = inr (z-eq s, lt-yes (a .e) (b .e) (sym (less-e a b s) ∙ p))
     go (more s) = absurd (true≢false (sym p ∙ less-no a b s))
 
 pub less-false : (a b : Pair) → less a b ≡ false → AtMost b a
@@ -105,12 +86,12 @@ less-false a b p = go (compared (a .q) (b .q))
   where
     go : Compared (a .q) (b .q) → AtMost b a
     go (fewer s) = absurd (true≢false (sym (less-q a b s) ∙ p))
-    go (equal s) = inr (z-eq (sym s), ltZ-false (a .e) (b .e) (sym (less-e a b s) ∙ p))
-    go (more s) = inl (ltZ-true (b .q) (a .q) s)
+    go (equal s) = inr (z-eq (sym s), lt-no (a .e) (b .e) (sym (less-e a b s) ∙ p))
+    go (more s) = inl (lt-yes (b .q) (a .q) s)
 
 pub true-less : (a b : Pair) → Less a b → less a b ≡ true
-true-less a b (inl s) = less-q a b (true-ltZ (a .q) (b .q) s)
-true-less a b (inr s) = less-e a b (eq-z (a .q) (b .q) (s .0)) ∙ true-ltZ (a .e) (b .e) (s .1)
+true-less a b (inl s) = less-q a b (yes-lt (a .q) (b .q) s)
+true-less a b (inr s) = less-e a b (eq-z (a .q) (b .q) (s .0)) ∙ yes-lt (a .e) (b .e) (s .1)
 
 -- What is left of a greater pair is above (0, 0).
 pub subtract-above : (a b : Pair) → less a b ≡ true → less nothing (subtract b a) ≡ true

@@ -22,7 +22,7 @@ use Rattle.transport.specs.Leaf.{strikes}
 use Rattle.transport.specs.Round.{sign, leaving, gain, shift, pivot}
 use Rattle.transport.specs.Statements.{Basic}
 use Rattle.tableaux.specs.View.{Distinct, Inside, amountAt, amount-none}
-use Rattle.tableaux.specs.Lanes.{lane-same, lane-other}
+use Rattle.transport.specs.RoundLaws.{lane-same, lane-other}
 use Rattle.tableaux.specs.Order.{CellAt, cell-at, basic-member, amount-member, placeOf, Ordered, ordered-distinct, ordered-keep, ordered-map, ordered-insert, insert-here, insert-keeps, insert-member, length-insert}
 
 -- ---- lanes

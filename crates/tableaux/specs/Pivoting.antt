@@ -14,6 +14,7 @@ use Rattle.integers.specs.IntegerLaws.{⊗-cong}
 use Rattle.integers.specs.Bridge.{toZ, z-eq}
 use Rattle.integers.specs.Sum.{point}
 use Rattle.integers.specs.SumLaws.{sum₂-cong}
+use Rattle.integers.specs.Tests.{lt-yes, yes-lt}
 use Rattle.network.specs.Flow.{Flow, Tight, cost}
 use Rattle.network.specs.FlowLaws.{on-zero}
 use Rattle.network.specs.Basis.{In, in-cells, Replaces, unit}
@@ -30,7 +31,7 @@ use Rattle.transport.specs.Tableau.{noCell, laneOf, basisSize}
 use Rattle.transport.specs.Round.{gain, pivot}
 use Rattle.transport.specs.Statements.{Basic, Belongs}
 use Rattle.tableaux.specs.View.{rowOf, colOf, basic-in, Inside, amountAt, amount-at, amount-none}
-use Rattle.tableaux.specs.PairLaws.{bags, marks, nothing-parts, add-parts, subtract-parts, true-less, ltZ-true, true-ltZ}
+use Rattle.tableaux.specs.PairLaws.{bags, marks, nothing-parts, add-parts, subtract-parts, true-less}
 use Rattle.tableaux.specs.PlanView.{supplies, demands}
 use Rattle.tableaux.specs.Belonging.{distinct-of, signs-flow}
 use Rattle.tableaux.specs.Order.{Ordered, ordered-by, basic-member, basic-dec, amount-member}
@@ -123,7 +124,7 @@ module _ {S : Sheet} (ok : Checked S) {T : List Cell} (w : Belongs S T) {e : Lan
   unfolding laneOf
   pivot-leaves =
       let (k, l, s) = some-minus row f in
-      leaving-is (signs m n T e) T (member-at T noCell k (omega (arith, many))) (true-ltZ (signs m n T e (lane (rowOf T k) (colOf T k))) (pos 0) s)
+      leaving-is (signs m n T e) T (member-at T noCell k (omega (arith, many))) (yes-lt (signs m n T e (lane (rowOf T k) (colOf T k))) (pos 0) s)
 
   -- It stands at index ℓ.
   indexed : (ℓ : ℕ) × (ℓ < length T) × (getD T ℓ noCell ≡ out)
@@ -146,10 +147,10 @@ module _ {S : Sheet} (ok : Checked S) {T : List Cell} (w : Belongs S T) {e : Lan
     off = λ i. new (basic-in T (suc K) (e .row) (e .col) many .1 i);
     signs = f;
     leaves = omega (arith, indexed .1, many);
-    minus = subst (λ (c : Cell). toZ (signs m n T e (lane (c .row) (c .col))) ≺ nat 0) (sym (indexed .2)) (ltZ-true (signs m n T e (laneOf out)) (pos 0) (pivot-leaves .minus));
+    minus = subst (λ (c : Cell). toZ (signs m n T e (lane (c .row) (c .col))) ≺ nat 0) (sym (indexed .2)) (lt-yes (signs m n T e (laneOf out)) (pos 0) (pivot-leaves .minus));
     least = λ k l s p. true≢false
         (sym (true-less (getD T k noCell .amount) (out .amount) (rw (amount-at T (distinct-of ok w) k (omega (arith, many)), at-out) at p))
-        ∙ pivot-leaves .least (getD T k noCell) (member-at T noCell k (omega (arith, many))) (true-ltZ (signs m n T e (lane (rowOf T k) (colOf T k))) (pos 0) s));
+        ∙ pivot-leaves .least (getD T k noCell) (member-at T noCell k (omega (arith, many))) (yes-lt (signs m n T e (lane (rowOf T k) (colOf T k))) (pos 0) s));
   }
 
   -- ---- the cells after the pivot
@@ -194,7 +195,7 @@ module _ {S : Sheet} (ok : Checked S) {T : List Cell} (w : Belongs S T) {e : Lan
         arith,
         loop-off σ (e .row) (e .col) (out .row) (out .col) (λ s. new (rw (s .0, s .1) at out-basic)),
         sign-unit (out .row) (out .col) out-basic,
-        ltZ-true (signs m n T e (lane (out .row) (out .col))) (pos 0) (pivot-leaves .minus),
+        lt-yes (signs m n T e (lane (out .row) (out .col))) (pos 0) (pivot-leaves .minus),
       )))
 
   -- Every amount changes by the step times the loop.
@@ -252,7 +253,7 @@ module _ {S : Sheet} (ok : Checked S) {T : List Cell} (w : Belongs S T) {e : Lan
 
           tie : k ≡ ℓ
           tie = no-tie hz wanted t choice (λ k l. inside-after k (omega (arith, many-after)) .0) (λ k l. inside-after k (omega (arith, many-after)) .1) replaces
-              k (omega (arith, many)) (subst (λ (x : Cell). toZ (signs m n T e (lane (x .row) (x .col))) ≺ nat 0) (sym s) (ltZ-true (signs m n T e (laneOf c)) (pos 0) minus))
+              k (omega (arith, many)) (subst (λ (x : Cell). toZ (signs m n T e (lane (x .row) (x .col))) ≺ nat 0) (sym s) (lt-yes (signs m n T e (laneOf c)) (pos 0) minus))
               (z-eq (ap (λ x. x .q) amounts)) (z-eq (ap (λ x. x .e) amounts))
 
   -- ---- the valued cost

@@ -8,12 +8,13 @@ use native.Mathlib.Omega.{arith}
 use native.Mathlib.Nat.{mul-le-mul-right}
 use native.Mathlib.Decide.{ℕ-discrete, decLt}
 use borrow.Author.Tests.{eq-eqb, ne-eqb}
-use lib.IntN.{ℤ, pos, negsuc, negℤ, natAbs, _-ℤ_}
+use lib.IntN.{ℤ, pos, negℤ, natAbs, _-ℤ_}
 use lib.ListN.{length}
-use Rattle.integers.specs.Integer.{_≈_, _⊕_, Within}
+use Rattle.integers.specs.Integer.{_≈_, _⊕_}
 use Rattle.integers.specs.Bridge.{toZ, z-add, z-neg, z-eq, eq-z}
 use Rattle.transport.specs.Limits.{maxSide, maxCost, maxCells}
 use Rattle.transport.specs.Sheet.{Sheet, sources, sinks, Lane, place, laneCost}
+use Rattle.transport.specs.RangeLaws.{abs-diff}
 use Rattle.transport.specs.SheetLaws.{Checked, lane}
 use Rattle.transport.specs.declared.Cell.{Cell}
 use Rattle.transport.specs.Tableau.{basisSize, basisOf}
@@ -23,19 +24,6 @@ use Rattle.network.specs.Joined.{potentials-unique}
 use Rattle.tableaux.specs.Lanes.{Fits}
 use Rattle.tableaux.specs.Leaves.{Ends, row-struck, column-struck, ends-differ}
 use Rattle.tableaux.specs.Striking.{Peeled, bare, peel, Struck, struck-of, step-of, root-no-leaf, spans-iff}
-
--- ---- sizes
-
-size-within : (z : ℤ) → Within (natAbs z) (toZ z)
-size-within (pos k) = omega arith
-size-within (negsuc k) = omega arith
-
-within-size : (z : ℤ) (H : ℕ) → Within H (toZ z) → natAbs z ≤ H
-within-size (pos k) H h = omega arith
-within-size (negsuc k) H h = omega arith
-
-size-difference : (a b : ℤ) → natAbs (a -ℤ b) ≤ natAbs a + natAbs b
-size-difference a b = within-size (a -ℤ b) (natAbs a + natAbs b) (omega (arith, z-add a (negℤ b), z-neg b, size-within a, size-within b))
 
 -- ---- potentials, strike by strike
 
@@ -75,7 +63,7 @@ module _ (cost : Lane → ℤ) where
   potential-bound C (s ∷ ss) h k = by-cases (ℕ-discrete k (s .leaf))
       (λ e. rw (e, potential-leaf s ss) (omega (
         arith,
-        size-difference (cost (s .lane)) (potentialBy cost ss (s .other)),
+        abs-diff (cost (s .lane)) (potentialBy cost ss (s .other)),
         h s (List·Memᴰ·head refl),
         potential-bound C ss (λ t q. h t (List·Memᴰ·tail q)) (s .other),
       )))

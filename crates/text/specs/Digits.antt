@@ -1,56 +1,19 @@
--- Laws of the decimal digits of a number.
+-- The decimal digits of a number, counted and written from the last one on.
 use mathlib.Core.Path.{_≡_, refl, sym, ap, _∙_}
 use mathlib.Core.List.{List, [], _∷_, _++_}
-use Prim.Native.Nat.{ℕ, zero, suc, _+_, _/_, _%_, _^_, _≤_, _<_}
+use Prim.Native.Nat.{ℕ, suc, _+_, _/_, _%_, _≤_, _<_}
 use native.Mathlib.Omega.{arith}
 use native.Mathlib.Decide.{decLt}
 use lib.ListN.{length, take, drop, getD, set, length-append, length-take}
 use lib.Seq.{take-suc, drop-cons, getD-set-same, drop-set-lt, lt-length-set}
-use borrow.Author.Tests.{lt-ltb, le-ltb}
-use Rattle.transport.specs.Text.{digitsUpTo, digits}
-
--- A number below 10 is its digit.
-up-small : (most n : ℕ) → n < 10 → digitsUpTo (suc most) n ≡ (48 + n) ∷ []
-unfolding digitsUpTo
-up-small most n p = rw (digitsUpTo, lt-ltb n 10 p)
-
-up-more : (most n : ℕ) → 10 ≤ n → digitsUpTo (suc most) n ≡ digitsUpTo most (n / 10) ++ ((48 + n % 10) ∷ [])
-unfolding digitsUpTo
-up-more most n p = rw (digitsUpTo, le-ltb n 10 p)
-
--- More digits than a number can have make no difference.
-enough : (a b n : ℕ) → n < a → n < b → digitsUpTo a n ≡ digitsUpTo b n
-enough zero b n p q = absurd (omega arith)
-enough (suc a) zero n p q = absurd (omega arith)
-enough (suc a) (suc b) n p q = go (decLt n 10) (λ h. enough a b (n / 10) (omega arith) (omega arith))
-  where
-    go : Dec (n < 10) → (10 ≤ n → digitsUpTo a (n / 10) ≡ digitsUpTo b (n / 10)) → digitsUpTo (suc a) n ≡ digitsUpTo (suc b) n
-    go (yes h) ih = up-small a n h ∙ sym (up-small b n h)
-    go (no h) ih = up-more a n (omega arith) ∙ (rw (ih (omega arith))) ∙ sym (up-more b n (omega arith))
-
-pub digits-small : (n : ℕ) → n < 10 → digits n ≡ (48 + n) ∷ []
-unfolding digits
-digits-small n p = up-small n n p
-
--- The digits of any other number: those of its tenth, and then the last one.
-pub digits-more : (n : ℕ) → 10 ≤ n → digits n ≡ digits (n / 10) ++ ((48 + n % 10) ∷ [])
-unfolding digits
-digits-more n p = up-more n n p ∙ (rw (enough n (suc (n / 10)) (n / 10) (omega arith) (omega arith)))
+use Rattle.transport.specs.Text.{digits}
+use Rattle.grammar.specs.Digits.{digits-small, digits-large}
 
 pub length-digits-small : (n : ℕ) → n < 10 → length (digits n) ≡ 1
 length-digits-small n p = ap length (digits-small n p)
 
 pub length-digits-more : (n : ℕ) → 10 ≤ n → length (digits n) ≡ length (digits (n / 10)) + 1
-length-digits-more n p = ap length (digits-more n p) ∙ length-append (digits (n / 10)) _
-
--- A number below 10 ^ (k + 1) has at most k + 1 digits.
-pub length-digits-le : (k n : ℕ) → n < 10 ^ suc k → length (digits n) ≤ suc k
-length-digits-le zero n p = omega (arith, length-digits-small n (omega arith))
-length-digits-le (suc k) n p = go (decLt n 10) (length-digits-le k (n / 10) (omega arith))
-  where
-    go : Dec (n < 10) → length (digits (n / 10)) ≤ suc k → length (digits n) ≤ suc (suc k)
-    go (yes h) ih = omega (arith, length-digits-small n h)
-    go (no h) ih = omega (arith, length-digits-more n (omega arith))
+length-digits-more n p = ap length (digits-large n p) ∙ length-append (digits (n / 10)) _
 
 -- ---- written from the last digit on
 
@@ -76,14 +39,14 @@ module _ (D : List ℕ) (rest k : ℕ) (p : k < length D) (e : take (suc k) D �
     where
       go : Dec (rest < 10) → getD D k 0 ≡ 48 + rest % 10
       go (yes h) = last-of [] (48 + rest) (digits-small rest h) .1 ∙ omega arith
-      go (no h) = last-of (digits (rest / 10)) (48 + rest % 10) (digits-more rest (omega arith)) .1
+      go (no h) = last-of (digits (rest / 10)) (48 + rest % 10) (digits-large rest (omega arith)) .1
 
   pub digits-before : 0 < k → take k D ≡ digits (rest / 10)
   digits-before q = go (decLt rest 10)
     where
       go : Dec (rest < 10) → take k D ≡ digits (rest / 10)
       go (yes h) = absurd (omega (arith, length-take k D, ap length (last-of [] (48 + rest) (digits-small rest h) .0)))
-      go (no h) = last-of (digits (rest / 10)) (48 + rest % 10) (digits-more rest (omega arith)) .0
+      go (no h) = last-of (digits (rest / 10)) (48 + rest % 10) (digits-large rest (omega arith)) .0
 
 -- One place more, from the back on.
 pub fill-back : (D out old : List ℕ) (k b : ℕ) → k < length D → k < length out → getD D k 0 ≡ b → drop (suc k) out ≡ drop (suc k) D ++ old → drop k (set out k b) ≡ drop k D ++ old

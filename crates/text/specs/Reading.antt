@@ -12,6 +12,7 @@ use lib.ListN.{length, drop, getD, drop-of-length-le}
 use lib.Seq.{drop-cons, drop-drop}
 use borrow.Author.Tests.{ne-eqb}
 use Rattle.transport.specs.Lists.{within}
+use Rattle.transport.specs.ListLaws.{and-right}
 use Rattle.transport.specs.Limits.{maxSide, maxDigits}
 use Rattle.transport.specs.declared.ByteKind.{ByteKind}
 use Rattle.transport.specs.declared.ByteKind.the-variants.{Digit, Space, LineEnd, Letter, Other}
@@ -317,14 +318,10 @@ more-passes test zero x t m rest p e = let z : x ≡ m = cc in rw z at p
 more-passes test (suc k) x [] m rest p e = let z : x ≡ m = cc in rw z at p
 more-passes test (suc k) x (b ∷ t) m rest p e = go (isDigit b && test (x * 10 + digitValue b)) refl (more-passes test k (x * 10 + digitValue b) t m rest)
   where
-    second : (a b : Bool) → (a && b) ≡ true → b ≡ true
-    second true b e = e
-    second false b e = absurd (true≢false (sym e))
-
     go : (v : Bool) → (isDigit b && test (x * 10 + digitValue b)) ≡ v → (test (x * 10 + digitValue b) ≡ true → moreDigits test k (x * 10 + digitValue b) t ≡ got m rest → test m ≡ true) → test m ≡ true
     go true h ih =
         let s : moreDigits test (suc k) x (b ∷ t) ≡ moreDigits test k (x * 10 + digitValue b) t = rw (moreDigits, h) in
-        ih (second (isDigit b) (test (x * 10 + digitValue b)) h) (sym s ∙ e)
+        ih (and-right (isDigit b) (test (x * 10 + digitValue b)) h) (sym s ∙ e)
     go false h ih =
         let s : moreDigits test (suc k) x (b ∷ t) ≡ got x (b ∷ t) = rw (moreDigits, h) in
         let z : x ≡ m = cc in
@@ -334,14 +331,10 @@ side-within : (m : ℕ) (rest t : List ℕ) → side t ≡ got m rest → within
 side-within m rest [] e = let s : side [] ≡ stuck [] = side-is [] ∙ bind-stuck (byteThat startsSide) [] [] _ (byte-none startsSide) in let z : _≡_ {A = ℕ} 0 1 = cc in absurd (omega arith)
 side-within m rest (b ∷ t) e = go (startsSide b) refl
   where
-    second : (a b : Bool) → (a && b) ≡ true → b ≡ true
-    second true b e = e
-    second false b e = absurd (true≢false (sym e))
-
     go : (v : Bool) → startsSide b ≡ v → within 1 maxSide m ≡ true
     go true h =
         let s : side (b ∷ t) ≡ moreDigits (within 1 maxSide) 1 (b - 48) t = side-is (b ∷ t) ∙ bind-got (byteThat startsSide) (b ∷ t) t (λ b. moreDigits (within 1 maxSide) 1 (b - 48)) b (byte-yes startsSide b t h) in
-        more-passes (within 1 maxSide) 1 (b - 48) t m rest (second (isDigit b) (within 1 maxSide (b - 48)) h) (sym s ∙ e)
+        more-passes (within 1 maxSide) 1 (b - 48) t m rest (and-right (isDigit b) (within 1 maxSide (b - 48)) h) (sym s ∙ e)
     go false h =
         let s : side (b ∷ t) ≡ stuck (b ∷ t) = side-is (b ∷ t) ∙ bind-stuck (byteThat startsSide) (b ∷ t) (b ∷ t) (λ b. moreDigits (within 1 maxSide) 1 (b - 48)) (byte-no startsSide b t h) in
         let z : _≡_ {A = ℕ} 0 1 = cc in

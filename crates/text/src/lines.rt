@@ -4,14 +4,14 @@ ghost use Prim.Native.Nat.{_≤_};
 ghost use Rattle.text.specs.Lines.{ending, leftAfter};
 
 // The byte after a number: LF after the last one of its line, else a space.
-pub fn ending(left: usize) -> u8
+pub(crate) fn ending(left: usize) -> u8
     ensures { λ r. ⌜ r ≡ ending left ⌝ }
 {
     if left == 1 { b'\n' } else { b' ' }
 }
 
 // The same count for the next number, in lines of `width`.
-pub fn left_after(width: usize, left: usize) -> usize
+pub(crate) fn left_after(width: usize, left: usize) -> usize
     requires { ⌜ 1 ≤ left ⌝ }
     ensures { λ r. ⌜ r ≡ leftAfter width left ⌝ }
 {

@@ -7,7 +7,7 @@ ghost use Rattle.transport.specs.Text.{digits, wholeDigits};
 ghost use Rattle.text.specs.Front.{front};
 
 // The count of the digits of `n`.
-pub fn digit_count(n: u64) -> usize
+pub(crate) fn digit_count(n: u64) -> usize
     ensures { λ r. ⌜ r ≡ length (digits n) ⌝ }
 {
     let mut count: usize = 1;
@@ -20,7 +20,7 @@ pub fn digit_count(n: u64) -> usize
 }
 
 // Writes the digits of `n` at the front of the output, and gives their count.
-pub fn write_number(n: u64, out: &mut [u8]) -> usize
+pub(crate) fn write_number(n: u64, out: &mut [u8]) -> usize
     requires { ⌜ length (digits n) ≤ length (now out) ⌝ }
     ensures { λ r. ⌜ (r ≡ length (digits n)) × (now (out .exit) ≡ front (digits n) (now (out .entry))) ⌝ }
 {

@@ -19,17 +19,15 @@ use crate::lines;
 use crate::writer;
 use sheet::SheetCheck;
 use transport::ByteKind;
+use transport::MAX_LANES;
 use transport::MAX_SIDE;
 use transport::ReadAnswer;
-
-// The most lanes of a sheet.
-const MAX_LANES: usize = MAX_SIDE * MAX_SIDE;
 
 // The most digits that a number of a sheet text has.
 const MAX_DIGITS: usize = 7;
 
 // The kind of a byte.
-pub fn kind_of(b: u8) -> ByteKind
+fn kind_of(b: u8) -> ByteKind
     ensures { λ r. ⌜ r ≡ kindOf b ⌝ }
 {
     match b {

@@ -75,7 +75,7 @@ fn write_lines(numbers: &[u64], width: usize, out: &mut [u8]) -> usize
 }
 
 // The head line of a section: its name, with the space after it, and its count.
-pub fn write_head(name: &[u8], count: usize, out: &mut [u8]) -> usize
+pub(crate) fn write_head(name: &[u8], count: usize, out: &mut [u8]) -> usize
     requires { ⌜ length (now name ++ ended count 10) ≤ length (now out) ⌝ }
     ensures { λ r. ⌜
         (r ≡ length (now (name .entry) ++ ended count 10))

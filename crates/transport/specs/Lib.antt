@@ -18,5 +18,6 @@ pub mod Samples
 pub mod ListLaws
 pub mod AmountLaws
 pub mod RangeLaws
+pub mod RoundLaws
 pub mod SheetLaws
 pub mod CallLaws

@@ -6,6 +6,9 @@ ghost use Rattle.transport.specs.RangeLaws.{Fit};
 // The most sources, and the most sinks, that a sheet may have.
 pub const MAX_SIDE: usize = 32;
 
+// The most lanes of a sheet.
+pub const MAX_LANES: usize = MAX_SIDE * MAX_SIDE;
+
 // The most basic cells that a tableau may have: one fewer than the nodes of the largest sheet.
 pub const MAX_CELLS: usize = 2 * MAX_SIDE - 1;
 

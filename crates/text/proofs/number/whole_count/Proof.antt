@@ -7,7 +7,7 @@ use lib.IntN.{pos, natAbs}
 use lib.ListN.{length}
 use lib.Signed.{ltZ, mag}
 use Rattle.transport.specs.Text.{digits}
-use Rattle.text.specs.Digits.{length-digits-le}
+use Rattle.grammar.specs.Digits.{digits-length}
 use Rattle.text.specs.Whole.{bits-back, magnitude-le, whole-negative, whole-positive}
 use borrow.Author.Needs.{needs}
 use Rattle.text.proofs.number.whole_count.Statement.{statement}
@@ -30,7 +30,7 @@ counted c = c .digit-count .ensures ∙ (rw (sized (c .before)))
 
 add-result : tie.Need-add-result
 add-result c =
-    omega (arith, counted (c .before), length-digits-le 19 (natAbs (c .before .before .before .args .z)) (omega (arith, magnitude-le (c .before .before .before .args .z) (in-range (c .before .before .before)))))
+    omega (arith, counted (c .before), digits-length 19 (natAbs (c .before .before .before .args .z)) .1 (omega (arith, magnitude-le (c .before .before .before .args .z) (in-range (c .before .before .before)))))
 
 returns : tie.Need-returns
 returns c =

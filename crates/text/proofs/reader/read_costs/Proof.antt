@@ -9,7 +9,7 @@ use Rattle.transport.specs.Limits.{maxSide}
 use Rattle.transport.specs.Text.{bytes, headLine}
 use Rattle.transport.specs.SheetText.{word}
 use Rattle.sheet.specs.Laws.{sides-product}
-use Rattle.text.specs.Digits.{length-digits-le}
+use Rattle.grammar.specs.Digits.{digits-length}
 use Rattle.text.specs.Front.{front-take, length-front}
 use Rattle.text.specs.Lines.{ended, length-ended, head-cost}
 use Rattle.text.specs.Reading.{readingOf}
@@ -26,7 +26,7 @@ slice-aggregate-write-head-2 c = search needs
 
 short : (c : tie.Start) → length (ended (c .args .m) 10) ≤ 3
 unfolding maxSide
-short c = omega (arith, length-ended (c .args .m) 10, length-digits-le 1 (c .args .m) (omega (arith, c .pre .1)))
+short c = omega (arith, length-ended (c .args .m) 10, digits-length 1 (c .args .m) .1 (omega (arith, c .pre .1)))
 
 write-head-requires : tie.Need-write-head-requires
 write-head-requires c κs = omega (arith, short (c .before .before .before .before))

@@ -5,7 +5,7 @@ use Prim.Native.Nat.{_≤_, _+_, _-_, _*_}
 use native.Mathlib.Omega.{arith}
 use lib.ListN.{length, drop, getD}
 use Rattle.transport.specs.Limits.{maxSide}
-use Rattle.text.specs.Digits.{length-digits-le}
+use Rattle.grammar.specs.Digits.{digits-length}
 use Rattle.text.specs.Lines.{numbersLength, numbers-next, numbers-end}
 use Rattle.text.proofs.writer.numbers_len.Statement.{statement}
 use Rattle.text.proofs.writer.numbers_len.Tie as tie
@@ -31,7 +31,7 @@ digit-count-requires c κs = search needs
 few : (c : tie.After-digit-count Inv-loop μ-loop) → c .digit-count .result ≤ 20
 few c =
     let x = getD (c .before .before .before .before .before .args .numbers .now) (c .before .before .before .loop .i) 0 in
-    omega (arith, c .digit-count .ensures, length-digits-le 19 x (omega (arith, c .before .shared-slice-known2 .given (c .before .before .before .loop .i))))
+    omega (arith, c .digit-count .ensures, digits-length 19 x .1 (omega (arith, c .before .shared-slice-known2 .given (c .before .before .before .loop .i))))
 
 add-len : tie.Need-add-len Inv-loop μ-loop
 add-len c = omega (arith, few c)

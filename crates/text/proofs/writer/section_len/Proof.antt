@@ -2,7 +2,7 @@
 use Prim.Native.Nat.{_≤_}
 use native.Mathlib.Omega.{arith}
 use Rattle.transport.specs.Limits.{maxSide}
-use Rattle.text.specs.Digits.{length-digits-le}
+use Rattle.grammar.specs.Digits.{digits-length}
 use borrow.Author.Needs.{needs}
 use Rattle.text.proofs.writer.section_len.Statement.{statement}
 use Rattle.text.proofs.writer.section_len.Tie as tie
@@ -11,7 +11,7 @@ digit-count-requires : tie.Need-digit-count-requires
 digit-count-requires c κs = search needs
 
 few : (c : tie.After-digit-count) → c .digit-count .result ≤ 20
-few c = omega (arith, c .digit-count .ensures, length-digits-le 19 (c .before .before .before .args .count) (omega arith))
+few c = omega (arith, c .digit-count .ensures, digits-length 19 (c .before .before .before .args .count) .1 (omega arith))
 
 add-result : tie.Need-add-result
 add-result c = omega (arith, few c)
