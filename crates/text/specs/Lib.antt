@@ -1,8 +1,4 @@
-pub mod Digits
-pub mod Front
-pub mod Whole
-pub mod Lines
-pub mod WriteCall
+pub mod SheetSections
 pub mod Reading
 pub mod LinesRead
 pub mod SheetRead

@@ -8,7 +8,7 @@ use native.Mathlib.Nat.{suc-mul, suc-add, zero-add, zero-mul}
 use lib.ListN.{drop}
 use Rattle.transport.specs.Text.{bytes}
 use Rattle.transport.specs.SheetText.{Reading, stuck, got, Reader, _>>=_, _>>_, pure, times, word, number, line, row}
-use Rattle.text.specs.Lines.{ending, leftAfter, ending-last, ending-more, left-last, left-more}
+use Rattle.sections.specs.Lines.{ending, leftAfter, ending-last, ending-more, left-last, left-more}
 use Rattle.text.specs.Reading.{byteNext, bind-got, bind-stuck, endReading, end-stuck, end-yes, end-no, one-yes, one-no, line-end}
 
 module _ {A : Type 0} where

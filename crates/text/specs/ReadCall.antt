@@ -16,7 +16,7 @@ use Rattle.transport.specs.Calls.{Answer, refused, given, refusedBy, unless, le
 use Rattle.transport.specs.Answers.{readAnswer}
 use Rattle.transport.specs.SheetText.{Reading, stuck, got, sheetReader, readWith, readTests, readSheetCall}
 use Rattle.transport.specs.CallLaws.{unless-before, unless-last, unless-none, short-yes, short-no}
-use Rattle.text.specs.Front.{front}
+use Rattle.sections.specs.Front.{front}
 
 -- The sheet that the fronts of three lists are.
 abbrev pub frontSheet : ℕ → ℕ → List ℕ → List ℕ → List ℕ → SheetRecord

@@ -1,6 +1,4 @@
-// Sheet texts: reading, writing, and the numbers in them.
-pub mod lines;
-pub mod number;
+// Sheet texts: reading and writing.
 pub mod reader;
 pub mod writer;
 

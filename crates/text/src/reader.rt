@@ -12,11 +12,11 @@ ghost use Rattle.text.specs.Reading.{byteNext, digitNext, readingOf, pla
 ghost use Rattle.text.specs.LinesRead.{readLines};
 ghost use Rattle.text.specs.SheetRead.{listReader, costReader};
 ghost use Rattle.text.specs.ReadCall.{sheetRead, readFits, Stored};
-ghost use Rattle.text.specs.Front.{front};
+ghost use Rattle.sections.specs.Front.{front};
 ghost use Rattle.sheet.specs.Check.{sheetOf};
 use crate::Taken;
-use crate::lines;
-use crate::writer;
+use sections::lines;
+use sections::section;
 use sheet::SheetCheck;
 use transport::ByteKind;
 use transport::MAX_LANES;
@@ -232,7 +232,7 @@ fn read_costs(text: &[u8], at: usize, m: usize, n: usize, list: &mut [u64]) -> T
         ⌝ }
 {
     let mut line = [0u8; 8];
-    let len = writer::write_head(b"cost ", m, &mut line);
+    let len = section::write_head(b"cost ", m, &mut line);
     let head = read_word(text, at, &line[..len]);
     let Taken::Got { value: _, next } = head else {
         return head;

@@ -1,110 +1,18 @@
-// Write sheet. Each part of the text is written at the front of what the parts before it left of the output, and its writer gives its length.
+// Write sheet: three sections, each written in what the sections before it left of the output.
 ghost use mathlib.Core.Path.{_≡_};
 ghost use mathlib.Core.List.{_++_};
-ghost use Prim.Native.Nat.{_+_, _*_, _≤_};
+ghost use Prim.Native.Nat.{_≤_};
 ghost use lib.ListN.{length};
-ghost use Rattle.transport.specs.Limits.{maxSide};
-ghost use Rattle.transport.specs.Text.{digits};
 ghost use Rattle.transport.specs.SheetText.{sheetText, writeSheetCall};
 ghost use Rattle.transport.specs.Calls.{lentAfter};
 ghost use Rattle.transport.specs.Answers.{writeAnswer};
 ghost use Rattle.transport.specs.SheetLaws.{Checked};
 ghost use Rattle.sheet.specs.Check.{sheetOf};
-ghost use Rattle.text.specs.Front.{front};
-ghost use Rattle.text.specs.Lines.{ended, linesFrom, numbersLength, sectionText};
-use crate::lines;
-use crate::number;
+ghost use Rattle.sections.specs.Front.{front};
+ghost use Rattle.text.specs.SheetSections.{demandSection, costSection};
+use sections::section;
 use sheet::SheetCheck;
 use transport::WriteAnswer;
-
-// The length of numbers in lines: each with the byte that ends it.
-fn numbers_len(numbers: &[u64]) -> usize
-    requires { ⌜ length (now numbers) ≤ maxSide * maxSide ⌝ }
-    ensures { λ r. ⌜ (r ≡ numbersLength (now (numbers .entry))) × (r ≤ maxSide * maxSide * 21) ⌝ }
-{
-    let mut len: usize = 0;
-    let mut i: usize = 0;
-    while i < numbers.len() {
-        len += number::digit_count(numbers[i]) + 1;
-        i += 1;
-    }
-    len
-}
-
-// Copies bytes to the output.
-fn write_bytes(bytes: &[u8], out: &mut [u8]) -> usize
-    requires { ⌜ length (now bytes) ≤ length (now out) ⌝ }
-    ensures { λ r. ⌜ (r ≡ length (now (bytes .entry))) × (now (out .exit) ≡ front (now (bytes .entry)) (now (out .entry))) ⌝ }
-{
-    let mut i: usize = 0;
-    while i < bytes.len() {
-        out[i] = bytes[i];
-        i += 1;
-    }
-    i
-}
-
-// A number, and the byte that ends it.
-fn write_ended(n: u64, end: u8, out: &mut [u8]) -> usize
-    requires { ⌜ length (ended n end) ≤ length (now out) ⌝ }
-    ensures { λ r. ⌜ (r ≡ length (ended n end)) × (now (out .exit) ≡ front (ended n end) (now (out .entry))) ⌝ }
-{
-    let at = number::write_number(n, out);
-    out[at] = end;
-    at + 1
-}
-
-// Numbers in lines of `width`.
-fn write_lines(numbers: &[u64], width: usize, out: &mut [u8]) -> usize
-    requires { ⌜ (1 ≤ width) × (length (linesFrom width width (now numbers)) ≤ length (now out)) ⌝ }
-    ensures { λ r. ⌜
-        (r ≡ length (linesFrom width width (now (numbers .entry))))
-        × (now (out .exit) ≡ front (linesFrom width width (now (numbers .entry))) (now (out .entry)))
-        ⌝ }
-{
-    let mut at: usize = 0;
-    let mut left = width;
-    let mut i: usize = 0;
-    while i < numbers.len() {
-        let end = lines::ending(left);
-        at += write_ended(numbers[i], end, &mut out[at..]);
-        left = lines::left_after(width, left);
-        i += 1;
-    }
-    at
-}
-
-// The head line of a section: its name, with the space after it, and its count.
-pub(crate) fn write_head(name: &[u8], count: usize, out: &mut [u8]) -> usize
-    requires { ⌜ length (now name ++ ended count 10) ≤ length (now out) ⌝ }
-    ensures { λ r. ⌜
-        (r ≡ length (now (name .entry) ++ ended count 10))
-        × (now (out .exit) ≡ front (now (name .entry) ++ ended count 10) (now (out .entry)))
-        ⌝ }
-{
-    let at = write_bytes(name, out);
-    at + write_ended(count as u64, b'\n', &mut out[at..])
-}
-
-// A section: its head line, and its numbers in lines of `width`.
-fn write_section(name: &[u8], count: usize, width: usize, numbers: &[u64], out: &mut [u8]) -> usize
-    requires { ⌜ (1 ≤ width) × (length (sectionText (now name) count width (now numbers)) ≤ length (now out)) ⌝ }
-    ensures { λ r. ⌜
-        (r ≡ length (sectionText (now (name .entry)) count width (now (numbers .entry))))
-        × (now (out .exit) ≡ front (sectionText (now (name .entry)) count width (now (numbers .entry))) (now (out .entry)))
-        ⌝ }
-{
-    let at = write_head(name, count, out);
-    at + write_lines(numbers, width, &mut out[at..])
-}
-
-// The length of a section.
-fn section_len(name: &[u8], count: usize, numbers: &[u64]) -> usize
-    requires { ⌜ (length (now name) ≤ 8) × (length (now numbers) ≤ maxSide * maxSide) ⌝ }
-    ensures { λ r. ⌜ (r ≡ length (now (name .entry)) + (length (digits count) + 1) + numbersLength (now (numbers .entry))) × (r ≤ maxSide * maxSide * 21 + 29) ⌝ }
-{
-    name.len() + (number::digit_count(count as u64) + 1) + numbers_len(numbers)
-}
 
 // The length of the text of an accepted sheet.
 fn text_len(supply: &[u64], demand: &[u64], cost: &[u64]) -> usize
@@ -113,35 +21,47 @@ fn text_len(supply: &[u64], demand: &[u64], cost: &[u64]) -> usize
 {
     let m = supply.len();
     let n = demand.len();
-    section_len(b"supply ", m, supply)
-        + section_len(b"demand ", n, demand)
-        + section_len(b"cost ", m, cost)
+    section::section_len(b"supply ", m, supply)
+        + section::section_len(b"demand ", n, demand)
+        + section::section_len(b"cost ", m, cost)
 }
 
-// The text of an accepted sheet: each section is written in what is left of the output.
+// The sections after the first one, for a sheet of m sources: the demands, and the costs in what is left of the output.
+fn write_after_supply(m: usize, demand: &[u64], cost: &[u64], out: &mut [u8]) -> usize
+    requires { ⌜
+        (1 ≤ length (now demand))
+        × (length (demandSection (now demand) ++ costSection m (length (now demand)) (now cost)) ≤ length (now out))
+        ⌝ }
+    ensures { λ r.
+        let text = demandSection (now (demand .entry)) ++ costSection m (length (now (demand .entry))) (now (cost .entry)) in
+        ⌜ (r ≡ length text) × (now (out .exit) ≡ front text (now (out .entry))) ⌝ }
+{
+    let n = demand.len();
+    let at = section::write_section(b"demand ", n, 1, demand, out);
+    at + section::write_section(b"cost ", m, n, cost, &mut out[at..])
+}
+
+// The text of an accepted sheet: the supplies, and the other sections in what is left of the output.
 fn write_text(supply: &[u64], demand: &[u64], cost: &[u64], out: &mut [u8]) -> usize
     requires { ⌜
         (Checked (sheetOf (now supply) (now demand) (now cost)))
         × (length (sheetText (sheetOf (now supply) (now demand) (now cost))) ≤ length (now out))
         ⌝ }
-    ensures { λ r. ⌜
-        (r ≡ length (sheetText (sheetOf (now (supply .entry)) (now (demand .entry)) (now (cost .entry)))))
-        × (now (out .exit) ≡ front (sheetText (sheetOf (now (supply .entry)) (now (demand .entry)) (now (cost .entry)))) (now (out .entry)))
-        ⌝ }
+    ensures { λ r.
+        let text = sheetText (sheetOf (now (supply .entry)) (now (demand .entry)) (now (cost .entry))) in
+        ⌜ (r ≡ length text) × (now (out .exit) ≡ front text (now (out .entry))) ⌝ }
 {
     let m = supply.len();
-    let n = demand.len();
-    let first = write_section(b"supply ", m, 1, supply, out);
-    let second = first + write_section(b"demand ", n, 1, demand, &mut out[first..]);
-    second + write_section(b"cost ", m, n, cost, &mut out[second..])
+    let at = section::write_section(b"supply ", m, 1, supply, out);
+    at + write_after_supply(m, demand, cost, &mut out[at..])
 }
 
 // Write sheet: the length of the text, which then stands at the front of the output; or the refusal, and the output is as it was.
 pub fn write_sheet(supply: &[u64], demand: &[u64], cost: &[u64], out: &mut [u8]) -> WriteAnswer
-    ensures { λ r. ⌜
-        (r ≡ writeAnswer (writeSheetCall (sheetOf (now (supply .entry)) (now (demand .entry)) (now (cost .entry))) (length (now (out .entry)))))
-        × (now (out .exit) ≡ lentAfter (λ t. t) (writeSheetCall (sheetOf (now (supply .entry)) (now (demand .entry)) (now (cost .entry))) (length (now (out .entry)))) (now (out .entry)))
-        ⌝ }
+    ensures { λ r.
+        let S = sheetOf (now (supply .entry)) (now (demand .entry)) (now (cost .entry)) in
+        let a = writeSheetCall S (length (now (out .entry))) in
+        ⌜ (r ≡ writeAnswer a) × (now (out .exit) ≡ lentAfter (λ t. t) a (now (out .entry))) ⌝ }
 {
     let check = sheet::check_sheet(supply, demand, cost);
     if let SheetCheck::Refused(number) = check {

@@ -24,3 +24,7 @@ maxDigits = 7
 -- The longest sheet text, in bytes.
 unfoldable pub maxText : ℕ
 maxText = 8732
+
+-- No plan text is longer, in bytes: a line for every lane is counted. (That all fit is a theorem.)
+unfoldable pub maxPlanText : ℕ
+maxPlanText = 15_059

@@ -1,5 +1,5 @@
 -- The plan text, write plan, and what the program prints (paper 01, "Texts").
-use mathlib.Core.Bool.{not}
+use mathlib.Core.Bool.{not, cond}
 use mathlib.Core.List.{List, [], _∷_, _++_, flatMap}
 use mathlib.Core.Option.{none, some}
 use Prim.Native.Nat.{ℕ, suc, _+_}
@@ -58,3 +58,7 @@ printed input = elim (readWith numberTests (take (suc maxText) input)) [
   | refused r ↦ refusedLine r
   | given S ↦ planText S
 ]
+
+-- What then stands in an output of `room` bytes: all that is printed, or nothing where that is longer.
+unfoldable pub shown : List ℕ → ℕ → List ℕ
+shown input room = cond (tooShort room (length (printed input))) [] (printed input)

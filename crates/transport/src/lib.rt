@@ -18,6 +18,12 @@ pub const MAX_AMOUNT: u64 = 1_000_000;
 // The greatest cost of a lane, in cents a bag.
 pub const MAX_COST: u64 = 1_000_000;
 
+// The longest sheet text, in bytes.
+pub const MAX_TEXT: usize = 8732;
+
+// No plan text is longer, in bytes.
+pub const MAX_PLAN_TEXT: usize = 15_059;
+
 // A paired amount: `q` bags and `e` marks.
 pub struct Pair {
     pub q: i64,

@@ -1,6 +1,6 @@
 // What the programs of the gate share: tableaux put together cell by cell, and printing. An output that cannot be written to is passed over: the gate then misses the lines.
 use libc::STDOUT_FILENO;
-use text::number;
+use sections::number;
 use transport::Cell;
 use transport::MAX_CELLS;
 use transport::Pair;

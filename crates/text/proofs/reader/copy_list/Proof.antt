@@ -6,7 +6,7 @@ use native.Mathlib.Omega.{arith}
 use native.Mathlib.Numerals.{add-one}
 use lib.ListN.{length, take, getD, length-set}
 use lib.Seq.{take-all, take-suc, length-take-le}
-use Rattle.text.specs.Front.{front, front-nil, front-byte}
+use Rattle.sections.specs.Front.{front, front-nil, front-byte}
 use Rattle.text.proofs.reader.copy_list.Statement.{statement}
 use Rattle.text.proofs.reader.copy_list.Tie as tie
 

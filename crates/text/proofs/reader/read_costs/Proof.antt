@@ -10,8 +10,8 @@ use Rattle.transport.specs.Text.{bytes, headLine}
 use Rattle.transport.specs.SheetText.{word}
 use Rattle.sheet.specs.Laws.{sides-product}
 use Rattle.grammar.specs.Digits.{digits-length}
-use Rattle.text.specs.Front.{front-take, length-front}
-use Rattle.text.specs.Lines.{ended, length-ended, head-cost}
+use Rattle.sections.specs.Front.{front-take, length-front}
+use Rattle.sections.specs.Lines.{ended, length-ended, head-line}
 use Rattle.text.specs.Reading.{readingOf}
 use Rattle.text.specs.SheetRead.{cost-unnamed, cost-named}
 use borrow.Author.Needs.{needs}
@@ -37,7 +37,7 @@ module _ (c : tie.After-write-head) where
 
   head-is : take (c .write-head .result) (c .write-head .last .1 .1 .0) ≡ headLine "cost" (c .before .before .before .before .before .args .m)
   unfolding bytes
-  head-is = (rw (c .write-head .ensures .1) (front-take _ _ (c .write-head .result) (c .write-head .ensures .0))) ∙ sym (head-cost (c .before .before .before .before .before .args .m))
+  head-is = (rw (c .write-head .ensures .1) (front-take _ _ (c .write-head .result) (c .write-head .ensures .0))) ∙ sym (head-line "cost" (c .before .before .before .before .before .args .m))
 
 array-share-prefix-line : tie.Need-array-share-prefix-line
 array-share-prefix-line c = fits (c .before)

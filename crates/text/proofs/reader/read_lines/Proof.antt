@@ -9,7 +9,7 @@ use mathlib.Core.List.{append-nil}
 use lib.ListN.{take, length-set}
 use lib.Seq.{take-suc-set}
 use Rattle.transport.specs.SheetText.{stuck, got, number}
-use Rattle.text.specs.Lines.{ending, left-pos}
+use Rattle.sections.specs.Lines.{ending, left-pos}
 use Rattle.text.specs.Reading.{readingOf, endReading}
 use Rattle.text.specs.LinesRead.{readLines, read-none, read-stuck, read-got, after, after-nil, after-stuck, after-got, after-after}
 use Rattle.text.proofs.reader.read_lines.Statement.{statement}

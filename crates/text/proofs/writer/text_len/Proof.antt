@@ -7,7 +7,8 @@ use Rattle.transport.specs.Limits.{maxSide}
 use Rattle.transport.specs.Text.{bytes}
 use Rattle.sheet.specs.Check.{sheetOf}
 use Rattle.sheet.specs.Refusals.{sources-few, sinks-few, sinks-some, costs-few, costs-whole}
-use Rattle.text.specs.Lines.{supplySection, demandSection, costSection, length-section, sheet-sections}
+use Rattle.sections.specs.Lines.{length-section}
+use Rattle.text.specs.SheetSections.{supplySection, demandSection, costSection, sheet-sections}
 use borrow.Author.Needs.{needs}
 use Rattle.text.proofs.writer.text_len.Statement.{statement}
 use Rattle.text.proofs.writer.text_len.Tie as tie
@@ -52,10 +53,23 @@ add-result-2 c = search needs
 returns : tie.Need-returns
 unfolding bytes
 returns c =
-    let a = c .before .before .before .before .before .before .before .before .before .args in
-    let S = sheetOf (a .supply .now) (a .demand .now) (a .cost .now) in
-    let p = c .before .before .before .before .before .before .before .before .before .pre in
-    omega (arith, ap length (sheet-sections S (sinks-some S p) (costs-whole S p)), length-append (supplySection S ++ demandSection S) (costSection S), length-append (supplySection S) (demandSection S), c .before .before .before .before .section-len .ensures .0, c .before .before .section-len2 .ensures .0, c .section-len3 .ensures .0, length-section (bytes "supply ") (length (a .supply .now)) 1 (a .supply .now), length-section (bytes "demand ") (length (a .demand .now)) 1 (a .demand .now), length-section (bytes "cost ") (length (a .supply .now)) (length (a .demand .now)) (a .cost .now))
+    let t = c .before .before .before .before .before .before .before .before .before in
+    let S = sheetOf (t .args .supply .now) (t .args .demand .now) (t .args .cost .now) in
+    let first = supplySection (S .supply) in
+    let second = demandSection (S .demand) in
+    let third = costSection (length (S .supply)) (length (S .demand)) (S .cost) in
+    omega (
+      arith,
+      ap length (sheet-sections S (sinks-some S (t .pre)) (costs-whole S (t .pre))),
+      length-append first (second ++ third),
+      length-append second third,
+      c .before .before .before .before .section-len .ensures .0,
+      c .before .before .section-len2 .ensures .0,
+      c .section-len3 .ensures .0,
+      length-section (bytes "supply ") (length (S .supply)) 1 (S .supply),
+      length-section (bytes "demand ") (length (S .demand)) 1 (S .demand),
+      length-section (bytes "cost ") (length (S .supply)) (length (S .demand)) (S .cost),
+    )
 
 pub text-len-spec : {M : Type 1} → statement M
 text-len-spec =

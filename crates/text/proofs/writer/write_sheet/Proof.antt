@@ -3,9 +3,10 @@ use mathlib.Core.Path.{_≡_, sym, _∙_}
 use mathlib.Core.Option.{none}
 use native.Mathlib.Omega.{arith}
 use Rattle.transport.specs.Sheet.{Sheet, refusal, sheetTests}
+use Rattle.transport.specs.SheetText.{sheetText, writeSheetCall}
 use Rattle.sheet.specs.Check.{sheetOf, accepted-none, refused-some}
 use Rattle.transport.specs.SheetLaws.{checked}
-use Rattle.text.specs.WriteCall.{wrote-check, wrote-short, wrote-given}
+use Rattle.sections.specs.WriteCall.{wrote-check, wrote-short, wrote-given}
 use borrow.Author.Needs.{needs}
 use Rattle.text.proofs.writer.write_sheet.Statement.{statement}
 use Rattle.text.proofs.writer.write_sheet.Tie as tie
@@ -20,9 +21,10 @@ enum-known-check : tie.Need-enum-known-check
 enum-known-check c = search needs
 
 returns : tie.Need-returns
+unfolding writeSheetCall
 returns c =
     let t = c .before .before .before .before .before .before .before .before in
-    wrote-check (sheetAt t) (t .args .out .now) _ (refused-some _ _ (sym (c .before .before .before .check-sheet .ensures) ∙ c .before .check .given .1))
+    wrote-check (sheetAt t) (sheetText (sheetAt t)) (t .args .out .now) _ (refused-some _ _ (sym (c .before .before .before .check-sheet .ensures) ∙ c .before .check .given .1))
 
 enum-told : tie.Need-enum-told
 enum-told c = search needs
@@ -34,9 +36,10 @@ text-len-requires : tie.Need-text-len-requires
 text-len-requires c κs = checked (sheetAt (c .before .before .before .before .before .before .before)) (accepted c)
 
 returns-2 : tie.Need-returns-2
+unfolding writeSheetCall
 returns-2 c =
     let t = c .before .before .before .before .before .before .before .before .before in
-    wrote-short (sheetAt t) (t .args .out .now) (accepted (c .before .before)) (omega (arith, c .before .text-len .ensures))
+    wrote-short (sheetAt t) (sheetText (sheetAt t)) (t .args .out .now) (accepted (c .before .before)) (omega (arith, c .before .text-len .ensures))
 
 write-text-requires : tie.Need-write-text-requires
 write-text-requires c κs = (checked (sheetAt (c .before .before .before .before .before .before .before .before .before .before)) (accepted (c .before .before .before)), omega (arith, c .before .before .text-len .ensures))
@@ -45,10 +48,11 @@ same-length : tie.Need-same-length
 same-length c = search needs
 
 returns-3 : tie.Need-returns-3
+unfolding writeSheetCall
 returns-3 c =
     let t = c .before .before .before .before .before .before .before .before .before .before .before .before .before in
     let w = c .before .before .write-text in
-    rw (w .ensures .0, w .ensures .1) (wrote-given (sheetAt t) (t .args .out .now) (accepted (c .before .before .before .before .before .before)) (omega (arith, c .before .before .before .before .before .text-len .ensures)))
+    rw (w .ensures .0, w .ensures .1) (wrote-given (sheetAt t) (sheetText (sheetAt t)) (t .args .out .now) (accepted (c .before .before .before .before .before .before)) (omega (arith, c .before .before .before .before .before .text-len .ensures)))
 
 pub write-sheet-spec : {M : Type 1} → statement M
 write-sheet-spec =

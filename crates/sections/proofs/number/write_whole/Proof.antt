@@ -1,0 +1,100 @@
+-- A negative number is its minus, and then its magnitude in what is left of the output.
+use mathlib.Core.Path.{_≡_, refl, sym, ap, _∙_}
+use mathlib.Core.List.{[], _∷_}
+use Prim.Native.Nat.{_<_, _≤_, _^_, _+_, _-_}
+use native.Mathlib.Omega.{arith}
+use lib.IntN.{natAbs}
+use borrow.Rule.Slice.PartMut.{putMid}
+use lib.ListN.{length, set, length-set}
+use lib.Signed.{mag}
+use Rattle.transport.specs.Text.{digits, wholeDigits}
+use Rattle.sections.specs.Front.{front, front-first, front-then, lent-length, length-front}
+use Rattle.sections.specs.Whole.{bits-back, whole-negative, whole-positive}
+use borrow.Author.Needs.{needs}
+use Rattle.sections.proofs.number.write_whole.Statement.{statement}
+use Rattle.sections.proofs.number.write_whole.Tie as tie
+
+in-range : (c : tie.Start) → mag (c .args .z) < 2 ^ 63
+in-range c = search needs
+
+sized : (c : tie.After-magnitude) → c .magnitude .result ≡ natAbs (c .before .before .args .z)
+sized c = rw (bits-back (c .before .before .args .z) (in-range (c .before .before))) at (c .magnitude .ensures)
+
+negative : (c : tie.Then1) → wholeDigits (c .before .before .before .args .z) ≡ 45 ∷ digits (c .before .magnitude .result)
+negative c =
+    let z = c .before .before .before .args .z in
+    whole-negative z (rw (bits-back z (in-range (c .before .before .before))) at (c .if1 .taken)) ∙ (rw (sized (c .before)))
+
+positive : (c : tie.Else1) → wholeDigits (c .before .before .before .args .z) ≡ digits (c .before .magnitude .result)
+positive c =
+    let z = c .before .before .before .args .z in
+    whole-positive z (rw (bits-back z (in-range (c .before .before .before))) at (c .if1 .left)) ∙ (rw (sized (c .before)))
+
+room : (c : tie.Then1) → length (digits (c .before .magnitude .result)) + 1 ≤ length (c .before .before .before .args .out .now)
+room c = omega (arith, ap length (negative c))
+
+magnitude-requires : tie.Need-magnitude-requires
+magnitude-requires c κs = search needs
+
+slice-write-out : tie.Need-slice-write-out
+slice-write-out c = omega (arith, room c)
+
+sub-write-number : tie.Need-sub-write-number
+sub-write-number c = simp length-set (omega (arith, room c))
+
+part-write-number-start : tie.Need-part-write-number-start
+part-write-number-start c = simp length-set (omega (arith, room c))
+
+part-write-number-end : tie.Need-part-write-number-end
+part-write-number-end c = search needs
+
+write-number-requires : tie.Need-write-number-requires
+write-number-requires c κs =
+    let out = c .before .before .before .before .args .out .now in
+    omega (arith, room (c .before), lent-length (45 ∷ []) out _ 1 refl (front-first out 45 (omega (arith, room (c .before)))))
+
+add-result : tie.Need-add-result
+add-result c =
+    let t = c .before .before .before .before in
+    omega (arith, room t, c .before .before .write-number .ensures .0)
+
+written : (c : tie.After-slice-known2) → putMid 1 (length (set (c .before .before .before .before .before .before .before .args .out .now) 0 45) - 1) (set (c .before .before .before .before .before .before .before .args .out .now) 0 45) (c .before .before .write-number .last .1 .0) ≡ front (wholeDigits (c .before .before .before .before .before .before .before .args .z)) (c .before .before .before .before .before .before .before .args .out .now)
+written c =
+    let t = c .before .before .before .before in
+    let out = c .before .before .before .before .before .before .before .args .out .now in
+    rw (c .before .before .write-number .ensures .1, negative t) (front-then (45 ∷ []) out _ 1 refl (front-first out 45 (omega (arith, room t))) (digits (t .before .magnitude .result)))
+
+same-length : tie.Need-same-length
+same-length c = ap length (written c) ∙ length-front _ _ (c .before .before .before .before .before .before .before .pre)
+
+returns : tie.Need-returns
+returns c = (omega (arith, ap length (negative (c .before .before .before .before)), c .before .before .write-number .ensures .0), written c)
+
+write-number-requires-2 : tie.Need-write-number-requires-2
+write-number-requires-2 c κs = omega (arith, ap length (positive (c .before)), c .before .before .before .before .pre)
+
+same-length-2 : tie.Need-same-length-2
+same-length-2 c = search needs
+
+returns-2 : tie.Need-returns-2
+returns-2 c =
+    let t = c .before .before .before .before in
+    let w = c .before .before .write-number2 in
+    (w .ensures .0 ∙ sym (ap length (positive t)), w .ensures .1 ∙ (rw (positive t)))
+
+pub write-whole-spec : {M : Type 1} → statement M
+write-whole-spec =
+    tie.close
+    (tie.spec
+    magnitude-requires
+    slice-write-out
+    sub-write-number
+    part-write-number-start
+    part-write-number-end
+    write-number-requires
+    add-result
+    same-length
+    returns
+    write-number-requires-2
+    same-length-2
+    returns-2)

@@ -1,0 +1,59 @@
+-- The head line, and then the lines in what is left of the output.
+use mathlib.Core.List.{_++_}
+use native.Mathlib.Omega.{arith}
+use Rattle.sections.specs.Front.{Begun, first-room, second-start, second-room, both-length, both-written}
+use Rattle.sections.specs.Lines.{ended, linesFrom, sectionText}
+use borrow.Author.Needs.{needs}
+use Rattle.sections.proofs.section.write_section.Statement.{statement}
+use Rattle.sections.proofs.section.write_section.Tie as tie
+
+write-head-requires : tie.Need-write-head-requires
+unfolding sectionText
+write-head-requires c κs =
+    let t = c .before .before .before .before in
+    first-room (t .args .name .now ++ ended (t .args .count) 10) (linesFrom (t .args .width) (t .args .width) (t .args .numbers .now)) (t .args .out .now) (t .pre .1)
+
+begun : (c : tie.After-write-head) → let t = c .before .before .before .before .before in
+    Begun (t .args .name .now ++ ended (t .args .count) 10) (linesFrom (t .args .width) (t .args .width) (t .args .numbers .now)) (t .args .out .now) (c .write-head .last .1 .1 .0) (c .write-head .result)
+unfolding sectionText
+begun c = record { room = c .before .before .before .before .before .pre .1; ends = c .write-head .ensures .0; holds = c .write-head .ensures .1 }
+
+sub-write-lines : tie.Need-sub-write-lines
+sub-write-lines c = second-start (begun (c .before .before))
+
+part-write-lines-start : tie.Need-part-write-lines-start
+part-write-lines-start c = second-start (begun (c .before .before))
+
+part-write-lines-end : tie.Need-part-write-lines-end
+part-write-lines-end c = search needs
+
+write-lines-requires : tie.Need-write-lines-requires
+write-lines-requires c κs = (c .before .before .before .before .before .before .before .before .pre .0, second-room (begun (c .before .before .before)))
+
+add-result : tie.Need-add-result
+add-result c =
+    let b = begun (c .before .before .before .before .before .before) in
+    omega (arith, b .room, both-length b _ (c .before .before .write-lines .ensures .0))
+
+same-length : tie.Need-same-length
+same-length c = search needs
+
+returns : tie.Need-returns
+unfolding sectionText
+returns c =
+    let b = begun (c .before .before .before .before .before .before) in
+    let w = c .before .before .write-lines in
+    (both-length b _ (w .ensures .0), both-written b _ (w .ensures .1))
+
+pub write-section-spec : {M : Type 1} → statement M
+write-section-spec =
+    tie.close
+    (tie.spec
+    write-head-requires
+    sub-write-lines
+    part-write-lines-start
+    part-write-lines-end
+    write-lines-requires
+    add-result
+    same-length
+    returns)

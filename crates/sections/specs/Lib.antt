@@ -1,0 +1,5 @@
+pub mod Digits
+pub mod Front
+pub mod Whole
+pub mod Lines
+pub mod WriteCall

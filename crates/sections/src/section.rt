@@ -1,0 +1,106 @@
+// Sections of texts: a head line, and numbers in lines. Each part is written at the front of what the parts before it left of the output, and its writer gives its length.
+ghost use mathlib.Core.Path.{_≡_};
+ghost use mathlib.Core.List.{_++_};
+ghost use Prim.Native.Nat.{_+_, _*_, _≤_};
+ghost use lib.ListN.{length};
+ghost use Rattle.transport.specs.Limits.{maxSide};
+ghost use Rattle.transport.specs.Text.{digits};
+ghost use Rattle.sections.specs.Front.{front};
+ghost use Rattle.sections.specs.Lines.{ended, linesFrom, numbersLength, sectionText};
+use crate::lines;
+use crate::number;
+
+// The length of numbers in lines: each with the byte that ends it.
+fn numbers_len(numbers: &[u64]) -> usize
+    requires { ⌜ length (now numbers) ≤ maxSide * maxSide ⌝ }
+    ensures { λ r. ⌜ (r ≡ numbersLength (now (numbers .entry))) × (r ≤ maxSide * maxSide * 21) ⌝ }
+{
+    let mut len: usize = 0;
+    let mut i: usize = 0;
+    while i < numbers.len() {
+        len += number::digit_count(numbers[i]) + 1;
+        i += 1;
+    }
+    len
+}
+
+// Copies bytes to the output.
+fn write_bytes(bytes: &[u8], out: &mut [u8]) -> usize
+    requires { ⌜ length (now bytes) ≤ length (now out) ⌝ }
+    ensures { λ r. ⌜ (r ≡ length (now (bytes .entry))) × (now (out .exit) ≡ front (now (bytes .entry)) (now (out .entry))) ⌝ }
+{
+    let mut i: usize = 0;
+    while i < bytes.len() {
+        out[i] = bytes[i];
+        i += 1;
+    }
+    i
+}
+
+// A number, and the byte that ends it.
+fn write_ended(n: u64, end: u8, out: &mut [u8]) -> usize
+    requires { ⌜ length (ended n end) ≤ length (now out) ⌝ }
+    ensures { λ r. ⌜ (r ≡ length (ended n end)) × (now (out .exit) ≡ front (ended n end) (now (out .entry))) ⌝ }
+{
+    let at = number::write_number(n, out);
+    out[at] = end;
+    at + 1
+}
+
+// Numbers in lines of `width`.
+fn write_lines(numbers: &[u64], width: usize, out: &mut [u8]) -> usize
+    requires { ⌜ (1 ≤ width) × (length (linesFrom width width (now numbers)) ≤ length (now out)) ⌝ }
+    ensures { λ r. ⌜
+        (r ≡ length (linesFrom width width (now (numbers .entry))))
+        × (now (out .exit) ≡ front (linesFrom width width (now (numbers .entry))) (now (out .entry)))
+        ⌝ }
+{
+    let mut at: usize = 0;
+    let mut left = width;
+    let mut i: usize = 0;
+    while i < numbers.len() {
+        let end = lines::ending(left);
+        at += write_ended(numbers[i], end, &mut out[at..]);
+        left = lines::left_after(width, left);
+        i += 1;
+    }
+    at
+}
+
+// The head line of a section: its name, with the space after it, and its count.
+pub fn write_head(name: &[u8], count: usize, out: &mut [u8]) -> usize
+    requires { ⌜ length (now name ++ ended count 10) ≤ length (now out) ⌝ }
+    ensures { λ r. ⌜
+        (r ≡ length (now (name .entry) ++ ended count 10))
+        × (now (out .exit) ≡ front (now (name .entry) ++ ended count 10) (now (out .entry)))
+        ⌝ }
+{
+    let at = write_bytes(name, out);
+    at + write_ended(count as u64, b'\n', &mut out[at..])
+}
+
+// A section: its head line, and its numbers in lines of `width`.
+pub fn write_section(
+    name: &[u8],
+    count: usize,
+    width: usize,
+    numbers: &[u64],
+    out: &mut [u8],
+) -> usize
+    requires { ⌜ (1 ≤ width) × (length (sectionText (now name) count width (now numbers)) ≤ length (now out)) ⌝ }
+    ensures { λ r. ⌜
+        (r ≡ length (sectionText (now (name .entry)) count width (now (numbers .entry))))
+        × (now (out .exit) ≡ front (sectionText (now (name .entry)) count width (now (numbers .entry))) (now (out .entry)))
+        ⌝ }
+{
+    let at = write_head(name, count, out);
+    at + write_lines(numbers, width, &mut out[at..])
+}
+
+// The length of a section.
+pub fn section_len(name: &[u8], count: usize, numbers: &[u64]) -> usize
+    requires { ⌜ (length (now name) ≤ 8) × (length (now numbers) ≤ maxSide * maxSide) ⌝ }
+    ensures { λ r. ⌜ (r ≡ length (now (name .entry)) + (length (digits count) + 1) + numbersLength (now (numbers .entry))) × (r ≤ maxSide * maxSide * 21 + 29) ⌝ }
+{
+    name.len() + (number::digit_count(count as u64) + 1) + numbers_len(numbers)
+}
