@@ -1,0 +1,62 @@
+-- The head line, and then the lines in what is left of the output.
+use mathlib.Core.List.{_++_, flatMap}
+use native.Mathlib.Omega.{arith}
+use lib.ListN.{length}
+use Rattle.transport.specs.PlanText.{wholeLine}
+use Rattle.sections.specs.Front.{Begun, first-room, second-start, second-room, both-length, both-written}
+use Rattle.sections.specs.Lines.{ended}
+use Rattle.sections.specs.Wholes.{wholeSection}
+use borrow.Author.Needs.{needs}
+use Rattle.sections.proofs.wholes.write_whole_section.Statement.{statement}
+use Rattle.sections.proofs.wholes.write_whole_section.Tie as tie
+
+write-head-requires : tie.Need-write-head-requires
+unfolding wholeSection
+write-head-requires c κs =
+    let t = c .before .before .before in
+    first-room (t .args .name .now ++ ended (length (t .args .wholes .now)) 10) (flatMap wholeLine (t .args .wholes .now)) (t .args .out .now) (t .pre)
+
+begun : (c : tie.After-write-head) → let t = c .before .before .before .before in
+    Begun (t .args .name .now ++ ended (length (t .args .wholes .now)) 10) (flatMap wholeLine (t .args .wholes .now)) (t .args .out .now) (c .write-head .last .1 .1 .0) (c .write-head .result)
+unfolding wholeSection
+begun c = record { room = c .before .before .before .before .pre; ends = c .write-head .ensures .0; holds = c .write-head .ensures .1 }
+
+sub-write-whole-lines : tie.Need-sub-write-whole-lines
+sub-write-whole-lines c = second-start (begun (c .before .before))
+
+part-write-whole-lines-start : tie.Need-part-write-whole-lines-start
+part-write-whole-lines-start c = second-start (begun (c .before .before))
+
+part-write-whole-lines-end : tie.Need-part-write-whole-lines-end
+part-write-whole-lines-end c = search needs
+
+write-whole-lines-requires : tie.Need-write-whole-lines-requires
+write-whole-lines-requires c κs = second-room (begun (c .before .before .before))
+
+add-result : tie.Need-add-result
+add-result c =
+    let b = begun (c .before .before .before .before .before .before) in
+    omega (arith, b .room, both-length b _ (c .before .before .write-whole-lines .ensures .0))
+
+same-length : tie.Need-same-length
+same-length c = search needs
+
+returns : tie.Need-returns
+unfolding wholeSection
+returns c =
+    let b = begun (c .before .before .before .before .before .before) in
+    let w = c .before .before .write-whole-lines in
+    (both-length b _ (w .ensures .0), both-written b _ (w .ensures .1))
+
+pub write-whole-section-spec : {M : Type 1} → statement M
+write-whole-section-spec =
+    tie.close
+    (tie.spec
+    write-head-requires
+    sub-write-whole-lines
+    part-write-whole-lines-start
+    part-write-whole-lines-end
+    write-whole-lines-requires
+    add-result
+    same-length
+    returns)
