@@ -1,6 +1,6 @@
 -- Lists whose elements are all good.
-use mathlib.Core.Path.{_≡_}
-use mathlib.Core.List.{List, [], _∷_, _++_}
+use mathlib.Core.Path.{_≡_, refl}
+use mathlib.Core.List.{List, [], _∷_, _++_, List·Memᴰ, List·Memᴰ·head, List·Memᴰ·tail}
 use Prim.Native.Nat.{ℕ, zero, suc}
 use lib.ListN.{length, take, drop}
 
@@ -14,6 +14,10 @@ module _ {A : Type 0} where
   Count Good k xs = (length xs ≡ k) × Every Good xs
 
 module _ {A : Type 0} (Good : A → Type 0) where
+  pub every-members : (xs : List A) → ((x : A) → List·Memᴰ x xs → Good x) → Every Good xs
+  every-members [] h = tt
+  every-members (x ∷ xs) h = (h x (List·Memᴰ·head refl), every-members xs (λ y m. h y (List·Memᴰ·tail m)))
+
   pub every-append : (xs ys : List A) → Every Good xs → Every Good ys → Every Good (xs ++ ys)
   every-append [] ys h k = k
   every-append (x ∷ xs) ys h k = (h .0, every-append xs ys (h .1) k)

@@ -1,7 +1,7 @@
 -- The longest sheet text has 8,732 bytes.
 use mathlib.Core.Path.{_≡_, refl}
 use mathlib.Core.List.{List, [], _∷_, flatMap}
-use Prim.Native.Nat.{ℕ, suc, _*_, _-_, _≤_}
+use Prim.Native.Nat.{ℕ, suc, _*_, _-_, _^_, _≤_, _<_}
 use native.Mathlib.Omega.{arith}
 use native.Mathlib.Nat.{mul-le-mul}
 use lib.ListN.{length, length-append, replicate}
@@ -20,20 +20,25 @@ use Rattle.grammar.specs.Rows.{rowsOf-length, rowsOf-every}
 -- ---- parts
 
 -- Lines of at most `most` bytes each.
-lines-length : {A : Type 0} (Good : A → Type 0) (write : A → List ℕ) (most : ℕ) → ((x : A) → Good x → length (write x) ≤ most)
+pub lines-length : {A : Type 0} (Good : A → Type 0) (write : A → List ℕ) (most : ℕ) → ((x : A) → Good x → length (write x) ≤ most)
     → (xs : List A) → Every Good xs → length (flatMap write xs) ≤ length xs * most
 unfolding flatMap
 lines-length Good write most h [] e = omega arith
 lines-length Good write most h (x ∷ xs) e =
     simp length-append (omega (arith, h x (e .0), lines-length Good write most h xs (e .1)))
 
+-- A line of one number.
+pub line-length : (k x : ℕ) → x < 10 ^ suc k → length (numberLine x) ≤ suc (suc k)
+unfolding numberLine bytes
+line-length k x h = simp length-append (omega (arith, digits-length k x .1 h))
+
 number-length : (x : ℕ) → Small x → length (digits x) ≤ maxDigits
 unfolding maxDigits
 number-length x h = digits-length (maxDigits - 1) x .1 h
 
 numberLine-length : (x : ℕ) → Small x → length (numberLine x) ≤ suc maxDigits
-unfolding numberLine bytes
-numberLine-length x h = simp length-append (omega (arith, number-length x h))
+unfolding maxDigits
+numberLine-length x h = line-length (maxDigits - 1) x h
 
 rowLine-length : (x : ℕ) (xs : List ℕ) → Every Small (x ∷ xs) → length (rowLine (x ∷ xs)) ≤ suc (length xs) * suc maxDigits
 unfolding rowLine bytes maxDigits
@@ -45,7 +50,7 @@ unfolding maxDigits
 row-length n l [] h = absurd (omega arith)
 row-length n l (x ∷ xs) h = omega (arith, rowLine-length x xs (h .1))
 
-side-length : (m : ℕ) → m ≤ maxSide → length (digits m) ≤ 2
+pub side-length : (m : ℕ) → m ≤ maxSide → length (digits m) ≤ 2
 unfolding maxSide
 side-length m h = digits-length 1 m .1 (omega arith)
 

@@ -45,11 +45,11 @@ writeSheet-iff S room text = (
 -- ---- read sheet
 
 module _ (tests : Sheet → List (Bool × ℕ)) (text : List ℕ) where
-  read-got : (S : Sheet) (rest : List ℕ) → sheetReader text ≡ got S rest → readWith tests text ≡ unless (tests S) S
+  pub read-got : (S : Sheet) (rest : List ℕ) → sheetReader text ≡ got S rest → readWith tests text ≡ unless (tests S) S
   unfolding readWith
   read-got S rest e = rw (e, readWith)
 
-  read-stuck : (rest : List ℕ) → sheetReader text ≡ stuck rest
+  pub read-stuck : (rest : List ℕ) → sheetReader text ≡ stuck rest
       → readWith tests text ≡ refused (record { number = 9; position = some (length text - length rest) })
   unfolding readWith
   read-stuck rest e = rw (e, readWith)

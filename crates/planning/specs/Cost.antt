@@ -23,7 +23,7 @@ pub record Summable (plan cost : List ℕ) : Type 0 where
   pub costs : (l : ℕ) → at cost l ≤ maxCost
 
 -- A lane of a plan that meets the sheet carries no more than its source's supply.
-meets-small : {S : Sheet} {Q : List ℕ} → Checked S → Meets S 1 Q → (l : ℕ) → l < sources S * sinks S → at Q l ≤ maxAmount
+pub meets-small : {S : Sheet} {Q : List ℕ} → Checked S → Meets S 1 Q → (l : ℕ) → l < sources S * sinks S → at Q l ≤ maxAmount
 meets-small {S} {Q} ok meets l p =
     let w = place-of (sources S) (sinks S) l p in
     let most = sumTo-each (sinks S) (λ j. at Q (place (sinks S) (w .row) j)) (w .col) (w .colBelow) in

@@ -101,6 +101,11 @@ line-then width x (y ∷ xs) more =
     lines-cons width (suc (suc (length xs))) x (y ∷ (xs ++ more))
     ∙ (rw (ending-more (suc (suc (length xs))) (λ e. omega arith), left-more width (suc (suc (length xs))) (λ e. omega arith), one, line-then width y xs more, row-more, append-assoc))
 
+-- A whole row, and then the lines after it.
+pub lines-row : (width : ℕ) (row more : List ℕ) → 1 ≤ length row → length row ≡ width → linesFrom width width (row ++ more) ≡ rowLine row ++ linesFrom width width more
+lines-row width [] more p e = absurd (omega arith)
+lines-row width (x ∷ row) more p e = rw (← e) (line-then (suc (length row)) x row more)
+
 -- The rows of the costs are lines of n numbers.
 pub lines-rows : (m n : ℕ) (xs : List ℕ) → 1 ≤ n → length xs ≡ m * n → flatMap rowLine (rowsOf m n xs) ≡ linesFrom n n xs
 unfolding flatMap rowsOf
@@ -120,10 +125,9 @@ lines-rows (suc m) n xs p e =
 unfoldable pub sectionText : List ℕ → ℕ → ℕ → List ℕ → List ℕ
 sectionText name count width xs = name ++ ended count 10 ++ linesFrom width width xs
 
-pub length-section : (name : List ℕ) (count width : ℕ) (xs : List ℕ) → length (sectionText name count width xs) ≡ length name + (length (digits count) + 1) + numbersLength xs
+pub length-section : (name : List ℕ) (count width : ℕ) (xs : List ℕ) → length (sectionText name count width xs) ≡ length (name ++ ended count 10) + numbersLength xs
 unfolding sectionText
-length-section name count width xs =
-    omega (arith, length-append (name ++ ended count 10) (linesFrom width width xs), length-append name (ended count 10), length-ended count 10, length-lines width width xs)
+length-section name count width xs = omega (arith, length-append (name ++ ended count 10) (linesFrom width width xs), length-lines width width xs)
 
 -- A head line is its name, with the space after it, and its count with the line's end.
 pub head-line : (name : String) (count : ℕ) → headLine name count ≡ bytes name ++ bytes " " ++ ended count 10

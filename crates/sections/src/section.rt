@@ -1,10 +1,8 @@
 // Sections of texts: a head line, and numbers in lines. Each part is written at the front of what the parts before it left of the output, and its writer gives its length.
 ghost use mathlib.Core.Path.{_≡_};
 ghost use mathlib.Core.List.{_++_};
-ghost use Prim.Native.Nat.{_+_, _*_, _≤_};
+ghost use Prim.Native.Nat.{_+_, _*_, _^_, _≤_};
 ghost use lib.ListN.{length};
-ghost use Rattle.transport.specs.Limits.{maxSide};
-ghost use Rattle.transport.specs.Text.{digits};
 ghost use Rattle.sections.specs.Front.{front};
 ghost use Rattle.sections.specs.Lines.{ended, linesFrom, numbersLength, sectionText};
 use crate::lines;
@@ -12,8 +10,8 @@ use crate::number;
 
 // The length of numbers in lines: each with the byte that ends it.
 fn numbers_len(numbers: &[u64]) -> usize
-    requires { ⌜ length (now numbers) ≤ maxSide * maxSide ⌝ }
-    ensures { λ r. ⌜ (r ≡ numbersLength (now (numbers .entry))) × (r ≤ maxSide * maxSide * 21) ⌝ }
+    requires { ⌜ length (now numbers) ≤ 2 ^ 32 ⌝ }
+    ensures { λ r. ⌜ (r ≡ numbersLength (now (numbers .entry))) × (r ≤ length (now (numbers .entry)) * 21) ⌝ }
 {
     let mut len: usize = 0;
     let mut i: usize = 0;
@@ -97,10 +95,20 @@ pub fn write_section(
     at + write_lines(numbers, width, &mut out[at..])
 }
 
-// The length of a section.
-pub fn section_len(name: &[u8], count: usize, numbers: &[u64]) -> usize
-    requires { ⌜ (length (now name) ≤ 8) × (length (now numbers) ≤ maxSide * maxSide) ⌝ }
-    ensures { λ r. ⌜ (r ≡ length (now (name .entry)) + (length (digits count) + 1) + numbersLength (now (numbers .entry))) × (r ≤ maxSide * maxSide * 21 + 29) ⌝ }
+// The length of a head line.
+pub fn head_len(name: &[u8], count: usize) -> usize
+    requires { ⌜ length (now name) ≤ 16 ⌝ }
+    ensures { λ r. ⌜ (r ≡ length (now (name .entry) ++ ended count 10)) × (r ≤ 37) ⌝ }
 {
-    name.len() + (number::digit_count(count as u64) + 1) + numbers_len(numbers)
+    name.len() + number::digit_count(count as u64) + 1
+}
+
+// The length of a section, whatever its lines.
+pub fn section_len(name: &[u8], count: usize, numbers: &[u64]) -> usize
+    requires { ⌜ (length (now name) ≤ 16) × (length (now numbers) ≤ 2 ^ 32) ⌝ }
+    ensures { λ r.
+        let xs = now (numbers .entry) in
+        ⌜ (r ≡ length (now (name .entry) ++ ended count 10) + numbersLength xs) × (r ≤ length xs * 21 + 37) ⌝ }
+{
+    head_len(name, count) + numbers_len(numbers)
 }

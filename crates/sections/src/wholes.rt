@@ -66,5 +66,5 @@ pub fn whole_section_len(name: &[u8], wholes: &[i64]) -> usize
     requires { ⌜ (length (now name) ≤ 16) × (length (now wholes) ≤ maxSide) ⌝ }
     ensures { λ r. ⌜ (r ≡ length (wholeSection (now (name .entry)) (now (wholes .entry)))) × (r ≤ maxSide * 21 + 37) ⌝ }
 {
-    name.len() + (number::digit_count(wholes.len() as u64) + 1) + whole_lines_len(wholes)
+    section::head_len(name, wholes.len()) + whole_lines_len(wholes)
 }

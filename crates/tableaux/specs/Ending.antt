@@ -119,10 +119,10 @@ module _ {S : Sheet} (ok : Checked S) where
   pub start-done : run S (roundBound S) (start S) .done ≡ true
   start-done = run-ends (start S) (start-belongs S ok)
 
-  -- The count of rounds fits 64 bits.
-  pub roundBound-fits : roundBound S < 2 ^ 64
+  -- The count of rounds has at most 16 digits, so it fits 64 bits.
+  pub roundBound-most : roundBound S < 10 ^ 16
   unfolding roundBound maxSide maxAmount maxCost total sources
-  roundBound-fits = omega (
+  roundBound-most = omega (
     arith,
     ok .sourcesHigh,
     mul-le-mul-right (total (S .supply)) sides,
@@ -131,6 +131,9 @@ module _ {S : Sheet} (ok : Checked S) where
     where
       sides : 2 * sources S + 1 ≤ 65
       sides = omega (arith, ok .sourcesHigh)
+
+  pub roundBound-fits : roundBound S < 2 ^ 64
+  roundBound-fits = omega (arith, roundBound-most)
 
   -- So the solution's rounds are those from the start to the first finished tableau, which belongs to the sheet.
   pub start-rounds : run S (roundBound S) (start S) .rounds < 2 ^ 64

@@ -2,4 +2,5 @@ pub mod SheetSections
 pub mod Reading
 pub mod LinesRead
 pub mod SheetRead
+pub mod SheetAnswer
 pub mod ReadCall

@@ -1,37 +1,21 @@
--- Read sheet: what the sections' answer says, and the call case by case.
+-- Read sheet: a sheet that was read and is stored, and the call case by case.
 use mathlib.Core.Path.{_≡_, refl, ap, _∙_}
-use mathlib.Core.List.{List, []}
+use mathlib.Core.List.{List}
 use Prim.Native.Nat.{ℕ, _*_, _-_, _≤_}
 use native.Mathlib.Omega.{arith}
 use mathlib.Core.Bool.{Bool, true, false, not, _&&_, _||_, and-eq-true-iff}
 use mathlib.Core.Option.{none, some}
 use borrow.Author.Tests.{leb-true, leb-false}
 use lib.Dec.{leb}
-use lib.ListN.{length, take, drop, length-drop}
+use lib.ListN.{length, drop, length-drop}
 use Rattle.transport.specs.declared.ReadAnswer.{ReadAnswer}
 use Rattle.transport.specs.declared.ReadAnswer.the-variants as ReadAnswer
-use Rattle.transport.specs.Limits.{maxSide}
 use Rattle.transport.specs.Sheet.{Sheet as SheetRecord, sources, sinks, refusal, numberTests}
 use Rattle.transport.specs.Calls.{Answer, refused, given, refusedBy, unless, lentAfter, tooShort}
 use Rattle.transport.specs.Answers.{readAnswer}
-use Rattle.transport.specs.SheetText.{Reading, stuck, got, sheetReader, readWith, readTests, readSheetCall}
+use Rattle.transport.specs.SheetText.{stuck, got, sheetReader, readWith, readTests, readSheetCall}
 use Rattle.transport.specs.CallLaws.{unless-before, unless-last, unless-none, short-yes, short-no}
 use Rattle.sections.specs.Front.{front}
-
--- The sheet that the fronts of three lists are.
-abbrev pub frontSheet : ℕ → ℕ → List ℕ → List ℕ → List ℕ → SheetRecord
-frontSheet m n supply demand cost = record { supply = take m supply; demand = take n demand; cost = take (m * n) cost }
-
-abbrev pub sheetRead : List ℕ → List ℕ → List ℕ → List ℕ → ReadAnswer → Reading SheetRecord
-sheetRead text supply demand cost (ReadAnswer.Sheet m n) = got (frontSheet m n supply demand cost) []
-sheetRead text supply demand cost (ReadAnswer.NotSheetText place) = stuck (drop place text)
-sheetRead text supply demand cost (ReadAnswer.Refused number) = stuck text
-
--- Sides within their limits, and a place in the text.
-abbrev pub readFits : List ℕ → ReadAnswer → Type 0
-readFits text (ReadAnswer.Sheet m n) = (1 ≤ m) × (m ≤ maxSide) × (1 ≤ n) × (n ≤ maxSide)
-readFits text (ReadAnswer.NotSheetText place) = place ≤ length text
-readFits text (ReadAnswer.Refused number) = ⊥
 
 -- ---- rooms
 

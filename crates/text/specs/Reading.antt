@@ -1,5 +1,6 @@
 -- What a reader of the code found, as a reading of the specification; and the readers' laws, by what comes next in the text.
 use mathlib.Core.Path.{_≡_, refl, sym, _∙_}
+use mathlib.Core.Logic.{by-cases}
 use mathlib.Core.Bool.{Bool, true, false, _&&_, cond, true≢false}
 use mathlib.Core.List.{List, [], _∷_}
 use Prim.Native.Nat.{ℕ, zero, suc, _+_, _*_, _-_, _≤_, _<_, _^_}
@@ -31,18 +32,19 @@ abbrev pub placeOf : Taken → ℕ
 placeOf (Got value next) = next
 placeOf (Stuck place) = place
 
-abbrev pub valueOf : Taken → ℕ
-valueOf (Got value next) = value
-valueOf (Stuck place) = 0
-
 -- A value that was read is k.
 abbrev pub valueIs : ℕ → Taken → Type 0
 valueIs k (Got value next) = value ≡ k
 valueIs k (Stuck place) = Unit {0}
 
-pub value-le : (k : ℕ) (r : Taken) → valueIs k r → valueOf r ≤ k
-value-le k (Got value next) e = omega arith
-value-le k (Stuck place) e = omega arith
+-- A value that was read is a side.
+abbrev pub valueSide : Taken → Type 0
+valueSide (Got value next) = (1 ≤ value) × (value ≤ maxSide)
+valueSide (Stuck place) = Unit {0}
+
+pub side-value : (k : ℕ) (r : Taken) → 1 ≤ k → k ≤ maxSide → valueIs k r → valueSide r
+side-value k (Got value next) p q e = (omega arith, omega arith)
+side-value k (Stuck place) p q e = tt
 
 -- ---- what comes next
 
@@ -75,23 +77,13 @@ module _ (text : List ℕ) (at : ℕ) where
   unfolding digitNext
   digit-here p = rw (drop-cons text at 0 p)
 
-  -- Where a byte or a digit comes next, the text goes on.
+  -- Where a byte comes next, the text goes on.
   pub byte-inside : (b : ℕ) → byteNext b (drop at text) ≡ true → at < length text
   byte-inside b e = go (decLt at (length text))
     where
       go : Dec (at < length text) → at < length text
       go (yes p) = p
       go (no p) = absurd (true≢false (sym e ∙ byte-end b (omega arith)))
-
-  pub digit-inside : digitNext (drop at text) ≡ true → at < length text
-  digit-inside e = go (decLt at (length text))
-    where
-      go : Dec (at < length text) → at < length text
-      go (yes p) = p
-      go (no p) = absurd (true≢false (sym e ∙ digit-end (omega arith)))
-
-  pub digit-found : digitNext (drop at text) ≡ true → isDigit (getD text at 0) ≡ true
-  digit-found e = sym (digit-here (digit-inside e)) ∙ e
 
   pub drop-next : drop 1 (drop at text) ≡ drop (at + 1) text
   drop-next = drop-drop 1 at text
@@ -125,12 +117,21 @@ module _ (b : ℕ) where
       go false false false true h = absurd (true≢false (sym h))
       go false false false false h = absurd (true≢false (sym h))
 
-  -- A digit is a byte from `0` to `9`.
-  pub digit-low : isDigit b ≡ true → 48 ≤ b
-  digit-low e = within-true 48 57 b (digit-within e) .0
+-- A digit stands at this place of the text: a byte from `0` to `9`.
+pub record DigitAt (text : List ℕ) (at : ℕ) : Type 0 where
+  pub inside : at < length text
+  pub digit : isDigit (getD text at 0) ≡ true
+  pub low : 48 ≤ getD text at 0
+  pub high : getD text at 0 ≤ 57
 
-  pub digit-high : isDigit b ≡ true → b ≤ 57
-  digit-high e = within-true 48 57 b (digit-within e) .1
+pub digit-at : (text : List ℕ) (at : ℕ) → digitNext (drop at text) ≡ true → DigitAt text at
+digit-at text at e = by-cases (decLt at (length text)) there (λ p. absurd (true≢false (sym e ∙ digit-end text at (omega arith))))
+  where
+    there : at < length text → DigitAt text at
+    there p =
+        let d : isDigit (getD text at 0) ≡ true = sym (digit-here text at p) ∙ e in
+        let w = within-true 48 57 (getD text at 0) (digit-within (getD text at 0) d) in
+        record { inside = p; digit = d; low = w .0; high = w .1 }
 
 -- ---- one reader after another
 
@@ -150,6 +151,44 @@ module _ {A B : Type 0} (r : Reader A) (t rest : List ℕ) where
   pub bind-stuck : (f : A → Reader B) → r t ≡ stuck rest → (r >>= f) t ≡ stuck rest
   unfolding _>>=_
   bind-stuck f e = rw (_>>=_, e)
+
+module _ {A B : Type 0} (r : Reader A) (t : List ℕ) where
+  -- A reader that gave a value had one from the reader that it begins with.
+  pub bind-inside : (f : A → Reader B) (b : B) (rest : List ℕ) → (r >>= f) t ≡ got b rest → (a : A) × (u : List ℕ) × (r t ≡ got a u) × (f a u ≡ got b rest)
+  bind-inside f b rest e = go (r t) refl
+    where
+      go : (v : Reading A) → r t ≡ v → (a : A) × (u : List ℕ) × (r t ≡ got a u) × (f a u ≡ got b rest)
+      go (stuck u) h = let s : (r >>= f) t ≡ stuck u = bind-stuck r t u f h in let z : _≡_ {A = ℕ} 0 1 = cc in absurd (omega arith)
+      go (got a u) h = (a, u, h, sym (bind-got r t u f a h) ∙ e)
+
+  -- What comes after matters only on what was read.
+  pub bind-same : (f g : A → Reader B) → ((a : A) (u : List ℕ) → r t ≡ got a u → f a u ≡ g a u) → (r >>= f) t ≡ (r >>= g) t
+  bind-same f g h = go (r t) refl
+    where
+      go : (v : Reading A) → r t ≡ v → (r >>= f) t ≡ (r >>= g) t
+      go (stuck u) e = bind-stuck r t u f e ∙ sym (bind-stuck r t u g e)
+      go (got a u) e = bind-got r t u f a e ∙ h a u e ∙ sym (bind-got r t u g a e)
+
+  pub then-same : (p q : Reader B) → ((a : A) (u : List ℕ) → r t ≡ got a u → p u ≡ q u) → (r >> p) t ≡ (r >> q) t
+  unfolding _>>_ _>>=_
+  then-same p q h = bind-same (λ a. p) (λ a. q) h
+
+bind-on : {A B : Type 0} (r s : Reader A) (t u : List ℕ) (f : A → Reader B) → r t ≡ s u → (r >>= f) t ≡ (s >>= f) u
+unfolding _>>=_
+bind-on r s t u f e = rw (_>>=_, e)
+
+-- Three readers one after another, grouped either way.
+module _ {A B C : Type 0} (r : Reader A) (g : B → Reader C) (t : List ℕ) where
+  pub bind-assoc : (f : A → Reader B) → ((r >>= f) >>= g) t ≡ (r >>= λ a. f a >>= g) t
+  bind-assoc f = go (r t) refl
+    where
+      go : (v : Reading A) → r t ≡ v → ((r >>= f) >>= g) t ≡ (r >>= λ a. f a >>= g) t
+      go (stuck u) e = bind-stuck (r >>= f) t u g (bind-stuck r t u f e) ∙ sym (bind-stuck r t u (λ a. f a >>= g) e)
+      go (got a u) e = bind-on (r >>= f) (f a) t u g (bind-got r t u f a e) ∙ sym (bind-got r t u (λ a. f a >>= g) a e)
+
+  pub then-assoc : (s : Reader B) → ((r >> s) >>= g) t ≡ (r >> (s >>= g)) t
+  unfolding _>>_ _>>=_
+  then-assoc s = bind-assoc (λ a. s)
 
 module _ (test : ℕ → Bool) (b : ℕ) (t : List ℕ) where
   byte-yes : test b ≡ true → byteThat test (b ∷ t) ≡ got b t
@@ -197,14 +236,14 @@ module _ (test : ℕ → Bool) (x : ℕ) where
   more-stop (suc k) [] e = refl
   more-stop (suc k) (b ∷ t) e = rw (moreDigits, e)
 
-  module _ (k : ℕ) (text : List ℕ) (at : ℕ) (p : at < length text) (d : isDigit (getD text at 0) ≡ true) where
+  module _ (k : ℕ) {text : List ℕ} {at : ℕ} (d : DigitAt text at) where
     pub more-step : test (x * 10 + (getD text at 0 - 48)) ≡ true → moreDigits test (suc k) x (drop at text) ≡ moreDigits test k (x * 10 + (getD text at 0 - 48)) (drop (at + 1) text)
     unfolding moreDigits digitValue
-    more-step e = rw (drop-cons text at 0 p, moreDigits, d, e, add-one)
+    more-step e = rw (drop-cons text at 0 (d .inside), moreDigits, d .digit, e, add-one)
 
     pub more-over : test (x * 10 + (getD text at 0 - 48)) ≡ false → moreDigits test (suc k) x (drop at text) ≡ got x (drop at text)
     unfolding moreDigits digitValue
-    more-over e = rw (drop-cons text at 0 p, moreDigits, d, e)
+    more-over e = rw (drop-cons text at 0 (d .inside), moreDigits, d .digit, e)
 
 -- The first digit decides how many may follow.
 number-is : (t : List ℕ) → number t ≡ (byteThat isDigit >>= λ b. moreDigits always (cond (eqb (b - 48) 0) 0 (maxDigits - 1)) (b - 48)) t
@@ -216,11 +255,11 @@ unfolding digitNext
 number-stuck [] e = number-is [] ∙ bind-stuck (byteThat isDigit) [] [] _ (byte-none isDigit)
 number-stuck (b ∷ t) e = number-is (b ∷ t) ∙ bind-stuck (byteThat isDigit) (b ∷ t) (b ∷ t) _ (byte-no isDigit b t e)
 
-module _ (text : List ℕ) (at : ℕ) (p : at < length text) (d : isDigit (getD text at 0) ≡ true) where
+module _ {text : List ℕ} {at : ℕ} (d : DigitAt text at) where
   first-digit : number (drop at text) ≡ moreDigits always (cond (eqb (getD text at 0 - 48) 0) 0 (maxDigits - 1)) (getD text at 0 - 48) (drop (at + 1) text)
   first-digit =
-      rw (drop-cons text at 0 p, add-one)
-      (number-is _ ∙ bind-got (byteThat isDigit) _ (drop (suc at) text) _ (getD text at 0) (byte-yes isDigit (getD text at 0) (drop (suc at) text) d))
+      rw (drop-cons text at 0 (d .inside), add-one)
+      (number-is _ ∙ bind-got (byteThat isDigit) _ (drop (suc at) text) _ (getD text at 0) (byte-yes isDigit (getD text at 0) (drop (suc at) text) (d .digit)))
 
   pub number-zero : getD text at 0 - 48 ≡ 0 → number (drop at text) ≡ got 0 (drop (at + 1) text)
   number-zero e = first-digit ∙ (rw e (more-none always 0 (drop (at + 1) text)))
@@ -297,19 +336,19 @@ unfolding digitNext
 side-stuck [] e = side-is [] ∙ bind-stuck (byteThat startsSide) [] [] _ (byte-none startsSide)
 side-stuck (b ∷ t) e = side-is (b ∷ t) ∙ bind-stuck (byteThat startsSide) (b ∷ t) (b ∷ t) _ (byte-no startsSide b t (and-no (isDigit b) _ e))
 
-module _ (text : List ℕ) (at : ℕ) (p : at < length text) (d : isDigit (getD text at 0) ≡ true) where
+module _ {text : List ℕ} {at : ℕ} (d : DigitAt text at) where
   pub side-zero : getD text at 0 - 48 ≡ 0 → side (drop at text) ≡ stuck (drop at text)
   side-zero e =
       let b = getD text at 0 in
-      rw (drop-cons text at 0 p)
-      (side-is _ ∙ bind-stuck (byteThat startsSide) _ _ _ (byte-no startsSide b (drop (suc at) text) (and-yes (isDigit b) _ d ∙ within-low 1 maxSide (b - 48) (omega arith))))
+      rw (drop-cons text at 0 (d .inside))
+      (side-is _ ∙ bind-stuck (byteThat startsSide) _ _ _ (byte-no startsSide b (drop (suc at) text) (and-yes (isDigit b) _ (d .digit) ∙ within-low 1 maxSide (b - 48) (omega arith))))
 
   pub side-more : (getD text at 0 - 48 ≡ 0 → ⊥) → side (drop at text) ≡ moreDigits (within 1 maxSide) 1 (getD text at 0 - 48) (drop (at + 1) text)
   unfolding maxSide
   side-more n =
       let b = getD text at 0 in
-      rw (drop-cons text at 0 p, add-one)
-      (side-is _ ∙ bind-got (byteThat startsSide) _ (drop (suc at) text) _ b (byte-yes startsSide b (drop (suc at) text) (and-yes (isDigit b) _ d ∙ true-within 1 maxSide (b - 48) (omega arith) (omega (arith, digit-high b d)))))
+      rw (drop-cons text at 0 (d .inside), add-one)
+      (side-is _ ∙ bind-got (byteThat startsSide) _ (drop (suc at) text) _ b (byte-yes startsSide b (drop (suc at) text) (and-yes (isDigit b) _ (d .digit) ∙ true-within 1 maxSide (b - 48) (omega arith) (omega (arith, d .high)))))
 
 -- A side that was read is within its limits.
 more-passes : (test : ℕ → Bool) (k x : ℕ) (t : List ℕ) (m : ℕ) (rest : List ℕ) → test x ≡ true → moreDigits test k x t ≡ got m rest → test m ≡ true

@@ -5,13 +5,13 @@ ghost use Prim.Native.Nat.{_+_, _*_, _-_, _≤_, _<_};
 ghost use lib.ListN.{length, take, drop};
 ghost use Rattle.transport.specs.Limits.{maxSide, maxDigits};
 ghost use Rattle.transport.specs.Text.{kindOf};
-ghost use Rattle.transport.specs.SheetText.{isDigit, word, moreDigits, number, side, sheetReader, readSheetCall};
-ghost use Rattle.transport.specs.Calls.{lentAfter};
+ghost use Rattle.transport.specs.SheetText.{isDigit, word, moreDigits, number, side, sheetReader, readTests, readSheetCall};
+ghost use Rattle.transport.specs.Calls.{unless, lentAfter};
 ghost use Rattle.transport.specs.Answers.{readAnswer};
-ghost use Rattle.text.specs.Reading.{byteNext, digitNext, readingOf, placeOf, valueOf, valueIs, always, endReading};
+ghost use Rattle.text.specs.Reading.{byteNext, digitNext, readingOf, placeOf, valueIs, valueSide, always, endReading};
 ghost use Rattle.text.specs.LinesRead.{readLines};
-ghost use Rattle.text.specs.SheetRead.{listReader, costReader};
-ghost use Rattle.text.specs.ReadCall.{sheetRead, readFits, Stored};
+ghost use Rattle.text.specs.SheetRead.{listReader, costReader, afterDemand, afterSupply};
+ghost use Rattle.text.specs.SheetAnswer.{answerOf, answerFits, sheetRead, readFits};
 ghost use Rattle.sections.specs.Front.{front};
 ghost use Rattle.sheet.specs.Check.{sheetOf};
 use crate::Taken;
@@ -208,7 +208,7 @@ fn read_list(text: &[u8], at: usize, name: &[u8], list: &mut [u64]) -> Taken
     ensures { λ r. ⌜
         (listReader (now (name .entry)) (drop at (now (text .entry))) ≡ readingOf (now (text .entry)) (λ v. take v (now (list .exit))) r)
         × (placeOf r ≤ length (now (text .entry)))
-        × (valueOf r ≤ maxSide)
+        × (valueSide r)
         ⌝ }
 {
     let head = read_word(text, at, name);
@@ -250,45 +250,77 @@ fn not_sheet_text(found: Taken) -> ReadAnswer
     }
 }
 
+// What comes after the demands: the costs, into the front of their list, and the end of the text. Never `Refused`.
+fn read_after_demand(text: &[u8], at: usize, m: usize, n: usize, cost: &mut [u64]) -> ReadAnswer
+    requires { ⌜ (at ≤ length (now text)) × (m ≤ maxSide) × (1 ≤ n) × (n ≤ maxSide) × (m * n ≤ length (now cost)) ⌝ }
+    ensures { λ r.
+        let t = now (text .entry) in
+        ⌜
+        (afterDemand m n (drop at t) ≡ answerOf t (λ a b. take (a * b) (now (cost .exit))) r)
+        × (answerFits t (λ a b. (a ≡ m) × (b ≡ n)) r)
+        ⌝ }
+{
+    let costs = read_costs(text, at, m, n, cost);
+    let Taken::Got { value: _, next } = costs else {
+        return not_sheet_text(costs);
+    };
+    if next < text.len() {
+        return ReadAnswer::NotSheetText(next);
+    }
+    ReadAnswer::Sheet {
+        sources: m,
+        sinks: n,
+    }
+}
+
+// What comes after the supplies: the demands, into the front of their list, and the rest. Never `Refused`.
+fn read_after_supply(
+    text: &[u8],
+    at: usize,
+    m: usize,
+    demand: &mut [u64],
+    cost: &mut [u64],
+) -> ReadAnswer
+    requires { ⌜
+        (at ≤ length (now text))
+        × (m ≤ maxSide)
+        × (maxSide ≤ length (now demand))
+        × (maxSide * maxSide ≤ length (now cost))
+        ⌝ }
+    ensures { λ r.
+        let t = now (text .entry) in
+        ⌜
+        (afterSupply m (drop at t) ≡ answerOf t (λ a b. (take b (now (demand .exit)), take (a * b) (now (cost .exit)))) r)
+        × (answerFits t (λ a b. (a ≡ m) × (1 ≤ b) × (b ≤ maxSide)) r)
+        ⌝ }
+{
+    let demands = read_list(text, at, b"demand ", demand);
+    let Taken::Got { value: n, next } = demands else {
+        return not_sheet_text(demands);
+    };
+    read_after_demand(text, next, m, n as usize, cost)
+}
+
 // The whole text, into the fronts of three lists that are long enough for any sheet text. Never `Refused`.
-fn read_sections(
+pub fn read_sections(
     text: &[u8],
     supply: &mut [u64],
     demand: &mut [u64],
     cost: &mut [u64],
 ) -> ReadAnswer
     requires { ⌜ (maxSide ≤ length (now supply)) × (maxSide ≤ length (now demand)) × (maxSide * maxSide ≤ length (now cost)) ⌝ }
-    ensures { λ r. ⌜
-        (sheetReader (now (text .entry)) ≡ sheetRead (now (text .entry)) (now (supply .exit)) (now (demand .exit)) (now (cost .exit)) r)
-        × (readFits (now (text .entry)) r)
+    ensures { λ r.
+        let t = now (text .entry) in
+        ⌜
+        (sheetReader t ≡ sheetRead t (now (supply .exit)) (now (demand .exit)) (now (cost .exit)) r)
+        × (readFits t r)
         ⌝ }
 {
-    let first = read_list(text, 0, b"supply ", supply);
-    let Taken::Got { value: m, next: at } = first else {
-        return not_sheet_text(first);
+    let supplies = read_list(text, 0, b"supply ", supply);
+    let Taken::Got { value: m, next } = supplies else {
+        return not_sheet_text(supplies);
     };
-    let second = read_list(text, at, b"demand ", demand);
-    let Taken::Got {
-        value: n,
-        next: after,
-    } = second
-    else {
-        return not_sheet_text(second);
-    };
-    let sources = m as usize;
-    let sinks = n as usize;
-    let third = read_costs(text, after, sources, sinks, cost);
-    let Taken::Got {
-        value: _,
-        next: end,
-    } = third
-    else {
-        return not_sheet_text(third);
-    };
-    if end < text.len() {
-        return ReadAnswer::NotSheetText(end);
-    }
-    ReadAnswer::Sheet { sources, sinks }
+    read_after_supply(text, next, m as usize, demand, cost)
 }
 
 // Copies a list to the front of a longer one.
@@ -330,7 +362,15 @@ fn store_sheet(
         × (length (now «sheet_demand») ≤ maxSide)
         × (length (now «sheet_cost») ≡ length (now «sheet_supply») * length (now «sheet_demand»))
         ⌝ }
-    ensures { λ r. ⌜ Stored (sheetOf (now («sheet_supply» .entry)) (now («sheet_demand» .entry)) (now («sheet_cost» .entry))) (now (supply .entry)) (now (demand .entry)) (now (cost .entry)) r (now (supply .exit)) (now (demand .exit)) (now (cost .exit)) ⌝ }
+    ensures { λ r.
+        let S = sheetOf (now («sheet_supply» .entry)) (now («sheet_demand» .entry)) (now («sheet_cost» .entry)) in
+        let a = unless (readTests (length (now (supply .entry))) (length (now (demand .entry))) (length (now (cost .entry))) S) S in
+        ⌜
+        (r ≡ readAnswer a)
+        × (now (supply .exit) ≡ lentAfter (λ S. S .supply) a (now (supply .entry)))
+        × (now (demand .exit) ≡ lentAfter (λ S. S .demand) a (now (demand .entry)))
+        × (now (cost .exit) ≡ lentAfter (λ S. S .cost) a (now (cost .entry)))
+        ⌝ }
 {
     let check = sheet::check_numbers(sheet_supply, sheet_demand, sheet_cost);
     if let SheetCheck::Refused(number) = check {
@@ -361,11 +401,13 @@ pub fn read_sheet(
     demand: &mut [u64],
     cost: &mut [u64],
 ) -> ReadAnswer
-    ensures { λ r. ⌜
-        (r ≡ readAnswer (readSheetCall (now (text .entry)) (length (now (supply .entry))) (length (now (demand .entry))) (length (now (cost .entry)))))
-        × (now (supply .exit) ≡ lentAfter (λ S. S .supply) (readSheetCall (now (text .entry)) (length (now (supply .entry))) (length (now (demand .entry))) (length (now (cost .entry)))) (now (supply .entry)))
-        × (now (demand .exit) ≡ lentAfter (λ S. S .demand) (readSheetCall (now (text .entry)) (length (now (supply .entry))) (length (now (demand .entry))) (length (now (cost .entry)))) (now (demand .entry)))
-        × (now (cost .exit) ≡ lentAfter (λ S. S .cost) (readSheetCall (now (text .entry)) (length (now (supply .entry))) (length (now (demand .entry))) (length (now (cost .entry)))) (now (cost .entry)))
+    ensures { λ r.
+        let a = readSheetCall (now (text .entry)) (length (now (supply .entry))) (length (now (demand .entry))) (length (now (cost .entry))) in
+        ⌜
+        (r ≡ readAnswer a)
+        × (now (supply .exit) ≡ lentAfter (λ S. S .supply) a (now (supply .entry)))
+        × (now (demand .exit) ≡ lentAfter (λ S. S .demand) a (now (demand .entry)))
+        × (now (cost .exit) ≡ lentAfter (λ S. S .cost) a (now (cost .entry)))
         ⌝ }
 {
     let mut supplies = [0u64; MAX_SIDE];

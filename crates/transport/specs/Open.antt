@@ -12,10 +12,10 @@ use Rattle.transport.specs.Plan.{planCost, rowPlans, plansFor, plans, se
 use Rattle.transport.specs.Calls.{refusedBy, unless, lentAfter, tableauTests, tooShort, startCall, roundCall, runCall, settleCall, roundBound, solution, solveCall}
 use Rattle.transport.specs.Text.{bytes, kindOf, digitsUpTo, digits, wholeDigits, headLine, numberLine, rowLine}
 use Rattle.transport.specs.SheetText.{rowsOf, sheetText, writeSheetCall, _>>=_, _>>_, pure, times, byteThat, word, end, isDigit, digitValue, moreDigits, number, side, line, row, sheetReader, readWith, readTests, readSheetCall}
-use Rattle.transport.specs.PlanText.{wholeLine, carried, used, laneLine, planText, writePlanCall, refusedLine, printed, shown}
+use Rattle.transport.specs.PlanText.{wholeLine, carried, used, laneLine, planText, writePlanCall, refusedLine, printed, fitting, shown}
 use Rattle.transport.specs.Answers.{startAnswer, startSays, prices, noPrices, roundAnswer, roundSays, runOutcome, runAnswer, runSays, settleAnswer, settleSays, solveAnswer, solveSays, readAnswer, readSays, writeAnswer, writeSays}
 use Rattle.transport.specs.Statements.{scaled}
 
 unfoldable pub opened : Unit {0}
-unfolding flatMap flatten zipWith all keep leastFrom firstLeast table padded below downTo sumTo at total within maxSide maxAmount maxCost maxCells maxDigits maxText maxPlanText sources sinks lanes place laneCost badSides badLength badAmount badCost unbalanced numberTests sheetTests refusal eqZ nothing add subtract less same smaller addUp pairedSupply pairedDemand basisSize laneOf withAmount basisOf sameLane noCell cellsOf tableauOf noTableau corner start onSheet inOrder aboveZero rowTotal columnTotal balanced touches strikeAt onlyOne firstLeaf strikeOff strikes spans cellsBelong belongs potentialBy potential sourcePrices sinkPrices reducedCost isFinished entering takeFrom flow sign leaving gain shift insert pivot next round run planCost rowPlans plansFor plans settled refusedBy unless lentAfter tableauTests tooShort startCall roundCall runCall settleCall roundBound solution solveCall bytes kindOf digitsUpTo digits wholeDigits headLine numberLine rowLine rowsOf sheetText writeSheetCall _>>=_ _>>_ pure times byteThat word end isDigit digitValue moreDigits number side line row sheetReader readWith readTests readSheetCall wholeLine carried used laneLine planText writePlanCall refusedLine printed shown startAnswer startSays prices noPrices roundAnswer roundSays runOutcome runAnswer runSays settleAnswer settleSays solveAnswer solveSays readAnswer readSays writeAnswer writeSays scaled
+unfolding flatMap flatten zipWith all keep leastFrom firstLeast table padded below downTo sumTo at total within maxSide maxAmount maxCost maxCells maxDigits maxText maxPlanText sources sinks lanes place laneCost badSides badLength badAmount badCost unbalanced numberTests sheetTests refusal eqZ nothing add subtract less same smaller addUp pairedSupply pairedDemand basisSize laneOf withAmount basisOf sameLane noCell cellsOf tableauOf noTableau corner start onSheet inOrder aboveZero rowTotal columnTotal balanced touches strikeAt onlyOne firstLeaf strikeOff strikes spans cellsBelong belongs potentialBy potential sourcePrices sinkPrices reducedCost isFinished entering takeFrom flow sign leaving gain shift insert pivot next round run planCost rowPlans plansFor plans settled refusedBy unless lentAfter tableauTests tooShort startCall roundCall runCall settleCall roundBound solution solveCall bytes kindOf digitsUpTo digits wholeDigits headLine numberLine rowLine rowsOf sheetText writeSheetCall _>>=_ _>>_ pure times byteThat word end isDigit digitValue moreDigits number side line row sheetReader readWith readTests readSheetCall wholeLine carried used laneLine planText writePlanCall refusedLine printed fitting shown startAnswer startSays prices noPrices roundAnswer roundSays runOutcome runAnswer runSays settleAnswer settleSays solveAnswer solveSays readAnswer readSays writeAnswer writeSays scaled
 opened = tt

@@ -59,6 +59,10 @@ printed input = elim (readWith numberTests (take (suc maxText) input)) [
   | given S ↦ planText S
 ]
 
--- What then stands in an output of `room` bytes: all that is printed, or nothing where that is longer.
+-- A text for an output of `room` bytes: all of it, or nothing where it is longer.
+unfoldable pub fitting : ℕ → List ℕ → List ℕ
+fitting room text = cond (tooShort room (length text)) [] text
+
+-- What then stands at the front of such an output.
 unfoldable pub shown : List ℕ → ℕ → List ℕ
-shown input room = cond (tooShort room (length (printed input))) [] (printed input)
+shown input room = fitting room (printed input)

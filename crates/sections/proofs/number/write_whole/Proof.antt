@@ -4,11 +4,11 @@ use mathlib.Core.List.{[], _∷_}
 use Prim.Native.Nat.{_<_, _≤_, _^_, _+_, _-_}
 use native.Mathlib.Omega.{arith}
 use lib.IntN.{natAbs}
-use borrow.Rule.Slice.PartMut.{putMid}
-use lib.ListN.{length, set, length-set}
+use borrow.Rule.Slice.PartMut.{same-len-mid}
+use lib.ListN.{length, length-set, length-take, length-drop}
 use lib.Signed.{mag}
 use Rattle.transport.specs.Text.{digits, wholeDigits}
-use Rattle.sections.specs.Front.{front, front-first, front-then, lent-length, length-front}
+use Rattle.sections.specs.Front.{front-first, front-then}
 use Rattle.sections.specs.Whole.{bits-back, whole-negative, whole-positive}
 use borrow.Author.Needs.{needs}
 use Rattle.sections.proofs.number.write_whole.Statement.{statement}
@@ -49,26 +49,25 @@ part-write-number-end : tie.Need-part-write-number-end
 part-write-number-end c = search needs
 
 write-number-requires : tie.Need-write-number-requires
-write-number-requires c κs =
-    let out = c .before .before .before .before .args .out .now in
-    omega (arith, room (c .before), lent-length (45 ∷ []) out _ 1 refl (front-first out 45 (omega (arith, room (c .before)))))
+write-number-requires c κs = simp (length-take, length-drop, length-set) (omega (arith, room (c .before)))
 
 add-result : tie.Need-add-result
 add-result c =
     let t = c .before .before .before .before in
     omega (arith, room t, c .before .before .write-number .ensures .0)
 
-written : (c : tie.After-slice-known2) → putMid 1 (length (set (c .before .before .before .before .before .before .before .args .out .now) 0 45) - 1) (set (c .before .before .before .before .before .before .before .args .out .now) 0 45) (c .before .before .write-number .last .1 .0) ≡ front (wholeDigits (c .before .before .before .before .before .before .before .args .z)) (c .before .before .before .before .before .before .before .args .out .now)
-written c =
-    let t = c .before .before .before .before in
-    let out = c .before .before .before .before .before .before .before .args .out .now in
-    rw (c .before .before .write-number .ensures .1, negative t) (front-then (45 ∷ []) out _ 1 refl (front-first out 45 (omega (arith, room t))) (digits (t .before .magnitude .result)))
-
 same-length : tie.Need-same-length
-same-length c = ap length (written c) ∙ length-front _ _ (c .before .before .before .before .before .before .before .pre)
+same-length c = let kept = c .before .before .write-number .kept .1 .0 in rw (same-len-mid, length-set)
 
+-- Only here does it matter which byte stands first.
 returns : tie.Need-returns
-returns c = (omega (arith, ap length (negative (c .before .before .before .before)), c .before .before .write-number .ensures .0), written c)
+returns c =
+    let t = c .before .before .before .before in
+    let out = t .before .before .before .args .out .now in
+    let w = c .before .before .write-number in (
+      omega (arith, ap length (negative t), w .ensures .0),
+      rw (w .ensures .1, negative t) (front-then (45 ∷ []) out _ 1 refl (front-first out 45 (omega (arith, room t))) (digits (t .before .magnitude .result))),
+    )
 
 write-number-requires-2 : tie.Need-write-number-requires-2
 write-number-requires-2 c κs = omega (arith, ap length (positive (c .before)), c .before .before .before .before .pre)

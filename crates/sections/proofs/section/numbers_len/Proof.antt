@@ -4,7 +4,6 @@ use mathlib.Core.Path.{_≡_}
 use Prim.Native.Nat.{_≤_, _+_, _-_, _*_}
 use native.Mathlib.Omega.{arith}
 use lib.ListN.{length, drop, getD}
-use Rattle.transport.specs.Limits.{maxSide}
 use Rattle.grammar.specs.Digits.{digits-length}
 use Rattle.sections.specs.Lines.{numbersLength, numbers-next, numbers-end}
 use Rattle.sections.proofs.section.numbers_len.Statement.{statement}
@@ -37,7 +36,6 @@ add-len : tie.Need-add-len Inv-loop μ-loop
 add-len c = omega (arith, few c)
 
 add-len-2 : tie.Need-add-len-2 Inv-loop μ-loop
-unfolding maxSide
 add-len-2 c = omega (arith, few c)
 
 add-i : tie.Need-add-i Inv-loop μ-loop
@@ -50,7 +48,7 @@ loop-again : tie.Need-loop-again Inv-loop μ-loop
 loop-again c = omega (arith, few c, c .digit-count .ensures, numbers-next (c .before .before .before .before .before .args .numbers .now) (c .before .before .before .loop .i) (omega arith))
 
 returns : tie.Need-returns Inv-loop μ-loop
-returns c = omega (arith, c .before .before .before .pre, numbers-end (c .before .before .before .args .numbers .now) (c .before .loop .i) (omega arith))
+returns c = omega (arith, numbers-end (c .before .before .before .args .numbers .now) (c .before .loop .i) (omega arith))
 
 pub numbers-len-spec : {M : Type 1} → statement M
 numbers-len-spec =

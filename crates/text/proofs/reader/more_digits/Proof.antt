@@ -1,14 +1,13 @@
 -- The loop's invariant: the rest of the digits is to be read from the present place on; `count` digits make a value below 10 ^ count.
 use borrow.Author.Needs.{needs}
 use mathlib.Core.Path.{_≡_, refl, sym, _∙_}
-use mathlib.Core.Bool.{true}
 use Prim.Native.Nat.{_≤_, _<_, _+_, _*_, _-_, _^_, suc}
 use native.Mathlib.Omega.{arith}
 use borrow.Author.Tests.{not-true, not-false}
 use lib.ListN.{length, drop, getD}
 use Rattle.transport.specs.Limits.{maxDigits}
-use Rattle.transport.specs.SheetText.{isDigit, moreDigits}
-use Rattle.text.specs.Reading.{always, digitNext, digit-inside, digit-found, digit-low, digit-high, more-none, more-stop, more-step, value-next, value-fits}
+use Rattle.transport.specs.SheetText.{moreDigits}
+use Rattle.text.specs.Reading.{always, DigitAt, digit-at, more-none, more-stop, more-step, value-next, value-fits}
 use Rattle.text.proofs.reader.more_digits.Statement.{statement}
 use Rattle.text.proofs.reader.more_digits.Tie as tie
 
@@ -30,17 +29,11 @@ returns c =
     let l = c .before .before .before .loop in
     (l .inv .3 ∙ more-stop always (l .value) (maxDigits - l .count) _ (sym (c .before .digit-at .ensures) ∙ not-true _ (c .if1 .taken)), l .inv .2)
 
-next-digit : (c : tie.Else1 Inv-loop μ-loop) → digitNext (drop (c .before .before .before .loop .next) (c .before .before .before .before .before .args .text .now)) ≡ true
-next-digit c = sym (c .before .digit-at .ensures) ∙ not-false _ (c .if1 .left)
-
-inside : (c : tie.Else1 Inv-loop μ-loop) → c .before .before .before .loop .next < length (c .before .before .before .before .before .args .text .now)
-inside c = digit-inside (c .before .before .before .before .before .args .text .now) (c .before .before .before .loop .next) (next-digit c)
-
-is-digit : (c : tie.Else1 Inv-loop μ-loop) → isDigit (getD (c .before .before .before .before .before .args .text .now) (c .before .before .before .loop .next) 0) ≡ true
-is-digit c = digit-found (c .before .before .before .before .before .args .text .now) (c .before .before .before .loop .next) (next-digit c)
+digit : (c : tie.Else1 Inv-loop μ-loop) → DigitAt (c .before .before .before .before .before .args .text .now) (c .before .before .before .loop .next)
+digit c = digit-at _ _ (sym (c .before .digit-at .ensures) ∙ not-false _ (c .if1 .left))
 
 value-after : (c : tie.Else1 Inv-loop μ-loop) → c .before .before .before .loop .value * 10 + (getD (c .before .before .before .before .before .args .text .now) (c .before .before .before .loop .next) 0 - 48) < 10 ^ (c .before .before .before .loop .count + 1)
-value-after c = value-next _ _ (c .before .before .before .loop .count) (c .before .before .before .loop .inv .1) (omega (arith, digit-high _ (is-digit c)))
+value-after c = value-next _ _ (c .before .before .before .loop .count) (c .before .before .before .loop .inv .1) (omega (arith, digit c .high))
 
 small : (c : tie.Else1 Inv-loop μ-loop) → c .before .before .before .loop .value * 10 + (getD (c .before .before .before .before .before .args .text .now) (c .before .before .before .loop .next) 0 - 48) < 10 ^ maxDigits
 unfolding maxDigits
@@ -51,10 +44,10 @@ unfolding maxDigits
 mul-value c = omega (arith, small c)
 
 shared-slice-read-value : tie.Need-shared-slice-read-value Inv-loop μ-loop
-shared-slice-read-value c = inside (c .before)
+shared-slice-read-value c = digit (c .before) .inside
 
 sub-value : tie.Need-sub-value Inv-loop μ-loop
-sub-value c = digit-low _ (is-digit (c .before))
+sub-value c = digit (c .before) .low
 
 cast-value : tie.Need-cast-value Inv-loop μ-loop
 unfolding maxDigits
@@ -65,7 +58,7 @@ unfolding maxDigits
 add-value c = omega (arith, small (c .before))
 
 add-next : tie.Need-add-next Inv-loop μ-loop
-add-next c = omega (arith, inside (c .before))
+add-next c = omega (arith, digit (c .before) .inside)
 
 add-count : tie.Need-add-count Inv-loop μ-loop
 add-count c = search needs
@@ -78,12 +71,11 @@ loop-again : tie.Need-loop-again Inv-loop μ-loop
 unfolding maxDigits
 loop-again c =
     let l = c .before .before .before .before .loop in
-    let t = c .before .before .before .before .before .before .args .text .now in
     let e : maxDigits - l .count ≡ suc (maxDigits - (l .count + 1)) = omega arith in (
       omega arith,
       value-after (c .before),
-      omega (arith, inside (c .before)),
-      l .inv .3 ∙ (rw e (more-step always (l .value) (maxDigits - (l .count + 1)) t (l .next) (inside (c .before)) (is-digit (c .before)) refl)),
+      omega (arith, digit (c .before) .inside),
+      l .inv .3 ∙ (rw e (more-step always (l .value) (maxDigits - (l .count + 1)) (digit (c .before)) refl)),
     )
 
 returns-2 : tie.Need-returns-2 Inv-loop μ-loop

@@ -1,9 +1,9 @@
 -- The head line that must come is written first; then it is read as a word, and the lines after it.
+-- The head of either count has room: a program that writes the other one (must-fail/other_row_count) fails only where the line is read.
 use mathlib.Core.Path.{_≡_, sym, ap, _∙_}
-use Prim.Native.Nat.{_≤_, _-_}
+use Prim.Native.Nat.{ℕ, _≤_}
 use native.Mathlib.Omega.{arith}
-use lib.ListN.{length, drop}
-use lib.ListN.{take}
+use lib.ListN.{length, take, drop}
 use lib.Seq.{length-take-le}
 use Rattle.transport.specs.Limits.{maxSide}
 use Rattle.transport.specs.Text.{bytes, headLine}
@@ -24,16 +24,19 @@ slice-aggregate-write-head c = search needs
 slice-aggregate-write-head-2 : tie.Need-slice-aggregate-write-head-2
 slice-aggregate-write-head-2 c = search needs
 
-short : (c : tie.Start) → length (ended (c .args .m) 10) ≤ 3
+short : (k : ℕ) → k ≤ maxSide → length (ended k 10) ≤ 3
 unfolding maxSide
-short c = omega (arith, length-ended (c .args .m) 10, digits-length 1 (c .args .m) .1 (omega (arith, c .pre .1)))
+short k p = omega (arith, length-ended k 10, digits-length 1 k .1 (omega arith))
+
+heads-short : (c : tie.Start) → (length (ended (c .args .m) 10) ≤ 3) × (length (ended (c .args .n) 10) ≤ 3)
+heads-short c = (short (c .args .m) (c .pre .1), short (c .args .n) (c .pre .3))
 
 write-head-requires : tie.Need-write-head-requires
-write-head-requires c κs = omega (arith, short (c .before .before .before .before))
+write-head-requires c κs = omega (arith, heads-short (c .before .before .before .before))
 
 module _ (c : tie.After-write-head) where
   fits : c .write-head .result ≤ length (c .write-head .last .1 .1 .0)
-  fits = omega (arith, c .write-head .ensures .0, ap length (c .write-head .ensures .1) ∙ length-front _ _ (omega (arith, short (c .before .before .before .before .before))), short (c .before .before .before .before .before))
+  fits = omega (arith, c .write-head .ensures .0, ap length (c .write-head .ensures .1) ∙ length-front _ _ (omega (arith, heads-short (c .before .before .before .before .before))), heads-short (c .before .before .before .before .before))
 
   head-is : take (c .write-head .result) (c .write-head .last .1 .1 .0) ≡ headLine "cost" (c .before .before .before .before .before .args .m)
   unfolding bytes
@@ -80,7 +83,7 @@ returns-2 c =
     let w = c .before .before .read-lines in
     let a = c .before .before .before .before .before .before .before .before .before .before .before .before .before .before .before .args in
     let k = c .before .before .before .before .before .head .given in (
-      cost-named (a .m) (a .n) (drop (a .at) (a .text .now)) (drop (k .0 .1 .0) (a .text .now)) tt (headed (c .before .before .before .before .before .before .before) ∙ (rw (k .1))) ∙ w .ensures .0,
+      cost-named (a .m) (a .n) (drop (a .at) (a .text .now)) (drop (k .0 .1 .0) (a .text .now)) (c .before .before .before .before .before .before .before .before .before .before .before .before .before .before .before .pre .2) (headed (c .before .before .before .before .before .before .before) ∙ (rw (k .1))) ∙ w .ensures .0,
       w .ensures .1,
       w .ensures .2,
     )

@@ -1,12 +1,11 @@
 -- The loop's invariant: the numbers read so far stand in the list, and the others are to be read from the present place on.
 use borrow.Author.Needs.{needs}
 use mathlib.Core.Path.{_≡_, refl, sym, _∙_}
+use mathlib.Core.List.{append-nil}
 use Prim.Native.Nat.{_≤_, _+_, _-_, suc}
 use native.Mathlib.Omega.{arith}
 use native.Mathlib.Numerals.{add-one}
-use lib.ListN.{length, drop}
-use mathlib.Core.List.{append-nil}
-use lib.ListN.{take, length-set}
+use lib.ListN.{length, take, drop, length-set}
 use lib.Seq.{take-suc-set}
 use Rattle.transport.specs.SheetText.{stuck, got, number}
 use Rattle.sections.specs.Lines.{ending, left-pos}

@@ -1,12 +1,12 @@
 -- The word, the count and the lines, each from the place where the one before it ended.
 use mathlib.Core.Path.{_≡_, ap, _∙_}
-use Prim.Native.Nat.{ℕ, _≤_, _-_}
+use Prim.Native.Nat.{ℕ, _≤_}
 use native.Mathlib.Omega.{arith}
 use lib.ListN.{length, drop}
 use Rattle.transport.specs.SheetText.{got, word, line, side}
 use Rattle.transport.specs.Limits.{maxSide}
 use Rattle.transport.specs.SheetLaws.{within-true}
-use Rattle.text.specs.Reading.{readingOf, value-le, line-end, line-side-within}
+use Rattle.text.specs.Reading.{readingOf, side-value, line-end, line-side-within}
 use Rattle.text.specs.SheetRead.{list-unnamed, list-uncounted, list-counted}
 use borrow.Author.Needs.{needs}
 use Rattle.text.proofs.reader.read_list.Statement.{statement}
@@ -26,7 +26,7 @@ returns c =
     let w = c .before .before .read-word in
     let a = c .before .before .before .before .before .before .args in
     let stopped = c .enum-told .given .1 in
-    (rw stopped (list-unnamed (a .name .now) (drop (a .at) (a .text .now)) _ (w .ensures .0 ∙ (rw stopped))), w .ensures .1, rw stopped (omega arith))
+    (rw stopped (list-unnamed (a .name .now) (drop (a .at) (a .text .now)) _ (w .ensures .0 ∙ (rw stopped))), w .ensures .1, rw stopped tt)
 
 module _ (c : tie.After-known-told) where
   abbrev next : ℕ
@@ -59,7 +59,7 @@ returns-2 c =
     let a = c .before .before .before .before .before .before .before .before .before .before .before .args in
     let k = c .before .before .before .before in
     let stopped = c .enum-told2 .given .1 in
-    (rw stopped (list-uncounted (a .name .now) (drop (a .at) (a .text .now)) (drop (next k) (a .text .now)) (named k) _ (counted (c .before .before) ∙ (rw stopped))), w .ensures .1, rw stopped (omega arith))
+    (rw stopped (list-uncounted (a .name .now) (drop (a .at) (a .text .now)) (drop (next k) (a .text .now)) (named k) _ (counted (c .before .before) ∙ (rw stopped))), w .ensures .1, rw stopped tt)
 
 module _ (c : tie.After-known-told2) where
   abbrev count : ℕ
@@ -71,14 +71,14 @@ module _ (c : tie.After-known-told2) where
   counted-as : line side (drop (next (c .before .before .before .before .before)) (c .before .before .before .before .before .before .before .before .before .before .before .before .args .text .now)) ≡ got count (drop after (c .before .before .before .before .before .before .before .before .before .before .before .before .args .text .now))
   counted-as = counted (c .before .before .before) ∙ ap (readingOf (c .before .before .before .before .before .before .before .before .before .before .before .before .args .text .now) (λ v. v)) (c .before .count .given .1)
 
-  few : count ≤ maxSide
-  few = within-true 1 maxSide count (line-side-within count _ _ counted-as) .1
+  sided : (1 ≤ count) × (count ≤ maxSide)
+  sided = within-true 1 maxSide count (line-side-within count _ _ counted-as)
 
   after-inside : after ≤ length (c .before .before .before .before .before .before .before .before .before .before .before .before .args .text .now)
   after-inside = rw (c .before .count .given .1) at (c .before .before .before .read-end .ensures .1)
 
 read-lines-requires : tie.Need-read-lines-requires
-read-lines-requires c κs = (after-inside (c .before), omega arith, omega (arith, few (c .before), c .before .before .before .before .before .before .before .before .before .before .before .before .before .pre .1))
+read-lines-requires c κs = (after-inside (c .before), omega arith, omega (arith, sided (c .before), c .before .before .before .before .before .before .before .before .before .before .before .before .before .pre .1))
 
 same-length : tie.Need-same-length
 same-length c = search needs
@@ -90,7 +90,7 @@ returns-3 c =
     let k = c .before .before .before .before in (
       list-counted (a .name .now) (drop (a .at) (a .text .now)) (drop (next (k .before .before .before .before .before)) (a .text .now)) (named (k .before .before .before .before .before)) (count k) _ (counted-as k) ∙ w .ensures .0,
       w .ensures .1,
-      omega (arith, value-le (count k) (w .result) (w .ensures .2), few k),
+      side-value (count k) (w .result) (sided k .0) (sided k .1) (w .ensures .2),
     )
 
 pub read-list-spec : {M : Type 1} → statement M

@@ -1,23 +1,19 @@
 -- What the sections say is a case of the call, and a sheet that was read is left to store_sheet.
-use mathlib.Core.Path.{_≡_, refl, sym, ap, _∙_}
-use mathlib.Core.List.{_∷_, []}
-use Prim.Native.Nat.{ℕ, _≤_, _*_, _-_}
-use native.Mathlib.Omega.{arith}
-use lib.ListN.{length}
-use mathlib.Core.List.{List}
+use mathlib.Core.Path.{_≡_, refl, sym}
+use mathlib.Core.List.{List, [], _∷_}
 use mathlib.Core.Logic.{⊎-elim}
+use Prim.Native.Nat.{ℕ}
+use native.Mathlib.Omega.{arith}
 use denote.Enum.Declared.{tagOf}
 use types.Run.{OneOf}
 use Rattle.transport.proofs.ReadAnswer as declared
-use lib.ListN.{take}
-use native.Mathlib.Nat.{le-trans, mul-le-mul}
-use lib.Seq.{length-take-le}
 use Rattle.transport.specs.declared.ReadAnswer.{ReadAnswer}
 use Rattle.transport.specs.declared.ReadAnswer.the-variants as ReadAnswer
 use Rattle.transport.specs.Limits.{maxSide}
-use Rattle.transport.specs.SheetText.{got, sheetReader}
+use Rattle.transport.specs.SheetText.{sheetReader}
 use Rattle.sheet.specs.Laws.{sides-product}
-use Rattle.text.specs.ReadCall.{sheetRead, readFits, frontSheet, Read, read-stuck, read-got}
+use Rattle.text.specs.SheetAnswer.{sheetRead, readFits, SheetIn, sheet-in, supply-length, demand-length, cost-length}
+use Rattle.text.specs.ReadCall.{Read, read-stuck, read-got}
 use borrow.Author.Needs.{needs}
 use Rattle.text.proofs.reader.read_sheet.Statement.{statement}
 use Rattle.text.proofs.reader.read_sheet.Tie as tie
@@ -49,74 +45,36 @@ returns c =
     let w = c .before .before .before .before .read-sections in
     stopped (a .text .now) _ _ _ (a .supply .now) (a .demand .now) (a .cost .now) (w .result) (c .match .keys2) (w .ensures .0) (w .ensures .1)
 
-module _ (c : tie.After-known-told) where
-  abbrev m : ℕ
-  m = c .before .answer .given .0 .0
-
-  abbrev n : ℕ
-  n = c .before .answer .given .0 .1 .0
-
-  abbrev supplies : List ℕ
-  supplies = c .before .before .before .before .before .before .read-sections .last .1 .0
-
-  abbrev demands : List ℕ
-  demands = c .before .before .before .before .before .before .read-sections .last .1 .1 .0
-
-  abbrev costs : List ℕ
-  costs = c .before .before .before .before .before .before .read-sections .last .1 .1 .1 .0
-
-  fits : readFits (c .before .before .before .before .before .before .before .before .before .before .before .before .before .before .args .text .now) (ReadAnswer.Sheet m n)
-  fits = rw (c .before .answer .given .1) at (c .before .before .before .before .before .before .read-sections .ensures .1)
-
-  sheet-is : sheetReader (c .before .before .before .before .before .before .before .before .before .before .before .before .before .before .args .text .now) ≡ got (frontSheet m n supplies demands costs) []
-  sheet-is = c .before .before .before .before .before .before .read-sections .ensures .0 ∙ ap (sheetRead (c .before .before .before .before .before .before .before .before .before .before .before .before .before .before .args .text .now) supplies demands costs) (c .before .answer .given .1)
-
-  m-room : m ≤ length supplies
-  unfolding maxSide
-  m-room = omega (arith, fits .1, c .before .before .before .before .before .before .read-sections .kept)
-
-  n-room : n ≤ length demands
-  unfolding maxSide
-  n-room = omega (arith, fits .3, c .before .before .before .before .before .before .read-sections .kept)
-
-  lanes-room : m * n ≤ length costs
-  unfolding maxSide
-  lanes-room = le-trans (mul-le-mul (fits .1) (fits .3)) (omega (arith, c .before .before .before .before .before .before .read-sections .kept))
-
-  m-length : length (take m supplies) ≡ m
-  m-length = length-take-le m supplies m-room
-
-  n-length : length (take n demands) ≡ n
-  n-length = length-take-le n demands n-room
-
-  lanes-length : length (take (m * n) costs) ≡ m * n
-  lanes-length = length-take-le (m * n) costs lanes-room
+sheet-read : (c : tie.After-known-told) → let w = c .before .before .before .before .before .before .read-sections .last in
+    SheetIn (c .before .before .before .before .before .before .before .before .before .before .before .before .before .before .args .text .now) (w .1 .0) (w .1 .1 .0) (w .1 .1 .1 .0) (c .before .answer .given .0 .0) (c .before .answer .given .0 .1 .0)
+unfolding maxSide
+sheet-read c =
+    let w = c .before .before .before .before .before .before .read-sections in
+    sheet-in (w .ensures .0) (w .ensures .1) (c .before .answer .given .1) (omega (arith, w .kept)) (omega (arith, w .kept)) (omega (arith, w .kept))
 
 mul-lanes : tie.Need-mul-lanes
-mul-lanes c = record { fits = sides-product (m c) (n c) (fits c .1) (fits c .3) }
+mul-lanes c = let s = sheet-read c in record { fits = sides-product _ _ (s .m-few) (s .n-few) }
 
 array-share-prefix-supplies : tie.Need-array-share-prefix-supplies
-array-share-prefix-supplies c = m-room c
+array-share-prefix-supplies c = sheet-read c .supply-room
 
 slice-aggregate-store-sheet : tie.Need-slice-aggregate-store-sheet
-slice-aggregate-store-sheet c = sym (m-length (c .before))
+slice-aggregate-store-sheet c = sym (supply-length (sheet-read (c .before)))
 
 array-share-prefix-demands : tie.Need-array-share-prefix-demands
-array-share-prefix-demands c = n-room (c .before)
+array-share-prefix-demands c = sheet-read (c .before) .demand-room
 
 slice-aggregate-store-sheet-2 : tie.Need-slice-aggregate-store-sheet-2
-slice-aggregate-store-sheet-2 c = sym (n-length (c .before .before))
+slice-aggregate-store-sheet-2 c = sym (demand-length (sheet-read (c .before .before)))
 
 array-share-prefix-costs : tie.Need-array-share-prefix-costs
-array-share-prefix-costs c = lanes-room (c .before .before)
+array-share-prefix-costs c = sheet-read (c .before .before) .cost-room
 
 slice-aggregate-store-sheet-3 : tie.Need-slice-aggregate-store-sheet-3
-slice-aggregate-store-sheet-3 c = sym (lanes-length (c .before .before .before))
+slice-aggregate-store-sheet-3 c = sym (cost-length (sheet-read (c .before .before .before)))
 
 store-sheet-requires : tie.Need-store-sheet-requires
-store-sheet-requires c κs =
-    let k = c .before .before .before .before .before .before in
-    rw (m-length k, n-length k, lanes-length k) (fits k .1, fits k .3, refl)
+store-sheet-requires c κs = let s = sheet-read (c .before .before .before .before .before .before) in rw (supply-length s, demand-length s, cost-length s) (s .m-few, s .n-few, refl)
 
 same-length : tie.Need-same-length
 same-length c = search needs
@@ -131,8 +89,7 @@ returns-2 : tie.Need-returns-2
 returns-2 c =
     let a = c .before .before .before .before .before .before .before .before .before .before .before .before .before .before .before .before .before .before .before .before .before .before .before .before .before .before .before .args in
     let w = c .before .before .before .before .before .before .store-sheet in
-    let k = c .before .before .before .before .before .before .before .before .before .before .before .before .before in
-    read-got (a .text .now) (a .supply .now) (a .demand .now) (a .cost .now) _ _ (sheet-is k) (w .result) _ _ _ (w .ensures)
+    read-got (a .text .now) (a .supply .now) (a .demand .now) (a .cost .now) _ _ (sheet-read (c .before .before .before .before .before .before .before .before .before .before .before .before .before) .reads) (w .result) _ _ _ (w .ensures)
 
 pub read-sheet-spec : {M : Type 1} → statement M
 read-sheet-spec =

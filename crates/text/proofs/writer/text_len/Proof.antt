@@ -2,9 +2,11 @@
 use mathlib.Core.Path.{ap}
 use native.Mathlib.Omega.{arith}
 use mathlib.Core.List.{_++_}
+use Prim.Native.Nat.{_≤_}
 use lib.ListN.{length, length-append}
 use Rattle.transport.specs.Limits.{maxSide}
 use Rattle.transport.specs.Text.{bytes}
+use Rattle.transport.specs.Sheet.{Sheet}
 use Rattle.sheet.specs.Check.{sheetOf}
 use Rattle.sheet.specs.Refusals.{sources-few, sinks-few, sinks-some, costs-few, costs-whole}
 use Rattle.sections.specs.Lines.{length-section}
@@ -16,45 +18,49 @@ use Rattle.text.proofs.writer.text_len.Tie as tie
 slice-aggregate-section-len : tie.Need-slice-aggregate-section-len
 slice-aggregate-section-len c = search needs
 
+-- No section is long.
+module _ (t : tie.Start) where
+  abbrev sheetAt : Sheet
+  sheetAt = sheetOf (t .args .supply .now) (t .args .demand .now) (t .args .cost .now)
+
+  sources-most : length (t .args .supply .now) ≤ 32
+  unfolding maxSide
+  sources-most = sources-few sheetAt (t .pre)
+
+  sinks-most : length (t .args .demand .now) ≤ 32
+  unfolding maxSide
+  sinks-most = sinks-few sheetAt (t .pre)
+
+  costs-most : length (t .args .cost .now) ≤ 1024
+  unfolding maxSide
+  costs-most = costs-few sheetAt (t .pre)
+
 section-len-requires : tie.Need-section-len-requires
-unfolding maxSide
-section-len-requires c κs =
-    let a = c .before .before .before .before .args in
-    let S = sheetOf (a .supply .now) (a .demand .now) (a .cost .now) in
-    omega (arith, sources-few S (c .before .before .before .before .pre))
+section-len-requires c κs = omega (arith, sources-most (c .before .before .before .before))
 
 slice-aggregate-section-len-2 : tie.Need-slice-aggregate-section-len-2
 slice-aggregate-section-len-2 c = search needs
 
 section-len-requires-2 : tie.Need-section-len-requires-2
-unfolding maxSide
-section-len-requires-2 c κs =
-    let a = c .before .before .before .before .before .before .args in
-    let S = sheetOf (a .supply .now) (a .demand .now) (a .cost .now) in
-    omega (arith, sinks-few S (c .before .before .before .before .before .before .pre))
+section-len-requires-2 c κs = omega (arith, sinks-most (c .before .before .before .before .before .before))
 
 add-result : tie.Need-add-result
-unfolding maxSide
-add-result c = search needs
+add-result c = omega (arith, sources-most (c .before .before .before .before .before .before .before), sinks-most (c .before .before .before .before .before .before .before))
 
 slice-aggregate-section-len-3 : tie.Need-slice-aggregate-section-len-3
 slice-aggregate-section-len-3 c = search needs
 
 section-len-requires-3 : tie.Need-section-len-requires-3
-section-len-requires-3 c κs =
-    let a = c .before .before .before .before .before .before .before .before .args in
-    let S = sheetOf (a .supply .now) (a .demand .now) (a .cost .now) in
-    (omega arith, costs-few S (c .before .before .before .before .before .before .before .before .pre))
+section-len-requires-3 c κs = omega (arith, costs-most (c .before .before .before .before .before .before .before .before))
 
 add-result-2 : tie.Need-add-result-2
-unfolding maxSide
-add-result-2 c = search needs
+add-result-2 c = omega (arith, sources-most (c .before .before .before .before .before .before .before .before .before), sinks-most (c .before .before .before .before .before .before .before .before .before), costs-most (c .before .before .before .before .before .before .before .before .before))
 
 returns : tie.Need-returns
 unfolding bytes
 returns c =
     let t = c .before .before .before .before .before .before .before .before .before in
-    let S = sheetOf (t .args .supply .now) (t .args .demand .now) (t .args .cost .now) in
+    let S = sheetAt t in
     let first = supplySection (S .supply) in
     let second = demandSection (S .demand) in
     let third = costSection (length (S .supply)) (length (S .demand)) (S .cost) in

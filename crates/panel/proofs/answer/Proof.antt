@@ -1,0 +1,26 @@
+-- Whatever is printed fits.
+use native.Mathlib.Omega.{arith}
+use lib.ListN.{length}
+use Rattle.transport.specs.PlanText.{printed, shown}
+use Rattle.sections.specs.Front.{front}
+use Rattle.plan_text.specs.Shown.{fitting-fits}
+use Rattle.plan_text.specs.Longest.{printed-length}
+use borrow.Author.Needs.{needs}
+use Rattle.panel.proofs.answer.Statement.{statement}
+use Rattle.panel.proofs.answer.Tie as tie
+
+show-requires : tie.Need-show-requires
+show-requires c κs = search needs
+
+same-length : tie.Need-same-length
+same-length c = search needs
+
+returns : tie.Need-returns
+unfolding shown front
+returns c =
+    let t = c .before .before .before .before .before .before in
+    let text = printed (t .args .input .now) in
+    rw (fitting-fits (length (t .args .out .now)) text (omega (arith, t .pre, printed-length (t .args .input .now)))) at (c .before .before .show .ensures)
+
+pub answer-spec : {M : Type 1} → statement M
+answer-spec = tie.close (tie.spec show-requires same-length returns)

@@ -1,0 +1,158 @@
+-- Each way out is a case of what the reader says of the bytes that are read.
+use mathlib.Core.Path.{_≡_, refl, sym, ap, _∙_}
+use mathlib.Core.List.{List, _++_}
+use Prim.Native.Nat.{ℕ, suc, min, _*_, _-_, _≤_}
+use native.Mathlib.Omega.{arith}
+use lib.ListN.{length, take, drop, length-drop}
+use lib.Seq.{length-take-le}
+use Rattle.transport.specs.declared.ReadAnswer.the-variants.{Sheet, NotSheetText}
+use Rattle.transport.specs.Limits.{maxSide, maxText}
+use Rattle.transport.specs.Text.{bytes}
+use Rattle.transport.specs.SheetText.{stuck, sheetReader}
+use Rattle.transport.specs.PlanText.{printed, shown}
+use Rattle.sheet.specs.Check.{sheetOf}
+use Rattle.sections.specs.Front.{front}
+use Rattle.sections.specs.Lines.{ended}
+use Rattle.text.specs.SheetAnswer.{SheetIn, sheet-in, supply-length, demand-length, cost-length, sheetRead, readFits}
+use Rattle.plan_text.specs.Shown.{answered, take-min, shown-is, printed-place, printed-sheet, read-numbers}
+use borrow.Author.Needs.{needs}
+use Rattle.plan_text.proofs.display.show.Statement.{statement}
+use Rattle.plan_text.proofs.display.show.Tie as tie
+
+bytes-read-requires : tie.Need-bytes-read-requires
+bytes-read-requires c κs = search needs
+
+slice-aggregate-read-sections : tie.Need-slice-aggregate-read-sections
+slice-aggregate-read-sections c = sym (length-take-le _ _ (omega (arith, c .before .bytes-read .ensures)))
+
+slice-aggregate-read-sections-2 : tie.Need-slice-aggregate-read-sections-2
+slice-aggregate-read-sections-2 c = search needs
+
+slice-aggregate-read-sections-3 : tie.Need-slice-aggregate-read-sections-3
+slice-aggregate-read-sections-3 c = search needs
+
+slice-aggregate-read-sections-4 : tie.Need-slice-aggregate-read-sections-4
+slice-aggregate-read-sections-4 c = search needs
+
+read-sections-requires : tie.Need-read-sections-requires
+unfolding maxSide
+read-sections-requires c κs = omega arith
+
+enum-known-answer : tie.Need-enum-known-answer
+enum-known-answer c = search needs
+
+-- What is read of the input.
+text-read : (c : tie.After-bytes-read) → take (c .bytes-read .result) (c .before .before .before .args .input .now) ≡ take (suc maxText) (c .before .before .before .args .input .now)
+text-read c = (rw (c .bytes-read .ensures)) ∙ take-min (c .before .before .before .args .input .now) (suc maxText)
+
+-- A sheet that was read.
+module _ (c : tie.After-answer) where
+  the-sheet : SheetIn (take (c .before .before .before .before .before .before .before .before .before .before .bytes-read .result) (c .before .before .before .before .before .before .before .before .before .before .before .before .before .args .input .now)) (c .before .before .before .before .before .read-sections .last .1 .0) (c .before .before .before .before .before .read-sections .last .1 .1 .0) (c .before .before .before .before .before .read-sections .last .1 .1 .1 .0) (c .answer .given .0 .0) (c .answer .given .0 .1 .0)
+  unfolding maxSide
+  the-sheet = sheet-in (c .before .before .before .before .before .read-sections .ensures .0) (c .before .before .before .before .before .read-sections .ensures .1) (c .answer .given .1) (omega arith) (omega arith) (omega arith)
+
+  the-plan : printed (c .before .before .before .before .before .before .before .before .before .before .before .before .before .args .input .now) ≡ answered (sheetOf (take (c .answer .given .0 .0) (c .before .before .before .before .before .read-sections .last .1 .0)) (take (c .answer .given .0 .1 .0) (c .before .before .before .before .before .read-sections .last .1 .1 .0)) (take (c .answer .given .0 .0 * c .answer .given .0 .1 .0) (c .before .before .before .before .before .read-sections .last .1 .1 .1 .0)))
+  the-plan =
+      let s = the-sheet in
+      let m = supply-length s in
+      let n = demand-length s in
+      printed-sheet (c .before .before .before .before .before .before .before .before .before .before .before .before .before .args .input .now) _ _ (rw (text-read (c .before .before .before .before .before .before .before .before .before .before)) at (s .reads))
+      (read-numbers _ (omega (arith, m, s .m-some), omega (arith, m, s .m-few)) (omega (arith, n, s .n-some), omega (arith, n, s .n-few)) (rw (m, n) (cost-length s)))
+
+-- A text that is no sheet text, with its place.
+the-place : (c : tie.After-answer2) → printed (c .before .before .before .before .before .before .before .before .before .before .before .before .before .args .input .now) ≡ bytes "refused 9 " ++ ended (c .answer2 .given .0 .0) 10
+the-place c =
+    let t = c .before .before .before .before .before .before .before .before .before .before in
+    let place = c .answer2 .given .0 .0 in
+    let text = take (suc maxText) (c .before .before .before .before .before .before .before .before .before .before .before .before .before .args .input .now) in
+    let stands : sheetReader text ≡ stuck (drop place text) = rw (text-read t, c .answer2 .given .1) at (c .before .before .before .before .before .read-sections .ensures .0) in
+    let inside : place ≤ length text = rw (text-read t, c .answer2 .given .1) at (c .before .before .before .before .before .read-sections .ensures .1) in
+    let same : length text - length (drop place text) ≡ place = omega (arith, length-drop place text) in
+    printed-place (c .before .before .before .before .before .before .before .before .before .before .before .before .before .args .input .now) (drop place text) stands ∙ (rw same)
+
+mul-lanes : tie.Need-mul-lanes
+unfolding maxSide
+mul-lanes c =
+    let s = the-sheet (c .before) in
+    omega (arith, s .cost-room)
+
+array-share-prefix-supply : tie.Need-array-share-prefix-supply
+array-share-prefix-supply c = the-sheet (c .before) .supply-room
+
+slice-aggregate-show-plan : tie.Need-slice-aggregate-show-plan
+slice-aggregate-show-plan c = sym (supply-length (the-sheet (c .before .before)))
+
+-- This holds of every list of the largest sheet, so that a program that shows the plan of another sheet is refused by the contract.
+array-share-prefix-demand : tie.Need-array-share-prefix-demand
+unfolding maxSide
+array-share-prefix-demand c = omega (arith, the-sheet (c .before .before) .n-few)
+
+slice-aggregate-show-plan-2 : tie.Need-slice-aggregate-show-plan-2
+slice-aggregate-show-plan-2 c = sym (length-take-le _ _ (array-share-prefix-demand (c .before)))
+
+array-share-prefix-cost : tie.Need-array-share-prefix-cost
+array-share-prefix-cost c = the-sheet (c .before .before .before) .cost-room
+
+slice-aggregate-show-plan-3 : tie.Need-slice-aggregate-show-plan-3
+slice-aggregate-show-plan-3 c = sym (cost-length (the-sheet (c .before .before .before .before)))
+
+show-plan-requires : tie.Need-show-plan-requires
+show-plan-requires c κs = search needs
+
+enum-known-answer-2 : tie.Need-enum-known-answer-2
+enum-known-answer-2 c = search needs
+
+slice-aggregate-show-refusal : tie.Need-slice-aggregate-show-refusal
+slice-aggregate-show-refusal c = search needs
+
+show-refusal-requires : tie.Need-show-refusal-requires
+show-refusal-requires c κs = search needs
+
+enum-told : tie.Need-enum-told
+enum-told c = search needs
+
+same-length : tie.Need-same-length
+same-length c = search needs
+
+returns : tie.Need-returns
+unfolding front
+returns c = rw (shown-is (c .before .before .before .before .before .before .before .before .before .before .before .before .before .before .before .before .before .before .before .before .before .args .input .now) (length (c .before .before .before .before .before .before .before .before .before .before .before .before .before .before .before .before .before .before .before .before .before .args .out .now)) _ (the-plan (c .before .before .before .before .before .before .before .before))) (c .before .before .show-plan .ensures)
+
+same-length-2 : tie.Need-same-length-2
+same-length-2 c = search needs
+
+returns-2 : tie.Need-returns-2
+unfolding front bytes
+returns-2 c = rw (shown-is (c .before .before .before .before .before .before .before .before .before .before .before .before .before .before .before .before .before .before .before .args .input .now) (length (c .before .before .before .before .before .before .before .before .before .before .before .before .before .before .before .before .before .before .before .args .out .now)) _ (the-place (c .before .before .before .before .before .before))) (c .before .before .show-refusal .ensures)
+
+returns-3 : tie.Need-returns-3
+returns-3 c = absurd (rw (c .enum-told .given .1) at (c .before .before .before .before .before .read-sections .ensures .1))
+
+pub show-spec : {M : Type 1} → statement M
+show-spec =
+    tie.close
+    (tie.spec
+    bytes-read-requires
+    slice-aggregate-read-sections
+    slice-aggregate-read-sections-2
+    slice-aggregate-read-sections-3
+    slice-aggregate-read-sections-4
+    read-sections-requires
+    enum-known-answer
+    mul-lanes
+    array-share-prefix-supply
+    slice-aggregate-show-plan
+    array-share-prefix-demand
+    slice-aggregate-show-plan-2
+    array-share-prefix-cost
+    slice-aggregate-show-plan-3
+    show-plan-requires
+    enum-known-answer-2
+    slice-aggregate-show-refusal
+    show-refusal-requires
+    enum-told
+    same-length
+    returns
+    same-length-2
+    returns-2
+    returns-3)

@@ -1,0 +1,226 @@
+-- Each way out is a case of the call; the text is the report of what solve found.
+use mathlib.Core.Path.{_≡_, refl, sym, ap, _∙_}
+use mathlib.Core.List.{List}
+use Prim.Native.Nat.{ℕ, _*_, _/_, _≤_}
+use native.Mathlib.Omega.{arith}
+use native.Mathlib.Nat.{mul-le-mul}
+use lib.IntN.{ℤ}
+use lib.ListN.{length, take, length-take}
+use lib.Seq.{length-take-le}
+use Rattle.transport.specs.declared.SolveAnswer.the-variants.{Solved}
+use Rattle.transport.specs.Limits.{maxSide}
+use Rattle.transport.specs.Sheet.{Sheet, sources, sinks}
+use Rattle.transport.specs.SheetLaws.{Checked, checked}
+use Rattle.transport.specs.PlanText.{planText, writePlanCall}
+use Rattle.sheet.specs.Check.{sheetOf}
+use Rattle.sections.specs.Front.{front-take}
+use Rattle.sections.specs.WriteCall.{wrote-check, wrote-short, wrote-given}
+use Rattle.plan_text.specs.Lanes.{usedNumbers, used-most}
+use Rattle.plan_text.specs.Report.{reportText}
+use Rattle.plan_text.specs.Solved.{Found, found, found-report, refused-check}
+use borrow.Author.Needs.{needs}
+use Rattle.plan_text.proofs.writer.write_plan.Statement.{statement}
+use Rattle.plan_text.proofs.writer.write_plan.Tie as tie
+
+slice-aggregate-solve : tie.Need-slice-aggregate-solve
+slice-aggregate-solve c = search needs
+
+slice-aggregate-solve-2 : tie.Need-slice-aggregate-solve-2
+slice-aggregate-solve-2 c = search needs
+
+slice-aggregate-solve-3 : tie.Need-slice-aggregate-solve-3
+slice-aggregate-solve-3 c = search needs
+
+solve-requires : tie.Need-solve-requires
+solve-requires c κs = search needs
+
+enum-known-answer : tie.Need-enum-known-answer
+enum-known-answer c = search needs
+
+enum-known-answer-2 : tie.Need-enum-known-answer-2
+enum-known-answer-2 c = search needs
+
+abbrev sheetAt : (t : tie.Start) → Sheet
+sheetAt t = sheetOf (t .args .supply .now) (t .args .demand .now) (t .args .cost .now)
+
+-- What solve found.
+module _ (c : tie.After-answer2) where
+  abbrev total : ℕ
+  total = c .answer2 .given .0 .0
+
+  abbrev made : ℕ
+  made = c .answer2 .given .0 .1 .0
+
+  the-found : Found (sheetAt (c .before .before .before .before .before .before .before .before .before .before .before .before .before)) total made (c .before .before .before .before .before .solve .last .1 .1 .1 .0) (c .before .before .before .before .before .solve .last .1 .1 .1 .1 .0) (c .before .before .before .before .before .solve .last .1 .1 .1 .1 .1 .0)
+  unfolding maxSide
+  the-found =
+      let e = c .before .before .before .before .before .solve .ensures in
+      found _ _ _ (sym (c .answer2 .given .1) ∙ e .0) (e .1 .0) (e .1 .1 .0) (e .1 .1 .1 .0)
+
+  ok : Checked (sheetAt (c .before .before .before .before .before .before .before .before .before .before .before .before .before))
+  ok = checked (sheetAt (c .before .before .before .before .before .before .before .before .before .before .before .before .before)) (the-found .accepted)
+
+  m-few : length (c .before .before .before .before .before .before .before .before .before .before .before .before .before .args .supply .now) ≤ 32
+  unfolding sources maxSide
+  m-few = ok .sourcesHigh
+
+  n-few : length (c .before .before .before .before .before .before .before .before .before .before .before .before .before .args .demand .now) ≤ 32
+  unfolding sinks maxSide
+  n-few = ok .sinksHigh
+
+  n-some : 1 ≤ length (c .before .before .before .before .before .before .before .before .before .before .before .before .before .args .demand .now)
+  unfolding sinks
+  n-some = ok .sinksLow
+
+-- As many lanes as two sides make: these needs hold for any two of them, so that a program that counts the lanes otherwise is refused by the contract.
+product-few : {a b : ℕ} → a ≤ 32 → b ≤ 32 → a * b ≤ 1024
+product-few p q = mul-le-mul p q
+
+mul-lanes : tie.Need-mul-lanes
+mul-lanes c =
+    let p = m-few (c .before) in
+    let q = n-few (c .before) in
+    omega (arith, product-few p q, product-few p p)
+
+array-share-prefix-plan : tie.Need-array-share-prefix-plan
+array-share-prefix-plan c =
+    let p = m-few (c .before) in
+    let q = n-few (c .before) in
+    omega (arith, product-few p q, product-few p p)
+
+slice-aggregate-used-lanes : tie.Need-slice-aggregate-used-lanes
+slice-aggregate-used-lanes c = sym (length-take-le _ _ (array-share-prefix-plan (c .before)))
+
+slice-aggregate-used-lanes-2 : tie.Need-slice-aggregate-used-lanes-2
+slice-aggregate-used-lanes-2 c = search needs
+
+used-lanes-requires : tie.Need-used-lanes-requires
+unfolding maxSide
+used-lanes-requires c κs = omega (arith, slice-aggregate-used-lanes (c .before), array-share-prefix-plan (c .before .before), n-some (c .before .before .before))
+
+array-share-prefix-u : tie.Need-array-share-prefix-u
+array-share-prefix-u c = omega (arith, m-few (c .before .before .before .before .before))
+
+slice-aggregate-report-len : tie.Need-slice-aggregate-report-len
+slice-aggregate-report-len c = sym (length-take-le _ _ (array-share-prefix-u (c .before)))
+
+array-share-prefix-v : tie.Need-array-share-prefix-v
+array-share-prefix-v c = omega (arith, n-few (c .before .before .before .before .before .before))
+
+slice-aggregate-report-len-2 : tie.Need-slice-aggregate-report-len-2
+slice-aggregate-report-len-2 c = sym (length-take-le _ _ (array-share-prefix-v (c .before)))
+
+-- The numbers of the lanes that carry a bag.
+module _ (c : tie.After-used-lanes) where
+  abbrev plan : List ℕ
+  plan = take (length (c .before .before .before .before .before .before .before .before .before .before .before .before .before .before .before .before .before .args .supply .now) * length (c .before .before .before .before .before .before .before .before .before .before .before .before .before .before .before .before .before .args .demand .now)) (c .before .before .before .before .before .before .before .before .before .solve .last .1 .1 .1 .1 .1 .0)
+
+  abbrev numbers : List ℕ
+  numbers = usedNumbers (length (c .before .before .before .before .before .before .before .before .before .before .before .before .before .before .before .before .before .args .demand .now)) plan (length plan)
+
+  numbers-few : c .used-lanes .result ≤ 3072
+  numbers-few =
+      omega (arith, c .used-lanes .ensures .0, used-most (length (c .before .before .before .before .before .before .before .before .before .before .before .before .before .before .before .before .before .args .demand .now)) plan (length plan), slice-aggregate-used-lanes (c .before .before), array-share-prefix-plan (c .before .before .before))
+
+  -- The report of them is the plan text.
+  the-text : planText (sheetAt (c .before .before .before .before .before .before .before .before .before .before .before .before .before .before .before .before .before))
+      ≡ reportText (record { total = total (c .before .before .before .before); rounds = made (c .before .before .before .before); lanes = c .used-lanes .result / 3 })
+      (take (length (c .before .before .before .before .before .before .before .before .before .before .before .before .before .before .before .before .before .args .supply .now)) (c .before .before .before .before .before .before .before .before .before .solve .last .1 .1 .1 .0))
+      (take (length (c .before .before .before .before .before .before .before .before .before .before .before .before .before .before .before .before .before .args .demand .now)) (c .before .before .before .before .before .before .before .before .before .solve .last .1 .1 .1 .1 .0))
+      (take (c .used-lanes .result) (c .used-lanes .last .1 .1 .0))
+  unfolding sources sinks
+  the-text =
+      let count = c .used-lanes .ensures .0 in
+      let list : take (c .used-lanes .result) (c .used-lanes .last .1 .1 .0) ≡ numbers = rw (c .used-lanes .ensures .1) (front-take numbers _ (c .used-lanes .result) count) in
+      found-report (the-found (c .before .before .before .before)) ∙ (rw (list, count))
+
+array-share-prefix-list : tie.Need-array-share-prefix-list
+array-share-prefix-list c = omega (arith, numbers-few (c .before .before .before))
+
+slice-aggregate-report-len-3 : tie.Need-slice-aggregate-report-len-3
+slice-aggregate-report-len-3 c = sym (length-take-le _ _ (array-share-prefix-list (c .before)))
+
+report-len-requires : tie.Need-report-len-requires
+unfolding maxSide
+report-len-requires c κs =
+    omega (arith, slice-aggregate-report-len (c .before .before), slice-aggregate-report-len-2 (c .before), slice-aggregate-report-len-3 c, m-few (c .before .before .before .before .before .before .before .before), n-few (c .before .before .before .before .before .before .before .before), numbers-few (c .before .before .before .before))
+
+returns : tie.Need-returns
+unfolding writePlanCall
+returns c =
+    let t = c .before .before .before .before .before .before .before .before .before .before .before .before .before .before .before .before .before .before .before .before .before .before .before in
+    let u = c .before .before .before .before .before .before in
+    wrote-short (sheetAt t) (planText (sheetAt t)) (t .args .out .now) (the-found (u .before .before .before .before) .accepted) (omega (arith, c .before .report-len .ensures, ap length (the-text u)))
+
+array-share-prefix-u-2 : tie.Need-array-share-prefix-u-2
+array-share-prefix-u-2 c = array-share-prefix-u (c .before .before .before .before .before)
+
+slice-aggregate-write-report : tie.Need-slice-aggregate-write-report
+slice-aggregate-write-report c = slice-aggregate-report-len (c .before .before .before .before .before)
+
+array-share-prefix-v-2 : tie.Need-array-share-prefix-v-2
+array-share-prefix-v-2 c = array-share-prefix-v (c .before .before .before .before .before)
+
+slice-aggregate-write-report-2 : tie.Need-slice-aggregate-write-report-2
+slice-aggregate-write-report-2 c = slice-aggregate-report-len-2 (c .before .before .before .before .before)
+
+array-share-prefix-list-2 : tie.Need-array-share-prefix-list-2
+array-share-prefix-list-2 c = array-share-prefix-list (c .before .before .before .before .before)
+
+slice-aggregate-write-report-3 : tie.Need-slice-aggregate-write-report-3
+slice-aggregate-write-report-3 c = slice-aggregate-report-len-3 (c .before .before .before .before .before)
+
+write-report-requires : tie.Need-write-report-requires
+write-report-requires c κs = search needs
+
+returns-2 : tie.Need-returns-2
+unfolding writePlanCall maxSide
+returns-2 c =
+    let t = c .before .before .before .before .before .before .before .before .before .before .before .before .before .before in
+    wrote-check (sheetAt t) (planText (sheetAt t)) (t .args .out .now) _ (refused-check (sheetAt t) _ (sym (c .before .answer .given .1) ∙ c .before .before .before .before .before .before .solve .ensures .0))
+
+same-length : tie.Need-same-length
+same-length c = search needs
+
+returns-3 : tie.Need-returns-3
+unfolding writePlanCall
+returns-3 c =
+    let t = c .before .before .before .before .before .before .before .before .before .before .before .before .before .before .before .before .before .before .before .before .before .before .before .before .before .before .before .before .before .before in
+    let u = c .before .before .before .before .before .before .before .before .before .before .before .before .before in
+    let w = c .before .before .write-report in
+    rw (w .ensures .0, w .ensures .1, ← the-text u)
+    (wrote-given (sheetAt t) (planText (sheetAt t)) (t .args .out .now) (the-found (u .before .before .before .before) .accepted) (omega (arith, c .before .before .before .before .before .before .before .before .report-len .ensures, ap length (the-text u), c .before .before .before .before .before .before .before .if1 .left)))
+
+pub write-plan-spec : {M : Type 1} → statement M
+write-plan-spec =
+    tie.close
+    (tie.spec
+    slice-aggregate-solve
+    slice-aggregate-solve-2
+    slice-aggregate-solve-3
+    solve-requires
+    enum-known-answer
+    enum-known-answer-2
+    mul-lanes
+    array-share-prefix-plan
+    slice-aggregate-used-lanes
+    slice-aggregate-used-lanes-2
+    used-lanes-requires
+    array-share-prefix-u
+    slice-aggregate-report-len
+    array-share-prefix-v
+    slice-aggregate-report-len-2
+    array-share-prefix-list
+    slice-aggregate-report-len-3
+    report-len-requires
+    returns
+    array-share-prefix-u-2
+    slice-aggregate-write-report
+    array-share-prefix-v-2
+    slice-aggregate-write-report-2
+    array-share-prefix-list-2
+    slice-aggregate-write-report-3
+    write-report-requires
+    returns-2
+    same-length
+    returns-3)

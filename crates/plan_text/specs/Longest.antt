@@ -1,0 +1,234 @@
+-- No plan text is longer than 15,059 bytes, and nothing that the program prints is.
+use mathlib.Core.Path.{_≡_, refl, sym, ap, _∙_}
+use mathlib.Core.Bool.{Bool, true, false}
+use mathlib.Core.Option.{Option, none, some}
+use mathlib.Core.List.{List, [], _∷_, flatMap, List·Memᴰ}
+use Prim.Native.String.{String}
+use Prim.Native.Nat.{ℕ, suc, _+_, _*_, _-_, _^_, _≤_, _<_}
+use native.Mathlib.Omega.{arith}
+use native.Mathlib.Nat.{mul-le-mul, mul-le-mul-left, mul-le-mul-right}
+use lib.IntN.{ℤ}
+use lib.ListN.{length, take, length-append, length-take}
+use Rattle.transport.specs.declared.Cell.{Cell}
+use Rattle.transport.specs.Lists.{at, table, below, sumTo}
+use Rattle.transport.specs.ListLaws.{length-table, table-member, flatMap-member, keep-member, length-keep, sumTo-le, sumTo-scale, sumTo-bound, sumTo-runs}
+use Rattle.transport.specs.Limits.{maxSide, maxAmount, maxCost, maxText, maxPlanText}
+use Rattle.transport.specs.Sheet.{Sheet, sources, sinks, Lane, lanes, place, badAmount, badCost, unbalanced, numberTests, sheetTests, refusal}
+use Rattle.transport.specs.SheetLaws.{Checked, checked, lane, length-lanes, place-below, refusal-yes, refusal-no}
+use Rattle.transport.specs.Tableau.{start}
+use Rattle.transport.specs.Potential.{potential, sourcePrices, sinkPrices}
+use Rattle.transport.specs.Plan.{planCost}
+use Rattle.transport.specs.Calls.{refusedBy, roundBound, unless, solution}
+use Rattle.transport.specs.CallLaws.{some≢none, unless-given, unless-refused}
+use Rattle.transport.specs.Statements.{Accepted, HasText, Belongs, Meets}
+use Rattle.transport.specs.Text.{bytes, headLine, numberLine, rowLine}
+use Rattle.transport.specs.SheetText.{Reading, stuck, got, sheetReader, readWith}
+use Rattle.transport.specs.PlanText.{wholeLine, carried, used, laneLine, planText, refusedLine, printed}
+use Rattle.grammar.specs.Every.{Every, every-members}
+use Rattle.grammar.specs.Digits.{digits-length}
+use Rattle.grammar.specs.Longest.{line-length, lines-length, side-length}
+use Rattle.grammar.specs.Place.{reader-iff}
+use Rattle.grammar.specs.Refusals.{text-accepted}
+use Rattle.grammar.specs.SheetCalls.{read-got, read-stuck}
+use Rattle.sections.specs.Wholes.{length-whole-line, whole-most}
+use Rattle.tableaux.specs.Belonging.{fits-of, spans-of}
+use Rattle.tableaux.specs.Potentials.{price-size, price-limit}
+use Rattle.tableaux.specs.Running.{run-rounds}
+use Rattle.tableaux.specs.Ending.{roundBound-most}
+use Rattle.demands.specs.Demand3.{solution-finished, solution-best}
+use Rattle.planning.specs.Cost.{meets-small}
+
+-- ---- lines
+
+-- A head: its name, a space, the digits of its count and LF.
+head-length : (name : String) (k count : ℕ) → count < 10 ^ suc k → length (headLine name count) ≤ length (bytes name) + 3 + k
+unfolding headLine bytes
+head-length name k count h = simp length-append (omega (arith, digits-length k count .1 h))
+
+-- At most `count` lines, of at most `most` bytes each.
+members-length : {A : Type 0} (write : A → List ℕ) (most count : ℕ) (xs : List A) → length xs ≤ count
+    → ((x : A) → List·Memᴰ x xs → length (write x) ≤ most) → length (flatMap write xs) ≤ count * most
+members-length write most count xs few each =
+    let every = every-members (λ x. List·Memᴰ x xs) xs (λ x member. member) in
+    omega (arith, mul-le-mul-right most few, lines-length (λ x. List·Memᴰ x xs) write most each xs every)
+
+-- A lane in sheet order is on the sheet.
+lane-inside : (m n : ℕ) {l : Lane} → List·Memᴰ l (lanes m n) → (l .row < m) × (l .col < n)
+unfolding lanes below
+lane-inside m n member =
+    let (i, row, cell) = flatMap-member (λ i. table n (lane i)) (table m (λ k. k)) member in
+    let (k, p, e) = table-member m (λ k. k) row in
+    let (j, q, f) = table-member n (lane i) cell in
+    (omega (arith, ap (λ (l : Lane). l .row) f), omega (arith, ap (λ (l : Lane). l .col) f))
+
+-- ---- the figures
+
+module _ {S : Sheet} (ok : Checked S) where
+  -- A source sends its supply, and no bag costs more than the greatest cost.
+  row-cost : {Q : List ℕ} → Meets S 1 Q → (i : ℕ) → i < sources S
+      → sumTo (sinks S) (λ j. at Q (place (sinks S) i j) * at (S .cost) (place (sinks S) i j)) ≤ maxCost * maxAmount
+  row-cost {Q} meets i p =
+      let n : ℕ = sinks S in
+      let bags : ℕ → ℕ = λ j. at Q (place n i j) in
+      let each : (j : ℕ) → j < n → bags j * at (S .cost) (place n i j) ≤ maxCost * bags j =
+      λ j q. omega (arith, mul-le-mul-left (bags j) (ok .costHigh (place n i j)))
+      in
+      let sent : sumTo n bags ≤ maxAmount = omega (arith, meets .rows i p, ok .supplyHigh i) in
+      omega (
+        arith,
+        sumTo-le n (λ j. bags j * at (S .cost) (place n i j)) (λ j. maxCost * bags j) each,
+        sumTo-scale n maxCost bags,
+        mul-le-mul-left maxCost sent,
+      )
+
+  plan-cost : {Q : List ℕ} → Meets S 1 Q → planCost S Q ≤ maxSide * (maxCost * maxAmount)
+  unfolding planCost place
+  plan-cost {Q} meets =
+      rw
+      (ok .costLength, sumTo-runs)
+      (omega (arith, sumTo-bound (sources S) (maxCost * maxAmount) _ (row-cost meets), mul-le-mul-right (maxCost * maxAmount) (ok .sourcesHigh)))
+
+  -- 32 × 1,000,000 × 1,000,000 has 14 digits.
+  cost-most : solution S .cost < 10 ^ 14
+  unfolding maxSide maxAmount maxCost
+  cost-most = let best = solution-best ok in omega (arith, best .shown, plan-cost (best .meets))
+
+  rounds-most : solution S .rounds < 10 ^ 16
+  unfolding solution
+  rounds-most = omega (arith, run-rounds S (roundBound S) (start S), roundBound-most ok)
+
+  -- ---- the prices
+
+  -- A minus, at most 8 digits and LF.
+  price-line : {T : List Cell} → Belongs S T → (k : ℕ) → length (wholeLine (potential S T k)) ≤ 10
+  price-line {T} w k =
+      let small = price-size S ok T (fits-of ok w) (spans-of ok w) k in
+      omega (arith, length-whole-line (potential S T k), whole-most 7 (potential S T k) (omega (arith, small, price-limit)))
+
+  prices-length : {T : List Cell} → Belongs S T → (count : ℕ) → count ≤ maxSide → (node : ℕ → ℕ)
+      → length (flatMap wholeLine (table count (λ k. potential S T (node k)))) ≤ maxSide * 10
+  prices-length {T} w count few node =
+      let prices : List ℤ = table count (λ k. potential S T (node k)) in
+      let line : (z : ℤ) → List·Memᴰ z prices → length (wholeLine z) ≤ 10 =
+      λ z m. let (k, p, e) = table-member count (λ k. potential S T (node k)) m in rw e (price-line w (node k))
+      in
+      members-length wholeLine 10 maxSide prices (omega (arith, length-table (λ k. potential S T (node k)) count)) line
+
+  u-length : length (flatMap wholeLine (solution S .u)) ≤ maxSide * 10
+  unfolding sourcePrices
+  u-length = let last = solution-finished ok in rw (last .u) (prices-length (last .belongs) (sources S) (ok .sourcesHigh) (λ k. k))
+
+  v-length : length (flatMap wholeLine (solution S .v)) ≤ maxSide * 10
+  unfolding sinkPrices
+  v-length = let last = solution-finished ok in rw (last .v) (prices-length (last .belongs) (sinks S) (ok .sinksHigh) (λ j. sources S + j))
+
+  -- ---- the lanes
+
+  abbrev usedLanes : List Lane
+  usedLanes = used (sources S) (sinks S) (solution S .plan)
+
+  -- No more than all of them.
+  lanes-count : length usedLanes ≤ maxSide * maxSide
+  unfolding used
+  lanes-count =
+      let m : ℕ = sources S in
+      let n : ℕ = sinks S in
+      let kept : length usedLanes ≤ length (lanes m n) = length-keep _ (lanes m n) in
+      omega (arith, length-lanes m n, mul-le-mul (ok .sourcesHigh) (ok .sinksHigh))
+
+  -- A lane carries at most 1,000,000 bags, which has 7 digits.
+  carried-most : (l : Lane) → l .row < sources S → l .col < sinks S → carried (sinks S) (solution S .plan) l < 10 ^ 7
+  unfolding carried maxAmount
+  carried-most l p q =
+      let inside = place-below (sources S) (sinks S) (l .row) (l .col) p q in
+      omega (arith, meets-small ok (solution-best ok .meets) (place (sinks S) (l .row) (l .col)) inside)
+
+  -- A source and a sink of at most 2 digits, at most 7 digits of bags, two spaces and LF.
+  lane-line : (l : Lane) → List·Memᴰ l usedLanes → length (laneLine (sinks S) (solution S .plan) l) ≤ 14
+  unfolding used laneLine rowLine numberLine bytes
+  lane-line l member =
+      let n : ℕ = sinks S in
+      let inside = lane-inside (sources S) n (keep-member _ (lanes (sources S) n) member .0) in
+      let bags : carried n (solution S .plan) l < 10 ^ 7 = carried-most l (inside .0) (inside .1) in
+      simp length-append (omega (
+        arith,
+        side-length (suc (l .row)) (omega (arith, ok .sourcesHigh)),
+        side-length (suc (l .col)) (omega (arith, ok .sinksHigh)),
+        digits-length 6 (carried n (solution S .plan) l) .1 bags,
+      ))
+
+  lanes-length : length (flatMap (laneLine (sinks S) (solution S .plan)) usedLanes) ≤ maxSide * maxSide * 14
+  lanes-length = members-length (laneLine (sinks S) (solution S .plan)) 14 (maxSide * maxSide) usedLanes lanes-count lane-line
+
+-- ---- the plan text
+
+-- `total 1`, LF, at most 14 digits and LF are 23 bytes; `rounds 1`, LF, at most 16 digits and LF are 26. The heads `roasteries` and `cafes`, with counts
+-- of at most two digits, are 14 and 9 bytes, and their lines, at most 64, have at most 10 bytes each. The head `lanes`, with a count of at most four digits,
+-- is 11 bytes, and its lines, at most 1,024, have at most 14 bytes each. In all that is 15,059.
+pub plan-length : (S : Sheet) → refusal (sheetTests S) ≡ none → length (planText S) ≤ maxPlanText
+unfolding planText bytes maxSide maxPlanText
+plan-length S e =
+    let ok = checked S e in
+    let a = solution S in
+    simp length-append (omega (
+      arith,
+      head-length "total" 0 1 (omega arith),
+      line-length 13 (a .cost) (cost-most ok),
+      head-length "rounds" 0 1 (omega arith),
+      line-length 15 (a .rounds) (rounds-most ok),
+      head-length "roasteries" 1 (sources S) (omega (arith, ok .sourcesHigh)),
+      u-length ok,
+      head-length "cafes" 1 (sinks S) (omega (arith, ok .sinksHigh)),
+      v-length ok,
+      head-length "lanes" 3 (length (usedLanes ok)) (omega (arith, lanes-count ok)),
+      lanes-length ok,
+    ))
+
+-- ---- what the program prints
+
+-- A refusal's number is that of a test.
+refusal-below : (most : ℕ) (ts : List (Bool × ℕ)) → Every (λ t. t .1 < most) ts → (k : ℕ) → refusal ts ≡ some k → k < most
+unfolding refusal
+refusal-below most [] each k e = absurd (some≢none (sym e))
+refusal-below most (t ∷ ts) each k e = go (t .0) refl (refusal-below most ts (each .1) k)
+  where
+    go : (b : Bool) → t .0 ≡ b → (refusal ts ≡ some k → k < most) → k < most
+    go true p rest = let same : t .1 ≡ k = cc (refusal-yes t ts p) in omega (arith, each .0)
+    go false p rest = rest (sym (refusal-no t ts p) ∙ e)
+
+number-below : (S : Sheet) (k : ℕ) → refusal (numberTests S) ≡ some k → k < 10
+unfolding numberTests badAmount badCost unbalanced
+number-below S k e = refusal-below 10 (numberTests S) (omega arith, (omega arith, (omega arith, tt))) k e
+
+-- `refused `, a number of one digit and LF.
+number-refused : (k : ℕ) → k < 10 → length (refusedLine (record { number = k; position = none })) ≤ 10
+unfolding refusedLine bytes
+number-refused k p = omega (arith, line-length 0 k p)
+
+-- .. and with a place, which is at most one more than the longest sheet text.
+place-refused : (k : ℕ) → k ≤ suc maxText → length (refusedLine (record { number = 9; position = some k })) ≤ 15
+unfolding refusedLine rowLine bytes maxText
+place-refused k p = simp length-append (omega (arith, digits-length 0 9 .1 (omega arith), line-length 3 k (omega arith)))
+
+pub printed-length : (input : List ℕ) → length (printed input) ≤ maxPlanText
+unfolding printed refusedBy maxPlanText
+printed-length input = go (sheetReader text) refl
+  where
+    text : List ℕ
+    text = take (suc maxText) input
+
+    -- of a sheet text
+    tested : (S : Sheet) → HasText S → readWith numberTests text ≡ unless (numberTests S) S → (o : Option ℕ) → refusal (numberTests S) ≡ o
+        → length (printed input) ≤ maxPlanText
+    tested S h e none f =
+        let passed : Accepted S = text-accepted S h .0 f in
+        rw (e, unless-given (numberTests S) S f, printed) (plan-length S (passed .accepted))
+    tested S h e (some k) f = rw (e, unless-refused (numberTests S) S k f, printed) (omega (arith, number-refused k (number-below S k f)))
+
+    go : (o : Reading Sheet) → sheetReader text ≡ o → length (printed input) ≤ maxPlanText
+    go (stuck rest) e =
+        let inside : length text - length rest ≤ suc maxText = omega (arith, length-take (suc maxText) input) in
+        rw (read-stuck numberTests text rest e, printed) (omega (arith, place-refused (length text - length rest) inside))
+    go (got S rest) e =
+        let (ended, ofSheet) = reader-iff text S rest .0 e in
+        tested S (ofSheet .sheet) (read-got numberTests text S rest e) (refusal (numberTests S)) refl

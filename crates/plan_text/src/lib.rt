@@ -1,0 +1,8 @@
+// Plan texts: write plan, and what the program shows for what stands on its input.
+pub mod display;
+pub mod lanes;
+pub mod report;
+pub mod writer;
+
+pub use display::show;
+pub use writer::write_plan;

@@ -1,0 +1,53 @@
+// Write plan.
+ghost use mathlib.Core.Path.{_≡_};
+ghost use lib.ListN.{length};
+ghost use Rattle.transport.specs.Calls.{lentAfter};
+ghost use Rattle.transport.specs.PlanText.{writePlanCall};
+ghost use Rattle.transport.specs.Answers.{writeAnswer};
+ghost use Rattle.sheet.specs.Check.{sheetOf};
+use crate::lanes::used_lanes;
+use crate::report::Figures;
+use crate::report::report_len;
+use crate::report::write_report;
+use planning::solve::solve;
+use transport::MAX_LANES;
+use transport::MAX_SIDE;
+use transport::SolveAnswer;
+use transport::WriteAnswer;
+
+// Write plan solves, writes the plan text and gives its length; or it refuses as write sheet does, and the output is as it was. The text's length is known before its
+// first byte is written.
+pub fn write_plan(supply: &[u64], demand: &[u64], cost: &[u64], out: &mut [u8]) -> WriteAnswer
+    ensures { λ r.
+        let S = sheetOf (now (supply .entry)) (now (demand .entry)) (now (cost .entry)) in
+        let a = writePlanCall S (length (now (out .entry))) in
+        ⌜ (r ≡ writeAnswer a) × (now (out .exit) ≡ lentAfter (λ t. t) a (now (out .entry))) ⌝ }
+{
+    let mut u = [0i64; MAX_SIDE];
+    let mut v = [0i64; MAX_SIDE];
+    let mut plan = [0u64; MAX_LANES];
+    let answer = solve(supply, demand, cost, &mut u, &mut v, &mut plan);
+    match answer {
+        SolveAnswer::Refused(number) => WriteAnswer::Refused(number),
+        SolveAnswer::Solved {
+            cost: total,
+            rounds,
+        } => {
+            let m = supply.len();
+            let n = demand.len();
+            let lanes = m * n;
+            let mut list = [0u64; 3 * MAX_LANES];
+            let numbers = used_lanes(&plan[..lanes], n, &mut list);
+            let figures = Figures {
+                total,
+                rounds,
+                lanes: numbers / 3,
+            };
+            if out.len() < report_len(figures, &u[..m], &v[..n], &list[..numbers]) {
+                return WriteAnswer::Refused(8);
+            }
+            let len = write_report(figures, &u[..m], &v[..n], &list[..numbers], out);
+            WriteAnswer::Written(len)
+        }
+    }
+}

@@ -1,0 +1,29 @@
+-- The lengths of the parts; a count has at most 20 digits.
+use Prim.Native.Nat.{_≤_}
+use native.Mathlib.Omega.{arith}
+use lib.ListN.{length-append}
+use Rattle.grammar.specs.Digits.{digits-length}
+use Rattle.sections.specs.Lines.{ended, length-ended}
+use borrow.Author.Needs.{needs}
+use Rattle.sections.proofs.section.head_len.Statement.{statement}
+use Rattle.sections.proofs.section.head_len.Tie as tie
+
+digit-count-requires : tie.Need-digit-count-requires
+digit-count-requires c κs = search needs
+
+few : (c : tie.After-digit-count) → c .digit-count .result ≤ 20
+few c = omega (arith, c .digit-count .ensures, digits-length 19 (c .before .before .args .count) .1 (omega arith))
+
+add-result : tie.Need-add-result
+add-result c = omega (arith, few c)
+
+add-result-2 : tie.Need-add-result-2
+add-result-2 c = omega (arith, few c)
+
+returns : tie.Need-returns
+returns c =
+    let t = c .before .before .args in
+    omega (arith, few c, c .digit-count .ensures, length-append (t .name .now) (ended (t .count) 10), length-ended (t .count) 10)
+
+pub head-len-spec : {M : Type 1} → statement M
+head-len-spec = tie.close (tie.spec digit-count-requires add-result add-result-2 returns)

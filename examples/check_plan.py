@@ -1,0 +1,92 @@
+"""Says whether a plan text is a plan of least cost for a sheet text, without trusting the panel.
+
+    python3 examples/check_plan.py SHEET PLAN
+
+prints `the plan is least: total T` and exits with 0, or `wrong: ..` with the first thing that does not fit, and exits with 1.
+It does not check the count of rounds, nor that the plan is the settled one among plans of the same cost.
+"""
+import pathlib
+import re
+import sys
+
+SHEET_NUMBER = "(?:0|[1-9][0-9]{0,6})"
+PLAN_NUMBER = "(?:0|[1-9][0-9]{0,19})"
+PRICE = "(?:0|-?[1-9][0-9]{0,19})"
+
+
+def require(good, what):
+    if not good:
+        raise ValueError(what)
+
+
+def section(lines, name, counts, number, width=1):
+    """Takes a section off the lines: its head `name K`, K among the counts, and K lines of `width` numbers, which it gives."""
+    head = next(lines, "")
+    require(head in [f"{name} {k}" for k in counts], f"{head!r} where section {name} should begin")
+    body = [next(lines, "") for _ in range(int(head.split(" ")[1]))]
+    for line in body:
+        require(re.fullmatch(" ".join([number] * width), line), f"{line!r} in section {name}")
+    return [[int(x) for x in line.split(" ")] for line in body]
+
+
+def read_sheet(text):
+    """Supplies, demands and rows of costs."""
+    lines = iter(text.split("\n"))
+    supply = sum(section(lines, "supply", range(1, 33), SHEET_NUMBER), [])
+    demand = sum(section(lines, "demand", range(1, 33), SHEET_NUMBER), [])
+    cost = section(lines, "cost", [len(supply)], SHEET_NUMBER, len(demand))
+    require(list(lines) == [""], "the sheet does not end with the line end after its costs")
+    require(all(1 <= x <= 1_000_000 for x in supply + demand), "a supply or demand is outside the limits")
+    require(all(x <= 1_000_000 for row in cost for x in row), "a cost is above the limit")
+    return supply, demand, cost
+
+
+def read_plan(text, m, n):
+    """The total, the prices of roasteries and of cafés, and the bags on each lane that carries any, both numbers from 0."""
+    lines = iter(text.split("\n"))
+    [[total]] = section(lines, "total", [1], PLAN_NUMBER)
+    section(lines, "rounds", [1], PLAN_NUMBER)
+    u = sum(section(lines, "roasteries", [m], PRICE), [])
+    v = sum(section(lines, "cafes", [n], PRICE), [])
+    lanes = section(lines, "lanes", range(1, m * n + 1), PLAN_NUMBER, 3)
+    require(list(lines) == [""], "the plan does not end with the line end after its lanes")
+    for i, j, bags in lanes:
+        require(1 <= i <= m and 1 <= j <= n, f"lane {i} {j} is not on the sheet")
+        require(bags >= 1, f"lane {i} {j} carries no bag")
+    for before, lane in zip(lanes, lanes[1:]):
+        require(before[:2] < lane[:2], f"lane {lane[0]} {lane[1]} is out of order")
+    return total, u, v, {(i - 1, j - 1): bags for i, j, bags in lanes}
+
+
+def check(sheet_text, plan_text):
+    """Gives the total, or raises ValueError with what does not fit."""
+    supply, demand, cost = read_sheet(sheet_text)
+    total, u, v, plan = read_plan(plan_text, len(supply), len(demand))
+    for name, end, amounts in (("roastery", 0, supply), ("café", 1, demand)):
+        for k, amount in enumerate(amounts):
+            bags = sum(bags for lane, bags in plan.items() if lane[end] == k)
+            require(bags == amount, f"{name} {k + 1} has {amount} bags on the sheet and {bags} in the plan")
+    paid = sum(bags * cost[i][j] for (i, j), bags in plan.items())
+    require(paid == total, f"the bags cost {paid}, and the total is {total}")
+    require(u[0] == 0, f"the price of roastery 1 is {u[0]}")
+    # Why the prices prove the plan least: take any plan that meets the sheet, in whole bags or in fractions. No lane costs less
+    # than u + v, so the plan costs at least the sum of bags times (u + v). Added up by roastery and by café, that is the sum of
+    # supply times u and demand times v: the same number for every plan. Ours pays just u + v wherever it carries a bag, so it
+    # costs just that number, and no plan costs less.
+    for i, row in enumerate(cost):
+        for j, price in enumerate(row):
+            over = price - u[i] - v[j]
+            require(over >= 0, f"lane {i + 1} {j + 1} costs {-over} less than its prices")
+            require(over == 0 or (i, j) not in plan, f"lane {i + 1} {j + 1} carries bags and costs {over} more than its prices")
+    return total
+
+
+if __name__ == "__main__":
+    if len(sys.argv) != 3:
+        sys.exit("usage: python3 check_plan.py SHEET PLAN")
+    try:
+        sheet, plan = (pathlib.Path(path).read_bytes().decode("latin-1") for path in sys.argv[1:])
+        print("the plan is least: total", check(sheet, plan))
+    except (OSError, ValueError) as what:
+        print("wrong:", what)
+        sys.exit(1)

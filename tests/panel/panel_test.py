@@ -1,0 +1,371 @@
+"""Holds the program to stored texts, to a search through all plans, and to plans that prove themselves; and its reading and writing
+to docs/FORMATS.md. The variable PANEL may name another program to hold to them.
+
+P2, P5 and P9 of paper 01 speak of run and settle on tableaux, which no text can ask for: the programs simplex_run and planning_run show them.
+"""
+import contextlib
+import os
+import pathlib
+import random
+import shutil
+import signal
+import subprocess
+import sys
+import tempfile
+import time
+
+ROOT = pathlib.Path(__file__).resolve().parents[2]
+EXAMPLES = ROOT / "examples"
+CASES = ROOT / "tests/panel/cases"
+PANEL = pathlib.Path(os.environ.get("PANEL", ROOT / "target/bin/panel")).absolute()
+
+sys.dont_write_bytecode = True
+sys.path.insert(0, str(EXAMPLES))
+import check_plan  # noqa: E402
+
+LONGEST = 8_732
+CANNOT_READ = b"panel: cannot read standard input\n"
+CANNOT_WRITE = b"panel: cannot write standard output\n"
+WORKED = (EXAMPLES / "worked.sheet").read_bytes()
+WORKED_PLAN = (EXAMPLES / "worked.plan").read_bytes()
+
+passed = failed = 0
+
+
+def test(name, good):
+    global passed, failed
+    if good:
+        passed += 1
+    else:
+        failed += 1
+        print("failed:", name)
+
+
+# ---- running a program
+
+
+def run(command, text=None, **options):
+    """Standard output, standard error and exit status."""
+    options = {"stdout": subprocess.PIPE, "stderr": subprocess.PIPE, **options}
+    done = subprocess.run(command, input=text, timeout=20, check=False, **options)
+    return done.stdout, done.stderr, done.returncode
+
+
+def answers(text, output):
+    return run([PANEL], text) == (output, b"", 0)
+
+
+def run_in_pieces(pieces, pause):
+    """Standard output, where each piece of the input comes a while after the one before."""
+    with subprocess.Popen([PANEL], stdin=subprocess.PIPE, stdout=subprocess.PIPE, bufsize=0) as process:
+        with contextlib.suppress(BrokenPipeError):
+            for piece in pieces:
+                process.stdin.write(piece)
+                time.sleep(pause)
+        try:
+            return process.communicate(timeout=20)[0]
+        finally:
+            process.kill()
+
+
+def run_with_closed(command, stream, text=None):
+    """With a standard stream closed: `<&-` or `>&-`."""
+    return run(["sh", "-c", f'exec "$0" {stream}', command], text)
+
+
+def run_on_directory(command):
+    with opened(".", os.O_RDONLY) as directory:
+        return run([command], stdin=directory)
+
+
+def run_on_full_device(command):
+    with opened("/dev/full", os.O_WRONLY) as device:
+        return run([command], WORKED, stdout=device)
+
+
+def run_on_closed_pipe(command):
+    reader, writer = os.pipe()
+    os.close(reader)
+    try:
+        return run([command], WORKED, stdout=writer)
+    finally:
+        os.close(writer)
+
+
+@contextlib.contextmanager
+def opened(path, flags):
+    number = os.open(path, flags)
+    try:
+        yield number
+    finally:
+        os.close(number)
+
+
+# ---- sheets
+
+
+def sheet_text(supply, demand, cost):
+    rows = [" ".join(map(str, row)) for row in cost]
+    lines = [f"supply {len(supply)}", *supply, f"demand {len(demand)}", *demand, f"cost {len(cost)}", *rows]
+    return "".join(f"{line}\n" for line in lines).encode()
+
+
+def lane_section(lanes):
+    return "".join([f"lanes {len(lanes)}\n"] + [f"{i} {j} {bags}\n" for i, j, bags in lanes]).encode()
+
+
+def random_sheet(rng, m, n, bags, top):
+    """The sheet that a random plan with up to `bags` on a lane meets, with costs up to `top`."""
+    while True:
+        plan = [[rng.randint(0, bags) for _ in range(n)] for _ in range(m)]
+        supply, demand = [sum(row) for row in plan], [sum(column) for column in zip(*plan)]
+        if min(supply + demand) > 0:
+            return supply, demand, [[rng.randint(0, top) for _ in range(n)] for _ in range(m)]
+
+
+def row_plans(left, wanted):
+    """All ways to send what is left to cafés that want so much."""
+    if not wanted:
+        return [()] if left == 0 else []
+    return [(bags, *rest) for bags in range(min(left, wanted[0]) + 1) for rest in row_plans(left - bags, wanted[1:])]
+
+
+def all_plans(supply, wanted):
+    """All plans, each as the bags on every lane in sheet order."""
+    if not supply:
+        return [()] if not any(wanted) else []
+    return [
+        row + rest
+        for row in row_plans(supply[0], wanted)
+        for rest in all_plans(supply[1:], [want - bags for want, bags in zip(wanted, row)])
+    ]
+
+
+def best_total_and_lanes(supply, demand, cost):
+    """By a search through all plans: the first and the last section of the plan text."""
+    costs = sum(cost, [])
+    n = len(demand)
+
+    def total(plan):
+        return sum(bags * price for bags, price in zip(plan, costs))
+
+    best = min(all_plans(supply, demand), key=lambda plan: (total(plan), [-bags for bags in plan]))
+    lanes = [(k // n + 1, k % n + 1, bags) for k, bags in enumerate(best) if bags > 0]
+    return f"total 1\n{total(best)}\n".encode(), lane_section(lanes)
+
+
+def what_is_wrong(sheet, plan):
+    """What check_plan finds, or None."""
+    try:
+        check_plan.check(sheet.decode("latin-1"), plan.decode("latin-1"))
+    except ValueError as what:
+        return str(what)
+    return None
+
+
+# ---- the tests
+
+
+def stored_cases():
+    for path in sorted(CASES.glob("*.in")):
+        test(f"case {path.stem}", answers(path.read_bytes(), path.with_suffix(".out").read_bytes()))
+
+
+def every_place():
+    """On a sheet text cut anywhere the place is its length, and on one with a byte that no sheet text has, it is the bytes before it."""
+    strangers = b"\0\t\r-./:@AZ`{\x7f\x80\xff"
+    for k in range(len(WORKED)):
+        stranger = strangers[k % len(strangers)]
+        refused = b"refused 9 %d\n" % k
+        test(f"the worked sheet cut at {k}", answers(WORKED[:k], refused))
+        test(f"the worked sheet with byte {stranger} at {k}", answers(WORKED[:k] + bytes([stranger]) + WORKED[k + 1:], refused))
+
+
+def small_sheets():
+    rng = random.Random(11)
+    other, unproved = [], []
+    for _ in range(400):
+        sheet = random_sheet(rng, rng.randint(1, 3), rng.randint(1, 3), rng.randint(1, 3), rng.choice([0, 1, 2, 5, 1_000_000]))
+        text = sheet_text(*sheet)
+        plan = run([PANEL], text)[0]
+        total, lanes = best_total_and_lanes(*sheet)
+        if not (plan.startswith(total) and plan.endswith(b"\n" + lanes)):
+            other.append(text)
+        if what_is_wrong(text, plan) is not None:
+            unproved.append(text)
+    test(f"400 small sheets: total and lanes are those that a search through all plans finds; not on {other[:1]}", not other)
+    test(f"400 small sheets: the prices prove the plan; not on {unproved[:1]}", not unproved)
+
+
+def large_sheets():
+    rng = random.Random(13)
+    for k in range(20):
+        bags, top = rng.choice([1, 5, 31_250]), rng.choice([3, 1_000, 1_000_000])
+        text = sheet_text(*random_sheet(rng, 32, 32, bags, top))
+        wrong = what_is_wrong(text, run([PANEL], text)[0])
+        test(f"large sheet {k}, bags to {bags}, costs to {top}: {wrong}", wrong is None)
+
+
+def long_sheet():
+    """The longest sheet text, and its plan."""
+    million = [1_000_000] * 32
+    lanes = [(k, k, 1_000_000) for k in range(1, 33)]
+    prices = "roasteries 32\n" + "0\n" * 32 + "cafes 32\n" + "1000000\n" * 32
+    plan = b"total 1\n32000000000000\nrounds 1\n0\n" + prices.encode() + lane_section(lanes)
+    return sheet_text(million, million, [million] * 32), plan
+
+
+def long_texts():
+    text, plan = long_sheet()
+    refused = b"refused 9 %d\n" % LONGEST
+    test("the longest sheet text has 8,732 bytes", len(text) == LONGEST)
+    test("the longest sheet text", answers(text, plan))
+    test("the longest sheet text, cut by a byte", answers(text[:-1], b"refused 9 %d\n" % (LONGEST - 1)))
+    test("the longest sheet text, and a line end more", answers(text + b"\n", refused))
+    test("the longest sheet text, and a byte 0 more", answers(text + b"\0", refused))
+    test("the longest sheet text, and a megabyte more", answers(text + b"\n" * 1_000_000, refused))
+    test("a megabyte of bytes 0", answers(b"\0" * 1_000_000, b"refused 9 0\n"))
+    test("a short sheet text, and a megabyte more", answers(WORKED + b"7" * 1_000_000, b"refused 9 %d\n" % len(WORKED)))
+
+
+def bytes_read():
+    """The program takes no byte beyond the 8,733rd from its input, and does not wait for more."""
+    text, _ = long_sheet()
+    text += b"\n" * 1_268
+    refused = (b"refused 9 %d\n" % LONGEST, b"", 0)
+    with tempfile.NamedTemporaryFile() as file:
+        file.write(text)
+        file.flush()
+        with opened(file.name, os.O_RDONLY) as number:
+            test("a file of 10,000 bytes", run([PANEL], stdin=number) == refused)
+            test("a file is read up to byte 8,733", os.lseek(number, 0, os.SEEK_CUR) == LONGEST + 1)
+    reader, writer = os.pipe()
+    try:
+        os.write(writer, text)
+        test("a pipe of 10,000 bytes that stays open", run([PANEL], stdin=reader) == refused)
+        os.close(writer)
+        test("a pipe is read up to byte 8,733", len(os.read(reader, len(text))) == len(text) - LONGEST - 1)
+    finally:
+        os.close(reader)
+
+
+def slow_input():
+    text, plan = long_sheet()
+    test("input a byte at a time", run_in_pieces([bytes([byte]) for byte in WORKED], 0.001) == WORKED_PLAN)
+    test("input in two halves", run_in_pieces([WORKED[:20], WORKED[20:]], 0.05) == WORKED_PLAN)
+    test("input cut in a number", run_in_pieces([text[:5_003], text[5_003:]], 0.05) == plan)
+    test("the longest sheet text in pieces", run_in_pieces([text[k:k + 700] for k in range(0, LONGEST, 700)], 0.001) == plan)
+    test("input from /dev/null", run([PANEL], stdin=subprocess.DEVNULL) == (b"refused 9 0\n", b"", 0))
+
+
+def failing_streams():
+    test("standard input is a directory", run_on_directory(PANEL) == (b"", CANNOT_READ, 0))
+    test("standard input is closed", run_with_closed(PANEL, "<&-") == (b"", CANNOT_READ, 0))
+    test("standard output is full", run_on_full_device(PANEL) == (None, CANNOT_WRITE, 0))
+    test("standard output is closed", run_with_closed(PANEL, ">&-", WORKED) == (b"", CANNOT_WRITE, 0))
+    test("standard output is a closed pipe", run_on_closed_pipe(PANEL) == (None, b"", -signal.SIGPIPE))
+
+
+def script_with_status():
+    """The script bin/panel, set up beside the program under test."""
+    with tempfile.TemporaryDirectory() as place:
+        script = pathlib.Path(place, "bin/panel")
+        program = pathlib.Path(place, "target/bin/panel")
+        script.parent.mkdir()
+        program.parent.mkdir(parents=True)
+        shutil.copy(ROOT / "bin/panel", script)
+        test("script without a program: 2", run([script], WORKED)[::2] == (b"", 2))
+        program.symlink_to(PANEL)
+        test("script on a plan: 0", run([script], WORKED) == (WORKED_PLAN, b"", 0))
+        test("script called from its own place: 0", run(["./panel"], WORKED, cwd=script.parent) == (WORKED_PLAN, b"", 0))
+        test("script on unequal totals: 1", run([script], sheet_text([3], [2], [[0]])) == (b"refused 5\n", b"", 1))
+        test("script on an empty text: 1", run([script], b"") == (b"refused 9 0\n", b"", 1))
+        test("script on a directory: 2", run_on_directory(script) == (b"", CANNOT_READ, 2))
+        test("script with its input closed: 2", run_with_closed(script, "<&-") == (b"", CANNOT_READ, 2))
+        test("script with a full output: 2", run_on_full_device(script) == (None, CANNOT_WRITE, 2))
+        test("script with its output closed: 2", run_with_closed(script, ">&-", WORKED) == (b"", CANNOT_WRITE, 2))
+        test("script into a closed pipe", run_on_closed_pipe(script) == (None, b"", -signal.SIGPIPE))
+
+
+# ---- the examples, and the script that checks plans
+
+
+def examples():
+    for path in sorted(EXAMPLES.glob("*.sheet")):
+        sheet, plan = path.read_bytes(), path.with_suffix(".plan").read_bytes()
+        test(f"example {path.stem}", answers(sheet, plan))
+        accepted = what_is_wrong(sheet, plan) is None
+        test(f"example {path.stem}: check_plan accepts plans alone", accepted == plan.startswith(b"total"))
+        status, first = (0, b"the plan is least: total ") if accepted else (1, b"wrong: ")
+        output, errors, ended = run([sys.executable, EXAMPLES / "check_plan.py", path, path.with_suffix(".plan")])
+        test(f"example {path.stem}: check_plan says so", output.startswith(first) and (errors, ended) == (b"", status))
+
+
+def edited(total=0, u=(0, 0, 0), v=(0, 0, 0, 0), bags=(), lanes=None):
+    """The plan of the example island, with numbers added to its total, its prices and the bags on lanes, or with these lanes."""
+    plan = {(1, 2): 25, (1, 3): 10, (1, 4): 25, (2, 1): 40, (2, 3): 5, (3, 3): 35}
+    for lane, more in dict(bags).items():
+        plan[lane] = plan.get(lane, 0) + more
+    lanes = lanes or [(i, j, bags) for (i, j), bags in sorted(plan.items()) if bags != 0]
+    roasteries = [price + more for price, more in zip((0, 40, -130), u)]
+    cafes = [price + more for price, more in zip((80, 150, 240, 190), v)]
+    lines = ["total 1", 20_950 + total, "rounds 1", 3, "roasteries 3", *roasteries, "cafes 4", *cafes]
+    return "".join(f"{line}\n" for line in lines).encode() + lane_section(lanes)
+
+
+def wrong_plans():
+    """check_plan names what is wrong with a plan that was edited."""
+    island = (EXAMPLES / "island.sheet").read_bytes()
+    # Roasteries 1 and 2 each move a bag, between cafés 1 and 3: bags add up as before, and the plan costs 230 more.
+    circle = {(1, 1): 1, (1, 3): -1, (2, 1): -1, (2, 3): 1}
+    right = edited()
+    cases = [
+        ("unedited", right, None),
+        ("a bag more", edited(bags={(2, 1): 1}), "roastery 2 has 45 bags on the sheet and 46 in the plan"),
+        ("a bag moved to another café", edited(bags={(2, 1): -1, (2, 2): 1}), "café 1 has 40 bags on the sheet and 39 in the plan"),
+        ("a bag moved to another roastery", edited(bags={(1, 4): -1, (3, 4): 1}), "roastery 1 has 60 bags on the sheet and 59 in the plan"),
+        ("a circle of bags moved", edited(bags=circle), "the bags cost 21180, and the total is 20950"),
+        ("a circle of bags moved, and the total", edited(total=230, bags=circle), "lane 1 1 carries bags and costs 230 more than its prices"),
+        ("a dearer total", edited(total=1), "the bags cost 20950, and the total is 20951"),
+        ("a cheaper total", edited(total=-1), "the bags cost 20950, and the total is 20949"),
+        ("a price raised", edited(v=(0, 0, 0, 1)), "lane 1 4 costs 1 less than its prices"),
+        ("a price lowered", edited(u=(0, 0, -1)), "lane 3 3 carries bags and costs 1 more than its prices"),
+        ("all prices shifted", edited(u=(5, 5, 5), v=(-5, -5, -5, -5)), "the price of roastery 1 is 5"),
+        ("a lane twice", edited(lanes=[(1, 2, 20), (1, 2, 5)]), "lane 1 2 is out of order"),
+        ("lanes out of order", edited(lanes=[(2, 1, 40), (1, 2, 25)]), "lane 1 2 is out of order"),
+        ("a lane of no bags", edited(lanes=[(1, 1, 0), (1, 2, 25)]), "lane 1 1 carries no bag"),
+        ("a lane off the sheet", edited(lanes=[(1, 5, 25)]), "lane 1 5 is not on the sheet"),
+        ("a roastery missing", right.replace(b"roasteries 3\n0\n", b"roasteries 2\n"), "'roasteries 2' where section roasteries should begin"),
+        ("minus 0", right.replace(b"\n0\n", b"\n-0\n"), "'-0' in section roasteries"),
+        ("a leading 0", right.replace(b"\n150\n", b"\n0150\n"), "'0150' in section cafes"),
+        ("cut in the lanes", right[:-7], "'' in section lanes"),
+        ("no last line end", right[:-1], "the plan does not end with the line end after its lanes"),
+        ("a line more", right + b"\n", "the plan does not end with the line end after its lanes"),
+        ("nothing", b"", "'' where section total should begin"),
+    ]
+    for name, plan, what in cases:
+        said = what_is_wrong(island, plan)
+        test(f"check_plan, {name}: {said}", said == what)
+    for path in sorted(CASES.glob("[3459]*.in")):
+        said = what_is_wrong(path.read_bytes(), WORKED_PLAN)
+        test(f"check_plan, the sheet of case {path.stem}: {said}", said is not None)
+
+
+def main():
+    groups = [stored_cases, every_place, small_sheets, large_sheets, long_texts, bytes_read, slow_input, failing_streams]
+    groups += [script_with_status, examples, wrong_plans]
+    if not os.access(PANEL, os.X_OK):
+        print(f"no program {os.path.relpath(PANEL, ROOT)}: build it first")
+        groups = []
+        test("the program is there", False)
+    for group in groups:
+        try:
+            group()
+        except Exception as error:  # whatever breaks a group, the others run and the last line is printed
+            test(f"{group.__name__}: {error!r}", False)
+    print(f"{passed} passed, {failed} failed")
+    sys.exit(failed > 0)
+
+
+if __name__ == "__main__":
+    main()
