@@ -27,7 +27,7 @@ pub(crate) fn used_lanes(plan: &[u64], n: usize, list: &mut [u64]) -> usize
     requires { ⌜ (length (now plan) ≤ maxSide * maxSide) × (1 ≤ n) × (length (now plan) * 3 ≤ length (now list)) ⌝ }
     ensures { λ r.
         let numbers = usedNumbers n (now (plan .entry)) (length (now (plan .entry))) in
-        ⌜ (r ≡ length numbers) × (now (list .exit) ≡ front numbers (now (list .entry))) ⌝ }
+        ⌜ (r ≡ length numbers) × (now (list .exit) ≡ front numbers (now (list .entry))) × (r ≤ length (now (plan .entry)) * 3) ⌝ }
 {
     let mut at: usize = 0;
     let mut l: usize = 0;

@@ -3,6 +3,7 @@ use mathlib.Core.Path.{_≡_, refl, sym, ap, _∙_}
 use mathlib.Core.List.{List, _++_}
 use Prim.Native.Nat.{ℕ, suc, min, _*_, _-_, _≤_}
 use native.Mathlib.Omega.{arith}
+use native.Mathlib.Nat.{mul-le-mul}
 use lib.ListN.{length, take, drop, length-drop}
 use lib.Seq.{length-take-le}
 use Rattle.transport.specs.declared.ReadAnswer.the-variants.{Sheet, NotSheetText}
@@ -70,31 +71,42 @@ the-place c =
     let same : length text - length (drop place text) ≡ place = omega (arith, length-drop place text) in
     printed-place (c .before .before .before .before .before .before .before .before .before .before .before .before .before .args .input .now) (drop place text) stands ∙ (rw same)
 
+-- The next needs hold of any front of these lists that is no longer than a sheet's, so that a program that shows the plan of another sheet is refused by the contract.
+module _ (c : tie.After-answer) where
+  m-few : c .answer .given .0 .0 ≤ 32
+  unfolding maxSide
+  m-few = the-sheet c .m-few
+
+  n-few : c .answer .given .0 .1 .0 ≤ 32
+  unfolding maxSide
+  n-few = the-sheet c .n-few
+
 mul-lanes : tie.Need-mul-lanes
-unfolding maxSide
 mul-lanes c =
-    let s = the-sheet (c .before) in
-    omega (arith, s .cost-room)
+    let p = m-few (c .before) in
+    let q = n-few (c .before) in
+    omega (arith, mul-le-mul p q, mul-le-mul p p)
 
 array-share-prefix-supply : tie.Need-array-share-prefix-supply
-array-share-prefix-supply c = the-sheet (c .before) .supply-room
+array-share-prefix-supply c = omega (arith, m-few (c .before))
 
 slice-aggregate-show-plan : tie.Need-slice-aggregate-show-plan
-slice-aggregate-show-plan c = sym (supply-length (the-sheet (c .before .before)))
+slice-aggregate-show-plan c = sym (length-take-le _ _ (array-share-prefix-supply (c .before)))
 
--- This holds of every list of the largest sheet, so that a program that shows the plan of another sheet is refused by the contract.
 array-share-prefix-demand : tie.Need-array-share-prefix-demand
-unfolding maxSide
-array-share-prefix-demand c = omega (arith, the-sheet (c .before .before) .n-few)
+array-share-prefix-demand c = omega (arith, m-few (c .before .before), n-few (c .before .before))
 
 slice-aggregate-show-plan-2 : tie.Need-slice-aggregate-show-plan-2
 slice-aggregate-show-plan-2 c = sym (length-take-le _ _ (array-share-prefix-demand (c .before)))
 
 array-share-prefix-cost : tie.Need-array-share-prefix-cost
-array-share-prefix-cost c = the-sheet (c .before .before .before) .cost-room
+array-share-prefix-cost c =
+    let p = m-few (c .before .before .before) in
+    let q = n-few (c .before .before .before) in
+    omega (arith, mul-le-mul p q, mul-le-mul p p)
 
 slice-aggregate-show-plan-3 : tie.Need-slice-aggregate-show-plan-3
-slice-aggregate-show-plan-3 c = sym (cost-length (the-sheet (c .before .before .before .before)))
+slice-aggregate-show-plan-3 c = sym (length-take-le _ _ (array-share-prefix-cost (c .before)))
 
 show-plan-requires : tie.Need-show-plan-requires
 show-plan-requires c κs = search needs

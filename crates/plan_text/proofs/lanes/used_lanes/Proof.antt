@@ -90,8 +90,9 @@ same-length c = c .before .loop .inv .1
 returns : tie.Need-returns Inv-loop μ-loop
 returns c =
     let l = c .before .loop in
-    let e : l .l ≡ length (c .before .before .before .before .args .plan .now) = omega arith in
-    rw (← e) (l .inv .2, l .inv .3)
+    let t = c .before .before .before .before .args in
+    let e : l .l ≡ length (t .plan .now) = omega arith in
+    rw (← e) (l .inv .2, l .inv .3, omega (arith, used-most (t .n) (t .plan .now) (l .l)))
 
 pub used-lanes-spec : {M : Type 1} → statement M
 used-lanes-spec =

@@ -5,7 +5,7 @@ use Prim.Native.Nat.{ℕ, _*_, _/_, _≤_}
 use native.Mathlib.Omega.{arith}
 use native.Mathlib.Nat.{mul-le-mul}
 use lib.IntN.{ℤ}
-use lib.ListN.{length, take, length-take}
+use lib.ListN.{length, take}
 use lib.Seq.{length-take-le}
 use Rattle.transport.specs.declared.SolveAnswer.the-variants.{Solved}
 use Rattle.transport.specs.Limits.{maxSide}
@@ -13,9 +13,9 @@ use Rattle.transport.specs.Sheet.{Sheet, sources, sinks}
 use Rattle.transport.specs.SheetLaws.{Checked, checked}
 use Rattle.transport.specs.PlanText.{planText, writePlanCall}
 use Rattle.sheet.specs.Check.{sheetOf}
-use Rattle.sections.specs.Front.{front-take}
+use Rattle.sections.specs.Front.{front, front-take}
 use Rattle.sections.specs.WriteCall.{wrote-check, wrote-short, wrote-given}
-use Rattle.plan_text.specs.Lanes.{usedNumbers, used-most}
+use Rattle.plan_text.specs.Lanes.{usedNumbers}
 use Rattle.plan_text.specs.Report.{reportText}
 use Rattle.plan_text.specs.Solved.{Found, found, found-report, refused-check}
 use borrow.Author.Needs.{needs}
@@ -72,21 +72,18 @@ module _ (c : tie.After-answer2) where
   unfolding sinks
   n-some = ok .sinksLow
 
--- As many lanes as two sides make: these needs hold for any two of them, so that a program that counts the lanes otherwise is refused by the contract.
-product-few : {a b : ℕ} → a ≤ 32 → b ≤ 32 → a * b ≤ 1024
-product-few p q = mul-le-mul p q
-
+-- The next needs hold whatever two sides the count of lanes is made of, so that a program that leaves out lanes is refused by the contract.
 mul-lanes : tie.Need-mul-lanes
 mul-lanes c =
     let p = m-few (c .before) in
     let q = n-few (c .before) in
-    omega (arith, product-few p q, product-few p p)
+    omega (arith, mul-le-mul p q, mul-le-mul p p)
 
 array-share-prefix-plan : tie.Need-array-share-prefix-plan
 array-share-prefix-plan c =
     let p = m-few (c .before) in
     let q = n-few (c .before) in
-    omega (arith, product-few p q, product-few p p)
+    omega (arith, mul-le-mul p q, mul-le-mul p p)
 
 slice-aggregate-used-lanes : tie.Need-slice-aggregate-used-lanes
 slice-aggregate-used-lanes c = sym (length-take-le _ _ (array-share-prefix-plan (c .before)))
@@ -110,28 +107,26 @@ array-share-prefix-v c = omega (arith, n-few (c .before .before .before .before 
 slice-aggregate-report-len-2 : tie.Need-slice-aggregate-report-len-2
 slice-aggregate-report-len-2 c = sym (length-take-le _ _ (array-share-prefix-v (c .before)))
 
--- The numbers of the lanes that carry a bag.
 module _ (c : tie.After-used-lanes) where
+  numbers-few : c .used-lanes .result ≤ 3072
+  numbers-few = omega (arith, c .used-lanes .ensures .2, slice-aggregate-used-lanes (c .before .before), array-share-prefix-plan (c .before .before .before))
+
   abbrev plan : List ℕ
   plan = take (length (c .before .before .before .before .before .before .before .before .before .before .before .before .before .before .before .before .before .args .supply .now) * length (c .before .before .before .before .before .before .before .before .before .before .before .before .before .before .before .before .before .args .demand .now)) (c .before .before .before .before .before .before .before .before .before .solve .last .1 .1 .1 .1 .1 .0)
 
   abbrev numbers : List ℕ
   numbers = usedNumbers (length (c .before .before .before .before .before .before .before .before .before .before .before .before .before .before .before .before .before .args .demand .now)) plan (length plan)
 
-  numbers-few : c .used-lanes .result ≤ 3072
-  numbers-few =
-      omega (arith, c .used-lanes .ensures .0, used-most (length (c .before .before .before .before .before .before .before .before .before .before .before .before .before .before .before .before .before .args .demand .now)) plan (length plan), slice-aggregate-used-lanes (c .before .before), array-share-prefix-plan (c .before .before .before))
-
-  -- The report of them is the plan text.
-  the-text : planText (sheetAt (c .before .before .before .before .before .before .before .before .before .before .before .before .before .before .before .before .before))
+  -- If the list holds the numbers of the lanes that carry a bag, the report is the plan text.
+  the-text : (old : List ℕ) → c .used-lanes .result ≡ length numbers → c .used-lanes .last .1 .1 .0 ≡ front numbers old
+      → planText (sheetAt (c .before .before .before .before .before .before .before .before .before .before .before .before .before .before .before .before .before))
       ≡ reportText (record { total = total (c .before .before .before .before); rounds = made (c .before .before .before .before); lanes = c .used-lanes .result / 3 })
       (take (length (c .before .before .before .before .before .before .before .before .before .before .before .before .before .before .before .before .before .args .supply .now)) (c .before .before .before .before .before .before .before .before .before .solve .last .1 .1 .1 .0))
       (take (length (c .before .before .before .before .before .before .before .before .before .before .before .before .before .before .before .before .before .args .demand .now)) (c .before .before .before .before .before .before .before .before .before .solve .last .1 .1 .1 .1 .0))
       (take (c .used-lanes .result) (c .used-lanes .last .1 .1 .0))
   unfolding sources sinks
-  the-text =
-      let count = c .used-lanes .ensures .0 in
-      let list : take (c .used-lanes .result) (c .used-lanes .last .1 .1 .0) ≡ numbers = rw (c .used-lanes .ensures .1) (front-take numbers _ (c .used-lanes .result) count) in
+  the-text old count holds =
+      let list : take (c .used-lanes .result) (c .used-lanes .last .1 .1 .0) ≡ numbers = rw holds (front-take numbers old (c .used-lanes .result) count) in
       found-report (the-found (c .before .before .before .before)) ∙ (rw (list, count))
 
 array-share-prefix-list : tie.Need-array-share-prefix-list
@@ -150,7 +145,8 @@ unfolding writePlanCall
 returns c =
     let t = c .before .before .before .before .before .before .before .before .before .before .before .before .before .before .before .before .before .before .before .before .before .before .before in
     let u = c .before .before .before .before .before .before in
-    wrote-short (sheetAt t) (planText (sheetAt t)) (t .args .out .now) (the-found (u .before .before .before .before) .accepted) (omega (arith, c .before .report-len .ensures, ap length (the-text u)))
+    let l = u .used-lanes in
+    wrote-short (sheetAt t) (planText (sheetAt t)) (t .args .out .now) (the-found (u .before .before .before .before) .accepted) (omega (arith, c .before .report-len .ensures, ap length (the-text u _ (l .ensures .0) (l .ensures .1))))
 
 array-share-prefix-u-2 : tie.Need-array-share-prefix-u-2
 array-share-prefix-u-2 c = array-share-prefix-u (c .before .before .before .before .before)
@@ -188,8 +184,9 @@ returns-3 c =
     let t = c .before .before .before .before .before .before .before .before .before .before .before .before .before .before .before .before .before .before .before .before .before .before .before .before .before .before .before .before .before .before in
     let u = c .before .before .before .before .before .before .before .before .before .before .before .before .before in
     let w = c .before .before .write-report in
-    rw (w .ensures .0, w .ensures .1, ← the-text u)
-    (wrote-given (sheetAt t) (planText (sheetAt t)) (t .args .out .now) (the-found (u .before .before .before .before) .accepted) (omega (arith, c .before .before .before .before .before .before .before .before .report-len .ensures, ap length (the-text u), c .before .before .before .before .before .before .before .if1 .left)))
+    let text = the-text u _ (u .used-lanes .ensures .0) (u .used-lanes .ensures .1) in
+    rw (w .ensures .0, w .ensures .1, ← text)
+    (wrote-given (sheetAt t) (planText (sheetAt t)) (t .args .out .now) (the-found (u .before .before .before .before) .accepted) (omega (arith, c .before .before .before .before .before .before .before .before .report-len .ensures, ap length text, c .before .before .before .before .before .before .before .if1 .left)))
 
 pub write-plan-spec : {M : Type 1} → statement M
 write-plan-spec =
