@@ -2,16 +2,14 @@
 
     python3 examples/check_plan.py SHEET PLAN
 
-prints `the plan is least: total T` and exits with 0, or `wrong: ..` with the first thing that does not fit, and exits with 1.
-It does not check the count of rounds, nor that the plan is the settled one among plans of the same cost.
+prints `the plan is least: total T`, or `wrong: ..` with the first thing that does not fit, and then exits with 1.
+It checks neither the count of rounds nor that the plan is the settled one among plans of the same cost.
 """
 import pathlib
 import re
 import sys
 
-SHEET_NUMBER = "(?:0|[1-9][0-9]{0,6})"
-PLAN_NUMBER = "(?:0|[1-9][0-9]{0,19})"
-PRICE = "(?:0|-?[1-9][0-9]{0,19})"
+NATURAL, WHOLE = "(0|[1-9][0-9]*)", "(0|-?[1-9][0-9]*)"
 
 
 def require(good, what):
@@ -19,7 +17,7 @@ def require(good, what):
         raise ValueError(what)
 
 
-def section(lines, name, counts, number, width=1):
+def section(lines, name, counts, number=NATURAL, width=1):
     """Takes a section off the lines: its head `name K`, K among the counts, and K lines of `width` numbers, which it gives."""
     head = next(lines, "")
     require(head in [f"{name} {k}" for k in counts], f"{head!r} where section {name} should begin")
@@ -32,29 +30,27 @@ def section(lines, name, counts, number, width=1):
 def read_sheet(text):
     """Supplies, demands and rows of costs."""
     lines = iter(text.split("\n"))
-    supply = sum(section(lines, "supply", range(1, 33), SHEET_NUMBER), [])
-    demand = sum(section(lines, "demand", range(1, 33), SHEET_NUMBER), [])
-    cost = section(lines, "cost", [len(supply)], SHEET_NUMBER, len(demand))
+    supply = sum(section(lines, "supply", range(1, 33)), [])
+    demand = sum(section(lines, "demand", range(1, 33)), [])
+    cost = section(lines, "cost", [len(supply)], width=len(demand))
     require(list(lines) == [""], "the sheet does not end with the line end after its costs")
-    require(all(1 <= x <= 1_000_000 for x in supply + demand), "a supply or demand is outside the limits")
-    require(all(x <= 1_000_000 for row in cost for x in row), "a cost is above the limit")
+    require(1 <= min(supply + demand) and max(supply + demand + sum(cost, [])) <= 1_000_000, "a number of the sheet is outside the limits")
     return supply, demand, cost
 
 
 def read_plan(text, m, n):
     """The total, the prices of roasteries and of cafés, and the bags on each lane that carries any, both numbers from 0."""
     lines = iter(text.split("\n"))
-    [[total]] = section(lines, "total", [1], PLAN_NUMBER)
-    section(lines, "rounds", [1], PLAN_NUMBER)
-    u = sum(section(lines, "roasteries", [m], PRICE), [])
-    v = sum(section(lines, "cafes", [n], PRICE), [])
-    lanes = section(lines, "lanes", range(1, m * n + 1), PLAN_NUMBER, 3)
+    [[total]] = section(lines, "total", [1])
+    section(lines, "rounds", [1])
+    u = sum(section(lines, "roasteries", [m], WHOLE), [])
+    v = sum(section(lines, "cafes", [n], WHOLE), [])
+    lanes = section(lines, "lanes", range(1, m * n + 1), width=3)
     require(list(lines) == [""], "the plan does not end with the line end after its lanes")
-    for i, j, bags in lanes:
+    for before, (i, j, bags) in zip([[0, 0]] + lanes, lanes):
         require(1 <= i <= m and 1 <= j <= n, f"lane {i} {j} is not on the sheet")
         require(bags >= 1, f"lane {i} {j} carries no bag")
-    for before, lane in zip(lanes, lanes[1:]):
-        require(before[:2] < lane[:2], f"lane {lane[0]} {lane[1]} is out of order")
+        require(before[:2] < [i, j], f"lane {i} {j} is out of order")
     return total, u, v, {(i - 1, j - 1): bags for i, j, bags in lanes}
 
 
@@ -69,24 +65,19 @@ def check(sheet_text, plan_text):
     paid = sum(bags * cost[i][j] for (i, j), bags in plan.items())
     require(paid == total, f"the bags cost {paid}, and the total is {total}")
     require(u[0] == 0, f"the price of roastery 1 is {u[0]}")
-    # Why the prices prove the plan least: take any plan that meets the sheet, in whole bags or in fractions. No lane costs less
-    # than u + v, so the plan costs at least the sum of bags times (u + v). Added up by roastery and by café, that is the sum of
-    # supply times u and demand times v: the same number for every plan. Ours pays just u + v wherever it carries a bag, so it
-    # costs just that number, and no plan costs less.
-    for i, row in enumerate(cost):
-        for j, price in enumerate(row):
-            over = price - u[i] - v[j]
-            require(over >= 0, f"lane {i + 1} {j + 1} costs {-over} less than its prices")
-            require(over == 0 or (i, j) not in plan, f"lane {i + 1} {j + 1} carries bags and costs {over} more than its prices")
+    # Why the prices prove the plan least: no lane costs less than u + v, so any plan that meets the sheet, also in fractions, costs at least
+    # the sum of bags times (u + v). By roastery and by café that is supply times u and demand times v: one number for all plans. Ours pays
+    # just u + v wherever it carries a bag, so it costs just that number.
+    for i, j in ((i, j) for i in range(len(supply)) for j in range(len(demand))):
+        over = cost[i][j] - u[i] - v[j]
+        require(over >= 0, f"lane {i + 1} {j + 1} costs {-over} less than its prices")
+        require(over == 0 or (i, j) not in plan, f"lane {i + 1} {j + 1} carries bags and costs {over} more than its prices")
     return total
 
 
 if __name__ == "__main__":
-    if len(sys.argv) != 3:
-        sys.exit("usage: python3 check_plan.py SHEET PLAN")
     try:
         sheet, plan = (pathlib.Path(path).read_bytes().decode("latin-1") for path in sys.argv[1:])
         print("the plan is least: total", check(sheet, plan))
     except (OSError, ValueError) as what:
-        print("wrong:", what)
-        sys.exit(1)
+        sys.exit(print("wrong:", what) or 1)

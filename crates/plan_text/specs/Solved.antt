@@ -54,7 +54,7 @@ module _ (S : Sheet) where
           e ∙ ap some (sym same)
 
 -- The sheet is accepted, the figures are those of its solution, and the fronts of the lists are its prices and its plan.
-pub record Found (S : Sheet) (total rounds : ℕ) (u v : List ℤ) (plan : List ℕ) : Type 0 where
+pub record FoundPlan (S : Sheet) (total rounds : ℕ) (u v : List ℤ) (plan : List ℕ) : Type 0 where
   pub accepted : refusal (sheetTests S) ≡ none
   pub fills : Fills S (solution S)
   pub totalIs : total ≡ solution S .cost
@@ -66,11 +66,11 @@ pub record Found (S : Sheet) (total rounds : ℕ) (u v : List ℤ) (plan : List 
 module _ {S : Sheet} {total rounds : ℕ} {u′ v′ : List ℤ} {plan′ : List ℕ} where
   pub found : (u v : List ℤ) (plan : List ℕ) → Solved total rounds ≡ solveAnswer (full S)
       → u′ ≡ lentAfter (λ s. s .u) (full S) u → v′ ≡ lentAfter (λ s. s .v) (full S) v → plan′ ≡ lentAfter (λ s. s .plan) (full S) plan
-      → Found S total rounds u′ v′ plan′
+      → FoundPlan S total rounds u′ v′ plan′
   unfolding solveAnswer refusedBy lentAfter
   found u v plan h us vs plans = go (refusal (sheetTests S)) refl
     where
-      go : (o : Option ℕ) → refusal (sheetTests S) ≡ o → Found S total rounds u′ v′ plan′
+      go : (o : Option ℕ) → refusal (sheetTests S) ≡ o → FoundPlan S total rounds u′ v′ plan′
       go (some j) e =
           let f : Solved total rounds ≡ Refused j = h ∙ ap solveAnswer (full-refused S j e) in
           let z : _≡_ {A = ℕ} 0 1 = cc in
@@ -91,6 +91,6 @@ module _ {S : Sheet} {total rounds : ℕ} {u′ v′ : List ℤ} {plan′ : List
           }
 
   -- The report of what was found is the plan text.
-  pub found-report : Found S total rounds u′ v′ plan′ → let x = take (sources S * sinks S) plan′ in let numbers = usedNumbers (sinks S) x (length x) in
+  pub found-report : FoundPlan S total rounds u′ v′ plan′ → let x = take (sources S * sinks S) plan′ in let numbers = usedNumbers (sinks S) x (length x) in
       planText S ≡ reportText (record { total = total; rounds = rounds; lanes = length numbers / 3 }) (take (sources S) u′) (take (sinks S) v′) numbers
   found-report f = rw (f .totalIs, f .roundsIs, f .uIs, f .vIs, f .planIs) (plan-report S (checked S (f .accepted) .sinksLow) (f .fills))

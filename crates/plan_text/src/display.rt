@@ -60,8 +60,8 @@ fn show_plan(supply: &[u64], demand: &[u64], cost: &[u64], out: &mut [u8]) -> us
     }
 }
 
-// Shows, for what stands on the input, the plan text, `refused N`, or `refused 9 P` with the place P, and LF, and gives its length. If the output is too short for it, the
-// length is 0 and the output is as it was; MAX_PLAN_TEXT bytes are always enough.
+// Shows, for what stands on the input, the plan text, `refused N`, or `refused 9 P` with the place P, and LF, and gives its length. If the output is too
+// short for it, the length is 0 and the output is as it was; MAX_PLAN_TEXT bytes are always enough.
 pub fn show(input: &[u8], out: &mut [u8]) -> usize
     ensures { λ r.
         let text = shown (now (input .entry)) (length (now (out .entry))) in

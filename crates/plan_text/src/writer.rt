@@ -15,8 +15,8 @@ use transport::MAX_SIDE;
 use transport::SolveAnswer;
 use transport::WriteAnswer;
 
-// Write plan solves, writes the plan text and gives its length; or it refuses as write sheet does, and the output is as it was. The text's length is known before its
-// first byte is written.
+// Write plan solves, writes the plan text and gives its length; or it refuses as write sheet does, and the output is as it was. The text's length is known
+// before its first byte is written.
 pub fn write_plan(supply: &[u64], demand: &[u64], cost: &[u64], out: &mut [u8]) -> WriteAnswer
     ensures { λ r.
         let S = sheetOf (now (supply .entry)) (now (demand .entry)) (now (cost .entry)) in

@@ -1,4 +1,5 @@
-// Sections of texts: a head line, and numbers in lines. Each part is written at the front of what the parts before it left of the output, and its writer gives its length.
+// Sections of texts: a head line, and numbers in lines. Each part is written at the front of what the parts before it left of the output, and its writer
+// gives its length.
 ghost use mathlib.Core.Path.{_≡_};
 ghost use mathlib.Core.List.{_++_};
 ghost use Prim.Native.Nat.{_+_, _*_, _^_, _≤_};

@@ -1,4 +1,5 @@
 // Writes and reads sheet texts, and prints what the calls answer.
+use transport::MAX_TEXT;
 use transport::ReadAnswer;
 use transport::WriteAnswer;
 use trial::print;
@@ -70,7 +71,7 @@ fn there_and_back(supply: &[u64], demand: &[u64], cost: &[u64], out: &mut [u8], 
 }
 
 fn main() {
-    let mut out = [0u8; 8732];
+    let mut out = [0u8; MAX_TEXT];
     let mut short = [0u8; 40];
     print(b"the worked sheet\n");
     there_and_back(&[3, 4], &[5, 2], &[4, 1, 2, 6], &mut out, true);

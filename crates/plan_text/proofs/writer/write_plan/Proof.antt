@@ -17,7 +17,7 @@ use Rattle.sections.specs.Front.{front, front-take}
 use Rattle.sections.specs.WriteCall.{wrote-check, wrote-short, wrote-given}
 use Rattle.plan_text.specs.Lanes.{usedNumbers}
 use Rattle.plan_text.specs.Report.{reportText}
-use Rattle.plan_text.specs.Solved.{Found, found, found-report, refused-check}
+use Rattle.plan_text.specs.Solved.{FoundPlan, found, found-report, refused-check}
 use borrow.Author.Needs.{needs}
 use Rattle.plan_text.proofs.writer.write_plan.Statement.{statement}
 use Rattle.plan_text.proofs.writer.write_plan.Tie as tie
@@ -51,14 +51,14 @@ module _ (c : tie.After-answer2) where
   abbrev made : ℕ
   made = c .answer2 .given .0 .1 .0
 
-  the-found : Found (sheetAt (c .before .before .before .before .before .before .before .before .before .before .before .before .before)) total made (c .before .before .before .before .before .solve .last .1 .1 .1 .0) (c .before .before .before .before .before .solve .last .1 .1 .1 .1 .0) (c .before .before .before .before .before .solve .last .1 .1 .1 .1 .1 .0)
+  plan-found : FoundPlan (sheetAt (c .before .before .before .before .before .before .before .before .before .before .before .before .before)) total made (c .before .before .before .before .before .solve .last .1 .1 .1 .0) (c .before .before .before .before .before .solve .last .1 .1 .1 .1 .0) (c .before .before .before .before .before .solve .last .1 .1 .1 .1 .1 .0)
   unfolding maxSide
-  the-found =
+  plan-found =
       let e = c .before .before .before .before .before .solve .ensures in
       found _ _ _ (sym (c .answer2 .given .1) ∙ e .0) (e .1 .0) (e .1 .1 .0) (e .1 .1 .1 .0)
 
   ok : Checked (sheetAt (c .before .before .before .before .before .before .before .before .before .before .before .before .before))
-  ok = checked (sheetAt (c .before .before .before .before .before .before .before .before .before .before .before .before .before)) (the-found .accepted)
+  ok = checked (sheetAt (c .before .before .before .before .before .before .before .before .before .before .before .before .before)) (plan-found .accepted)
 
   m-few : length (c .before .before .before .before .before .before .before .before .before .before .before .before .before .args .supply .now) ≤ 32
   unfolding sources maxSide
@@ -127,7 +127,7 @@ module _ (c : tie.After-used-lanes) where
   unfolding sources sinks
   the-text old count holds =
       let list : take (c .used-lanes .result) (c .used-lanes .last .1 .1 .0) ≡ numbers = rw holds (front-take numbers old (c .used-lanes .result) count) in
-      found-report (the-found (c .before .before .before .before)) ∙ (rw (list, count))
+      found-report (plan-found (c .before .before .before .before)) ∙ (rw (list, count))
 
 array-share-prefix-list : tie.Need-array-share-prefix-list
 array-share-prefix-list c = omega (arith, numbers-few (c .before .before .before))
@@ -146,7 +146,7 @@ returns c =
     let t = c .before .before .before .before .before .before .before .before .before .before .before .before .before .before .before .before .before .before .before .before .before .before .before in
     let u = c .before .before .before .before .before .before in
     let l = u .used-lanes in
-    wrote-short (sheetAt t) (planText (sheetAt t)) (t .args .out .now) (the-found (u .before .before .before .before) .accepted) (omega (arith, c .before .report-len .ensures, ap length (the-text u _ (l .ensures .0) (l .ensures .1))))
+    wrote-short (sheetAt t) (planText (sheetAt t)) (t .args .out .now) (plan-found (u .before .before .before .before) .accepted) (omega (arith, c .before .report-len .ensures, ap length (the-text u _ (l .ensures .0) (l .ensures .1))))
 
 array-share-prefix-u-2 : tie.Need-array-share-prefix-u-2
 array-share-prefix-u-2 c = array-share-prefix-u (c .before .before .before .before .before)
@@ -186,7 +186,7 @@ returns-3 c =
     let w = c .before .before .write-report in
     let text = the-text u _ (u .used-lanes .ensures .0) (u .used-lanes .ensures .1) in
     rw (w .ensures .0, w .ensures .1, ← text)
-    (wrote-given (sheetAt t) (planText (sheetAt t)) (t .args .out .now) (the-found (u .before .before .before .before) .accepted) (omega (arith, c .before .before .before .before .before .before .before .before .report-len .ensures, ap length text, c .before .before .before .before .before .before .before .if1 .left)))
+    (wrote-given (sheetAt t) (planText (sheetAt t)) (t .args .out .now) (plan-found (u .before .before .before .before) .accepted) (omega (arith, c .before .before .before .before .before .before .before .before .report-len .ensures, ap length text, c .before .before .before .before .before .before .before .if1 .left)))
 
 pub write-plan-spec : {M : Type 1} → statement M
 write-plan-spec =
