@@ -47,19 +47,22 @@ static void compare(const char* name, size_t side, uint64_t bags, uint64_t top) 
     uint64_t rounds = 0, total = 0;
     int64_t least = 0;
     std::vector<int64_t> u(side), v(side);
-    std::vector<uint64_t> plan(side * side), figures(2);
+    std::vector<uint64_t> plan(side * side);
     for (size_t p = 0; p < passes; p++) {
         least = 0;
         lemons = std::min(lemons, microseconds([&] { for (auto& s : all) least += lemon_cost(g, nodes, arcs, s); }));
         rounds = 0;
         runs = std::min(runs, microseconds([&] {
-            for (auto& s : all) rounds += panel_rounds(s.supply.data(), side, s.demand.data(), side, s.cost.data(), s.cost.size());
+            for (auto& s : all) {
+                panel_tableau first = panel_start(s.supply.data(), side, s.demand.data(), side, s.cost.data(), s.cost.size()).tableau;
+                rounds += panel_run(s.supply.data(), side, s.demand.data(), side, s.cost.data(), s.cost.size(), first, UINT32_MAX).rounds;
+            }
         }));
         total = 0;
         solves = std::min(solves, microseconds([&] {
             for (auto& s : all) {
-                panel_solve(s.supply.data(), side, s.demand.data(), side, s.cost.data(), s.cost.size(), u.data(), side, v.data(), side, plan.data(), side * side, figures.data(), 2);
-                total += figures[0];
+                total += panel_solve(s.supply.data(), side, s.demand.data(), side, s.cost.data(), s.cost.size(), u.data(), side, v.data(), side, plan.data(),
+                                     side * side).cost;
             }
         }));
     }

@@ -76,8 +76,11 @@ def check(sheet_text, plan_text):
 
 
 if __name__ == "__main__":
+    if len(sys.argv) != 3:
+        sys.exit("usage: python3 check_plan.py SHEET PLAN")
     try:
         sheet, plan = (pathlib.Path(path).read_bytes().decode("latin-1") for path in sys.argv[1:])
         print("the plan is least: total", check(sheet, plan))
     except (OSError, ValueError) as what:
-        sys.exit(print("wrong:", what) or 1)
+        print("wrong:", what)
+        sys.exit(1)

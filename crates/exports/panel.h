@@ -1,7 +1,15 @@
-// What crate exports gives to programs in C and C++. A slice is a pointer and a length.
+/* The calls of the bag plan panel for programs in C and C++: link target/staticlib/libexports.a (rt staticlib exports). docs/EMBEDDING.md says how.
+ *
+ * A list is a pointer and a length. Rows (roasteries) and columns (cafés) count from 0; costs and plans are in sheet order, row by row. Amounts are in bags,
+ * costs and prices in cents a bag. What each call gives is proved; that what is lent is as follows, nothing checks:
+ * - every list is readable, and every list that is not const writable, over its whole length, and aligned as its type is;
+ * - no list that is not const overlaps another list of the same call;
+ * - a list of length 0 may have any pointer that is aligned and not null.
+ * The calls keep no state, allocate nothing and may run in any number of threads. A call that refuses changes nothing that was lent to it. */
 #ifndef PANEL_H
 #define PANEL_H
 
+#include <stdbool.h>
 #include <stddef.h>
 #include <stdint.h>
 
@@ -9,13 +17,105 @@
 extern "C" {
 #endif
 
-// The rounds made from the start, at most 4,294,967,295; 0 for a sheet that is refused.
-uint64_t panel_rounds(const uint64_t *supply, size_t m, const uint64_t *demand, size_t n, const uint64_t *cost, size_t lanes);
+/* Why a call refuses. */
+enum panel_refusal {
+    PANEL_DONE = 0,            /* it does not */
+    PANEL_SIDES = 1,           /* no source or sink, or more than 32 */
+    PANEL_COST_COUNT = 2,      /* the costs are not as many as the lanes */
+    PANEL_AMOUNT = 3,          /* a supply or demand is outside 1 to 1,000,000 */
+    PANEL_COST = 4,            /* a cost is above 1,000,000 */
+    PANEL_UNBALANCED = 5,      /* total supply differs from total demand */
+    PANEL_FOREIGN_TABLEAU = 6, /* the tableau does not belong to the sheet */
+    PANEL_UNFINISHED = 7,      /* the tableau is not finished */
+    PANEL_ROOM = 8,            /* a lent list or output is too short */
+    PANEL_NOT_SHEET_TEXT = 9   /* the text is not a sheet text */
+};
 
-// Solve: 0, or the number of the refusal. If `figures` has room for two numbers, they become the cost and the rounds.
-uint8_t panel_solve(const uint64_t *supply, size_t m, const uint64_t *demand, size_t n, const uint64_t *cost, size_t lanes,
-                    int64_t *u, size_t u_room, int64_t *v, size_t v_room, uint64_t *plan, size_t plan_room,
-                    uint64_t *figures, size_t figures_room);
+enum { PANEL_MAX_SIDE = 32, PANEL_MAX_CELLS = 63 };
+
+/* A paired amount: q bags and e marks. */
+struct panel_pair {
+    int64_t q, e;
+};
+
+struct panel_cell {
+    size_t row, col;
+    struct panel_pair amount;
+};
+
+/* The first `count` cells, in sheet order; a tableau that a call gives holds zeros in the rest. */
+struct panel_tableau {
+    struct panel_cell cells[PANEL_MAX_CELLS];
+    size_t count;
+};
+
+/* In every result `refusal` is 0, or a number of enum panel_refusal; then the other fields are zeros, but for the place with 9. */
+
+struct panel_start_result {
+    uint8_t refusal;
+    struct panel_tableau tableau;
+};
+
+/* The next tableau; or, where the one given is finished, no tableau but its prices, m in u and n in v. */
+struct panel_round_result {
+    uint8_t refusal;
+    bool finished;
+    struct panel_tableau tableau;
+    int64_t u[PANEL_MAX_SIDE], v[PANEL_MAX_SIDE];
+};
+
+struct panel_run_result {
+    uint8_t refusal;
+    bool finished;
+    uint64_t rounds;
+    struct panel_tableau tableau;
+};
+
+struct panel_solve_result {
+    uint8_t refusal;
+    uint64_t cost, rounds;
+};
+
+struct panel_read_result {
+    uint8_t refusal;
+    size_t sources, sinks, place;
+};
+
+struct panel_write_result {
+    uint8_t refusal;
+    size_t length;
+};
+
+/* The first tableau. */
+struct panel_start_result panel_start(const uint64_t *supply, size_t m, const uint64_t *demand, size_t n, const uint64_t *cost, size_t lanes);
+
+/* One round. */
+struct panel_round_result panel_round(const uint64_t *supply, size_t m, const uint64_t *demand, size_t n, const uint64_t *cost, size_t lanes,
+                                      struct panel_tableau tableau);
+
+/* At most so many rounds: finished, or spent after just so many. */
+struct panel_run_result panel_run(const uint64_t *supply, size_t m, const uint64_t *demand, size_t n, const uint64_t *cost, size_t lanes,
+                                  struct panel_tableau tableau, uint32_t allowance);
+
+/* The settled plan of a finished tableau: m × n quantities at the front of `plan`. */
+uint8_t panel_settle(const uint64_t *supply, size_t m, const uint64_t *demand, size_t n, const uint64_t *cost, size_t lanes, struct panel_tableau tableau,
+                     uint64_t *plan, size_t plan_room);
+
+/* The cheapest plan: m and n prices and m × n quantities at the fronts of u, v and plan. */
+struct panel_solve_result panel_solve(const uint64_t *supply, size_t m, const uint64_t *demand, size_t n, const uint64_t *cost, size_t lanes, int64_t *u,
+                                      size_t u_room, int64_t *v, size_t v_room, uint64_t *plan, size_t plan_room);
+
+/* The sheet of a sheet text, at the fronts of the three lists; 32, 32 and 1,024 places are always enough. */
+struct panel_read_result panel_read_sheet(const uint8_t *text, size_t length, uint64_t *supply, size_t supply_room, uint64_t *demand, size_t demand_room,
+                                          uint64_t *cost, size_t cost_room);
+
+/* The sheet text of a sheet; 8,732 bytes are always enough. */
+struct panel_write_result panel_write_sheet(const uint64_t *supply, size_t m, const uint64_t *demand, size_t n, const uint64_t *cost, size_t lanes,
+                                            uint8_t *out, size_t room);
+
+/* The plan text of a sheet; 15,059 bytes are always enough. */
+struct panel_write_result panel_write_plan(const uint64_t *supply, size_t m, const uint64_t *demand, size_t n, const uint64_t *cost, size_t lanes,
+                                           uint8_t *out, size_t room);
 
 #ifdef __cplusplus
 }

@@ -23,12 +23,13 @@ struct Answer {
 static Answer solve(const Sheet &s, size_t spare) {
     size_t m = s.m(), n = s.n();
     Whole u(m + spare, (int64_t)mark), v(n + spare, (int64_t)mark);
-    Numbers plan(m * n + spare, mark), figures(2, 0);
+    Numbers plan(m * n + spare, mark);
+    panel_solve_result r = panel_solve(s.supply.data(), m, s.demand.data(), n, s.cost.data(), s.cost.size(), u.data(), u.size(), v.data(), v.size(),
+                                       plan.data(), plan.size());
     Answer a;
-    a.refused = panel_solve(s.supply.data(), m, s.demand.data(), n, s.cost.data(), s.cost.size(), u.data(), u.size(), v.data(), v.size(),
-                            plan.data(), plan.size(), figures.data(), figures.size());
-    a.cost = figures[0];
-    a.rounds = figures[1];
+    a.refused = r.refusal;
+    a.cost = r.cost;
+    a.rounds = r.rounds;
     a.rest_kept = true;
     for (size_t k = m; k < u.size(); k++) a.rest_kept &= u[k] == (int64_t)mark;
     for (size_t k = n; k < v.size(); k++) a.rest_kept &= v[k] == (int64_t)mark;
@@ -279,11 +280,11 @@ static void large_sheets() {
 // A call that is refused by `number`, and changes nothing.
 static void refused(const std::string &name, int number, const Sheet &s, size_t u_room, size_t v_room, size_t plan_room) {
     Whole u(u_room, (int64_t)mark), v(v_room, (int64_t)mark);
-    Numbers plan(plan_room, mark), figures(2, mark);
-    int r = panel_solve(s.supply.data(), s.m(), s.demand.data(), s.n(), s.cost.data(), s.cost.size(), u.data(), u_room, v.data(), v_room,
-                        plan.data(), plan_room, figures.data(), 2);
-    bool kept = u == Whole(u_room, (int64_t)mark) && v == Whole(v_room, (int64_t)mark) && plan == Numbers(plan_room, mark) && figures == Numbers(2, mark);
-    test(name, r == number && kept);
+    Numbers plan(plan_room, mark);
+    panel_solve_result r = panel_solve(s.supply.data(), s.m(), s.demand.data(), s.n(), s.cost.data(), s.cost.size(), u.data(), u_room, v.data(), v_room,
+                                       plan.data(), plan_room);
+    bool kept = u == Whole(u_room, (int64_t)mark) && v == Whole(v_room, (int64_t)mark) && plan == Numbers(plan_room, mark);
+    test(name, r.refusal == number && r.cost == 0 && r.rounds == 0 && kept);
 }
 
 static void refusals() {

@@ -18,15 +18,15 @@ use Rattle.demands.specs.Demand3.{Solved, Fills, demand3, solve-fills}
 solved≢refused : {cost rounds k : ℕ} → SolveAnswer.Solved cost rounds ≡ SolveAnswer.Refused k → ⊥
 solved≢refused e = let n : _≡_ {A = ℕ} 0 1 = cc in omega arith
 
--- A lent list after a solution of which a part fills n places: these places, and the rest.
-module _ {B : Type 0} (part : Solution → List B) (s : Solution) (n : ℕ) (e : length (part s) ≡ n) (old : List B) where
-  filled : take n (lentAfter part (given s) old) ≡ part s
+-- A lent list after a result of which a part fills n places: these places, and the rest.
+module _ {A B : Type 0} (part : A → List B) (x : A) (n : ℕ) (e : length (part x) ≡ n) (old : List B) where
+  pub lent-filled : take n (lentAfter part (given x) old) ≡ part x
   unfolding lentAfter
-  filled = take-at (part s) (drop (length (part s)) old) n e
+  lent-filled = take-at (part x) (drop (length (part x)) old) n e
 
-  beyond : drop n (lentAfter part (given s) old) ≡ drop n old
+  lent-beyond : drop n (lentAfter part (given x) old) ≡ drop n old
   unfolding lentAfter
-  beyond = drop-at (part s) (drop (length (part s)) old) n e ∙ ap (λ (t : ℕ). drop t old) e
+  lent-beyond = drop-at (part x) (drop (length (part x)) old) n e ∙ ap (λ (t : ℕ). drop t old) e
 
 -- ---- the fields, for any answer of the paper
 
@@ -35,7 +35,7 @@ gives-best : (S : Sheet) (a : Answer Solution) (plan : List ℕ) → Solved S a
 unfolding solveAnswer
 gives-best S a plan h =
     let s = h .found in
-    let front = filled (λ s. s .plan) s (sources S * sinks S) (h .best .meets .quantities) plan in
+    let front = lent-filled (λ s. s .plan) s (sources S * sinks S) (h .best .meets .quantities) plan in
     (s .cost, s .rounds, rw (h .answered), rw (h .answered, front) (h .best))
 
 refuses-exactly : (S : Sheet) (a : Answer Solution) → (Balanced S → Solved S a) × (¬ Balanced S → a ≡ refusedBy 5)
@@ -64,7 +64,7 @@ unfolding solveAnswer
 leaves-rest S (refused r) u v plan h cost rounds e = absurd (solved≢refused (sym e))
 leaves-rest S (given s) u v plan h cost rounds e =
     let f = h s refl in
-    (beyond (λ s. s .u) s (sources S) (f .u) u, beyond (λ s. s .v) s (sinks S) (f .v) v, beyond (λ s. s .plan) s (sources S * sinks S) (f .plan) plan)
+    (lent-beyond (λ s. s .u) s (sources S) (f .u) u, lent-beyond (λ s. s .v) s (sinks S) (f .v) v, lent-beyond (λ s. s .plan) s (sources S * sinks S) (f .plan) plan)
 
 -- ---- the call
 

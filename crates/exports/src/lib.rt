@@ -1,22 +1,182 @@
-// What programs in C link: the benchmark and the tests. The contracts of the calls say what they give; here only safety and ending are proved.
+// What programs in C and Rust link: every call of paper 01. A result is a struct by value; its `refusal` is the number of the refusal, or 0, and where it is
+// not 0 the other fields are zeros but for the place with 9, and no lent list is changed.
+use transport::MAX_SIDE;
+use transport::ReadAnswer;
+use transport::RoundOutcome;
 use transport::RunOutcome;
+use transport::SettleAnswer;
 use transport::SolveAnswer;
+use transport::StartOutcome;
+use transport::Tableau;
+use transport::WriteAnswer;
+ghost use mathlib.Core.Path.{_≡_};
+ghost use lib.ListN.{length};
+ghost use Rattle.transport.specs.Calls.{lentAfter, startCall, roundCall, runCall, settleCall, solveCall};
+ghost use Rattle.transport.specs.SheetText.{readSheetCall, writeSheetCall};
+ghost use Rattle.transport.specs.PlanText.{writePlanCall};
+ghost use Rattle.sheet.specs.Check.{sheetOf};
+ghost use Rattle.exports.specs.Border.{startOut, roundOut, runOut, numberOf, solveOut, readOut, writeOut};
+ghost use Rattle.exports.specs.Crossing.{written};
 
-// The rounds made from the start, at most 4,294,967,295; 0 for a sheet that is refused.
+// The first tableau.
+#[repr(C)]
+pub struct StartOut {
+    pub refusal: u8,
+    pub tableau: Tableau,
+}
+
+// The next tableau, or, if the one given is finished, its prices.
+#[repr(C)]
+pub struct RoundOut {
+    pub refusal: u8,
+    pub finished: bool,
+    pub tableau: Tableau,
+    pub u: [i64; MAX_SIDE],
+    pub v: [i64; MAX_SIDE],
+}
+
+// The last tableau, whether it is finished, and the rounds made.
+#[repr(C)]
+pub struct RunOut {
+    pub refusal: u8,
+    pub finished: bool,
+    pub rounds: u64,
+    pub tableau: Tableau,
+}
+
+// The cost of the plan, and the rounds made.
+#[repr(C)]
+pub struct SolveOut {
+    pub refusal: u8,
+    pub cost: u64,
+    pub rounds: u64,
+}
+
+// The counts of sources and sinks; with refusal 9, the place.
+#[repr(C)]
+pub struct ReadOut {
+    pub refusal: u8,
+    pub sources: usize,
+    pub sinks: usize,
+    pub place: usize,
+}
+
+// The length of the text.
+#[repr(C)]
+pub struct WriteOut {
+    pub refusal: u8,
+    pub length: usize,
+}
+
 #[no_mangle]
-pub extern "C" fn panel_rounds(supply: &[u64], demand: &[u64], cost: &[u64]) -> u64 {
-    let first = simplex::start::start(supply, demand, cost);
-    let t = first.tableau;
-    let last = simplex::run::run(supply, demand, cost, t, 4294967295);
-    let outcome = last.outcome;
+pub extern "C" fn panel_start(supply: &[u64], demand: &[u64], cost: &[u64]) -> StartOut
+    ensures { λ r. ⌜ r ≡ startOut (startCall (sheetOf (now (supply .entry)) (now (demand .entry)) (now (cost .entry)))) ⌝ }
+{
+    let answer = simplex::start::start(supply, demand, cost);
+    let tableau = answer.tableau;
+    let outcome = answer.outcome;
     match outcome {
-        RunOutcome::Finished(made) => made,
-        RunOutcome::Spent(made) => made,
-        RunOutcome::Refused(_) => 0,
+        StartOutcome::Started => StartOut {
+            refusal: 0,
+            tableau,
+        },
+        StartOutcome::Refused(number) => StartOut {
+            refusal: number,
+            tableau,
+        },
     }
 }
 
-// Solve: 0, or the number of the refusal. If `figures` has room for two numbers, they become the cost and the rounds.
+#[no_mangle]
+pub extern "C" fn panel_round(supply: &[u64], demand: &[u64], cost: &[u64], t: Tableau) -> RoundOut
+    ensures { λ r. ⌜ r ≡ roundOut (roundCall (sheetOf (now (supply .entry)) (now (demand .entry)) (now (cost .entry))) t) ⌝ }
+{
+    let answer = simplex::round::round(supply, demand, cost, t);
+    let tableau = answer.tableau;
+    let u = answer.u;
+    let v = answer.v;
+    let outcome = answer.outcome;
+    match outcome {
+        RoundOutcome::Moved => RoundOut {
+            refusal: 0,
+            finished: false,
+            tableau,
+            u,
+            v,
+        },
+        RoundOutcome::Finished => RoundOut {
+            refusal: 0,
+            finished: true,
+            tableau,
+            u,
+            v,
+        },
+        RoundOutcome::Refused(number) => RoundOut {
+            refusal: number,
+            finished: false,
+            tableau,
+            u,
+            v,
+        },
+    }
+}
+
+#[no_mangle]
+pub extern "C" fn panel_run(
+    supply: &[u64],
+    demand: &[u64],
+    cost: &[u64],
+    t: Tableau,
+    allowance: u32,
+) -> RunOut
+    ensures { λ r. ⌜ r ≡ runOut (runCall (sheetOf (now (supply .entry)) (now (demand .entry)) (now (cost .entry))) t allowance) ⌝ }
+{
+    let answer = simplex::run::run(supply, demand, cost, t, allowance);
+    let tableau = answer.tableau;
+    let outcome = answer.outcome;
+    match outcome {
+        RunOutcome::Finished(rounds) => RunOut {
+            refusal: 0,
+            finished: true,
+            rounds,
+            tableau,
+        },
+        RunOutcome::Spent(rounds) => RunOut {
+            refusal: 0,
+            finished: false,
+            rounds,
+            tableau,
+        },
+        RunOutcome::Refused(number) => RunOut {
+            refusal: number,
+            finished: false,
+            rounds: 0,
+            tableau,
+        },
+    }
+}
+
+// Settle: 0, or the number of the refusal.
+#[no_mangle]
+pub extern "C" fn panel_settle(
+    supply: &[u64],
+    demand: &[u64],
+    cost: &[u64],
+    t: Tableau,
+    plan: &mut [u64],
+) -> u8
+    ensures { λ r.
+        let S = sheetOf (now (supply .entry)) (now (demand .entry)) (now (cost .entry)) in
+        let a = settleCall S t (length (now (plan .entry))) in
+        ⌜ (r ≡ numberOf a) × (now (plan .exit) ≡ lentAfter (λ x. x) a (now (plan .entry))) ⌝ }
+{
+    let answer = planning::settling::settle(supply, demand, cost, t, plan);
+    match answer {
+        SettleAnswer::Settled => 0,
+        SettleAnswer::Refused(number) => number,
+    }
+}
+
 #[no_mangle]
 pub extern "C" fn panel_solve(
     supply: &[u64],
@@ -25,20 +185,112 @@ pub extern "C" fn panel_solve(
     u: &mut [i64],
     v: &mut [i64],
     plan: &mut [u64],
-    figures: &mut [u64],
-) -> u8 {
+) -> SolveOut
+    ensures { λ r.
+        let S = sheetOf (now (supply .entry)) (now (demand .entry)) (now (cost .entry)) in
+        let a = solveCall S (length (now (u .entry))) (length (now (v .entry))) (length (now (plan .entry))) in
+        ⌜
+        (r ≡ solveOut a)
+        × (now (u .exit) ≡ lentAfter (λ s. s .u) a (now (u .entry)))
+        × (now (v .exit) ≡ lentAfter (λ s. s .v) a (now (v .entry)))
+        × (now (plan .exit) ≡ lentAfter (λ s. s .plan) a (now (plan .entry)))
+        ⌝ }
+{
     let answer = planning::solve::solve(supply, demand, cost, u, v, plan);
     match answer {
         SolveAnswer::Solved {
             cost: total,
-            rounds: made,
-        } => {
-            if figures.len() >= 2 {
-                figures[0] = total;
-                figures[1] = made;
-            }
-            0
-        }
-        SolveAnswer::Refused(number) => number,
+            rounds,
+        } => SolveOut {
+            refusal: 0,
+            cost: total,
+            rounds,
+        },
+        SolveAnswer::Refused(number) => SolveOut {
+            refusal: number,
+            cost: 0,
+            rounds: 0,
+        },
     }
+}
+
+#[no_mangle]
+pub extern "C" fn panel_read_sheet(
+    text: &[u8],
+    supply: &mut [u64],
+    demand: &mut [u64],
+    cost: &mut [u64],
+) -> ReadOut
+    ensures { λ r.
+        let a = readSheetCall (now (text .entry)) (length (now (supply .entry))) (length (now (demand .entry))) (length (now (cost .entry))) in
+        ⌜
+        (r ≡ readOut a)
+        × (now (supply .exit) ≡ lentAfter (λ S. S .supply) a (now (supply .entry)))
+        × (now (demand .exit) ≡ lentAfter (λ S. S .demand) a (now (demand .entry)))
+        × (now (cost .exit) ≡ lentAfter (λ S. S .cost) a (now (cost .entry)))
+        ⌝ }
+{
+    let answer = text::read_sheet(text, supply, demand, cost);
+    match answer {
+        ReadAnswer::Sheet { sources, sinks } => ReadOut {
+            refusal: 0,
+            sources,
+            sinks,
+            place: 0,
+        },
+        ReadAnswer::NotSheetText(place) => ReadOut {
+            refusal: 9,
+            sources: 0,
+            sinks: 0,
+            place,
+        },
+        ReadAnswer::Refused(number) => ReadOut {
+            refusal: number,
+            sources: 0,
+            sinks: 0,
+            place: 0,
+        },
+    }
+}
+
+fn write_out(answer: WriteAnswer) -> WriteOut
+    ensures { λ r. ⌜ r ≡ written answer ⌝ }
+{
+    match answer {
+        WriteAnswer::Written(length) => WriteOut { refusal: 0, length },
+        WriteAnswer::Refused(number) => WriteOut {
+            refusal: number,
+            length: 0,
+        },
+    }
+}
+
+#[no_mangle]
+pub extern "C" fn panel_write_sheet(
+    supply: &[u64],
+    demand: &[u64],
+    cost: &[u64],
+    out: &mut [u8],
+) -> WriteOut
+    ensures { λ r.
+        let S = sheetOf (now (supply .entry)) (now (demand .entry)) (now (cost .entry)) in
+        let a = writeSheetCall S (length (now (out .entry))) in
+        ⌜ (r ≡ writeOut a) × (now (out .exit) ≡ lentAfter (λ t. t) a (now (out .entry))) ⌝ }
+{
+    write_out(text::write_sheet(supply, demand, cost, out))
+}
+
+#[no_mangle]
+pub extern "C" fn panel_write_plan(
+    supply: &[u64],
+    demand: &[u64],
+    cost: &[u64],
+    out: &mut [u8],
+) -> WriteOut
+    ensures { λ r.
+        let S = sheetOf (now (supply .entry)) (now (demand .entry)) (now (cost .entry)) in
+        let a = writePlanCall S (length (now (out .entry))) in
+        ⌜ (r ≡ writeOut a) × (now (out .exit) ≡ lentAfter (λ t. t) a (now (out .entry))) ⌝ }
+{
+    write_out(plan_text::write_plan(supply, demand, cost, out))
 }

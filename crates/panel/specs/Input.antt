@@ -1,6 +1,6 @@
 -- What the program knows of its input: that what was read lies in the buffer. What was read, no contract can say.
-use mathlib.Core.Path.{_≡_, refl, sym}
-use mathlib.Core.Bool.{true, false, true≢false}
+use mathlib.Core.Path.{_≡_, refl}
+use mathlib.Core.Bool.{false, true≢false}
 use Prim.Native.Nat.{ℕ, zero, suc, _≤_, _<_, _^_}
 use native.Mathlib.Omega.{arith}
 use lib.IntN.{ℤ, pos, negsuc, natAbs}
@@ -12,7 +12,7 @@ use Rattle.sections.specs.Whole.{bits-back}
 use Rattle.panel.specs.declared.Input.{Input}
 use Rattle.panel.specs.declared.Input.the-variants.{Read, Failed}
 
--- A count of bytes is one of the buffer's.
+-- A count of bytes read is at most the buffer's length.
 abbrev pub inside : Input → ℕ → Type 0
 inside (Read count) room = count ≤ room
 inside Failed room = Unit {0}

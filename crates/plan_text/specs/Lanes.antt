@@ -8,16 +8,15 @@ use native.Mathlib.Numerals.{add-one}
 use native.Mathlib.Nat.{div-add-mod', mod-lt, div-lt-iff-lt-mul}
 use lib.Dec.{eqb}
 use lib.ListN.{length, getD, length-append}
-use borrow.Author.Tests.{eq-eqb, ne-eqb}
-use Rattle.transport.specs.Lists.{at, keep, table, below}
+use borrow.Author.Tests.{ne-eqb}
+use Rattle.transport.specs.Lists.{at, keep, table}
 use Rattle.transport.specs.ListLaws.{table-cong, table-getD, flatMap-append, keep-append, keep-yes, keep-no}
 use Rattle.transport.specs.Sheet.{Lane, lanes, place}
 use Rattle.transport.specs.SheetLaws.{lane, length-lanes, getD-lanes}
-use Rattle.transport.specs.Text.{rowLine}
 use Rattle.transport.specs.PlanText.{carried, used, laneLine}
 use Rattle.sections.specs.Lines.{linesFrom, lines-nil, lines-row}
 
--- The numbers of the lane at a place, among n columns: its row and its column, both from 1, and its bags; none if it carries no bag.
+-- The numbers of the lane at a place, among n columns: its row and its column, both from 1, and its bags; none if it hasBag no bag.
 unfoldable pub laneNumbers : ℕ → ℕ → ℕ → List ℕ
 laneNumbers n l bags = cond (eqb bags 0) [] (suc (l / n) ∷ suc (l % n) ∷ bags ∷ [])
 
@@ -58,32 +57,32 @@ used-most n plan (suc k) = omega (arith, length-append (usedNumbers n plan k) (l
 -- ---- sheet order, by places
 
 -- The lane at a place, among n columns.
-abbrev laneAt : ℕ → ℕ → Lane
-laneAt n l = lane (l / n) (l % n)
+abbrev laneOfPlace : ℕ → ℕ → Lane
+laneOfPlace n l = lane (l / n) (l % n)
 
-lanes-places : (m n : ℕ) → 1 ≤ n → lanes m n ≡ table (m * n) (laneAt n)
+lanes-places : (m n : ℕ) → 1 ≤ n → lanes m n ≡ table (m * n) (laneOfPlace n)
 unfolding place
 lanes-places m n p =
     sym (table-getD (lanes m n) (lane 0 0))
     ∙ ap (λ (k : ℕ). table k (λ l. getD (lanes m n) l (lane 0 0))) (length-lanes m n)
-    ∙ table-cong (m * n) (λ l. getD (lanes m n) l (lane 0 0)) (laneAt n) each
+    ∙ table-cong (m * n) (λ l. getD (lanes m n) l (lane 0 0)) (laneOfPlace n) each
   where
-    each : (l : ℕ) → l < m * n → getD (lanes m n) l (lane 0 0) ≡ laneAt n l
+    each : (l : ℕ) → l < m * n → getD (lanes m n) l (lane 0 0) ≡ laneOfPlace n l
     each l q = rw (div-add-mod' l n) at (getD-lanes m n (l / n) (l % n) (lane 0 0) (div-lt-iff-lt-mul p .1 q) (mod-lt l p))
 
 module _ (n : ℕ) (plan : List ℕ) where
-  abbrev carries : Lane → Bool
-  carries l = not (eqb (carried n plan l) 0)
+  abbrev hasBag : Lane → Bool
+  hasBag l = not (eqb (carried n plan l) 0)
 
   -- The lanes among the first k places that carry a bag.
   abbrev usedTo : ℕ → List Lane
-  usedTo k = keep carries (table k (laneAt n))
+  usedTo k = keep hasBag (table k (laneOfPlace n))
 
-  carried-at : (k : ℕ) → carried n plan (laneAt n k) ≡ at plan k
+  carried-at : (k : ℕ) → carried n plan (laneOfPlace n k) ≡ at plan k
   unfolding carried place
   carried-at k = rw (div-add-mod' k n)
 
-  -- One place more: a lane that carries a bag, with its three numbers, or neither.
+  -- One place more: a lane that hasBag a bag, with its three numbers, or neither.
   record Next (k : ℕ) : Type 0 where
     last : List Lane
     lanesNext : usedTo (suc k) ≡ usedTo k ++ last
@@ -94,21 +93,21 @@ module _ (n : ℕ) (plan : List ℕ) where
   unfolding table flatMap keep laneLine
   next k = go (at plan k) refl
     where
-      joined : usedTo (suc k) ≡ usedTo k ++ keep carries (laneAt n k ∷ [])
-      joined = keep-append carries (table k (laneAt n)) (laneAt n k ∷ [])
+      joined : usedTo (suc k) ≡ usedTo k ++ keep hasBag (laneOfPlace n k ∷ [])
+      joined = keep-append hasBag (table k (laneOfPlace n)) (laneOfPlace n k ∷ [])
 
       go : (bags : ℕ) → at plan k ≡ bags → Next k
       go zero e = record {
         last = [];
-        lanesNext = joined ∙ ap (λ (ls : List Lane). usedTo k ++ ls) (keep-no carries (laneAt n k) [] (rw (carried-at k, e)));
+        lanesNext = joined ∙ ap (λ (ls : List Lane). usedTo k ++ ls) (keep-no hasBag (laneOfPlace n k) [] (rw (carried-at k, e)));
         counts = rw (e, numbers-none n k);
         written = λ more. rw (e, numbers-none n k);
       }
       go (suc b) e =
           let three = numbers-three n k (at plan k) (λ z. omega (arith, e)) in
           record {
-            last = laneAt n k ∷ [];
-            lanesNext = joined ∙ ap (λ (ls : List Lane). usedTo k ++ ls) (keep-yes carries (laneAt n k) [] (rw (carried-at k, e, ne-eqb (suc b) 0 (λ z. omega arith))));
+            last = laneOfPlace n k ∷ [];
+            lanesNext = joined ∙ ap (λ (ls : List Lane). usedTo k ++ ls) (keep-yes hasBag (laneOfPlace n k) [] (rw (carried-at k, e, ne-eqb (suc b) 0 (λ z. omega arith))));
             counts = rw three;
             written = λ more. rw (append-nil, carried-at k, three, lines-row 3 (suc (k / n) ∷ suc (k % n) ∷ at plan k ∷ []) more (omega arith) refl);
           }
@@ -120,6 +119,7 @@ module _ (n : ℕ) (plan : List ℕ) where
       let x = next k in
       omega (arith, length-append (usedNumbers n plan k) (laneNumbers n k (at plan k)), used-count k, x .counts, ap length (x .lanesNext), length-append (usedTo k) (x .last))
 
+  -- The lines of the lanes are their numbers in lines of three: place by place, with any lines after them.
   used-lines : (k : ℕ) (more : List ℕ) → flatMap (laneLine n plan) (usedTo k) ++ linesFrom 3 3 more ≡ linesFrom 3 3 (usedNumbers n plan k ++ more)
   unfolding usedNumbers table keep flatMap
   used-lines zero more = refl

@@ -1,5 +1,5 @@
 pub mod Lanes
-pub mod Report
+pub mod Sections
 pub mod Solved
 pub mod Shown
 pub mod Longest

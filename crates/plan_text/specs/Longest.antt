@@ -1,35 +1,34 @@
 -- No plan text is longer than 15,059 bytes, and nothing that the program prints is.
-use mathlib.Core.Path.{_≡_, refl, sym, ap, _∙_}
-use mathlib.Core.Bool.{Bool, true, false}
+use mathlib.Core.Path.{_≡_, refl, ap}
 use mathlib.Core.Option.{Option, none, some}
-use mathlib.Core.List.{List, [], _∷_, flatMap, List·Memᴰ}
+use mathlib.Core.List.{List, _++_, flatMap, List·Memᴰ}
 use Prim.Native.String.{String}
 use Prim.Native.Nat.{ℕ, suc, _+_, _*_, _-_, _^_, _≤_, _<_}
 use native.Mathlib.Omega.{arith}
 use native.Mathlib.Nat.{mul-le-mul, mul-le-mul-left, mul-le-mul-right}
+use borrow.Author.Tests.{eq-eqb}
 use lib.IntN.{ℤ}
 use lib.ListN.{length, take, length-append, length-take}
 use Rattle.transport.specs.declared.Cell.{Cell}
 use Rattle.transport.specs.Lists.{at, table, below, sumTo}
 use Rattle.transport.specs.ListLaws.{length-table, table-member, flatMap-member, keep-member, length-keep, sumTo-le, sumTo-scale, sumTo-bound, sumTo-runs}
 use Rattle.transport.specs.Limits.{maxSide, maxAmount, maxCost, maxText, maxPlanText}
-use Rattle.transport.specs.Sheet.{Sheet, sources, sinks, Lane, lanes, place, badAmount, badCost, unbalanced, numberTests, sheetTests, refusal}
-use Rattle.transport.specs.SheetLaws.{Checked, checked, lane, length-lanes, place-below, refusal-yes, refusal-no}
+use Rattle.transport.specs.Sheet.{Sheet, sources, sinks, Lane, lanes, place, numberTests, sheetTests, refusal}
+use Rattle.transport.specs.SheetLaws.{Checked, checked, lane, length-lanes, place-below}
 use Rattle.transport.specs.Tableau.{start}
 use Rattle.transport.specs.Potential.{potential, sourcePrices, sinkPrices}
 use Rattle.transport.specs.Plan.{planCost}
-use Rattle.transport.specs.Calls.{refusedBy, roundBound, unless, solution}
-use Rattle.transport.specs.CallLaws.{some≢none, unless-given, unless-refused}
-use Rattle.transport.specs.Statements.{Accepted, HasText, Belongs, Meets}
+use Rattle.transport.specs.Calls.{roundBound, solution}
+use Rattle.transport.specs.Statements.{HasText, Belongs, Meets}
 use Rattle.transport.specs.Text.{bytes, headLine, numberLine, rowLine}
-use Rattle.transport.specs.SheetText.{Reading, stuck, got, sheetReader, readWith}
-use Rattle.transport.specs.PlanText.{wholeLine, carried, used, laneLine, planText, refusedLine, printed}
-use Rattle.grammar.specs.Every.{Every, every-members}
+use Rattle.transport.specs.SheetText.{Reading, stuck, got, sheetReader}
+use Rattle.transport.specs.PlanText.{wholeLine, carried, used, laneLine, planText, printed}
+use Rattle.sheet.specs.Refusals.{sheet-numbers}
+use Rattle.grammar.specs.Every.{every-members}
 use Rattle.grammar.specs.Digits.{digits-length}
 use Rattle.grammar.specs.Longest.{line-length, lines-length, side-length}
 use Rattle.grammar.specs.Place.{reader-iff}
-use Rattle.grammar.specs.Refusals.{text-accepted}
-use Rattle.grammar.specs.SheetCalls.{read-got, read-stuck}
+use Rattle.sections.specs.Lines.{ended, length-ended}
 use Rattle.sections.specs.Wholes.{length-whole-line, whole-most}
 use Rattle.tableaux.specs.Belonging.{fits-of, spans-of}
 use Rattle.tableaux.specs.Potentials.{price-size, price-limit}
@@ -37,6 +36,7 @@ use Rattle.tableaux.specs.Running.{run-rounds}
 use Rattle.tableaux.specs.Ending.{roundBound-most}
 use Rattle.demands.specs.Demand3.{solution-finished, solution-best}
 use Rattle.planning.specs.Cost.{meets-small}
+use Rattle.plan_text.specs.Shown.{sheetShown, shown-plan, shown-refusal, check-number, printed-place, printed-sheet}
 
 -- ---- lines
 
@@ -93,6 +93,7 @@ module _ {S : Sheet} (ok : Checked S) where
   unfolding maxSide maxAmount maxCost
   cost-most = let best = solution-best ok in omega (arith, best .shown, plan-cost (best .meets))
 
+  -- No more rounds are made than solve allows, whose bound has 16 digits.
   rounds-most : solution S .rounds < 10 ^ 16
   unfolding solution
   rounds-most = omega (arith, run-rounds S (roundBound S) (start S), roundBound-most ok)
@@ -136,7 +137,7 @@ module _ {S : Sheet} (ok : Checked S) where
       let kept : length usedLanes ≤ length (lanes m n) = length-keep _ (lanes m n) in
       omega (arith, length-lanes m n, mul-le-mul (ok .sourcesHigh) (ok .sinksHigh))
 
-  -- A lane carries at most 1,000,000 bags, which has 7 digits.
+  -- A lane hasBag at most 1,000,000 bags, which has 7 digits.
   carried-most : (l : Lane) → l .row < sources S → l .col < sinks S → carried (sinks S) (solution S .plan) l < 10 ^ 7
   unfolding carried maxAmount
   carried-most l p q =
@@ -186,49 +187,37 @@ plan-length S e =
 
 -- ---- what the program prints
 
--- A refusal's number is that of a test.
-refusal-below : (most : ℕ) (ts : List (Bool × ℕ)) → Every (λ t. t .1 < most) ts → (k : ℕ) → refusal ts ≡ some k → k < most
-unfolding refusal
-refusal-below most [] each k e = absurd (some≢none (sym e))
-refusal-below most (t ∷ ts) each k e = go (t .0) refl (refusal-below most ts (each .1) k)
-  where
-    go : (b : Bool) → t .0 ≡ b → (refusal ts ≡ some k → k < most) → k < most
-    go true p rest = let same : t .1 ≡ k = cc (refusal-yes t ts p) in omega (arith, each .0)
-    go false p rest = rest (sym (refusal-no t ts p) ∙ e)
-
-number-below : (S : Sheet) (k : ℕ) → refusal (numberTests S) ≡ some k → k < 10
-unfolding numberTests badAmount badCost unbalanced
-number-below S k e = refusal-below 10 (numberTests S) (omega arith, (omega arith, (omega arith, tt))) k e
+-- A sheet that has a text is only tested for its numbers.
+text-numbers : (S : Sheet) → HasText S → refusal (sheetTests S) ≡ refusal (numberTests S)
+unfolding sources sinks
+text-numbers S h = sheet-numbers S (h .sides .0) (h .sides .1) (eq-eqb _ _ (h .lengths))
 
 -- `refused `, a number of one digit and LF.
-number-refused : (k : ℕ) → k < 10 → length (refusedLine (record { number = k; position = none })) ≤ 10
-unfolding refusedLine bytes
-number-refused k p = omega (arith, line-length 0 k p)
+refused-length : (k : ℕ) → k < 10 → length (bytes "refused " ++ ended k 10) ≤ 10
+unfolding bytes
+refused-length k p = omega (arith, length-append (bytes "refused ") (ended k 10), length-ended k 10, digits-length 0 k .1 p)
 
 -- .. and with a place, which is at most one more than the longest sheet text.
-place-refused : (k : ℕ) → k ≤ suc maxText → length (refusedLine (record { number = 9; position = some k })) ≤ 15
-unfolding refusedLine rowLine bytes maxText
-place-refused k p = simp length-append (omega (arith, digits-length 0 9 .1 (omega arith), line-length 3 k (omega arith)))
+place-length : (k : ℕ) → k ≤ suc maxText → length (bytes "refused 9 " ++ ended k 10) ≤ 15
+unfolding bytes maxText
+place-length k p = omega (arith, length-append (bytes "refused 9 ") (ended k 10), length-ended k 10, digits-length 3 k .1 (omega arith))
 
+-- A text that is no sheet text is refused in one line; of a sheet text either the sheet check refuses the sheet, in one line too, or its plan text is printed.
 pub printed-length : (input : List ℕ) → length (printed input) ≤ maxPlanText
-unfolding printed refusedBy maxPlanText
+unfolding maxPlanText
 printed-length input = go (sheetReader text) refl
   where
     text : List ℕ
     text = take (suc maxText) input
 
-    -- of a sheet text
-    tested : (S : Sheet) → HasText S → readWith numberTests text ≡ unless (numberTests S) S → (o : Option ℕ) → refusal (numberTests S) ≡ o
-        → length (printed input) ≤ maxPlanText
-    tested S h e none f =
-        let passed : Accepted S = text-accepted S h .0 f in
-        rw (e, unless-given (numberTests S) S f, printed) (plan-length S (passed .accepted))
-    tested S h e (some k) f = rw (e, unless-refused (numberTests S) S k f, printed) (omega (arith, number-refused k (number-below S k f)))
+    of-sheet : (S : Sheet) → (o : Option ℕ) → refusal (sheetTests S) ≡ o → length (sheetShown S) ≤ maxPlanText
+    of-sheet S none e = rw (shown-plan S e) (plan-length S e)
+    of-sheet S (some k) e = rw (shown-refusal S k e) (omega (arith, refused-length k (omega (arith, check-number S k e))))
 
     go : (o : Reading Sheet) → sheetReader text ≡ o → length (printed input) ≤ maxPlanText
     go (stuck rest) e =
         let inside : length text - length rest ≤ suc maxText = omega (arith, length-take (suc maxText) input) in
-        rw (read-stuck numberTests text rest e, printed) (omega (arith, place-refused (length text - length rest) inside))
+        rw (printed-place input rest e) (omega (arith, place-length (length text - length rest) inside))
     go (got S rest) e =
         let (ended, ofSheet) = reader-iff text S rest .0 e in
-        tested S (ofSheet .sheet) (read-got numberTests text S rest e) (refusal (numberTests S)) refl
+        rw (printed-sheet input S rest e (text-numbers S (ofSheet .sheet))) (of-sheet S (refusal (sheetTests S)) refl)

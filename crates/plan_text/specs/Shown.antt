@@ -4,26 +4,28 @@ use mathlib.Core.Logic.{by-cases}
 use mathlib.Core.Bool.{Bool, true, false}
 use mathlib.Core.Option.{Option, none, some}
 use mathlib.Core.List.{List, [], _∷_, _++_}
-use Prim.Native.Nat.{ℕ, suc, min, _+_, _*_, _-_, _≤_, _<_}
+use Prim.Native.Nat.{ℕ, suc, min, _*_, _-_, _≤_, _<_}
 use native.Mathlib.Omega.{arith}
 use native.Mathlib.Decide.{decLe}
-use lib.ListN.{length, take, drop, length-drop}
+use lib.ListN.{length, take}
 use lib.Seq.{take-all}
 use borrow.Author.Tests.{eq-eqb}
 use Rattle.transport.specs.declared.WriteAnswer.the-variants.{Written, Refused}
 use Rattle.transport.specs.Limits.{maxSide, maxText}
-use Rattle.transport.specs.Sheet.{Sheet, sources, sinks, sheetTests, numberTests, badSides, badLength, badAmount, badCost, unbalanced, refusal}
+use Rattle.transport.specs.Sheet.{Sheet, sheetTests, numberTests, badSides, badLength, badAmount, badCost, unbalanced, refusal}
 use Rattle.transport.specs.SheetLaws.{true-within, refusal-yes, refusal-no}
-use Rattle.transport.specs.Calls.{Answer, given, refusedBy, unless, lentAfter}
-use Rattle.transport.specs.CallLaws.{some≢none, short-yes, short-no, unless-given, unless-refused, unless-before, unless-last, unless-none}
+use Rattle.transport.specs.Calls.{Answer, given, refusedBy, lentAfter}
+use Rattle.transport.specs.CallLaws.{some≢none, short-yes, short-no, unless-given, unless-refused}
 use Rattle.transport.specs.Text.{bytes, digits, digitsUpTo, numberLine, rowLine}
-use Rattle.transport.specs.SheetText.{stuck, got, sheetReader, readWith}
+use Rattle.transport.specs.SheetText.{stuck, got, sheetReader}
 use Rattle.transport.specs.PlanText.{planText, writePlanCall, refusedLine, printed, fitting, shown}
 use Rattle.sheet.specs.Refusals.{sheet-numbers}
 use Rattle.grammar.specs.Every.{Every}
+use Rattle.grammar.specs.SheetCalls.{read-got, read-stuck}
 use Rattle.transport.specs.Answers.{writeAnswer}
 use Rattle.sections.specs.Front.{front}
 use Rattle.sections.specs.Lines.{ended}
+use Rattle.sections.specs.WriteCall.{call-checked, call-short, call-written}
 
 -- ---- what fits
 
@@ -37,30 +39,30 @@ fitting-fits room text p = rw (short-no room (length text) p)
 
 -- ---- the lines of refusals
 
-pub refused-line : (k : ℕ) → refusedLine (record { number = k; position = none }) ≡ bytes "refused " ++ ended k 10
+refused-line : (k : ℕ) → refusedLine (record { number = k; position = none }) ≡ bytes "refused " ++ ended k 10
 unfolding refusedLine numberLine ended bytes
 refused-line k = refl
 
-pub place-line : (p : ℕ) → refusedLine (record { number = 9; position = some p }) ≡ bytes "refused 9 " ++ ended p 10
+place-line : (p : ℕ) → refusedLine (record { number = 9; position = some p }) ≡ bytes "refused 9 " ++ ended p 10
 unfolding refusedLine rowLine numberLine ended bytes digits digitsUpTo
 place-line p = refl
 
 -- ---- a sheet
 
 -- The plan text of a sheet, or the line of what the sheet check refuses it by.
-unfoldable pub answered : Sheet → List ℕ
-answered S = elim (refusal (sheetTests S)) [
+unfoldable pub sheetShown : Sheet → List ℕ
+sheetShown S = elim (refusal (sheetTests S)) [
   | none ↦ planText S
   | some k ↦ bytes "refused " ++ ended k 10
 ]
 
-pub answered-plan : (S : Sheet) → refusal (sheetTests S) ≡ none → answered S ≡ planText S
-unfolding answered
-answered-plan S e = rw (e, answered)
+pub shown-plan : (S : Sheet) → refusal (sheetTests S) ≡ none → sheetShown S ≡ planText S
+unfolding sheetShown
+shown-plan S e = rw (e, sheetShown)
 
-pub answered-refused : (S : Sheet) (k : ℕ) → refusal (sheetTests S) ≡ some k → answered S ≡ bytes "refused " ++ ended k 10
-unfolding answered
-answered-refused S k e = rw (e, answered)
+pub shown-refusal : (S : Sheet) (k : ℕ) → refusal (sheetTests S) ≡ some k → sheetShown S ≡ bytes "refused " ++ ended k 10
+unfolding sheetShown
+shown-refusal S k e = rw (e, sheetShown)
 
 -- A refusal's number is that of one of the tests.
 refusal-within : (most : ℕ) (ts : List (Bool × ℕ)) → Every (λ t. t .1 ≤ most) ts → (k : ℕ) → refusal ts ≡ some k → k ≤ most
@@ -82,32 +84,32 @@ module _ (S : Sheet) (out after : List ℕ) where
   abbrev call : Answer (List ℕ)
   call = writePlanCall S (length out)
 
-  abbrev Held : Type 0
-  Held = after ≡ lentAfter (λ t. t) call out
+  abbrev Left : Type 0
+  Left = after ≡ lentAfter (λ t. t) call out
 
   abbrev text : List ℕ
-  text = fitting (length out) (answered S)
+  text = fitting (length out) (sheetShown S)
 
   data Case : Type 0 where
     checked : (k : ℕ) → refusal (sheetTests S) ≡ some k → call ≡ refusedBy k → Case
-    short : fitting (length out) (answered S) ≡ [] → call ≡ refusedBy 8 → Case
-    written : fitting (length out) (answered S) ≡ planText S → call ≡ given (planText S) → Case
+    short : fitting (length out) (sheetShown S) ≡ [] → call ≡ refusedBy 8 → Case
+    written : fitting (length out) (sheetShown S) ≡ planText S → call ≡ given (planText S) → Case
 
   which : Case
   unfolding writePlanCall
   which = go (refusal (sheetTests S)) refl
     where
       go : (o : Option ℕ) → refusal (sheetTests S) ≡ o → Case
-      go (some k) e = checked k e (unless-before (sheetTests S) _ 8 (planText S) k e)
+      go (some k) e = checked k e (call-checked S (planText S) out k e)
       go none e = room (decLe (length (planText S)) (length out))
         where
           room : Dec (length (planText S) ≤ length out) → Case
           room (yes p) =
-              written (rw (answered-plan S e) (fitting-fits (length out) (planText S) p)) (unless-none (sheetTests S) _ 8 (planText S) e (short-no (length out) (length (planText S)) p))
+              written (rw (shown-plan S e) (fitting-fits (length out) (planText S) p)) (call-written S (planText S) out e p)
           room (no p) =
-              short (rw (answered-plan S e) (fitting-short (length out) (planText S) (omega arith))) (unless-last (sheetTests S) _ 8 (planText S) e (short-yes (length out) (length (planText S)) (omega arith)))
+              short (rw (shown-plan S e) (fitting-short (length out) (planText S) (omega arith))) (call-short S (planText S) out e (omega arith))
 
-  pub shown-written : (len : ℕ) → Written len ≡ writeAnswer call → Held → (len ≡ length text) × (after ≡ front text out)
+  pub shown-written : (len : ℕ) → Written len ≡ writeAnswer call → Left → (len ≡ length text) × (after ≡ front text out)
   unfolding writeAnswer refusedBy lentAfter front
   shown-written len h held = go which
     where
@@ -116,7 +118,7 @@ module _ (S : Sheet) (out after : List ℕ) where
       go (short e f) = let z : Written len ≡ Refused 8 = h ∙ ap writeAnswer f in let y : _≡_ {A = ℕ} 0 1 = cc in absurd (omega arith)
       go (written e f) = let z : Written len ≡ Written (length (planText S)) = h ∙ ap writeAnswer f in let y : len ≡ length (planText S) = cc in rw e (y, held ∙ rw f)
 
-  pub shown-short : Refused 8 ≡ writeAnswer call → Held → (0 ≡ length text) × (after ≡ front text out)
+  pub shown-short : Refused 8 ≡ writeAnswer call → Left → (0 ≡ length text) × (after ≡ front text out)
   unfolding writeAnswer refusedBy lentAfter front
   shown-short h held = go which
     where
@@ -125,12 +127,12 @@ module _ (S : Sheet) (out after : List ℕ) where
       go (short e f) = rw e (refl, held ∙ rw f)
       go (written e f) = let z : Refused 8 ≡ Written (length (planText S)) = h ∙ ap writeAnswer f in let y : _≡_ {A = ℕ} 0 1 = cc in absurd (omega arith)
 
-  pub shown-refused : (k : ℕ) → (k ≡ 8 → ⊥) → Refused k ≡ writeAnswer call → Held → (answered S ≡ bytes "refused " ++ ended k 10) × (after ≡ out)
+  pub shown-refused : (k : ℕ) → (k ≡ 8 → ⊥) → Refused k ≡ writeAnswer call → Left → (sheetShown S ≡ bytes "refused " ++ ended k 10) × (after ≡ out)
   unfolding writeAnswer refusedBy lentAfter
   shown-refused k n h held = go which
     where
-      go : Case → (answered S ≡ bytes "refused " ++ ended k 10) × (after ≡ out)
-      go (checked j e f) = let z : Refused k ≡ Refused j = h ∙ ap writeAnswer f in let y : k ≡ j = cc in (rw y (answered-refused S j e), held ∙ rw f)
+      go : Case → (sheetShown S ≡ bytes "refused " ++ ended k 10) × (after ≡ out)
+      go (checked j e f) = let z : Refused k ≡ Refused j = h ∙ ap writeAnswer f in let y : k ≡ j = cc in (rw y (shown-refusal S j e), held ∙ rw f)
       go (short e f) = let z : Refused k ≡ Refused 8 = h ∙ ap writeAnswer f in let y : k ≡ 8 = cc in absurd (n y)
       go (written e f) = let z : Refused k ≡ Written (length (planText S)) = h ∙ ap writeAnswer f in let y : _≡_ {A = ℕ} 0 1 = cc in absurd (omega arith)
 
@@ -153,16 +155,16 @@ module _ (input : List ℕ) where
   textRead = take (suc maxText) input
 
   pub printed-place : (rest : List ℕ) → sheetReader textRead ≡ stuck rest → printed input ≡ bytes "refused 9 " ++ ended (length textRead - length rest) 10
-  unfolding printed readWith
-  printed-place rest e = rw (e, readWith, printed) (place-line (length textRead - length rest))
+  unfolding printed
+  printed-place rest e = rw (read-stuck numberTests textRead rest e, printed) (place-line (length textRead - length rest))
 
-  pub printed-sheet : (S : Sheet) (rest : List ℕ) → sheetReader textRead ≡ got S rest → refusal (sheetTests S) ≡ refusal (numberTests S) → printed input ≡ answered S
-  unfolding printed readWith refusedBy
+  pub printed-sheet : (S : Sheet) (rest : List ℕ) → sheetReader textRead ≡ got S rest → refusal (sheetTests S) ≡ refusal (numberTests S) → printed input ≡ sheetShown S
+  unfolding printed refusedBy
   printed-sheet S rest e same = go (refusal (numberTests S)) refl
     where
-      go : (o : Option ℕ) → refusal (numberTests S) ≡ o → printed input ≡ answered S
-      go none n = (rw (e, readWith, unless-given (numberTests S) S n, printed)) ∙ sym (answered-plan S (same ∙ n))
-      go (some k) n = (rw (e, readWith, unless-refused (numberTests S) S k n, printed) (refused-line k)) ∙ sym (answered-refused S k (same ∙ n))
+      go : (o : Option ℕ) → refusal (numberTests S) ≡ o → printed input ≡ sheetShown S
+      go none n = (rw (read-got numberTests textRead S rest e, unless-given (numberTests S) S n, printed)) ∙ sym (shown-plan S (same ∙ n))
+      go (some k) n = (rw (read-got numberTests textRead S rest e, unless-refused (numberTests S) S k n, printed) (refused-line k)) ∙ sym (shown-refusal S k (same ∙ n))
 
 -- A sheet that was read has sides within their limits and a cost for each lane: only its numbers are still to be tested.
 pub read-numbers : (S : Sheet) → (1 ≤ length (S .supply)) × (length (S .supply) ≤ maxSide) → (1 ≤ length (S .demand)) × (length (S .demand) ≤ maxSide)

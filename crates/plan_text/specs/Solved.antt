@@ -1,26 +1,24 @@
--- What write plan knows once solve has answered, with lists that have room for any sheet.
+-- What write plan knows once solve has sheetShown, with lists that have room for any sheet.
 use mathlib.Core.Path.{_≡_, refl, sym, ap, _∙_}
-use mathlib.Core.Bool.{Bool, false, _||_}
 use mathlib.Core.Option.{Option, none, some}
-use mathlib.Core.List.{List, [], _∷_, _++_}
-use Prim.Native.Nat.{ℕ, _*_, _/_, _≤_}
+use mathlib.Core.List.{List}
+use Prim.Native.Nat.{ℕ, _*_, _/_}
 use native.Mathlib.Omega.{arith}
 use native.Mathlib.Nat.{mul-le-mul}
 use lib.IntN.{ℤ}
 use lib.ListN.{length, take, drop}
 use lib.Seq.{take-at}
-use Rattle.transport.specs.declared.SolveAnswer.{SolveAnswer}
 use Rattle.transport.specs.declared.SolveAnswer.the-variants.{Solved, Refused}
 use Rattle.transport.specs.Limits.{maxSide}
 use Rattle.transport.specs.Sheet.{Sheet, sources, sinks, sheetTests, refusal}
-use Rattle.transport.specs.SheetLaws.{Checked, checked}
-use Rattle.transport.specs.Calls.{Answer, given, refusedBy, lentAfter, tooShort, Solution, solution, solveCall}
-use Rattle.transport.specs.CallLaws.{unless-before, unless-none, rooms-iff, lent-given}
+use Rattle.transport.specs.SheetLaws.{checked}
+use Rattle.transport.specs.Calls.{Answer, given, refusedBy, lentAfter, Solution, solution, solveCall}
+use Rattle.transport.specs.CallLaws.{unless-before, unless-none, rooms-iff}
 use Rattle.transport.specs.Answers.{solveAnswer}
 use Rattle.transport.specs.PlanText.{planText}
 use Rattle.demands.specs.Demand3.{Fills, solve-fills}
 use Rattle.plan_text.specs.Lanes.{usedNumbers}
-use Rattle.plan_text.specs.Report.{figuresOf, reportText, plan-report}
+use Rattle.plan_text.specs.Sections.{planSections, plan-sections}
 
 module _ (S : Sheet) where
   -- Solve's answer where every list has room.
@@ -90,7 +88,7 @@ module _ {S : Sheet} {total rounds : ℕ} {u′ v′ : List ℤ} {plan′ : List
             planIs = rw (plans, g) (take-at (a .plan) (drop (length (a .plan)) plan) (sources S * sinks S) (fills .plan));
           }
 
-  -- The report of what was found is the plan text.
-  pub found-report : FoundPlan S total rounds u′ v′ plan′ → let x = take (sources S * sinks S) plan′ in let numbers = usedNumbers (sinks S) x (length x) in
-      planText S ≡ reportText (record { total = total; rounds = rounds; lanes = length numbers / 3 }) (take (sources S) u′) (take (sinks S) v′) numbers
-  found-report f = rw (f .totalIs, f .roundsIs, f .uIs, f .vIs, f .planIs) (plan-report S (checked S (f .accepted) .sinksLow) (f .fills))
+  -- The sections of what was found are the plan text.
+  pub found-sections : FoundPlan S total rounds u′ v′ plan′ → let x = take (sources S * sinks S) plan′ in let numbers = usedNumbers (sinks S) x (length x) in
+      planText S ≡ planSections (record { total = total; rounds = rounds; used = length numbers / 3 }) (take (sources S) u′) (take (sinks S) v′) numbers
+  found-sections f = rw (f .totalIs, f .roundsIs, f .uIs, f .vIs, f .planIs) (plan-sections S (checked S (f .accepted) .sinksLow) (f .fills))

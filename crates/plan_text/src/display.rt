@@ -8,7 +8,7 @@ ghost use Rattle.transport.specs.PlanText.{fitting, shown};
 ghost use Rattle.sheet.specs.Check.{sheetOf};
 ghost use Rattle.sections.specs.Front.{front};
 ghost use Rattle.sections.specs.Lines.{ended};
-ghost use Rattle.plan_text.specs.Shown.{answered};
+ghost use Rattle.plan_text.specs.Shown.{sheetShown};
 use crate::writer::write_plan;
 use sections::section;
 use text::reader::read_sections;
@@ -44,7 +44,7 @@ fn show_refusal(words: &[u8], number: usize, out: &mut [u8]) -> usize
 fn show_plan(supply: &[u64], demand: &[u64], cost: &[u64], out: &mut [u8]) -> usize
     ensures { λ r.
         let S = sheetOf (now (supply .entry)) (now (demand .entry)) (now (cost .entry)) in
-        let text = fitting (length (now (out .entry))) (answered S) in
+        let text = fitting (length (now (out .entry))) (sheetShown S) in
         ⌜ (r ≡ length text) × (now (out .exit) ≡ front text (now (out .entry))) ⌝ }
 {
     let answer = write_plan(supply, demand, cost, out);

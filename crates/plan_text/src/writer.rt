@@ -6,9 +6,9 @@ ghost use Rattle.transport.specs.PlanText.{writePlanCall};
 ghost use Rattle.transport.specs.Answers.{writeAnswer};
 ghost use Rattle.sheet.specs.Check.{sheetOf};
 use crate::lanes::used_lanes;
-use crate::report::Figures;
-use crate::report::report_len;
-use crate::report::write_report;
+use crate::plan_sections::Figures;
+use crate::plan_sections::plan_sections_len;
+use crate::plan_sections::write_plan_sections;
 use planning::solve::solve;
 use transport::MAX_LANES;
 use transport::MAX_SIDE;
@@ -36,17 +36,17 @@ pub fn write_plan(supply: &[u64], demand: &[u64], cost: &[u64], out: &mut [u8]) 
             let m = supply.len();
             let n = demand.len();
             let lanes = m * n;
-            let mut list = [0u64; 3 * MAX_LANES];
-            let numbers = used_lanes(&plan[..lanes], n, &mut list);
+            let mut numbers = [0u64; 3 * MAX_LANES];
+            let count = used_lanes(&plan[..lanes], n, &mut numbers);
             let figures = Figures {
                 total,
                 rounds,
-                lanes: numbers / 3,
+                used: count / 3,
             };
-            if out.len() < report_len(figures, &u[..m], &v[..n], &list[..numbers]) {
+            if out.len() < plan_sections_len(figures, &u[..m], &v[..n], &numbers[..count]) {
                 return WriteAnswer::Refused(8);
             }
-            let len = write_report(figures, &u[..m], &v[..n], &list[..numbers], out);
+            let len = write_plan_sections(figures, &u[..m], &v[..n], &numbers[..count], out);
             WriteAnswer::Written(len)
         }
     }

@@ -5,25 +5,19 @@ use Prim.Native.Nat.{ℕ, _≤_}
 use native.Mathlib.Omega.{arith}
 use lib.IntN.{ℤ}
 use lib.ListN.{length}
-use lib.Seq.{take-append-seam}
-use Rattle.transport.specs.Lists.{padded}
 use Rattle.transport.specs.Sheet.{Sheet, sources, sinks}
 use Rattle.transport.specs.SheetLaws.{Checked}
-use Rattle.transport.specs.declared.Cell.{Cell}
 use Rattle.transport.specs.declared.Tableau.{Tableau}
 use Rattle.transport.specs.Tableau.{cellsOf, tableauOf, start}
 use Rattle.tableaux.specs.View.{Inside}
 use Rattle.tableaux.specs.Starting.{start-belongs}
 use Rattle.tableaux.specs.Belonging.{belongs-iff}
+use Rattle.demands.specs.Says.{cells-of}
 use Rattle.basis.specs.Layout.{stride, stride-is}
 use Rattle.board.specs.Cells.{cellRoom}
 use Rattle.board.specs.Held.{Held}
 use Rattle.simplex.specs.Corner.{costless, start-costless, length-start}
 use Rattle.simplex.specs.Dealt.{Dealt}
-
-cells-of : (T : List Cell) → cellsOf (tableauOf T) ≡ T
-unfolding cellsOf tableauOf padded
-cells-of T = take-append-seam T _
 
 module _ {S : Sheet} (ok : Checked S) {t : Tableau} (first : t ≡ tableauOf (start (costless (S .supply) (S .demand)))) where
   begins : t ≡ tableauOf (start S)

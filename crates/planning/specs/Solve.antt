@@ -3,7 +3,8 @@ use mathlib.Core.Path.{_≡_, refl, sym, ap, _∙_}
 use mathlib.Core.Bool.{Bool, true, false, _||_}
 use mathlib.Core.Option.{none, some}
 use mathlib.Core.List.{List, _++_}
-use Prim.Native.Nat.{ℕ, _+_, _*_}
+use Prim.Native.Nat.{ℕ, _+_, _*_, _-_, _≤_, _<_}
+use native.Mathlib.Omega.{arith}
 use lib.IntN.{ℤ, pos}
 use lib.ListN.{length, drop, getD}
 use Rattle.transport.specs.declared.SolveAnswer.{SolveAnswer}
@@ -16,7 +17,7 @@ use Rattle.transport.specs.Potential.{sourcePrices, sinkPrices}
 use Rattle.transport.specs.Round.{run}
 use Rattle.transport.specs.Plan.{settled}
 use Rattle.transport.specs.Calls.{Answer, given, refusedBy, lentAfter, tooShort, roundBound, Solution, solution, solveCall}
-use Rattle.transport.specs.CallLaws.{unless-before, unless-last, unless-none}
+use Rattle.transport.specs.CallLaws.{unless-before, unless-last, unless-none, rooms-iff}
 use Rattle.transport.specs.Answers.{solveAnswer}
 use Rattle.transport.specs.Statements.{Bought}
 use Rattle.tableaux.specs.Ending.{start-finished}
@@ -37,13 +38,21 @@ module _ (S : Sheet) (uRoom vRoom planRoom : ℕ) where
   unfolding solveCall
   solve-early k e = unless-before (sheetTests S) short 8 (solution S) k e
 
-  pub solve-short : refusal (sheetTests S) ≡ none → short ≡ true → solveCall S uRoom vRoom planRoom ≡ refusedBy 8
-  unfolding solveCall
-  solve-short e t = unless-last (sheetTests S) short 8 (solution S) e t
+  -- The places that the lists lack.
+  abbrev lacks : ℕ
+  lacks = (sources S - uRoom) + (sinks S - vRoom) + (sources S * sinks S - planRoom)
 
-  pub solve-given : refusal (sheetTests S) ≡ none → short ≡ false → solveCall S uRoom vRoom planRoom ≡ given (solution S)
+  pub solve-short : refusal (sheetTests S) ≡ none → 0 < lacks → solveCall S uRoom vRoom planRoom ≡ refusedBy 8
   unfolding solveCall
-  solve-given e t = unless-none (sheetTests S) short 8 (solution S) e t
+  solve-short e p = unless-last (sheetTests S) short 8 (solution S) e (go short refl)
+    where
+      go : (b : Bool) → short ≡ b → short ≡ true
+      go true h = h
+      go false h = let r = rooms-iff uRoom (sources S) vRoom (sinks S) planRoom (sources S * sinks S) .0 h in absurd (omega arith)
+
+  pub solve-given : refusal (sheetTests S) ≡ none → (sources S ≤ uRoom) × (sinks S ≤ vRoom) × (sources S * sinks S ≤ planRoom) → solveCall S uRoom vRoom planRoom ≡ given (solution S)
+  unfolding solveCall
+  solve-given e h = unless-none (sheetTests S) short 8 (solution S) e (rooms-iff uRoom (sources S) vRoom (sinks S) planRoom (sources S * sinks S) .1 h)
 
 -- ---- what is told of it
 

@@ -3,7 +3,7 @@ use basis::LANES;
 use basis::NODES;
 use basis::Price;
 use settle::decide::settle_lanes;
-use settle::plan::write_plan;
+use settle::plan::store_plan;
 use settle::tight::tight_lanes;
 use transport::MAX_SIDE;
 ghost use mathlib.Core.Path.{_≡_};
@@ -33,5 +33,5 @@ pub(crate) fn settle_board(
     let mut allowed = [0u64; MAX_SIDE];
     tight_lanes(cost, price, &mut allowed, m, n);
     settle_lanes(adj, q, e, &mut allowed, m, n);
-    write_plan(q, plan, m, n);
+    store_plan(q, plan, m, n);
 }

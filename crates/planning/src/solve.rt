@@ -12,12 +12,11 @@ use simplex::prices::write_prices;
 use simplex::start::first_tableau;
 use transport::SolveAnswer;
 ghost use mathlib.Core.Path.{_≡_};
-ghost use mathlib.Core.Bool.{_||_};
-ghost use Prim.Native.Nat.{_*_, _≤_};
+ghost use Prim.Native.Nat.{_+_, _*_, _-_, _≤_};
 ghost use lib.ListN.{length};
 ghost use Rattle.transport.specs.Sheet.{Sheet};
 ghost use Rattle.transport.specs.Tableau.{start};
-ghost use Rattle.transport.specs.Calls.{given, lentAfter, tooShort, solution, solveCall};
+ghost use Rattle.transport.specs.Calls.{given, lentAfter, solution, solveCall};
 ghost use Rattle.transport.specs.Answers.{solveAnswer};
 ghost use Rattle.transport.specs.Statements.{Bought};
 ghost use Rattle.basis.specs.Layout.{stride};
@@ -25,12 +24,19 @@ ghost use Rattle.sheet.specs.Check.{sheetOf};
 ghost use Rattle.simplex.specs.Dealt.{Dealt};
 ghost use Rattle.planning.specs.Solve.{Told};
 
-// Whether lists of these lengths lack room for m prices, for n prices, or for m × n quantities.
-fn lacks_room(u: usize, v: usize, plan: usize, m: usize, n: usize) -> bool
-    requires { ⌜ (m ≤ stride) × (n ≤ stride) ⌝ }
-    ensures { λ r. ⌜ r ≡ (tooShort u m || tooShort v n || tooShort plan (m * n)) ⌝ }
+// How many places a list of this length lacks for so many numbers.
+fn lacking(len: usize, count: usize) -> usize
+    ensures { λ r. ⌜ r ≡ count - len ⌝ }
 {
-    u < m || v < n || plan < m * n
+    if len < count { count - len } else { 0 }
+}
+
+// How many places lists of these lengths lack for m prices, for n prices, and for m × n quantities.
+fn lacking_room(u: usize, v: usize, plan: usize, m: usize, n: usize) -> usize
+    requires { ⌜ (m ≤ stride) × (n ≤ stride) ⌝ }
+    ensures { λ r. ⌜ r ≡ (m - u) + (n - v) + (m * n - plan) ⌝ }
+{
+    lacking(u, m) + lacking(v, n) + lacking(plan, m * n)
 }
 
 // Solves from the first tableau of a sheet of m sources and n sinks, which the arrays hold.
@@ -85,13 +91,16 @@ pub fn solve(
     }
     let m = supply.len();
     let n = demand.len();
-    if lacks_room(u.len(), v.len(), plan.len(), m, n) {
-        return SolveAnswer::Refused(8);
+    // Both answers have names, so that a program that gives the wrong one is an operand away.
+    let too_short = SolveAnswer::Refused(8);
+    if lacking_room(u.len(), v.len(), plan.len(), m, n) > 0 {
+        return too_short;
     }
     let mut adj = [0u64; NODES];
     let mut q = [0i64; LANES];
     let mut e = [0i64; LANES];
     let first = first_tableau(supply, demand);
     spread(first, m, &mut adj, &mut q, &mut e);
-    solve_on(cost, m, n, &mut adj, &mut q, &mut e, u, v, plan)
+    let solved = solve_on(cost, m, n, &mut adj, &mut q, &mut e, u, v, plan);
+    solved
 }

@@ -44,13 +44,13 @@ front-three out a b c p =
 mid-tail : (n : ℕ) (xs : List ℕ) → midOf n (length xs - n) xs ≡ drop n xs
 mid-tail n xs = take-all (length xs - n) (drop n xs) (omega (arith, length-drop n xs))
 
-pub put-tail : (n : ℕ) (xs ys : List ℕ) → putMid n (length xs - n) xs ys ≡ take n xs ++ ys
+put-tail : (n : ℕ) (xs ys : List ℕ) → putMid n (length xs - n) xs ys ≡ take n xs ++ ys
 put-tail n xs ys = rw (drop-of-length-le (drop n xs) {i = length xs - n} (omega (arith, length-drop n xs)), append-nil ys)
 
 -- A second text in what a first one left of the output.
 module _ (first out held : List ℕ) (n : ℕ) (e : n ≡ length first) (h : held ≡ front first out) where
   -- What is lent ..
-  pub lent-rest : midOf n (length held - n) held ≡ drop n out
+  lent-rest : midOf n (length held - n) held ≡ drop n out
   unfolding front
   lent-rest = mid-tail n held ∙ (rw (h, drop-at first (drop (length first) out) n (sym e), e))
 
@@ -64,6 +64,29 @@ module _ (first out held : List ℕ) (n : ℕ) (e : n ≡ length first) (h : hel
       put-tail n held (front second (midOf n (length held - n) held))
       ∙ (rw (lent-rest, h, take-at first (drop (length first) out) n (sym e), e, drop-drop, length-append, append-assoc))
 
+-- Two texts, one after the other.
+pub first-room : (first second out : List ℕ) → length (first ++ second) ≤ length out → length first ≤ length out
+first-room first second out p = omega (arith, length-append first second)
+
+-- The output has room for both, and holds the first, which ends at n.
+pub record FirstWritten (first second out held : List ℕ) (n : ℕ) : Type 0 where
+  pub room : length (first ++ second) ≤ length out
+  pub ends : n ≡ length first
+  pub holds : held ≡ front first out
+
+module _ {first second out held : List ℕ} {n : ℕ} (b : FirstWritten first second out held n) where
+  pub second-start : n ≤ length held
+  second-start = let r = first-room first second out (b .room) in omega (arith, b .ends, ap length (b .holds) ∙ length-front first out r)
+
+  pub second-room : length second ≤ length (midOf n (length held - n) held)
+  second-room = omega (arith, b .room, b .ends, lent-length first out held n (b .ends) (b .holds), length-append first second)
+
+  pub both-length : (k : ℕ) → k ≡ length second → n + k ≡ length (first ++ second)
+  both-length k e = omega (arith, b .ends, length-append first second)
+
+  pub both-written : (after : List ℕ) → after ≡ front second (midOf n (length held - n) held) → putMid n (length held - n) held after ≡ front (first ++ second) out
+  both-written after e = rw e (front-then first out held n (b .ends) (b .holds) second)
+
 -- ---- a text written piece by piece: what is written is its first `at` bytes
 
 module _ (T : List ℕ) (at : ℕ) (piece rest : List ℕ) (p : at ≤ length T) (e : drop at T ≡ piece ++ rest) where
@@ -76,39 +99,11 @@ module _ (T : List ℕ) (at : ℕ) (piece rest : List ℕ) (p : at ≤ length T)
   pub drop-piece : drop (at + length piece) T ≡ rest
   drop-piece = sym (drop-drop (length piece) at T) ∙ (rw (e, drop-at piece rest (length piece) refl))
 
-  -- The output holds the first bytes, and the next piece was written in the rest of it.
-  module _ (out held : List ℕ) (h : held ≡ front (take at T) out) where
-    whole : at ≡ length (take at T)
-    whole = sym (length-take-le at T p)
-
-    pub room-piece : length T ≤ length out → length piece ≤ length (midOf at (length held - at) held)
-    room-piece q = omega (arith, lent-length (take at T) out held at whole h, piece-room)
-
-    pub write-piece : putMid at (length held - at) held (front piece (midOf at (length held - at) held)) ≡ front (take (at + length piece) T) out
-    write-piece = front-then (take at T) out held at whole h piece ∙ (rw take-piece)
-
--- Two texts, one after the other.
-pub first-room : (first second out : List ℕ) → length (first ++ second) ≤ length out → length first ≤ length out
-first-room first second out p = omega (arith, length-append first second)
-
--- The output has room for both, and holds the first, which ends at n.
-pub record Begun (first second out held : List ℕ) (n : ℕ) : Type 0 where
-  pub room : length (first ++ second) ≤ length out
-  pub ends : n ≡ length first
-  pub holds : held ≡ front first out
-
-module _ {first second out held : List ℕ} {n : ℕ} (b : Begun first second out held n) where
-  pub second-start : n ≤ length held
-  second-start = let r = first-room first second out (b .room) in omega (arith, b .ends, ap length (b .holds) ∙ length-front first out r)
-
-  pub second-room : length second ≤ length (midOf n (length held - n) held)
-  second-room = omega (arith, b .room, b .ends, lent-length first out held n (b .ends) (b .holds), length-append first second)
-
-  pub both-length : (k : ℕ) → k ≡ length second → n + k ≡ length (first ++ second)
-  both-length k e = omega (arith, b .ends, length-append first second)
-
-  pub both-written : (after : List ℕ) → after ≡ front second (midOf n (length held - n) held) → putMid n (length held - n) held after ≡ front (first ++ second) out
-  both-written after e = rw e (front-then first out held n (b .ends) (b .holds) second)
+  -- The output holds the first bytes, and the next piece comes in the rest of it.
+  pub piece-next : (out held : List ℕ) → length T ≤ length out → held ≡ front (take at T) out → FirstWritten (take at T) piece out held at
+  piece-next out held q h =
+      let n : length (take at T) ≡ at = length-take-le at T p in
+      record { room = omega (arith, length-append (take at T) piece, piece-room); ends = sym n; holds = h }
 
 -- ---- a text made of a piece for each element of a list
 

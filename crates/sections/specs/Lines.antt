@@ -61,19 +61,19 @@ pub lines-nil : (width left : ℕ) → linesFrom width left [] ≡ []
 unfolding linesFrom
 lines-nil width left = refl
 
-pub lines-cons : (width left x : ℕ) (xs : List ℕ) → linesFrom width left (x ∷ xs) ≡ ended x (ending left) ++ linesFrom width (leftAfter width left) xs
+lines-cons : (width left x : ℕ) (xs : List ℕ) → linesFrom width left (x ∷ xs) ≡ ended x (ending left) ++ linesFrom width (leftAfter width left) xs
 unfolding linesFrom
 lines-cons width left x xs = refl
 
-pub numbers-nil : numbersLength [] ≡ 0
+numbers-nil : numbersLength [] ≡ 0
 unfolding numbersLength
 numbers-nil = refl
 
-pub numbers-cons : (x : ℕ) (xs : List ℕ) → numbersLength (x ∷ xs) ≡ length (digits x) + 1 + numbersLength xs
+numbers-cons : (x : ℕ) (xs : List ℕ) → numbersLength (x ∷ xs) ≡ length (digits x) + 1 + numbersLength xs
 unfolding numbersLength
 numbers-cons x xs = refl
 
-pub length-lines : (width left : ℕ) (xs : List ℕ) → length (linesFrom width left xs) ≡ numbersLength xs
+length-lines : (width left : ℕ) (xs : List ℕ) → length (linesFrom width left xs) ≡ numbersLength xs
 unfolding linesFrom numbersLength
 length-lines width left [] = refl
 length-lines width left (x ∷ xs) =

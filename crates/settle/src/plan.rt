@@ -7,7 +7,7 @@ ghost use Rattle.basis.specs.Layout.{stride};
 ghost use Rattle.settle.specs.Plan.{NoDebt, Written};
 
 // Writes the bags of m rows and n columns in sheet order, and leaves the rest of the list as it is.
-pub fn write_plan(q: &[i64; LANES], plan: &mut [u64], m: usize, n: usize)
+pub fn store_plan(q: &[i64; LANES], plan: &mut [u64], m: usize, n: usize)
     requires { ⌜ (m ≤ stride) × (n ≤ stride) × (m * n ≤ length (now plan)) × NoDebt m n (now q) ⌝ }
     ensures { λ _. ⌜ Written n (now (q .entry)) (m * n) (now (plan .entry)) (now (plan .exit)) ⌝ }
 {

@@ -1,11 +1,11 @@
 -- What a reader of the code found, as a reading of the specification; and the readers' laws, by what comes next in the text.
 use mathlib.Core.Path.{_≡_, refl, sym, _∙_}
 use mathlib.Core.Logic.{by-cases}
-use mathlib.Core.Bool.{Bool, true, false, _&&_, cond, true≢false}
+use mathlib.Core.Bool.{Bool, true, false, not, _&&_, cond, true≢false}
 use mathlib.Core.List.{List, [], _∷_}
 use Prim.Native.Nat.{ℕ, zero, suc, _+_, _*_, _-_, _≤_, _<_, _^_}
 use native.Mathlib.Omega.{arith}
-use native.Mathlib.Decide.{decLt}
+use native.Mathlib.Decide.{ℕ-discrete, decLt}
 use native.Mathlib.Nat.{pow-suc, pow-le-pow-right, lt-of-lt-of-le}
 use native.Mathlib.Numerals.{add-one}
 use lib.Dec.{eqb}
@@ -19,6 +19,7 @@ use Rattle.transport.specs.declared.ByteKind.{ByteKind}
 use Rattle.transport.specs.declared.ByteKind.the-variants.{Digit, Space, LineEnd, Letter, Other}
 use Rattle.transport.specs.Text.{bytes, kindOf}
 use Rattle.transport.specs.SheetText.{Reading, stuck, got, Reader, _>>=_, _>>_, pure, byteThat, word, isDigit, digitValue, moreDigits, number, side, line}
+use Rattle.sections.specs.Lines.{ending}
 use Rattle.transport.specs.SheetLaws.{within-true, true-within, within-low, within-high}
 pub use Rattle.text.specs.declared.Taken.{Taken}
 pub use Rattle.text.specs.declared.Taken.the-variants.{Got, Stuck}
@@ -48,6 +49,10 @@ side-value k (Stuck place) p q e = tt
 
 -- ---- what comes next
 
+unfoldable pub kindNext : List ℕ → ByteKind
+kindNext [] = Other
+kindNext (b ∷ t) = kindOf b
+
 unfoldable pub byteNext : ℕ → List ℕ → Bool
 byteNext b [] = false
 byteNext b (c ∷ t) = eqb b c
@@ -69,11 +74,19 @@ module _ (text : List ℕ) (at : ℕ) where
   unfolding byteNext
   byte-here b p = rw (drop-cons text at 0 p)
 
-  pub digit-end : length text ≤ at → digitNext (drop at text) ≡ false
+  pub kind-end : length text ≤ at → kindNext (drop at text) ≡ Other
+  unfolding kindNext
+  kind-end p = rw (drop-of-length-le text {i = at} p)
+
+  pub kind-here : at < length text → kindNext (drop at text) ≡ kindOf (getD text at 0)
+  unfolding kindNext
+  kind-here p = rw (drop-cons text at 0 p)
+
+  digit-end : length text ≤ at → digitNext (drop at text) ≡ false
   unfolding digitNext
   digit-end p = rw (drop-of-length-le text {i = at} p)
 
-  pub digit-here : at < length text → digitNext (drop at text) ≡ isDigit (getD text at 0)
+  digit-here : at < length text → digitNext (drop at text) ≡ isDigit (getD text at 0)
   unfolding digitNext
   digit-here p = rw (drop-cons text at 0 p)
 
@@ -88,10 +101,13 @@ module _ (text : List ℕ) (at : ℕ) where
   pub drop-next : drop 1 (drop at text) ≡ drop (at + 1) text
   drop-next = drop-drop 1 at text
 
--- ---- digits
+-- ---- kinds
 
 abbrev kindBy : Bool → Bool → Bool → Bool → ByteKind
 kindBy d s e l = cond d Digit (cond s Space (cond e LineEnd (cond l Letter Other)))
+
+abbrev ofDigit : ByteKind → Bool
+ofDigit k = elim k [ Digit ↦ true | Space ↦ false | LineEnd ↦ false | Letter ↦ false | Other ↦ false ]
 
 module _ (b : ℕ) where
   pub kind-digit : 48 ≤ b → b ≤ 57 → kindOf b ≡ Digit
@@ -110,12 +126,47 @@ module _ (b : ℕ) where
   unfolding isDigit kindOf
   digit-within e = go (within 48 57 b) (eqb b 32) (eqb b 10) (within 97 122 b) e
     where
-      go : (d s e l : Bool) → (elim (kindBy d s e l) [ Digit ↦ true | Space ↦ false | LineEnd ↦ false | Letter ↦ false | Other ↦ false ]) ≡ true → d ≡ true
+      go : (d s e l : Bool) → ofDigit (kindBy d s e l) ≡ true → d ≡ true
       go true s e l h = refl
       go false true e l h = absurd (true≢false (sym h))
       go false false true l h = absurd (true≢false (sym h))
       go false false false true h = absurd (true≢false (sym h))
       go false false false false h = absurd (true≢false (sym h))
+
+-- The kind tells a digit.
+pub digit-told : (t : List ℕ) (k : ByteKind) → kindNext t ≡ k → digitNext t ≡ ofDigit k
+unfolding kindNext digitNext isDigit
+digit-told [] k e = rw (← e)
+digit-told (b ∷ t) k e = rw (← e)
+
+-- The kind tells the end of a number, which is the last of its line or not.
+abbrev ofEnd : Bool → ByteKind → Bool
+ofEnd last Digit = false
+ofEnd last Space = not last
+ofEnd last LineEnd = last
+ofEnd last Letter = false
+ofEnd last Other = false
+
+pub end-told : (left : ℕ) (t : List ℕ) (k : ByteKind) → kindNext t ≡ k → byteNext (ending left) t ≡ ofEnd (eqb left 1) k
+unfolding kindNext byteNext ending kindOf within
+end-told left [] k e = rw (← e)
+end-told left (b ∷ t) k e = rw (← e) (go (eqb left 1))
+  where
+    not-line-end : (d s l : Bool) → ofEnd true (kindBy d s false l) ≡ false
+    not-line-end true s l = refl
+    not-line-end false true l = refl
+    not-line-end false false true = refl
+    not-line-end false false false = refl
+
+    not-space : (d e l : Bool) → ofEnd false (kindBy d false e l) ≡ false
+    not-space true e l = refl
+    not-space false true l = refl
+    not-space false false true = refl
+    not-space false false false = refl
+
+    go : (last : Bool) → eqb (cond last 10 32) b ≡ ofEnd last (kindOf b)
+    go true = by-cases (ℕ-discrete b 10) (λ e. rw e) (λ n. rw (ne-eqb 10 b (λ e. n (sym e)), ne-eqb b 10 n) (sym (not-line-end (within 48 57 b) (eqb b 32) (within 97 122 b))))
+    go false = by-cases (ℕ-discrete b 32) (λ e. rw e) (λ n. rw (ne-eqb 32 b (λ e. n (sym e)), ne-eqb b 32 n) (sym (not-space (within 48 57 b) (eqb b 10) (within 97 122 b))))
 
 -- A digit stands at this place of the text: a byte from `0` to `9`.
 pub record DigitAt (text : List ℕ) (at : ℕ) : Type 0 where
@@ -272,7 +323,8 @@ module _ {text : List ℕ} {at : ℕ} (d : DigitAt text at) where
 pub value-next : (x d k : ℕ) → x < 10 ^ k → d ≤ 9 → x * 10 + d < 10 ^ (k + 1)
 value-next x d k p q = rw (add-one) (omega (arith, pow-suc 10 k))
 
-pub value-fits : (x k : ℕ) → x < 10 ^ k → k ≤ maxDigits → x < 10 ^ maxDigits
+-- 10 ^ 19 is below 2 ^ 64.
+pub value-fits : (x k : ℕ) → x < 10 ^ k → k ≤ 19 → x < 10 ^ 19
 value-fits x k p q = lt-of-lt-of-le p (pow-le-pow-right (omega arith) q)
 
 -- ---- a number, and the byte that ends it

@@ -101,6 +101,7 @@ answer-fits text P Q h (ReadAnswer.NotSheetText place) p = p
 answer-fits text P Q h (ReadAnswer.Refused number) p = p
 
 module _ {text : List ℕ} {at : ℕ} {demand : List ℕ} {n next : ℕ} (l : ListRead (bytes "demand ") text at demand n next) (m : ℕ) (cost : List ℕ) (r : ReadAnswer) where
+  -- The demands were read: the answer of what comes after them, with them, is that of the whole from the demands on.
   pub demands-answer : afterDemand m n (drop next text) ≡ answerOf text (λ a b. take (a * b) cost) r → answerFits text (λ a b. (a ≡ m) × (b ≡ n)) r →
       (afterSupply m (drop at text) ≡ answerOf text (λ a b. (take b demand, take (a * b) cost)) r) × (answerFits text (λ a b. (a ≡ m) × (1 ≤ b) × (b ≤ maxSide)) r)
   unfolding afterSupply
@@ -110,6 +111,7 @@ module _ {text : List ℕ} {at : ℕ} {demand : List ℕ} {n next : ℕ} (l : Li
   )
 
 module _ {text supply : List ℕ} {m next : ℕ} (l : ListRead (bytes "supply ") text 0 supply m next) (demand cost : List ℕ) (r : ReadAnswer) where
+  -- The supplies were read: the answer of what comes after them, with them, is that of the whole text.
   pub supplies-answer : afterSupply m (drop next text) ≡ answerOf text (λ a b. (take b demand, take (a * b) cost)) r → answerFits text (λ a b. (a ≡ m) × (1 ≤ b) × (b ≤ maxSide)) r →
       (sheetReader text ≡ sheetRead text supply demand cost r) × (readFits text r)
   supplies-answer e h = (

@@ -144,6 +144,7 @@ module _ (m : ℕ) (supply : List ℕ) where
       list-then (bytes "demand ") costRows _ costs-then t
       ∙ sym (bind-assoc (listReader (bytes "demand ")) (sheetWith supply) t (λ demand. afterDemand m (length demand) >>= λ cost. pure (demand, cost)))
 
+-- The sheet reader, one section at a time: the supplies, and then what comes after them, which needs their count alone.
 pub sheet-then : (t : List ℕ) → sheetReader t ≡ (listReader (bytes "supply ") >>= λ supply. afterSupply (length supply) >>= sheetWith supply) t
 unfolding sheetReader
 sheet-then t = list-then (bytes "supply ") _ _ (λ supply u. demands-then (length supply) supply u) t

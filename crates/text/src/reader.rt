@@ -3,16 +3,17 @@ ghost use mathlib.Core.Path.{_≡_};
 ghost use mathlib.Core.Bool.{true, false};
 ghost use Prim.Native.Nat.{_+_, _*_, _-_, _≤_, _<_};
 ghost use lib.ListN.{length, take, drop};
-ghost use Rattle.transport.specs.Limits.{maxSide, maxDigits};
+ghost use Rattle.transport.specs.Limits.{maxSide};
 ghost use Rattle.transport.specs.Text.{kindOf};
-ghost use Rattle.transport.specs.SheetText.{isDigit, word, moreDigits, number, side, sheetReader, readTests, readSheetCall};
+ghost use Rattle.transport.specs.SheetText.{word, moreDigits, number, side, sheetReader, readTests, readSheetCall};
 ghost use Rattle.transport.specs.Calls.{unless, lentAfter};
 ghost use Rattle.transport.specs.Answers.{readAnswer};
-ghost use Rattle.text.specs.Reading.{byteNext, digitNext, readingOf, placeOf, valueIs, valueSide, always, endReading};
+ghost use Rattle.text.specs.Reading.{kindNext, byteNext, digitNext, readingOf, placeOf, valueIs, valueSide, always, endReading};
 ghost use Rattle.text.specs.LinesRead.{readLines};
 ghost use Rattle.text.specs.SheetRead.{listReader, costReader, afterDemand, afterSupply};
 ghost use Rattle.text.specs.SheetAnswer.{answerOf, answerFits, sheetRead, readFits};
 ghost use Rattle.sections.specs.Front.{front};
+ghost use Rattle.sections.specs.Lines.{ending};
 ghost use Rattle.sheet.specs.Check.{sheetOf};
 use crate::Taken;
 use sections::lines;
@@ -39,10 +40,21 @@ fn kind_of(b: u8) -> ByteKind
     }
 }
 
-fn is_digit(b: u8) -> bool
-    ensures { λ r. ⌜ r ≡ isDigit b ⌝ }
+// The kind of the byte that comes next; `Other` at the end of the text.
+fn kind_at(text: &[u8], at: usize) -> ByteKind
+    ensures { λ r. ⌜ r ≡ kindNext (drop at (now (text .entry))) ⌝ }
 {
-    let kind = kind_of(b);
+    if text.len() <= at {
+        return ByteKind::Other;
+    }
+    kind_of(text[at])
+}
+
+// Whether a digit comes next.
+fn digit_at(text: &[u8], at: usize) -> bool
+    ensures { λ r. ⌜ r ≡ digitNext (drop at (now (text .entry))) ⌝ }
+{
+    let kind = kind_at(text, at);
     match kind {
         ByteKind::Digit => true,
         ByteKind::Space => false,
@@ -52,14 +64,18 @@ fn is_digit(b: u8) -> bool
     }
 }
 
-// Whether a digit comes next.
-fn digit_at(text: &[u8], at: usize) -> bool
-    ensures { λ r. ⌜ r ≡ digitNext (drop at (now (text .entry))) ⌝ }
+// Whether the end of a number comes next: a line end after the last one of its line, else a space. `left` counts as in `sections::lines`.
+fn end_at(text: &[u8], at: usize, left: usize) -> bool
+    ensures { λ r. ⌜ r ≡ byteNext (ending left) (drop at (now (text .entry))) ⌝ }
 {
-    if text.len() <= at {
-        return false;
+    let kind = kind_at(text, at);
+    match kind {
+        ByteKind::Digit => false,
+        ByteKind::Space => left != 1,
+        ByteKind::LineEnd => left == 1,
+        ByteKind::Letter => false,
+        ByteKind::Other => false,
     }
-    is_digit(text[at])
 }
 
 // Whether this byte comes next.
@@ -92,18 +108,18 @@ fn read_word(text: &[u8], at: usize, expected: &[u8]) -> Taken
     Taken::Got { value: 0, next }
 }
 
-// At most six digits more of a number that begins with the digit `first`.
-fn more_digits(text: &[u8], at: usize, first: u64) -> Taken
-    requires { ⌜ (at ≤ length (now text)) × (first < 10) ⌝ }
+// The other digits of a number that begins with the digit `first` and has at most `most` digits.
+fn more_digits(text: &[u8], at: usize, first: u64, most: usize) -> Taken
+    requires { ⌜ (at ≤ length (now text)) × (first < 10) × (1 ≤ most) × (most ≤ 19) ⌝ }
     ensures { λ r. ⌜
-        (moreDigits always (maxDigits - 1) first (drop at (now (text .entry))) ≡ readingOf (now (text .entry)) (λ v. v) r)
+        (moreDigits always (most - 1) first (drop at (now (text .entry))) ≡ readingOf (now (text .entry)) (λ v. v) r)
         × (placeOf r ≤ length (now (text .entry)))
         ⌝ }
 {
     let mut value = first;
     let mut next = at;
     let mut count: usize = 1;
-    while count < MAX_DIGITS {
+    while count < most {
         if !digit_at(text, next) {
             return Taken::Got { value, next };
         }
@@ -127,7 +143,7 @@ fn read_number(text: &[u8], at: usize) -> Taken
     if leading == 0 {
         return Taken::Got { value: 0, next };
     }
-    more_digits(text, next, leading)
+    more_digits(text, next, leading, MAX_DIGITS)
 }
 
 // A count of sources or sinks: 1 to MAX_SIDE.
@@ -156,18 +172,18 @@ fn read_side(text: &[u8], at: usize) -> Taken
     }
 }
 
-// The byte that must end a number that was read.
-fn read_end(text: &[u8], number: Taken, end: u8) -> Taken
+// The end of a number that was read.
+fn read_end(text: &[u8], number: Taken, left: usize) -> Taken
     requires { ⌜ placeOf number ≤ length (now text) ⌝ }
     ensures { λ r. ⌜
-        (endReading end (readingOf (now (text .entry)) (λ v. v) number) ≡ readingOf (now (text .entry)) (λ v. v) r)
+        (endReading (ending left) (readingOf (now (text .entry)) (λ v. v) number) ≡ readingOf (now (text .entry)) (λ v. v) r)
         × (placeOf r ≤ length (now (text .entry)))
         ⌝ }
 {
     let Taken::Got { value, next } = number else {
         return number;
     };
-    if !byte_at(text, next, end) {
+    if !end_at(text, next, left) {
         return Taken::Stuck(next);
     }
     let after = next + 1;
@@ -187,7 +203,7 @@ fn read_lines(text: &[u8], at: usize, width: usize, count: usize, list: &mut [u6
     let mut left = width;
     let mut i: usize = 0;
     while i < count {
-        let number = read_end(text, read_number(text, next), lines::ending(left));
+        let number = read_end(text, read_number(text, next), left);
         let Taken::Got { value, next: after } = number else {
             return number;
         };
@@ -215,7 +231,7 @@ fn read_list(text: &[u8], at: usize, name: &[u8], list: &mut [u64]) -> Taken
     let Taken::Got { value: _, next } = head else {
         return head;
     };
-    let count = read_end(text, read_side(text, next), b'\n');
+    let count = read_end(text, read_side(text, next), 1);
     let Taken::Got { value, next: after } = count else {
         return count;
     };

@@ -1,4 +1,6 @@
 // Writes and reads sheet texts, and prints what the calls answer.
+use transport::MAX_LANES;
+use transport::MAX_SIDE;
 use transport::MAX_TEXT;
 use transport::ReadAnswer;
 use transport::WriteAnswer;
@@ -27,9 +29,9 @@ fn print_answer(answer: ReadAnswer) {
 
 // Reads into lists with room for the largest sheet.
 fn read(text: &[u8]) {
-    let mut supply = [0u64; 32];
-    let mut demand = [0u64; 32];
-    let mut cost = [0u64; 1024];
+    let mut supply = [0u64; MAX_SIDE];
+    let mut demand = [0u64; MAX_SIDE];
+    let mut cost = [0u64; MAX_LANES];
     print_answer(text::read_sheet(text, &mut supply, &mut demand, &mut cost));
 }
 
@@ -77,9 +79,9 @@ fn main() {
     there_and_back(&[3, 4], &[5, 2], &[4, 1, 2, 6], &mut out, true);
     print(b"the longest text\n");
     there_and_back(
-        &[1000000; 32],
-        &[1000000; 32],
-        &[1000000; 1024],
+        &[1000000; MAX_SIDE],
+        &[1000000; MAX_SIDE],
+        &[1000000; MAX_LANES],
         &mut out,
         false,
     );

@@ -1,4 +1,4 @@
--- The limits of the paper, each number once. (src/lib.rt has them again as constants of the code: where the two differed, the sheet check could not be proved.)
+-- The limits, each number once. (The code has them again as constants: where the two differed, some function could not be proved.)
 use Prim.Native.Nat.{ℕ, _*_, _-_}
 
 -- Sources and sinks: 1 to 32 of each.
@@ -25,6 +25,6 @@ maxDigits = 7
 unfoldable pub maxText : ℕ
 maxText = 8732
 
--- No plan text is longer, in bytes: a line for every lane is counted. (That all fit is a theorem.)
+-- Not a limit of the paper but the length of the program's output, in bytes: no plan text is longer, with a line for every lane counted. (That is a theorem.)
 unfoldable pub maxPlanText : ℕ
 maxPlanText = 15_059

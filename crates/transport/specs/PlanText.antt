@@ -2,7 +2,7 @@
 use mathlib.Core.Bool.{not, cond}
 use mathlib.Core.List.{List, [], _∷_, _++_, flatMap}
 use mathlib.Core.Option.{none, some}
-use Prim.Native.Nat.{ℕ, suc, _+_}
+use Prim.Native.Nat.{ℕ, suc}
 use lib.Dec.{eqb}
 use lib.IntN.{ℤ}
 use lib.ListN.{length, take}
@@ -13,6 +13,7 @@ use Rattle.transport.specs.Calls.{Refusal, Answer, refused, given, unles
 use Rattle.transport.specs.Text.{bytes, wholeDigits, headLine, numberLine, rowLine}
 use Rattle.transport.specs.SheetText.{readWith}
 
+-- A price on its line.
 unfoldable pub wholeLine : ℤ → List ℕ
 wholeLine z = wholeDigits z ++ bytes "\n"
 
@@ -59,10 +60,10 @@ printed input = elim (readWith numberTests (take (suc maxText) input)) [
   | given S ↦ planText S
 ]
 
--- A text for an output of `room` bytes: all of it, or nothing where it is longer.
+-- Not of the paper: a text for an output of `room` bytes is all of it, or nothing where it is longer.
 unfoldable pub fitting : ℕ → List ℕ → List ℕ
 fitting room text = cond (tooShort room (length text)) [] text
 
--- What then stands at the front of such an output.
+-- What is put at the front of an output of `room` bytes for what stands on the standard input.
 unfoldable pub shown : List ℕ → ℕ → List ℕ
 shown input room = fitting room (printed input)

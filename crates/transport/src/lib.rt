@@ -25,6 +25,7 @@ pub const MAX_TEXT: usize = 8732;
 pub const MAX_PLAN_TEXT: usize = 15_059;
 
 // A paired amount: `q` bags and `e` marks.
+#[repr(C)]
 pub struct Pair {
     pub q: i64,
     pub e: i64,
@@ -67,6 +68,7 @@ impl Pair {
 }
 
 // A basic cell with its amount. Rows (sources) and columns (sinks) count from 0.
+#[repr(C)]
 pub struct Cell {
     pub row: usize,
     pub col: usize,
@@ -74,6 +76,7 @@ pub struct Cell {
 }
 
 // A tableau: its first `count` cells, in sheet order. A tableau that a call gives holds zeros in the rest.
+#[repr(C)]
 pub struct Tableau {
     pub cells: [Cell; MAX_CELLS],
     pub count: usize,

@@ -1,4 +1,5 @@
-// What the programs of the gate share: tableaux put together cell by cell, and printing. An output that cannot be written to is passed over: the gate then misses the lines.
+// What the programs of the gate share: tableaux put together cell by cell, and printing. An output that cannot be written to is passed over: the gate then
+// misses the lines.
 use libc::STDOUT_FILENO;
 use sections::number;
 use transport::Cell;

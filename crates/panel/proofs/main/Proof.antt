@@ -1,8 +1,7 @@
 -- What was read lies in the buffer, and what is printed fits the output.
-use mathlib.Core.Path.{_≡_, sym, ap}
-use Prim.Native.Nat.{_≤_}
+use mathlib.Core.Path.{sym}
 use native.Mathlib.Omega.{arith}
-use lib.ListN.{length, take}
+use lib.ListN.{take}
 use lib.Seq.{length-take-le}
 use Rattle.transport.specs.Limits.{maxPlanText}
 use Rattle.plan_text.specs.Longest.{printed-length}

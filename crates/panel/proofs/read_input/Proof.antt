@@ -1,13 +1,12 @@
 -- The loop's invariant: what was read lies in the buffer. What is left of the buffer falls in each turn.
 use mathlib.Core.Path.{_≡_, _∙_}
-use Prim.Native.Nat.{_≤_, _<_, _+_, _-_, _^_}
+use Prim.Native.Nat.{_≤_, _<_, _-_, _^_}
 use native.Mathlib.Omega.{arith}
 use borrow.Author.Needs.{needs}
 use borrow.Rule.Slice.PartMut.{putMid, same-len-mid, mid-len}
-use lib.Dec.{T}
 use lib.IntN.{natAbs}
 use lib.ListN.{length}
-use lib.Signed.{mag, nonNeg}
+use lib.Signed.{mag}
 use mir.Syntax.{w64}
 use mir.Val.{toZ, ofZ}
 use Rattle.sections.specs.Whole.{not-negative}

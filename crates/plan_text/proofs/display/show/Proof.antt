@@ -1,21 +1,20 @@
 -- Each way out is a case of what the reader says of the bytes that are read.
-use mathlib.Core.Path.{_≡_, refl, sym, ap, _∙_}
-use mathlib.Core.List.{List, _++_}
-use Prim.Native.Nat.{ℕ, suc, min, _*_, _-_, _≤_}
+use mathlib.Core.Path.{_≡_, sym, _∙_}
+use mathlib.Core.List.{_++_}
+use Prim.Native.Nat.{suc, _*_, _-_, _≤_}
 use native.Mathlib.Omega.{arith}
 use native.Mathlib.Nat.{mul-le-mul}
 use lib.ListN.{length, take, drop, length-drop}
 use lib.Seq.{length-take-le}
-use Rattle.transport.specs.declared.ReadAnswer.the-variants.{Sheet, NotSheetText}
 use Rattle.transport.specs.Limits.{maxSide, maxText}
 use Rattle.transport.specs.Text.{bytes}
 use Rattle.transport.specs.SheetText.{stuck, sheetReader}
-use Rattle.transport.specs.PlanText.{printed, shown}
+use Rattle.transport.specs.PlanText.{printed}
 use Rattle.sheet.specs.Check.{sheetOf}
 use Rattle.sections.specs.Front.{front}
 use Rattle.sections.specs.Lines.{ended}
-use Rattle.text.specs.SheetAnswer.{SheetIn, sheet-in, supply-length, demand-length, cost-length, sheetRead, readFits}
-use Rattle.plan_text.specs.Shown.{answered, take-min, shown-is, printed-place, printed-sheet, read-numbers}
+use Rattle.text.specs.SheetAnswer.{SheetIn, sheet-in, supply-length, demand-length, cost-length}
+use Rattle.plan_text.specs.Shown.{sheetShown, take-min, shown-is, printed-place, printed-sheet, read-numbers}
 use borrow.Author.Needs.{needs}
 use Rattle.plan_text.proofs.display.show.Statement.{statement}
 use Rattle.plan_text.proofs.display.show.Tie as tie
@@ -52,7 +51,7 @@ module _ (c : tie.After-answer) where
   unfolding maxSide
   the-sheet = sheet-in (c .before .before .before .before .before .read-sections .ensures .0) (c .before .before .before .before .before .read-sections .ensures .1) (c .answer .given .1) (omega arith) (omega arith) (omega arith)
 
-  the-plan : printed (c .before .before .before .before .before .before .before .before .before .before .before .before .before .args .input .now) ≡ answered (sheetOf (take (c .answer .given .0 .0) (c .before .before .before .before .before .read-sections .last .1 .0)) (take (c .answer .given .0 .1 .0) (c .before .before .before .before .before .read-sections .last .1 .1 .0)) (take (c .answer .given .0 .0 * c .answer .given .0 .1 .0) (c .before .before .before .before .before .read-sections .last .1 .1 .1 .0)))
+  the-plan : printed (c .before .before .before .before .before .before .before .before .before .before .before .before .before .args .input .now) ≡ sheetShown (sheetOf (take (c .answer .given .0 .0) (c .before .before .before .before .before .read-sections .last .1 .0)) (take (c .answer .given .0 .1 .0) (c .before .before .before .before .before .read-sections .last .1 .1 .0)) (take (c .answer .given .0 .0 * c .answer .given .0 .1 .0) (c .before .before .before .before .before .read-sections .last .1 .1 .1 .0)))
   the-plan =
       let s = the-sheet in
       let m = supply-length s in

@@ -1,6 +1,5 @@
 -- Each way out is a case of write plan.
-use mathlib.Core.Path.{_≡_, sym, ap, _∙_}
-use native.Mathlib.Omega.{arith}
+use mathlib.Core.Path.{sym, ap, _∙_}
 use Rattle.transport.specs.declared.WriteAnswer.the-variants.{Refused}
 use Rattle.transport.specs.Text.{bytes}
 use Rattle.transport.specs.Sheet.{Sheet}

@@ -1,6 +1,5 @@
 -- The two cases of the definition.
-use mathlib.Core.Path.{_≡_, refl, sym}
-use Prim.Native.Nat.{_≤_}
+use mathlib.Core.Path.{refl, sym}
 use native.Mathlib.Omega.{arith}
 use native.Mathlib.Numerals.{add-one}
 use native.Mathlib.Nat.{div-le-self, mod-le}

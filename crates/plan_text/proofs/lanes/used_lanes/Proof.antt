@@ -1,12 +1,12 @@
 -- The loop's invariant: the list holds the numbers of the lanes so far.
 use borrow.Author.Needs.{needs}
 use mathlib.Core.Path.{_≡_, refl, sym, ap, _∙_}
-use Prim.Native.Nat.{_≤_, _+_, _*_, _-_}
+use Prim.Native.Nat.{_≤_, _+_, _-_}
 use native.Mathlib.Omega.{arith}
 use lib.ListN.{length}
 use Rattle.transport.specs.Limits.{maxSide}
 use Rattle.transport.specs.Lists.{at}
-use Rattle.sections.specs.Front.{front, front-nil, length-front, Begun, second-start, both-length, both-written, lent-length}
+use Rattle.sections.specs.Front.{front, front-nil, length-front, FirstWritten, second-start, both-length, both-written, lent-length}
 use Rattle.plan_text.specs.Lanes.{laneNumbers, usedNumbers, used-zero, used-one, used-most}
 use Rattle.plan_text.proofs.lanes.used_lanes.Statement.{statement}
 use Rattle.plan_text.proofs.lanes.used_lanes.Tie as tie
@@ -36,7 +36,7 @@ mul-put-lane-2 c =
 
 -- The numbers so far, and those of the next lane.
 begun : (c : tie.In-loop Inv-loop μ-loop) → let t = c .before .before .before .before .args in let l = c .before .loop in
-    Begun (usedNumbers (t .n) (t .plan .now) (l .l)) (laneNumbers (t .n) (l .l) (at (t .plan .now) (l .l))) (t .list .now) (l .list) (l .at)
+    FirstWritten (usedNumbers (t .n) (t .plan .now) (l .l)) (laneNumbers (t .n) (l .l) (at (t .plan .now) (l .l))) (t .list .now) (l .list) (l .at)
 begun c =
     let t = c .before .before .before .before .args in
     let l = c .before .loop in

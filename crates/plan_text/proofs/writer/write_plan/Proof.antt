@@ -1,13 +1,11 @@
--- Each way out is a case of the call; the text is the report of what solve found.
-use mathlib.Core.Path.{_≡_, refl, sym, ap, _∙_}
+-- Each way out is a case of the call; the sections that are written are those of what solve found.
+use mathlib.Core.Path.{_≡_, sym, ap, _∙_}
 use mathlib.Core.List.{List}
 use Prim.Native.Nat.{ℕ, _*_, _/_, _≤_}
 use native.Mathlib.Omega.{arith}
 use native.Mathlib.Nat.{mul-le-mul}
-use lib.IntN.{ℤ}
 use lib.ListN.{length, take}
 use lib.Seq.{length-take-le}
-use Rattle.transport.specs.declared.SolveAnswer.the-variants.{Solved}
 use Rattle.transport.specs.Limits.{maxSide}
 use Rattle.transport.specs.Sheet.{Sheet, sources, sinks}
 use Rattle.transport.specs.SheetLaws.{Checked, checked}
@@ -16,8 +14,8 @@ use Rattle.sheet.specs.Check.{sheetOf}
 use Rattle.sections.specs.Front.{front, front-take}
 use Rattle.sections.specs.WriteCall.{wrote-check, wrote-short, wrote-given}
 use Rattle.plan_text.specs.Lanes.{usedNumbers}
-use Rattle.plan_text.specs.Report.{reportText}
-use Rattle.plan_text.specs.Solved.{FoundPlan, found, found-report, refused-check}
+use Rattle.plan_text.specs.Sections.{planSections}
+use Rattle.plan_text.specs.Solved.{FoundPlan, found, found-sections, refused-check}
 use borrow.Author.Needs.{needs}
 use Rattle.plan_text.proofs.writer.write_plan.Statement.{statement}
 use Rattle.plan_text.proofs.writer.write_plan.Tie as tie
@@ -98,14 +96,14 @@ used-lanes-requires c κs = omega (arith, slice-aggregate-used-lanes (c .before)
 array-share-prefix-u : tie.Need-array-share-prefix-u
 array-share-prefix-u c = omega (arith, m-few (c .before .before .before .before .before))
 
-slice-aggregate-report-len : tie.Need-slice-aggregate-report-len
-slice-aggregate-report-len c = sym (length-take-le _ _ (array-share-prefix-u (c .before)))
+slice-aggregate-plan-sections-len : tie.Need-slice-aggregate-plan-sections-len
+slice-aggregate-plan-sections-len c = sym (length-take-le _ _ (array-share-prefix-u (c .before)))
 
 array-share-prefix-v : tie.Need-array-share-prefix-v
 array-share-prefix-v c = omega (arith, n-few (c .before .before .before .before .before .before))
 
-slice-aggregate-report-len-2 : tie.Need-slice-aggregate-report-len-2
-slice-aggregate-report-len-2 c = sym (length-take-le _ _ (array-share-prefix-v (c .before)))
+slice-aggregate-plan-sections-len-2 : tie.Need-slice-aggregate-plan-sections-len-2
+slice-aggregate-plan-sections-len-2 c = sym (length-take-le _ _ (array-share-prefix-v (c .before)))
 
 module _ (c : tie.After-used-lanes) where
   numbers-few : c .used-lanes .result ≤ 3072
@@ -117,28 +115,28 @@ module _ (c : tie.After-used-lanes) where
   abbrev numbers : List ℕ
   numbers = usedNumbers (length (c .before .before .before .before .before .before .before .before .before .before .before .before .before .before .before .before .before .args .demand .now)) plan (length plan)
 
-  -- If the list holds the numbers of the lanes that carry a bag, the report is the plan text.
+  -- If the list holds the numbers of the lanes that carry a bag, the sections are the plan text.
   the-text : (old : List ℕ) → c .used-lanes .result ≡ length numbers → c .used-lanes .last .1 .1 .0 ≡ front numbers old
       → planText (sheetAt (c .before .before .before .before .before .before .before .before .before .before .before .before .before .before .before .before .before))
-      ≡ reportText (record { total = total (c .before .before .before .before); rounds = made (c .before .before .before .before); lanes = c .used-lanes .result / 3 })
+      ≡ planSections (record { total = total (c .before .before .before .before); rounds = made (c .before .before .before .before); used = c .used-lanes .result / 3 })
       (take (length (c .before .before .before .before .before .before .before .before .before .before .before .before .before .before .before .before .before .args .supply .now)) (c .before .before .before .before .before .before .before .before .before .solve .last .1 .1 .1 .0))
       (take (length (c .before .before .before .before .before .before .before .before .before .before .before .before .before .before .before .before .before .args .demand .now)) (c .before .before .before .before .before .before .before .before .before .solve .last .1 .1 .1 .1 .0))
       (take (c .used-lanes .result) (c .used-lanes .last .1 .1 .0))
   unfolding sources sinks
   the-text old count holds =
       let list : take (c .used-lanes .result) (c .used-lanes .last .1 .1 .0) ≡ numbers = rw holds (front-take numbers old (c .used-lanes .result) count) in
-      found-report (plan-found (c .before .before .before .before)) ∙ (rw (list, count))
+      found-sections (plan-found (c .before .before .before .before)) ∙ (rw (list, count))
 
-array-share-prefix-list : tie.Need-array-share-prefix-list
-array-share-prefix-list c = omega (arith, numbers-few (c .before .before .before))
+array-share-prefix-numbers : tie.Need-array-share-prefix-numbers
+array-share-prefix-numbers c = omega (arith, numbers-few (c .before .before .before))
 
-slice-aggregate-report-len-3 : tie.Need-slice-aggregate-report-len-3
-slice-aggregate-report-len-3 c = sym (length-take-le _ _ (array-share-prefix-list (c .before)))
+slice-aggregate-plan-sections-len-3 : tie.Need-slice-aggregate-plan-sections-len-3
+slice-aggregate-plan-sections-len-3 c = sym (length-take-le _ _ (array-share-prefix-numbers (c .before)))
 
-report-len-requires : tie.Need-report-len-requires
+plan-sections-len-requires : tie.Need-plan-sections-len-requires
 unfolding maxSide
-report-len-requires c κs =
-    omega (arith, slice-aggregate-report-len (c .before .before), slice-aggregate-report-len-2 (c .before), slice-aggregate-report-len-3 c, m-few (c .before .before .before .before .before .before .before .before), n-few (c .before .before .before .before .before .before .before .before), numbers-few (c .before .before .before .before))
+plan-sections-len-requires c κs =
+    omega (arith, slice-aggregate-plan-sections-len (c .before .before), slice-aggregate-plan-sections-len-2 (c .before), slice-aggregate-plan-sections-len-3 c, m-few (c .before .before .before .before .before .before .before .before), n-few (c .before .before .before .before .before .before .before .before), numbers-few (c .before .before .before .before))
 
 returns : tie.Need-returns
 unfolding writePlanCall
@@ -146,28 +144,28 @@ returns c =
     let t = c .before .before .before .before .before .before .before .before .before .before .before .before .before .before .before .before .before .before .before .before .before .before .before in
     let u = c .before .before .before .before .before .before in
     let l = u .used-lanes in
-    wrote-short (sheetAt t) (planText (sheetAt t)) (t .args .out .now) (plan-found (u .before .before .before .before) .accepted) (omega (arith, c .before .report-len .ensures, ap length (the-text u _ (l .ensures .0) (l .ensures .1))))
+    wrote-short (sheetAt t) (planText (sheetAt t)) (t .args .out .now) (plan-found (u .before .before .before .before) .accepted) (omega (arith, c .before .plan-sections-len .ensures, ap length (the-text u _ (l .ensures .0) (l .ensures .1))))
 
 array-share-prefix-u-2 : tie.Need-array-share-prefix-u-2
 array-share-prefix-u-2 c = array-share-prefix-u (c .before .before .before .before .before)
 
-slice-aggregate-write-report : tie.Need-slice-aggregate-write-report
-slice-aggregate-write-report c = slice-aggregate-report-len (c .before .before .before .before .before)
+slice-aggregate-write-plan-sections : tie.Need-slice-aggregate-write-plan-sections
+slice-aggregate-write-plan-sections c = slice-aggregate-plan-sections-len (c .before .before .before .before .before)
 
 array-share-prefix-v-2 : tie.Need-array-share-prefix-v-2
 array-share-prefix-v-2 c = array-share-prefix-v (c .before .before .before .before .before)
 
-slice-aggregate-write-report-2 : tie.Need-slice-aggregate-write-report-2
-slice-aggregate-write-report-2 c = slice-aggregate-report-len-2 (c .before .before .before .before .before)
+slice-aggregate-write-plan-sections-2 : tie.Need-slice-aggregate-write-plan-sections-2
+slice-aggregate-write-plan-sections-2 c = slice-aggregate-plan-sections-len-2 (c .before .before .before .before .before)
 
-array-share-prefix-list-2 : tie.Need-array-share-prefix-list-2
-array-share-prefix-list-2 c = array-share-prefix-list (c .before .before .before .before .before)
+array-share-prefix-numbers-2 : tie.Need-array-share-prefix-numbers-2
+array-share-prefix-numbers-2 c = array-share-prefix-numbers (c .before .before .before .before .before)
 
-slice-aggregate-write-report-3 : tie.Need-slice-aggregate-write-report-3
-slice-aggregate-write-report-3 c = slice-aggregate-report-len-3 (c .before .before .before .before .before)
+slice-aggregate-write-plan-sections-3 : tie.Need-slice-aggregate-write-plan-sections-3
+slice-aggregate-write-plan-sections-3 c = slice-aggregate-plan-sections-len-3 (c .before .before .before .before .before)
 
-write-report-requires : tie.Need-write-report-requires
-write-report-requires c κs = search needs
+write-plan-sections-requires : tie.Need-write-plan-sections-requires
+write-plan-sections-requires c κs = search needs
 
 returns-2 : tie.Need-returns-2
 unfolding writePlanCall maxSide
@@ -183,10 +181,10 @@ unfolding writePlanCall
 returns-3 c =
     let t = c .before .before .before .before .before .before .before .before .before .before .before .before .before .before .before .before .before .before .before .before .before .before .before .before .before .before .before .before .before .before in
     let u = c .before .before .before .before .before .before .before .before .before .before .before .before .before in
-    let w = c .before .before .write-report in
+    let w = c .before .before .write-plan-sections in
     let text = the-text u _ (u .used-lanes .ensures .0) (u .used-lanes .ensures .1) in
     rw (w .ensures .0, w .ensures .1, ← text)
-    (wrote-given (sheetAt t) (planText (sheetAt t)) (t .args .out .now) (plan-found (u .before .before .before .before) .accepted) (omega (arith, c .before .before .before .before .before .before .before .before .report-len .ensures, ap length text, c .before .before .before .before .before .before .before .if1 .left)))
+    (wrote-given (sheetAt t) (planText (sheetAt t)) (t .args .out .now) (plan-found (u .before .before .before .before) .accepted) (omega (arith, c .before .before .before .before .before .before .before .before .plan-sections-len .ensures, ap length text, c .before .before .before .before .before .before .before .if1 .left)))
 
 pub write-plan-spec : {M : Type 1} → statement M
 write-plan-spec =
@@ -204,20 +202,20 @@ write-plan-spec =
     slice-aggregate-used-lanes-2
     used-lanes-requires
     array-share-prefix-u
-    slice-aggregate-report-len
+    slice-aggregate-plan-sections-len
     array-share-prefix-v
-    slice-aggregate-report-len-2
-    array-share-prefix-list
-    slice-aggregate-report-len-3
-    report-len-requires
+    slice-aggregate-plan-sections-len-2
+    array-share-prefix-numbers
+    slice-aggregate-plan-sections-len-3
+    plan-sections-len-requires
     returns
     array-share-prefix-u-2
-    slice-aggregate-write-report
+    slice-aggregate-write-plan-sections
     array-share-prefix-v-2
-    slice-aggregate-write-report-2
-    array-share-prefix-list-2
-    slice-aggregate-write-report-3
-    write-report-requires
+    slice-aggregate-write-plan-sections-2
+    array-share-prefix-numbers-2
+    slice-aggregate-write-plan-sections-3
+    write-plan-sections-requires
     returns-2
     same-length
     returns-3)

@@ -12,8 +12,8 @@ settle-lanes-requires c κs =
     let a = c .before .before .before .before in
     finished-start (a .before .before .before .pre .0 .2) (a .tight-lanes .ensures)
 
-write-plan-requires : tie.Need-write-plan-requires
-write-plan-requires c κs =
+store-plan-requires : tie.Need-store-plan-requires
+store-plan-requires c κs =
     let b = c .before .before in
     let a = b .before .before .before .before .before in
     let s = a .before .before .before in
@@ -28,9 +28,9 @@ returns : tie.Need-returns
 returns c = λ S T f.
     let b = c .before .before .before .before .before in
     let a = b .before .before .before .before .before in
-    settled-written f (a .tight-lanes .ensures) (b .settle-lanes .ensures) (c .before .before .write-plan .ensures)
+    settled-written f (a .tight-lanes .ensures) (b .settle-lanes .ensures) (c .before .before .store-plan .ensures)
 
 pub settle-board-spec : {M : Type 1} → statement M
 settle-board-spec =
     tie.close
-    (tie.spec tight-lanes-requires settle-lanes-requires write-plan-requires same-length returns)
+    (tie.spec tight-lanes-requires settle-lanes-requires store-plan-requires same-length returns)

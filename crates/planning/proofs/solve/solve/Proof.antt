@@ -1,11 +1,12 @@
 -- `planning::solve::solve` meets its contract: each way out is a case of the call.
 use mathlib.Core.Path.{_≡_, sym, _∙_}
 use mathlib.Core.Option.{none}
+use Prim.Native.Nat.{_*_, _≤_}
 use native.Mathlib.Omega.{arith}
+use lib.ListN.{length}
 use borrow.Author.Needs.{needs}
 use Rattle.transport.specs.Sheet.{Sheet, sources, sinks, refusal, sheetTests}
 use Rattle.transport.specs.SheetLaws.{checked}
-use Rattle.transport.specs.CallLaws.{rooms-iff}
 use Rattle.basis.specs.Layout.{stride-is}
 use Rattle.sheet.specs.Check.{sheetOf, accepted-none, refused-some}
 use Rattle.simplex.specs.Corner.{checked-costless}
@@ -33,9 +34,9 @@ enum-told c = search needs
 accepted : (c : tie.After-enum-told) → refusal (sheetTests (sheetAt (c .before .before .before .before .before .before .before))) ≡ none
 accepted c = accepted-none _ (sym (c .before .before .check-sheet .ensures) ∙ c .enum-told .given .1)
 
-lacks-room-requires : tie.Need-lacks-room-requires
+lacking-room-requires : tie.Need-lacking-room-requires
 unfolding sources sinks
-lacks-room-requires c κs =
+lacking-room-requires c κs =
     let S = sheetAt (c .before .before .before .before .before .before .before) in
     let ok = checked S (accepted c) in
     (omega (arith, stride-is, ok .sourcesHigh), omega (arith, stride-is, ok .sinksHigh))
@@ -44,7 +45,11 @@ returns-2 : tie.Need-returns-2
 unfolding sources sinks
 returns-2 c =
     let a = c .before .before in
-    told-all (told-refused (solve-short (sheetAt (a .before .before .before .before .before .before .before)) _ _ _ (accepted a) (sym (c .before .lacks-room .ensures) ∙ c .if1 .taken)))
+    told-all (told-refused (solve-short (sheetAt (a .before .before .before .before .before .before .before)) _ _ _ (accepted a) (omega arith)))
+
+-- The next needs hold also where lists that lack nothing are refused.
+rooms : (c : tie.Else1) → let a = c .before .before .before .before .before .before .before .before .before .args in (length (a .supply .now) ≤ length (a .u .now)) × (length (a .demand .now) ≤ length (a .v .now)) × (length (a .supply .now) * length (a .demand .now) ≤ length (a .plan .now))
+rooms c = (omega arith, omega arith, omega arith)
 
 first-tableau-requires : tie.Need-first-tableau-requires
 first-tableau-requires c κs =
@@ -66,7 +71,7 @@ solve-on-requires c κs =
     let l = f .before in
     let a = l .before .before in
     let S = sheetAt (a .before .before .before .before .before .before .before) in
-    ((S, first-dealt (checked S (accepted a)) (f .first-tableau .ensures) (d .spread .ensures)), rooms-iff _ _ _ _ _ _ .0 (sym (l .before .lacks-room .ensures) ∙ l .if1 .left))
+    ((S, first-dealt (checked S (accepted a)) (f .first-tableau .ensures) (d .spread .ensures)), rooms l)
 
 same-length : tie.Need-same-length
 same-length c = search needs
@@ -87,7 +92,7 @@ returns-3 c =
     let a = l .before .before in
     let S = sheetAt (a .before .before .before .before .before .before .before) in
     let dealt = first-dealt (checked S (accepted a)) (f .first-tableau .ensures) (d .spread .ensures) in
-    told-all (told-by (solve-given S _ _ _ (accepted a) (sym (l .before .lacks-room .ensures) ∙ l .if1 .left)) (o .solve-on .ensures S dealt))
+    told-all (told-by (solve-given S _ _ _ (accepted a) (rooms l)) (o .solve-on .ensures S dealt))
 
 pub solve-spec : {M : Type 1} → statement M
 solve-spec =
@@ -97,7 +102,7 @@ solve-spec =
     enum-known-check
     returns
     enum-told
-    lacks-room-requires
+    lacking-room-requires
     returns-2
     first-tableau-requires
     spread-requires

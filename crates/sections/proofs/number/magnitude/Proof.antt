@@ -1,7 +1,7 @@
 -- −1 − z is in range for every negative z, the least one too, and one less than its magnitude.
 use mathlib.Core.Path.{_≡_}
 use mathlib.Core.Bool.{true}
-use Prim.Native.Nat.{_<_, _^_, _-_}
+use Prim.Native.Nat.{_<_, _^_}
 use native.Mathlib.Omega.{arith}
 use lib.IntN.{pos}
 use lib.Signed.{ltZ, mag}

@@ -1,7 +1,7 @@
 -- A negative number is its minus, and then its magnitude in what is left of the output.
 use mathlib.Core.Path.{_≡_, refl, sym, ap, _∙_}
 use mathlib.Core.List.{[], _∷_}
-use Prim.Native.Nat.{_<_, _≤_, _^_, _+_, _-_}
+use Prim.Native.Nat.{_<_, _≤_, _^_, _+_}
 use native.Mathlib.Omega.{arith}
 use lib.IntN.{natAbs}
 use borrow.Rule.Slice.PartMut.{same-len-mid}

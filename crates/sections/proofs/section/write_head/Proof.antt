@@ -1,6 +1,6 @@
 -- The name, and then the count in what is left of the output.
 use native.Mathlib.Omega.{arith}
-use Rattle.sections.specs.Front.{Begun, first-room, second-start, second-room, both-length, both-written}
+use Rattle.sections.specs.Front.{FirstWritten, first-room, second-start, second-room, both-length, both-written}
 use Rattle.sections.specs.Lines.{ended}
 use borrow.Author.Needs.{needs}
 use Rattle.sections.proofs.section.write_head.Statement.{statement}
@@ -12,7 +12,7 @@ write-bytes-requires c κs =
     first-room (t .args .name .now) (ended (t .args .count) 10) (t .args .out .now) (t .pre)
 
 begun : (c : tie.After-write-bytes) → let t = c .before .before .before .before in
-    Begun (t .args .name .now) (ended (t .args .count) 10) (t .args .out .now) (c .write-bytes .last .1 .0) (c .write-bytes .result)
+    FirstWritten (t .args .name .now) (ended (t .args .count) 10) (t .args .out .now) (c .write-bytes .last .1 .0) (c .write-bytes .result)
 begun c = record { room = c .before .before .before .before .pre; ends = c .write-bytes .ensures .0; holds = c .write-bytes .ensures .1 }
 
 sub-write-ended : tie.Need-sub-write-ended

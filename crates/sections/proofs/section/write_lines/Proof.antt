@@ -1,13 +1,13 @@
 -- The loop's invariant: the output holds the first `at` bytes of the lines, and the bytes after them are the lines of the numbers left.
 use borrow.Author.Needs.{needs}
 use mathlib.Core.Path.{_≡_, refl, sym, ap, _∙_}
-use mathlib.Core.List.{_++_}
-use Prim.Native.Nat.{_≤_, _+_, _-_}
+use mathlib.Core.List.{List, _++_}
+use Prim.Native.Nat.{ℕ, _≤_, _+_, _-_}
 use native.Mathlib.Omega.{arith}
-use borrow.Rule.Slice.PartMut.{putMid}
+use borrow.Rule.Slice.PartMut.{midOf}
 use lib.ListN.{length, take, drop, getD, length-drop, length-take}
 use lib.Seq.{take-all}
-use Rattle.sections.specs.Front.{front, front-nil, length-front, piece-room, drop-piece, room-piece, write-piece}
+use Rattle.sections.specs.Front.{front, front-nil, length-front, FirstWritten, second-room, both-length, both-written, piece-room, take-piece, drop-piece, piece-next}
 use Rattle.sections.specs.Lines.{linesFrom, leftAfter, ending, ended, left-pos, lines-next, lines-end}
 use Rattle.sections.proofs.section.write_lines.Statement.{statement}
 use Rattle.sections.proofs.section.write_lines.Tie as tie
@@ -42,28 +42,31 @@ part-write-ended-start c = omega (arith, c .before .before .before .before .befo
 part-write-ended-end : tie.Need-part-write-ended-end Inv-loop μ-loop
 part-write-ended-end c = search needs
 
-write-ended-requires : tie.Need-write-ended-requires Inv-loop μ-loop
-write-ended-requires c κs =
-    let l = c .before .before .before .before .loop in
-    let a = c .before .before .before .before .before .before .before .args in
-    let T = linesFrom (a .width) (a .width) (a .numbers .now) in
-    let piece = ended (getD (a .numbers .now) (l .i) 0) (ending (l .left)) in
-    let rest = linesFrom (a .width) (leftAfter (a .width) (l .left)) (drop (l .i + 1) (a .numbers .now)) in
-    let e = next (c .before .before .before) in
-    rw (c .before .before .ending .ensures) (room-piece T (l .at) piece rest (l .inv .3) e (a .out .now) (l .out) (l .inv .5) (c .before .before .before .before .before .before .before .pre .1))
+-- The bytes so far, and the next number.
+begun : (c : tie.In-loop Inv-loop μ-loop) → let a = c .before .before .before .before .args in let l = c .before .loop in
+    FirstWritten (take (l .at) (linesFrom (a .width) (a .width) (a .numbers .now))) (ended (getD (a .numbers .now) (l .i) 0) (ending (l .left))) (a .out .now) (l .out) (l .at)
+begun c =
+    let a = c .before .before .before .before .args in
+    let l = c .before .loop in
+    piece-next (linesFrom (a .width) (a .width) (a .numbers .now)) (l .at) _ _ (l .inv .3) (next c) (a .out .now) (l .out) (c .before .before .before .before .pre .1) (l .inv .5)
 
-written : (c : tie.After-slice-known2 Inv-loop μ-loop) → c .before .before .write-ended .result ≡ length (ended (getD (c .before .before .before .before .before .before .before .before .before .before .args .numbers .now) (c .before .before .before .before .before .before .before .loop .i) 0) (ending (c .before .before .before .before .before .before .before .loop .left)))
-written c = c .before .before .write-ended .ensures .0 ∙ (rw (c .before .before .before .before .before .ending .ensures))
+write-ended-requires : tie.Need-write-ended-requires Inv-loop μ-loop
+write-ended-requires c κs = rw (c .before .before .ending .ensures) (second-room (begun (c .before .before .before)))
+
+module _ (c : tie.After-write-ended Inv-loop μ-loop) where
+  abbrev piece : List ℕ
+  piece = ended (getD (c .before .before .before .before .before .before .before .before .args .numbers .now) (c .before .before .before .before .before .loop .i) 0) (ending (c .before .before .before .before .before .loop .left))
+
+  written : c .write-ended .result ≡ length piece
+  written = c .write-ended .ensures .0 ∙ (rw (c .before .before .before .ending .ensures))
+
+  held : c .write-ended .last .1 .1 .0 ≡ front piece (midOf (c .before .before .before .before .before .loop .at) (length (c .before .before .before .before .before .loop .out) - c .before .before .before .before .before .loop .at) (c .before .before .before .before .before .loop .out))
+  held = c .write-ended .ensures .1 ∙ (rw (c .before .before .before .ending .ensures))
 
 add-at : tie.Need-add-at Inv-loop μ-loop
 add-at c =
-    let l = c .before .before .before .before .before .before .before .loop in
-    let a = c .before .before .before .before .before .before .before .before .before .before .args in
-    let T = linesFrom (a .width) (a .width) (a .numbers .now) in
-    let piece = ended (getD (a .numbers .now) (l .i) 0) (ending (l .left)) in
-    let rest = linesFrom (a .width) (leftAfter (a .width) (l .left)) (drop (l .i + 1) (a .numbers .now)) in
-    let e = next (c .before .before .before .before .before .before) in
-    omega (arith, written c, piece-room T (l .at) piece rest (l .inv .3) e, c .before .before .before .before .before .before .before .before .before .before .pre .1)
+    let b = begun (c .before .before .before .before .before .before) in
+    omega (arith, b .room, both-length b _ (written (c .before .before)))
 
 left-after-requires : tie.Need-left-after-requires Inv-loop μ-loop
 left-after-requires c κs = c .before .before .before .before .before .before .before .loop .inv .1
@@ -76,20 +79,22 @@ loop-less c = search needs
 
 loop-again : tie.Need-loop-again Inv-loop μ-loop
 loop-again c =
-    let l = c .before .before .before .before .before .before .before .before .loop in
     let a = c .before .before .before .before .before .before .before .before .before .before .before .args in
+    let l = c .before .before .before .before .before .before .before .before .loop in
     let T = linesFrom (a .width) (a .width) (a .numbers .now) in
-    let piece = ended (getD (a .numbers .now) (l .i) 0) (ending (l .left)) in
-    let rest = linesFrom (a .width) (leftAfter (a .width) (l .left)) (drop (l .i + 1) (a .numbers .now)) in
+    let b = begun (c .before .before .before .before .before .before .before) in
+    let w = written (c .before .before .before) in
     let e = next (c .before .before .before .before .before .before .before) in
-    let w = written (c .before) in
-    let out : putMid (l .at) (length (l .out) - l .at) (l .out) (c .before .before .before .write-ended .last .1 .1 .0) ≡ front (take (l .at + c .before .before .before .write-ended .result) T) (a .out .now) = rw (c .before .before .before .write-ended .ensures .1, c .before .before .before .before .before .before .ending .ensures, w) (write-piece T (l .at) piece rest (l .inv .3) e (a .out .now) (l .out) (l .inv .5)) in (
+    let out = both-written b _ (held (c .before .before .before)) in
+    let P = piece (c .before .before .before) in
+    let R = linesFrom (a .width) (leftAfter (a .width) (l .left)) (drop (l .i + 1) (a .numbers .now)) in
+    let wrote = rw (← take-piece T (l .at) P R (l .inv .3) e, ← w) at out in (
       omega arith,
       rw (c .left-after .ensures) (left-pos (a .width) (l .left) (c .before .before .before .before .before .before .before .before .before .before .before .pre .0) (l .inv .1)),
-      ap length out ∙ length-front (take (l .at + c .before .before .before .write-ended .result) T) (a .out .now) (omega (arith, length-take (l .at + c .before .before .before .write-ended .result) T, c .before .before .before .before .before .before .before .before .before .before .before .pre .1)),
-      omega (arith, w, piece-room T (l .at) piece rest (l .inv .3) e),
-      rw (w, c .left-after .ensures) (drop-piece T (l .at) piece rest (l .inv .3) e),
-      out,
+      ap length out ∙ length-front _ _ (b .room),
+      omega (arith, w, piece-room T (l .at) P R (l .inv .3) e),
+      rw (w, c .left-after .ensures) (drop-piece T (l .at) P R (l .inv .3) e),
+      wrote,
     )
 
 same-length : tie.Need-same-length Inv-loop μ-loop

@@ -1,7 +1,7 @@
 -- The head line, and then the lines in what is left of the output.
 use mathlib.Core.List.{_++_}
 use native.Mathlib.Omega.{arith}
-use Rattle.sections.specs.Front.{Begun, first-room, second-start, second-room, both-length, both-written}
+use Rattle.sections.specs.Front.{FirstWritten, first-room, second-start, second-room, both-length, both-written}
 use Rattle.sections.specs.Lines.{ended, linesFrom, sectionText}
 use borrow.Author.Needs.{needs}
 use Rattle.sections.proofs.section.write_section.Statement.{statement}
@@ -14,7 +14,7 @@ write-head-requires c κs =
     first-room (t .args .name .now ++ ended (t .args .count) 10) (linesFrom (t .args .width) (t .args .width) (t .args .numbers .now)) (t .args .out .now) (t .pre .1)
 
 begun : (c : tie.After-write-head) → let t = c .before .before .before .before .before in
-    Begun (t .args .name .now ++ ended (t .args .count) 10) (linesFrom (t .args .width) (t .args .width) (t .args .numbers .now)) (t .args .out .now) (c .write-head .last .1 .1 .0) (c .write-head .result)
+    FirstWritten (t .args .name .now ++ ended (t .args .count) 10) (linesFrom (t .args .width) (t .args .width) (t .args .numbers .now)) (t .args .out .now) (c .write-head .last .1 .1 .0) (c .write-head .result)
 unfolding sectionText
 begun c = record { room = c .before .before .before .before .before .pre .1; ends = c .write-head .ensures .0; holds = c .write-head .ensures .1 }
 

@@ -2,15 +2,15 @@
 use borrow.Author.Needs.{needs}
 use borrow.Rule.Slice.PartMut.{midOf}
 use mathlib.Core.Path.{_≡_, refl, sym, ap, _∙_}
-use mathlib.Core.List.{List, _++_, flatMap}
-use Prim.Native.Nat.{_≤_, _<_, _+_, _-_, _^_}
+use mathlib.Core.List.{flatMap}
+use Prim.Native.Nat.{_≤_, _+_, _-_}
 use native.Mathlib.Omega.{arith}
 use lib.IntN.{pos}
 use lib.ListN.{length, take, getD}
 use mir.Syntax.{w64}
 use mir.Val.{toZ, ofZ}
 use Rattle.transport.specs.PlanText.{wholeLine}
-use Rattle.sections.specs.Front.{front, front-nil, length-front, Begun, second-start, second-room, both-length, both-written, pieces-next, pieces-within, pieces-end}
+use Rattle.sections.specs.Front.{front, front-nil, length-front, FirstWritten, second-start, second-room, both-length, both-written, pieces-next, pieces-within, pieces-end}
 use Rattle.sections.specs.Whole.{bits-back}
 use Rattle.sections.proofs.wholes.write_whole_lines.Statement.{statement}
 use Rattle.sections.proofs.wholes.write_whole_lines.Tie as tie
@@ -33,7 +33,7 @@ shared-slice-copy-out-write-whole-line c = search needs
 
 -- The lines so far, and the next one.
 begun : (c : tie.In-loop Inv-loop μ-loop) → let t = c .before .before .before in let l = c .before .loop in
-    Begun (flatMap wholeLine (take (l .i) (t .args .wholes .now))) (wholeLine (getD (t .args .wholes .now) (l .i) (pos 0))) (t .args .out .now) (l .out) (l .at)
+    FirstWritten (flatMap wholeLine (take (l .i) (t .args .wholes .now))) (wholeLine (getD (t .args .wholes .now) (l .i) (pos 0))) (t .args .out .now) (l .out) (l .at)
 begun c =
     let t = c .before .before .before in
     let l = c .before .loop in

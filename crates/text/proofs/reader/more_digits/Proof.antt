@@ -5,20 +5,18 @@ use Prim.Native.Nat.{_≤_, _<_, _+_, _*_, _-_, _^_, suc}
 use native.Mathlib.Omega.{arith}
 use borrow.Author.Tests.{not-true, not-false}
 use lib.ListN.{length, drop, getD}
-use Rattle.transport.specs.Limits.{maxDigits}
 use Rattle.transport.specs.SheetText.{moreDigits}
 use Rattle.text.specs.Reading.{always, DigitAt, digit-at, more-none, more-stop, more-step, value-next, value-fits}
 use Rattle.text.proofs.reader.more_digits.Statement.{statement}
 use Rattle.text.proofs.reader.more_digits.Tie as tie
 
 abbrev Inv-loop : tie.InvT-loop
-Inv-loop text at first value₀ next₀ count₀ value next count = (count ≤ maxDigits) × (value < 10 ^ count) × (next ≤ length text) × (moreDigits always (maxDigits - 1) first (drop at text) ≡ moreDigits always (maxDigits - count) value (drop next text))
+Inv-loop text at first most value₀ next₀ count₀ value next count = (count ≤ most) × (value < 10 ^ count) × (next ≤ length text) × (moreDigits always (most - 1) first (drop at text) ≡ moreDigits always (most - count) value (drop next text))
 
 abbrev μ-loop : tie.MeasureT-loop
-μ-loop text at first value₀ next₀ count₀ value next count = maxDigits - count
+μ-loop text at first most value₀ next₀ count₀ value next count = most - count
 
 loop-holds : tie.Need-loop-holds Inv-loop μ-loop
-unfolding maxDigits
 loop-holds c = (omega arith, omega arith, c .before .pre .0, refl)
 
 digit-at-requires : tie.Need-digit-at-requires Inv-loop μ-loop
@@ -27,7 +25,7 @@ digit-at-requires c κs = search needs
 returns : tie.Need-returns Inv-loop μ-loop
 returns c =
     let l = c .before .before .before .loop in
-    (l .inv .3 ∙ more-stop always (l .value) (maxDigits - l .count) _ (sym (c .before .digit-at .ensures) ∙ not-true _ (c .if1 .taken)), l .inv .2)
+    (l .inv .3 ∙ more-stop always (l .value) (c .before .before .before .before .before .args .most - l .count) _ (sym (c .before .digit-at .ensures) ∙ not-true _ (c .if1 .taken)), l .inv .2)
 
 digit : (c : tie.Else1 Inv-loop μ-loop) → DigitAt (c .before .before .before .before .before .args .text .now) (c .before .before .before .loop .next)
 digit c = digit-at _ _ (sym (c .before .digit-at .ensures) ∙ not-false _ (c .if1 .left))
@@ -35,12 +33,10 @@ digit c = digit-at _ _ (sym (c .before .digit-at .ensures) ∙ not-false _ (c .i
 value-after : (c : tie.Else1 Inv-loop μ-loop) → c .before .before .before .loop .value * 10 + (getD (c .before .before .before .before .before .args .text .now) (c .before .before .before .loop .next) 0 - 48) < 10 ^ (c .before .before .before .loop .count + 1)
 value-after c = value-next _ _ (c .before .before .before .loop .count) (c .before .before .before .loop .inv .1) (omega (arith, digit c .high))
 
-small : (c : tie.Else1 Inv-loop μ-loop) → c .before .before .before .loop .value * 10 + (getD (c .before .before .before .before .before .args .text .now) (c .before .before .before .loop .next) 0 - 48) < 10 ^ maxDigits
-unfolding maxDigits
+small : (c : tie.Else1 Inv-loop μ-loop) → c .before .before .before .loop .value * 10 + (getD (c .before .before .before .before .before .args .text .now) (c .before .before .before .loop .next) 0 - 48) < 10 ^ 19
 small c = value-fits _ (c .before .before .before .loop .count + 1) (value-after c) (omega arith)
 
 mul-value : tie.Need-mul-value Inv-loop μ-loop
-unfolding maxDigits
 mul-value c = omega (arith, small c)
 
 shared-slice-read-value : tie.Need-shared-slice-read-value Inv-loop μ-loop
@@ -50,11 +46,9 @@ sub-value : tie.Need-sub-value Inv-loop μ-loop
 sub-value c = digit (c .before) .low
 
 cast-value : tie.Need-cast-value Inv-loop μ-loop
-unfolding maxDigits
 cast-value c = omega (arith, small (c .before))
 
 add-value : tie.Need-add-value Inv-loop μ-loop
-unfolding maxDigits
 add-value c = omega (arith, small (c .before))
 
 add-next : tie.Need-add-next Inv-loop μ-loop
@@ -64,25 +58,23 @@ add-count : tie.Need-add-count Inv-loop μ-loop
 add-count c = search needs
 
 loop-less : tie.Need-loop-less Inv-loop μ-loop
-unfolding maxDigits
 loop-less c = search needs
 
 loop-again : tie.Need-loop-again Inv-loop μ-loop
-unfolding maxDigits
 loop-again c =
     let l = c .before .before .before .before .loop in
-    let e : maxDigits - l .count ≡ suc (maxDigits - (l .count + 1)) = omega arith in (
+    let most = c .before .before .before .before .before .before .args .most in
+    let e : most - l .count ≡ suc (most - (l .count + 1)) = omega arith in (
       omega arith,
       value-after (c .before),
       omega (arith, digit (c .before) .inside),
-      l .inv .3 ∙ (rw e (more-step always (l .value) (maxDigits - (l .count + 1)) (digit (c .before)) refl)),
+      l .inv .3 ∙ (rw e (more-step always (l .value) (most - (l .count + 1)) (digit (c .before)) refl)),
     )
 
 returns-2 : tie.Need-returns-2 Inv-loop μ-loop
-unfolding maxDigits
 returns-2 c =
     let l = c .before .loop in
-    let e : maxDigits - l .count ≡ 0 = omega arith in
+    let e : c .before .before .before .args .most - l .count ≡ 0 = omega arith in
     (l .inv .3 ∙ (rw e (more-none always (l .value) _)), l .inv .2)
 
 pub more-digits-spec : {M : Type 1} → statement M

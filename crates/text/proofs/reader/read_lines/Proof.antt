@@ -28,11 +28,8 @@ loop-holds c =
 read-number-requires : tie.Need-read-number-requires Inv-loop μ-loop
 read-number-requires c κs = c .before .loop .inv .3
 
-ending-requires : tie.Need-ending-requires Inv-loop μ-loop
-ending-requires c κs = search needs
-
 read-end-requires : tie.Need-read-end-requires Inv-loop μ-loop
-read-end-requires c κs = c .before .read-number .ensures .1
+read-end-requires c κs = c .read-number .ensures .1
 
 enum-known-number : tie.Need-enum-known-number Inv-loop μ-loop
 enum-known-number c = search needs
@@ -43,14 +40,14 @@ enum-told c = search needs
 same-length : tie.Need-same-length Inv-loop μ-loop
 same-length c = search needs
 
-found : (c : tie.After-read-end Inv-loop μ-loop) → endReading (ending (c .before .before .before .before .loop .left)) (number (drop (c .before .before .before .before .loop .next) (c .before .before .before .before .before .before .before .args .text .now))) ≡ readingOf (c .before .before .before .before .before .before .before .args .text .now) (λ v. v) (c .read-end .result)
-found c = rw (c .before .before .read-number .ensures .0, ← c .before .ending .ensures) (c .read-end .ensures .0)
+found : (c : tie.After-read-end Inv-loop μ-loop) → endReading (ending (c .before .before .before .loop .left)) (number (drop (c .before .before .before .loop .next) (c .before .before .before .before .before .before .args .text .now))) ≡ readingOf (c .before .before .before .before .before .before .args .text .now) (λ v. v) (c .read-end .result)
+found c = rw (c .before .read-number .ensures .0) (c .read-end .ensures .0)
 
 returns : tie.Need-returns Inv-loop μ-loop
 returns c =
     let t = c .before .before in
-    let l = c .before .before .before .before .before .before .loop in
-    let a = c .before .before .before .before .before .before .before .before .before .args in
+    let l = c .before .before .before .before .before .loop in
+    let a = c .before .before .before .before .before .before .before .before .args in
     let stopped = c .enum-told .given .1 in
     let e : a .count - l .i ≡ suc (a .count - (l .i + 1)) = omega arith in
     let n : endReading (ending (l .left)) (number (drop (l .next) (a .text .now))) ≡ stuck (drop (c .enum-told .given .0 .0) (a .text .now)) = found t ∙ (rw stopped) in (
@@ -77,13 +74,13 @@ loop-less c = search needs
 loop-again : tie.Need-loop-again Inv-loop μ-loop
 loop-again c =
     let t = c .before .before .before .before in
-    let l = c .before .before .before .before .before .before .before .before .loop in
-    let a = c .before .before .before .before .before .before .before .before .before .before .before .args in
+    let l = c .before .before .before .before .before .before .before .loop in
+    let a = c .before .before .before .before .before .before .before .before .before .before .args in
     let g = c .before .before .number .given in
     let e : a .count - l .i ≡ suc (a .count - (l .i + 1)) = omega arith in
     let n : endReading (ending (l .left)) (number (drop (l .next) (a .text .now))) ≡ got (g .0 .0) (drop (g .0 .1 .0) (a .text .now)) = found t ∙ (rw (g .1)) in (
       omega arith,
-      rw (c .left-after .ensures) (left-pos (a .width) (l .left) (c .before .before .before .before .before .before .before .before .before .before .before .pre .1) (l .inv .1)),
+      rw (c .left-after .ensures) (left-pos (a .width) (l .left) (c .before .before .before .before .before .before .before .before .before .before .pre .1) (l .inv .1)),
       simp length-set (l .inv .2),
       rw (g .1) at (t .read-end .ensures .1),
       l .inv .4
@@ -109,7 +106,6 @@ read-lines-spec =
     μ-loop
     loop-holds
     read-number-requires
-    ending-requires
     read-end-requires
     enum-known-number
     enum-told

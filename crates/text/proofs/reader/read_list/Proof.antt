@@ -6,6 +6,7 @@ use lib.ListN.{length, drop}
 use Rattle.transport.specs.SheetText.{got, word, line, side}
 use Rattle.transport.specs.Limits.{maxSide}
 use Rattle.transport.specs.SheetLaws.{within-true}
+use Rattle.sections.specs.Lines.{ending-last}
 use Rattle.text.specs.Reading.{readingOf, side-value, line-end, line-side-within}
 use Rattle.text.specs.SheetRead.{list-unnamed, list-uncounted, list-counted}
 use borrow.Author.Needs.{needs}
@@ -51,7 +52,7 @@ enum-told-2 : tie.Need-enum-told-2
 enum-told-2 c = search needs
 
 counted : (c : tie.After-read-end) → line side (drop (next (c .before .before)) (c .before .before .before .before .before .before .before .before .before .args .text .now)) ≡ readingOf (c .before .before .before .before .before .before .before .before .before .args .text .now) (λ v. v) (c .read-end .result)
-counted c = line-end side _ ∙ (rw (c .before .read-side .ensures .0) (c .read-end .ensures .0))
+counted c = line-end side _ ∙ (rw (← ending-last, c .before .read-side .ensures .0) (c .read-end .ensures .0))
 
 returns-2 : tie.Need-returns-2
 returns-2 c =

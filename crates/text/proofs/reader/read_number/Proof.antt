@@ -2,6 +2,7 @@
 use mathlib.Core.Path.{sym, _∙_}
 use native.Mathlib.Omega.{arith}
 use borrow.Author.Tests.{not-true, not-false}
+use Rattle.transport.specs.Limits.{maxDigits}
 use Rattle.text.specs.Reading.{DigitAt, digit-at, number-stuck, number-zero, number-more}
 use borrow.Author.Needs.{needs}
 use Rattle.text.proofs.reader.read_number.Statement.{statement}
@@ -32,9 +33,10 @@ returns-2 : tie.Need-returns-2
 returns-2 c = let d = digit (c .before .before) in (number-zero d (c .if2 .taken), omega arith)
 
 more-digits-requires : tie.Need-more-digits-requires
-more-digits-requires c κs = let d = digit (c .before .before) in (omega arith, omega arith)
+more-digits-requires c κs = let d = digit (c .before .before) in (omega arith, omega arith, omega arith, omega arith)
 
 returns-3 : tie.Need-returns-3
+unfolding maxDigits
 returns-3 c = (number-more (digit (c .before .before .before)) (c .before .if2 .left) ∙ c .more-digits .ensures .0, c .more-digits .ensures .1)
 
 pub read-number-spec : {M : Type 1} → statement M

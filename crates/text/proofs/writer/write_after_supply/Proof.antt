@@ -1,9 +1,8 @@
 -- The demands, and then the costs in what is left of the output.
-use mathlib.Core.List.{_++_}
 use native.Mathlib.Omega.{arith}
 use lib.ListN.{length}
 use Rattle.transport.specs.Text.{bytes}
-use Rattle.sections.specs.Front.{Begun, first-room, second-start, second-room, both-length, both-written}
+use Rattle.sections.specs.Front.{FirstWritten, first-room, second-start, second-room, both-length, both-written}
 use Rattle.text.specs.SheetSections.{demandSection, costSection}
 use borrow.Author.Needs.{needs}
 use Rattle.text.proofs.writer.write_after_supply.Statement.{statement}
@@ -19,7 +18,7 @@ write-section-requires c κs =
     (omega arith, first-room (demandSection (t .args .demand .now)) (costSection (t .args .m) (length (t .args .demand .now)) (t .args .cost .now)) (t .args .out .now) (t .pre .1))
 
 begun : (c : tie.After-write-section) → let t = c .before .before .before .before .before .before in
-    Begun (demandSection (t .args .demand .now)) (costSection (t .args .m) (length (t .args .demand .now)) (t .args .cost .now)) (t .args .out .now) (c .write-section .last .1 .1 .1 .1 .0) (c .write-section .result)
+    FirstWritten (demandSection (t .args .demand .now)) (costSection (t .args .m) (length (t .args .demand .now)) (t .args .cost .now)) (t .args .out .now) (c .write-section .last .1 .1 .1 .1 .0) (c .write-section .result)
 unfolding bytes
 begun c = record { room = c .before .before .before .before .before .before .pre .1; ends = c .write-section .ensures .0; holds = c .write-section .ensures .1 }
 

@@ -9,7 +9,7 @@ use Rattle.transport.specs.Sheet.{Sheet}
 use Rattle.transport.specs.SheetText.{sheetText}
 use Rattle.sheet.specs.Check.{sheetOf}
 use Rattle.sheet.specs.Refusals.{sinks-some, costs-whole}
-use Rattle.sections.specs.Front.{Begun, first-room, second-start, second-room, both-length, both-written}
+use Rattle.sections.specs.Front.{FirstWritten, first-room, second-start, second-room, both-length, both-written}
 use Rattle.text.specs.SheetSections.{supplySection, demandSection, costSection, sheet-sections}
 use borrow.Author.Needs.{needs}
 use Rattle.text.proofs.writer.write_text.Statement.{statement}
@@ -38,7 +38,7 @@ write-section-requires c κs =
     (omega arith, first-room (supplySection (t .args .supply .now)) (others t) (t .args .out .now) (room t))
 
 begun : (c : tie.After-write-section) → let t = c .before .before .before .before .before .before .before in
-    Begun (supplySection (t .args .supply .now)) (others t) (t .args .out .now) (c .write-section .last .1 .1 .1 .1 .0) (c .write-section .result)
+    FirstWritten (supplySection (t .args .supply .now)) (others t) (t .args .out .now) (c .write-section .last .1 .1 .1 .1 .0) (c .write-section .result)
 unfolding bytes
 begun c = record { room = room (c .before .before .before .before .before .before .before); ends = c .write-section .ensures .0; holds = c .write-section .ensures .1 }
 

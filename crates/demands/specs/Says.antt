@@ -1,0 +1,149 @@
+-- What the answer of each call says is what the paper's call gives. A contract settles the declared answer by `..Answer`, and each lent list by `lentAfter`, of the paper's
+-- call; read back by `..Says` they give that call again, on any sheet, tableau, text and lent lists: nothing that the paper's call gives is lost or taken for another thing.
+-- The idea: a test refuses by a number alone, and a text that is no sheet text by 9 with its place, which the answer holds; and what is given stands in front, a tableau's
+-- cells in its array, as many as it counts, prices, plan, sheet and text in their lists, as many as m, n, m × n or the length in the answer.
+use mathlib.Core.Path.{_≡_, refl, ap, sym, _∙_}
+use mathlib.Core.Bool.{Bool, true, false}
+use mathlib.Core.Option.{Option, none, some}
+use mathlib.Core.List.{List, _++_}
+use Prim.Native.Nat.{ℕ, _*_}
+use lib.IntN.{ℤ}
+use lib.ListN.{length, take}
+use lib.Seq.{take-at, take-append-seam}
+use Rattle.transport.specs.declared.Cell.{Cell}
+use Rattle.transport.specs.declared.Tableau.{Tableau}
+use Rattle.transport.specs.Lists.{padded}
+use Rattle.transport.specs.ListLaws.{length-table}
+use Rattle.transport.specs.Sheet.{Sheet, sources, sinks, sheetTests, refusal}
+use Rattle.transport.specs.SheetLaws.{checked, refusal-stands}
+use Rattle.transport.specs.Tableau.{cellsOf, tableauOf, start}
+use Rattle.transport.specs.Potential.{sourcePrices, sinkPrices, isFinished}
+use Rattle.transport.specs.Round.{round, Run, run}
+use Rattle.transport.specs.Plan.{settled}
+use Rattle.transport.specs.Calls.{Answer, given, refusedBy, unless, lentAfter, tableauTests, startCall, roundCall, runCall, settleCall, solution, solveCall}
+use Rattle.transport.specs.CallLaws.{some≢none, unless-given, unless-refused, unless-given-iff}
+use Rattle.transport.specs.SheetText.{Reading, stuck, got, sheetReader, sheetText, writeSheetCall, readWith, readTests, readSheetCall}
+use Rattle.transport.specs.PlanText.{planText, writePlanCall}
+use Rattle.transport.specs.Answers.{startAnswer, startSays, prices, roundAnswer, roundSays, runOutcome, runAnswer, runSays, settleAnswer, settleSays, solveAnswer, solveSays, readAnswer, readSays, writeAnswer, writeSays}
+use Rattle.grammar.specs.Place.{reader-iff}
+use Rattle.grammar.specs.SheetCalls.{read-got, read-stuck}
+use Rattle.demands.specs.Demand3.{settled-length, solve-fills}
+use Rattle.demands.specs.Bought.{lent-filled}
+
+-- What gives each refusal by a number back, and x where it is given, gives the call back.
+module _ {A : Type 0} (says : Answer A → Answer A) (tests : List (Bool × ℕ)) (x : A) where
+  unless-says : ((k : ℕ) → says (refusedBy k) ≡ refusedBy k) → (unless tests x ≡ given x → says (given x) ≡ given x) → says (unless tests x) ≡ unless tests x
+  unless-says f g = go (refusal tests) refl
+    where
+      go : (o : Option ℕ) → refusal tests ≡ o → says (unless tests x) ≡ unless tests x
+      go none e = let h = unless-given tests x e in rw h (g h)
+      go (some k) e = rw (unless-refused tests x k e) (f k)
+
+-- ---- tableaux and prices
+
+-- The cells of a tableau's struct stand before those that have no meaning ..
+pub cells-of : (T : List Cell) → cellsOf (tableauOf T) ≡ T
+unfolding cellsOf tableauOf padded
+cells-of T = take-append-seam T _
+
+-- .. and prices before the zeros.
+prices-front : (u : List ℤ) (n : ℕ) → length u ≡ n → take n (prices u) ≡ u
+unfolding prices padded
+prices-front u n e = take-at u _ n e
+
+pub start-says : (S : Sheet) → startSays (startAnswer (startCall S)) ≡ startCall S
+unfolding startCall startAnswer startSays refusedBy
+start-says S = unless-says (λ a. startSays (startAnswer a)) (sheetTests S) (start S) (λ k. refl) (λ e. ap given (cells-of (start S)))
+
+round-back : (S : Sheet) (T : List Cell) → roundSays (sources S) (sinks S) (roundAnswer (given (round S T))) ≡ given (round S T)
+unfolding round roundAnswer roundSays sourcePrices sinkPrices
+round-back S T = go (isFinished S T) refl
+  where
+    go : (b : Bool) → isFinished S T ≡ b → roundSays (sources S) (sinks S) (roundAnswer (given (round S T))) ≡ given (round S T)
+    go true e = rw (e, round, prices-front (sourcePrices S T) (sources S) (length-table _ (sources S)), prices-front (sinkPrices S T) (sinks S) (length-table _ (sinks S)))
+    go false e = rw (e, round, cells-of)
+
+pub round-says : (S : Sheet) (t : Tableau) → roundSays (sources S) (sinks S) (roundAnswer (roundCall S t)) ≡ roundCall S t
+unfolding roundCall roundAnswer roundSays refusedBy
+round-says S t =
+    unless-says (λ a. roundSays (sources S) (sinks S) (roundAnswer a)) (tableauTests S t) (round S (cellsOf t)) (λ k. refl) (λ e. round-back S (cellsOf t))
+
+run-back : (r : Run) → runSays (runAnswer (given r)) ≡ given r
+unfolding runOutcome runAnswer runSays
+run-back r = go (r .done)
+  where
+    go : (b : Bool) → runSays (runAnswer (given (record { done = b; tableau = r .tableau; rounds = r .rounds }))) ≡ given (record { done = b; tableau = r .tableau; rounds = r .rounds })
+    go true = rw cells-of
+    go false = rw cells-of
+
+pub run-says : (S : Sheet) (t : Tableau) (allowance : ℕ) → runSays (runAnswer (runCall S t allowance)) ≡ runCall S t allowance
+unfolding runCall runAnswer runSays refusedBy
+run-says S t allowance =
+    unless-says (λ a. runSays (runAnswer a)) (tableauTests S t) (run S allowance (cellsOf t)) (λ k. refl) (λ e. run-back (run S allowance (cellsOf t)))
+
+-- ---- plans
+
+-- Where nothing is refused, none of the first tests refuses.
+refusal-front : (ts us : List (Bool × ℕ)) → refusal (ts ++ us) ≡ none → refusal ts ≡ none
+refusal-front ts us e = go (refusal ts) refl
+  where
+    go : (o : Option ℕ) → refusal ts ≡ o → refusal ts ≡ none
+    go none f = f
+    go (some k) f = absurd (some≢none (sym (refusal-stands ts us k f) ∙ e))
+
+pub settle-says : (S : Sheet) (t : Tableau) (plan : List ℕ)
+    → let a = settleCall S t (length plan) in settleSays (sources S * sinks S) (settleAnswer a) (lentAfter (λ x. x) a plan) ≡ a
+unfolding settleCall tableauTests settleAnswer settleSays refusedBy
+settle-says S t plan =
+    unless-says (λ a. settleSays (sources S * sinks S) (settleAnswer a) (lentAfter (λ x. x) a plan)) (tableauTests S t ++ _) (settled S) (λ k. refl)
+    (λ e.
+    let ok = checked S (refusal-front (sheetTests S) _ (refusal-front (tableauTests S t) _ (unless-given-iff _ (settled S) (settled S) .0 e .0))) in
+    ap given (lent-filled (λ x. x) (settled S) (sources S * sinks S) (settled-length ok) plan))
+
+pub solve-says : (S : Sheet) (u v : List ℤ) (plan : List ℕ)
+    → let a = solveCall S (length u) (length v) (length plan) in
+    solveSays (sources S) (sinks S) (solveAnswer a) (lentAfter (λ s. s .u) a u) (lentAfter (λ s. s .v) a v) (lentAfter (λ s. s .plan) a plan) ≡ a
+unfolding solveCall solveAnswer solveSays refusedBy
+solve-says S u v plan =
+    unless-says (λ a. solveSays (sources S) (sinks S) (solveAnswer a) (lentAfter (λ s. s .u) a u) (lentAfter (λ s. s .v) a v) (lentAfter (λ s. s .plan) a plan))
+    (sheetTests S ++ _) (solution S) (λ k. refl)
+    (λ e.
+    let f = solve-fills S (length u) (length v) (length plan) (solution S) e in
+    let s = solution S in
+    rw (lent-filled (λ s. s .u) s (sources S) (f .u) u, lent-filled (λ s. s .v) s (sinks S) (f .v) v, lent-filled (λ s. s .plan) s (sources S * sinks S) (f .plan) plan))
+
+-- ---- texts
+
+pub readSheet-says : (text supply demand cost : List ℕ)
+    → let a = readSheetCall text (length supply) (length demand) (length cost) in
+    readSays (readAnswer a) (lentAfter (λ S. S .supply) a supply) (lentAfter (λ S. S .demand) a demand) (lentAfter (λ S. S .cost) a cost) ≡ a
+unfolding readSheetCall readAnswer readSays refusedBy sources sinks
+readSheet-says text supply demand cost = go (sheetReader text) refl
+  where
+    tests : Sheet → List (Bool × ℕ)
+    tests = readTests (length supply) (length demand) (length cost)
+
+    says : Answer Sheet → Answer Sheet
+    says a = readSays (readAnswer a) (lentAfter (λ S. S .supply) a supply) (lentAfter (λ S. S .demand) a demand) (lentAfter (λ S. S .cost) a cost)
+
+    back : (S : Sheet) → length (S .cost) ≡ sources S * sinks S → says (given S) ≡ given S
+    back S whole =
+        rw (lent-filled (λ S. S .supply) S (sources S) refl supply, lent-filled (λ S. S .demand) S (sinks S) refl demand, lent-filled (λ S. S .cost) S (sources S * sinks S) whole cost)
+
+    go : (o : Reading Sheet) → sheetReader text ≡ o → says (readWith tests text) ≡ readWith tests text
+    go (stuck rest) e = rw (read-stuck tests text rest e)
+    go (got S rest) e = rw (read-got tests text S rest e) (unless-says says (tests S) S (λ k. refl) (λ g. back S (reader-iff text S rest .0 e .1 .sheet .lengths)))
+
+-- A text, unless a test refuses.
+written-says : (tests : List (Bool × ℕ)) (text out : List ℕ) → let a = unless tests text in writeSays (writeAnswer a) (lentAfter (λ t. t) a out) ≡ a
+unfolding writeAnswer writeSays refusedBy
+written-says tests text out =
+    unless-says (λ a. writeSays (writeAnswer a) (lentAfter (λ t. t) a out)) tests text (λ k. refl) (λ e. ap given (lent-filled (λ t. t) text (length text) refl out))
+
+pub writeSheet-says : (S : Sheet) (out : List ℕ) → let a = writeSheetCall S (length out) in writeSays (writeAnswer a) (lentAfter (λ t. t) a out) ≡ a
+unfolding writeSheetCall
+writeSheet-says S out = written-says (sheetTests S ++ _) (sheetText S) out
+
+pub writePlan-says : (S : Sheet) (out : List ℕ) → let a = writePlanCall S (length out) in writeSays (writeAnswer a) (lentAfter (λ t. t) a out) ≡ a
+unfolding writePlanCall
+writePlan-says S out = written-says (sheetTests S ++ _) (planText S) out

@@ -1,0 +1,70 @@
+-- Each way out is a case of the answer.
+use mathlib.Core.Path.{sym, ap, _∙_}
+use lib.ListN.{length}
+use Rattle.transport.specs.Sheet.{Sheet}
+use Rattle.sheet.specs.Check.{sheetOf}
+use Rattle.transport.specs.Calls.{solveCall}
+use Rattle.exports.specs.Crossing.{solvedAs, solved-is}
+use borrow.Author.Needs.{needs}
+use Rattle.exports.proofs.panel_solve.Statement.{statement}
+use Rattle.exports.proofs.panel_solve.Tie as tie
+
+solve-requires : tie.Need-solve-requires
+solve-requires c κs = search needs
+
+enum-known-answer : tie.Need-enum-known-answer
+enum-known-answer c = search needs
+
+enum-known-answer-2 : tie.Need-enum-known-answer-2
+enum-known-answer-2 c = search needs
+
+same-length : tie.Need-same-length
+same-length c = search needs
+
+same-length-2 : tie.Need-same-length-2
+same-length-2 c = search needs
+
+same-length-3 : tie.Need-same-length-3
+same-length-3 c = search needs
+
+abbrev sheetAt : (t : tie.Start) → Sheet
+sheetAt t = sheetOf (t .args .supply .now) (t .args .demand .now) (t .args .cost .now)
+
+returns : tie.Need-returns
+returns c =
+    let t = c .before .before .before .before .before .before .before .before .before .before .before .before .before .before .before in
+    let e = c .before .before .before .before .before .before .before .solve .ensures in
+    let a = solveCall (sheetAt t) (length (t .args .u .now)) (length (t .args .v .now)) (length (t .args .plan .now)) in
+    (ap solvedAs (sym (c .before .answer .given .1) ∙ e .0) ∙ solved-is a, e .1 .0, e .1 .1 .0, e .1 .1 .1 .0)
+
+same-length-4 : tie.Need-same-length-4
+same-length-4 c = search needs
+
+same-length-5 : tie.Need-same-length-5
+same-length-5 c = search needs
+
+same-length-6 : tie.Need-same-length-6
+same-length-6 c = search needs
+
+returns-2 : tie.Need-returns-2
+returns-2 c =
+    let t = c .before .before .before .before .before .before .before .before .before .before .before .before .before .before .before in
+    let e = c .before .before .before .before .before .before .before .solve .ensures in
+    let a = solveCall (sheetAt t) (length (t .args .u .now)) (length (t .args .v .now)) (length (t .args .plan .now)) in
+    (ap solvedAs (sym (c .before .answer2 .given .1) ∙ e .0) ∙ solved-is a, e .1 .0, e .1 .1 .0, e .1 .1 .1 .0)
+
+pub panel-solve-spec : {M : Type 1} → statement M
+panel-solve-spec =
+    tie.close
+    (tie.spec
+    solve-requires
+    enum-known-answer
+    enum-known-answer-2
+    same-length
+    same-length-2
+    same-length-3
+    returns
+    same-length-4
+    same-length-5
+    same-length-6
+    returns-2)

@@ -1,0 +1,70 @@
+-- The prices of the sources, and then those of the sinks in what is left of the output.
+use native.Mathlib.Omega.{arith}
+use Rattle.transport.specs.Text.{bytes}
+use Rattle.sections.specs.Front.{FirstWritten, first-room, second-start, second-room, both-length, both-written}
+use Rattle.sections.specs.Wholes.{wholeSection}
+use Rattle.plan_text.specs.Sections.{pricesText}
+use borrow.Author.Needs.{needs}
+use Rattle.plan_text.proofs.plan_sections.write_price_sections.Statement.{statement}
+use Rattle.plan_text.proofs.plan_sections.write_price_sections.Tie as tie
+
+slice-aggregate-write-whole-section : tie.Need-slice-aggregate-write-whole-section
+slice-aggregate-write-whole-section c = search needs
+
+write-whole-section-requires : tie.Need-write-whole-section-requires
+unfolding pricesText bytes
+write-whole-section-requires c κs =
+    let t = c .before .before .before in
+    first-room (wholeSection (bytes "roasteries ") (t .args .u .now)) (wholeSection (bytes "cafes ") (t .args .v .now)) (t .args .out .now) (t .pre)
+
+slice-aggregate-write-whole-section-2 : tie.Need-slice-aggregate-write-whole-section-2
+slice-aggregate-write-whole-section-2 c = search needs
+
+begun : (c : tie.After-write-whole-section) → let t = c .before .before .before .before in
+    FirstWritten (wholeSection (bytes "roasteries ") (t .args .u .now)) (wholeSection (bytes "cafes ") (t .args .v .now)) (t .args .out .now) (c .write-whole-section .last .1 .1 .0) (c .write-whole-section .result)
+unfolding pricesText bytes
+begun c = record { room = c .before .before .before .before .pre; ends = c .write-whole-section .ensures .0; holds = c .write-whole-section .ensures .1 }
+
+sub-write-whole-section : tie.Need-sub-write-whole-section
+sub-write-whole-section c = second-start (begun (c .before .before .before))
+
+part-write-whole-section-start : tie.Need-part-write-whole-section-start
+part-write-whole-section-start c = second-start (begun (c .before .before .before))
+
+part-write-whole-section-end : tie.Need-part-write-whole-section-end
+part-write-whole-section-end c = search needs
+
+write-whole-section-requires-2 : tie.Need-write-whole-section-requires-2
+unfolding pricesText bytes
+write-whole-section-requires-2 c κs = second-room (begun (c .before .before .before .before))
+
+add-result : tie.Need-add-result
+unfolding pricesText bytes
+add-result c =
+    let b = begun (c .before .before .before .before .before .before .before) in
+    omega (arith, b .room, both-length b _ (c .before .before .write-whole-section2 .ensures .0))
+
+same-length : tie.Need-same-length
+same-length c = search needs
+
+returns : tie.Need-returns
+unfolding pricesText bytes
+returns c =
+    let b = begun (c .before .before .before .before .before .before .before) in
+    let w = c .before .before .write-whole-section2 in
+    (both-length b _ (w .ensures .0), both-written b _ (w .ensures .1))
+
+pub write-price-sections-spec : {M : Type 1} → statement M
+write-price-sections-spec =
+    tie.close
+    (tie.spec
+    slice-aggregate-write-whole-section
+    write-whole-section-requires
+    slice-aggregate-write-whole-section-2
+    sub-write-whole-section
+    part-write-whole-section-start
+    part-write-whole-section-end
+    write-whole-section-requires-2
+    add-result
+    same-length
+    returns)

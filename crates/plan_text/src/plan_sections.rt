@@ -1,0 +1,83 @@
+// The plan text from its figures: five sections, each written in what the sections before it left of the output.
+ghost use mathlib.Core.Path.{_≡_};
+ghost use mathlib.Core.List.{_++_};
+ghost use Prim.Native.Nat.{_*_, _≤_};
+ghost use lib.ListN.{length};
+ghost use Rattle.transport.specs.Limits.{maxSide};
+ghost use Rattle.sections.specs.Front.{front};
+ghost use Rattle.plan_text.specs.Sections.{figuresText, pricesText, lanesText, planSections};
+use sections::section;
+use sections::wholes;
+
+// What the plan text shows in one number each: the cost, the rounds, and the count of the lanes that carry a bag.
+pub struct Figures {
+    pub total: u64,
+    pub rounds: u64,
+    pub used: usize,
+}
+
+// The cost and the rounds.
+fn write_figures(figures: Figures, out: &mut [u8]) -> usize
+    requires { ⌜ length (figuresText figures) ≤ length (now out) ⌝ }
+    ensures { λ r. ⌜ (r ≡ length (figuresText figures)) × (now (out .exit) ≡ front (figuresText figures) (now (out .entry))) ⌝ }
+{
+    let total = [figures.total];
+    let rounds = [figures.rounds];
+    let at = section::write_section(b"total ", 1, 1, &total, out);
+    at + section::write_section(b"rounds ", 1, 1, &rounds, &mut out[at..])
+}
+
+// The prices: those of the roasteries, and those of the cafés.
+fn write_price_sections(u: &[i64], v: &[i64], out: &mut [u8]) -> usize
+    requires { ⌜ length (pricesText (now u) (now v)) ≤ length (now out) ⌝ }
+    ensures { λ r.
+        let text = pricesText (now (u .entry)) (now (v .entry)) in
+        ⌜ (r ≡ length text) × (now (out .exit) ≡ front text (now (out .entry))) ⌝ }
+{
+    let at = wholes::write_whole_section(b"roasteries ", u, out);
+    at + wholes::write_whole_section(b"cafes ", v, &mut out[at..])
+}
+
+// The sections after the figures: the prices, and the lanes, three numbers in a line.
+fn write_after_figures(count: usize, u: &[i64], v: &[i64], numbers: &[u64], out: &mut [u8]) -> usize
+    requires { ⌜ length (pricesText (now u) (now v) ++ lanesText count (now numbers)) ≤ length (now out) ⌝ }
+    ensures { λ r.
+        let text = pricesText (now (u .entry)) (now (v .entry)) ++ lanesText count (now (numbers .entry)) in
+        ⌜ (r ≡ length text) × (now (out .exit) ≡ front text (now (out .entry))) ⌝ }
+{
+    let at = write_price_sections(u, v, out);
+    at + section::write_section(b"lanes ", count, 3, numbers, &mut out[at..])
+}
+
+// The whole text.
+pub(crate) fn write_plan_sections(
+    figures: Figures,
+    u: &[i64],
+    v: &[i64],
+    numbers: &[u64],
+    out: &mut [u8],
+) -> usize
+    requires { ⌜ length (planSections figures (now u) (now v) (now numbers)) ≤ length (now out) ⌝ }
+    ensures { λ r.
+        let text = planSections figures (now (u .entry)) (now (v .entry)) (now (numbers .entry)) in
+        ⌜ (r ≡ length text) × (now (out .exit) ≡ front text (now (out .entry))) ⌝ }
+{
+    let at = write_figures(figures, out);
+    let count = figures.used;
+    at + write_after_figures(count, u, v, numbers, &mut out[at..])
+}
+
+// Its length.
+pub(crate) fn plan_sections_len(figures: Figures, u: &[i64], v: &[i64], numbers: &[u64]) -> usize
+    requires { ⌜ (length (now u) ≤ maxSide) × (length (now v) ≤ maxSide) × (length (now numbers) ≤ maxSide * maxSide * 3) ⌝ }
+    ensures { λ r. ⌜ r ≡ length (planSections figures (now (u .entry)) (now (v .entry)) (now (numbers .entry))) ⌝ }
+{
+    let total = [figures.total];
+    let rounds = [figures.rounds];
+    let count = figures.used;
+    section::section_len(b"total ", 1, &total)
+        + section::section_len(b"rounds ", 1, &rounds)
+        + wholes::whole_section_len(b"roasteries ", u)
+        + wholes::whole_section_len(b"cafes ", v)
+        + section::section_len(b"lanes ", count, numbers)
+}
