@@ -1,0 +1,80 @@
+use crate::MAX_SIDE;
+use std::fmt;
+
+/// Why a call refuses.
+#[derive(Clone, Copy, Debug, PartialEq, Eq)]
+pub enum Refusal {
+    /// 1: no roastery or café, or more than 32.
+    Sides,
+    /// 2: the costs are not as many as the lanes.
+    CostCount,
+    /// 3: a supply or demand is outside 1 to 1,000,000.
+    Amount,
+    /// 4: a cost is above 1,000,000.
+    Cost,
+    /// 5: total supply differs from total demand.
+    Unbalanced,
+    /// 6: the tableau does not belong to the sheet.
+    ForeignTableau,
+    /// 7: the tableau is not finished.
+    Unfinished,
+    /// 8: a lent list or output is too short.
+    Room,
+    /// 9: the text is not a sheet text.
+    NotSheetText {
+        /// How many bytes at its front some sheet text also has.
+        place: usize,
+    },
+}
+
+impl Refusal {
+    /// The number of the refusal, 1 to 9.
+    pub fn number(self) -> u8 {
+        match self {
+            Refusal::Sides => 1,
+            Refusal::CostCount => 2,
+            Refusal::Amount => 3,
+            Refusal::Cost => 4,
+            Refusal::Unbalanced => 5,
+            Refusal::ForeignTableau => 6,
+            Refusal::Unfinished => 7,
+            Refusal::Room => 8,
+            Refusal::NotSheetText { .. } => 9,
+        }
+    }
+
+    /// What a result with this refusal says; the place is for 9.
+    pub(crate) fn check(number: u8, place: usize) -> Result<(), Refusal> {
+        Err(match number {
+            0 => return Ok(()),
+            1 => Refusal::Sides,
+            2 => Refusal::CostCount,
+            3 => Refusal::Amount,
+            4 => Refusal::Cost,
+            5 => Refusal::Unbalanced,
+            6 => Refusal::ForeignTableau,
+            7 => Refusal::Unfinished,
+            8 => Refusal::Room,
+            9 => Refusal::NotSheetText { place },
+            _ => unreachable!("no call refuses with {number}"),
+        })
+    }
+}
+
+impl fmt::Display for Refusal {
+    fn fmt(&self, f: &mut fmt::Formatter<'_>) -> fmt::Result {
+        match self {
+            Refusal::Sides => write!(f, "no roastery or café, or more than {MAX_SIDE}"),
+            Refusal::CostCount => write!(f, "the costs are not as many as the lanes"),
+            Refusal::Amount => write!(f, "a supply or demand is outside 1 to 1,000,000"),
+            Refusal::Cost => write!(f, "a cost is above 1,000,000"),
+            Refusal::Unbalanced => write!(f, "total supply differs from total demand"),
+            Refusal::ForeignTableau => write!(f, "the tableau does not belong to the sheet"),
+            Refusal::Unfinished => write!(f, "the tableau is not finished"),
+            Refusal::Room => write!(f, "a lent list or output is too short"),
+            Refusal::NotSheetText { place } => write!(f, "not a sheet text, at place {place}"),
+        }
+    }
+}
+
+impl std::error::Error for Refusal {}

@@ -1,0 +1,118 @@
+/* Holds each call to the stack that docs/EMBEDDING.md tells. A call runs on a thread whose stack was filled with a mark; what is no longer the mark was used.
+ * The count is with the call's arguments and result, and without what an empty thread uses. */
+#define _XOPEN_SOURCE 700
+#include "panel.h"
+
+#include <pthread.h>
+#include <stdio.h>
+#include <stdlib.h>
+#include <string.h>
+
+enum { STACK = 1 << 20, TOLD = 96 << 10, MARK = 0x5a, SIDE = PANEL_MAX_SIDE, LANES = SIDE * SIDE, SHEET_TEXT = 8732, PLAN_TEXT = 15059 };
+
+static uint64_t supply[SIDE], demand[SIDE], cost[LANES], plan[LANES];
+static int64_t u[SIDE], v[SIDE];
+static uint8_t sheet_text[SHEET_TEXT], plan_text[PLAN_TEXT];
+static size_t sheet_length;
+static struct panel_tableau first, last;
+static int refusal;
+
+#define SHEET supply, SIDE, demand, SIDE, cost, LANES
+
+static void nothing(void) { refusal = 0; }
+
+static void start(void) {
+    struct panel_start_result r = panel_start(SHEET);
+    refusal = r.refusal;
+    first = r.tableau;
+}
+
+static void round_(void) { refusal = panel_round(SHEET, first).refusal; }
+
+static void run(void) {
+    struct panel_run_result r = panel_run(SHEET, first, UINT32_MAX);
+    refusal = r.refusal;
+    last = r.tableau;
+}
+
+static void settle(void) { refusal = panel_settle(SHEET, last, plan, LANES); }
+
+static void solve(void) { refusal = panel_solve(SHEET, u, SIDE, v, SIDE, plan, LANES).refusal; }
+
+static void write_sheet(void) {
+    struct panel_write_result r = panel_write_sheet(SHEET, sheet_text, SHEET_TEXT);
+    refusal = r.refusal;
+    sheet_length = r.length;
+}
+
+static void read_sheet(void) { refusal = panel_read_sheet(sheet_text, sheet_length, supply, SIDE, demand, SIDE, cost, LANES).refusal; }
+
+static void write_plan(void) { refusal = panel_write_plan(SHEET, plan_text, PLAN_TEXT).refusal; }
+
+/* In an order in which each has what it needs. */
+static const struct {
+    const char *name;
+    void (*make)(void);
+} calls[] = {
+    {"start", start}, {"round", round_},           {"run", run},               {"settle", settle},
+    {"solve", solve}, {"write sheet", write_sheet}, {"read sheet", read_sheet}, {"write plan", write_plan},
+};
+enum { CALLS = sizeof calls / sizeof *calls };
+
+static void (*to_make)(void);
+
+static void *thread(void *unused) {
+    to_make();
+    return unused;
+}
+
+static size_t stack_of(void (*make)(void)) {
+    static unsigned char *stack;
+    if (stack == NULL && posix_memalign((void **)&stack, 4096, STACK) != 0) abort();
+    memset(stack, MARK, STACK);
+    pthread_attr_t attr;
+    pthread_t id;
+    to_make = make;
+    if (pthread_attr_init(&attr) != 0 || pthread_attr_setstack(&attr, stack, STACK) != 0) abort();
+    if (pthread_create(&id, &attr, thread, NULL) != 0 || pthread_join(id, NULL) != 0) abort();
+    pthread_attr_destroy(&attr);
+    size_t kept = 0;
+    while (stack[kept] == MARK) kept++;
+    return STACK - kept;
+}
+
+/* The largest sheet, with costs up to `top` and bags up to `bags`. */
+static void make_sheet(uint64_t top, uint64_t bags) {
+    uint32_t seed = 1;
+    for (size_t k = 0; k < LANES; k++) {
+        seed = seed * 1664525u + 1013904223u;
+        cost[k] = (seed >> 8) % (top + 1);
+    }
+    for (size_t k = 0; k < SIDE; k++) {
+        seed = seed * 1664525u + 1013904223u;
+        supply[k] = demand[SIDE - 1 - k] = 1 + (seed >> 8) % bags;
+    }
+}
+
+int main(void) {
+    static const uint64_t tops[] = {1000000, 1000, 3, 0}, bags[] = {1000000, 1000, 5, 1};
+    size_t most[CALLS] = {0};
+    int failed = 0;
+    for (size_t s = 0; s < sizeof tops / sizeof *tops; s++) {
+        make_sheet(tops[s], bags[s]);
+        size_t empty = stack_of(nothing);
+        for (size_t k = 0; k < CALLS; k++) {
+            size_t used = stack_of(calls[k].make) - empty;
+            if (used > most[k]) most[k] = used;
+            if (refusal != 0) {
+                printf("%s: refused %d\n", calls[k].name, refusal);
+                failed = 1;
+            }
+        }
+    }
+    for (size_t k = 0; k < CALLS; k++) {
+        printf("stack of %s: %zu bytes\n", calls[k].name, most[k]);
+        if (most[k] > TOLD) failed = 1;
+    }
+    return failed;
+}
