@@ -1,5 +1,5 @@
-// Round on a tableau that is lent as a list of its cells. The borrow checker does not cover a lent list of structs, so the two functions that take one are proved
-// by hand: the loop is thin, and all work is done by functions that take structs by value.
+// Round on a tableau that is lent as a list of its cells. The borrow checker does not cover a lent list of structs, so the two functions that take one are
+// proved by hand: the loop is thin, and all work is done by functions that take structs by value.
 use simplex::round;
 use simplex::tableau;
 use transport::Cell;
@@ -47,10 +47,12 @@ fn add_cells(t: Tableau, cells: &[Cell]) -> Tableau
     u
 }
 
-// Round, given the tableau as the list of its cells. Sheet check, then 6 if they are not those of a tableau that belongs to the sheet: also for another count or
-// order of cells, or a cell off the sheet.
+// Round, given the tableau as the list of its cells. Sheet check, then 6 if they are not those of a tableau that belongs to the sheet: also for another
+// count or order of cells, or a cell off the sheet.
 pub fn round_cells(supply: &[u64], demand: &[u64], cost: &[u64], cells: &[Cell]) -> RoundAnswer
-    ensures { λ r. ⌜ r ≡ roundAnswer (roundCall (sheetOf (now (supply .entry)) (now (demand .entry)) (now (cost .entry))) (lentTableau (now (cells .entry)))) ⌝ }
+    ensures { λ r.
+        let S = sheetOf (now (supply .entry)) (now (demand .entry)) (now (cost .entry)) in
+        ⌜ r ≡ roundAnswer (roundCall S (lentTableau (now (cells .entry)))) ⌝ }
 {
     round::round(
         supply,
