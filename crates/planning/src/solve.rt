@@ -31,7 +31,8 @@ fn lacking(len: usize, count: usize) -> usize
     if len < count { count - len } else { 0 }
 }
 
-// How many places lists of these lengths lack for m prices, for n prices, and for m × n quantities.
+// How many places lists of these lengths lack for m prices, for n prices, and for m × n quantities. They are counted where a test would do, so that a program
+// that refuses every sheet is one comparison away in `solve`, and the contract of `solve` is what shuts it out.
 fn lacking_room(u: usize, v: usize, plan: usize, m: usize, n: usize) -> usize
     requires { ⌜ (m ≤ stride) × (n ≤ stride) ⌝ }
     ensures { λ r. ⌜ r ≡ (m - u) + (n - v) + (m * n - plan) ⌝ }
