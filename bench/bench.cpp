@@ -55,7 +55,7 @@ static void compare(const char* name, size_t side, uint64_t bags, uint64_t top) 
         runs = std::min(runs, microseconds([&] {
             for (auto& s : all) {
                 panel_tableau first = panel_start(s.supply.data(), side, s.demand.data(), side, s.cost.data(), s.cost.size()).tableau;
-                rounds += panel_run(s.supply.data(), side, s.demand.data(), side, s.cost.data(), s.cost.size(), first, UINT32_MAX).rounds;
+                rounds += panel_run(s.supply.data(), side, s.demand.data(), side, s.cost.data(), s.cost.size(), first.cells, first.count, UINT32_MAX).rounds;
             }
         }));
         total = 0;

@@ -43,7 +43,8 @@ struct panel_cell {
     struct panel_pair amount;
 };
 
-/* The first `count` cells, in sheet order; a tableau that a call gives holds zeros in the rest. */
+/* A tableau that a call gives: its first `count` cells, in sheet order; the rest are zeros. A call takes a tableau as a list of cells, which may be of any
+ * length and have any cells: where they are not those of a tableau that belongs to the sheet, it refuses with 6. */
 struct panel_tableau {
     struct panel_cell cells[PANEL_MAX_CELLS];
     size_t count;
@@ -91,15 +92,15 @@ struct panel_start_result panel_start(const uint64_t *supply, size_t m, const ui
 
 /* One round. */
 struct panel_round_result panel_round(const uint64_t *supply, size_t m, const uint64_t *demand, size_t n, const uint64_t *cost, size_t lanes,
-                                      struct panel_tableau tableau);
+                                      const struct panel_cell *cells, size_t count);
 
 /* At most so many rounds: finished, or spent after just so many. */
 struct panel_run_result panel_run(const uint64_t *supply, size_t m, const uint64_t *demand, size_t n, const uint64_t *cost, size_t lanes,
-                                  struct panel_tableau tableau, uint32_t allowance);
+                                  const struct panel_cell *cells, size_t count, uint32_t allowance);
 
 /* The settled plan of a finished tableau: m × n quantities at the front of `plan`. */
-uint8_t panel_settle(const uint64_t *supply, size_t m, const uint64_t *demand, size_t n, const uint64_t *cost, size_t lanes, struct panel_tableau tableau,
-                     uint64_t *plan, size_t plan_room);
+uint8_t panel_settle(const uint64_t *supply, size_t m, const uint64_t *demand, size_t n, const uint64_t *cost, size_t lanes,
+                     const struct panel_cell *cells, size_t count, uint64_t *plan, size_t plan_room);
 
 /* The cheapest plan: m and n prices and m × n quantities at the fronts of u, v and plan. */
 struct panel_solve_result panel_solve(const uint64_t *supply, size_t m, const uint64_t *demand, size_t n, const uint64_t *cost, size_t lanes, int64_t *u,

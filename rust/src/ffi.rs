@@ -3,7 +3,7 @@
 //! They ask that every pointer and length are those of a list that may be read, and written where the pointer is `*mut`; that the pointer is aligned and
 //! not null; and that no list that is written overlaps another. A slice's pointer and length are such, also when it is empty, and what a `&mut` slice lends
 //! overlaps nothing else.
-use crate::{Tableau, MAX_SIDE};
+use crate::{Cell, Tableau, MAX_SIDE};
 
 #[repr(C)]
 pub struct StartResult {
@@ -57,17 +57,17 @@ extern "C" {
 
     pub fn panel_round(
         supply: *const u64, m: usize, demand: *const u64, n: usize, cost: *const u64, lanes: usize,
-        tableau: Tableau,
+        cells: *const Cell, count: usize,
     ) -> RoundResult;
 
     pub fn panel_run(
         supply: *const u64, m: usize, demand: *const u64, n: usize, cost: *const u64, lanes: usize,
-        tableau: Tableau, allowance: u32,
+        cells: *const Cell, count: usize, allowance: u32,
     ) -> RunResult;
 
     pub fn panel_settle(
         supply: *const u64, m: usize, demand: *const u64, n: usize, cost: *const u64, lanes: usize,
-        tableau: Tableau, plan: *mut u64, plan_room: usize,
+        cells: *const Cell, count: usize, plan: *mut u64, plan_room: usize,
     ) -> u8;
 
     pub fn panel_solve(

@@ -14,8 +14,10 @@
 
 mod ffi;
 mod refusal;
+mod tableau;
 
 pub use refusal::Refusal;
+pub use tableau::{Cell, Pair, Tableau};
 
 /// The most roasteries, and the most cafés, of a sheet.
 pub const MAX_SIDE: usize = 32;
@@ -27,52 +29,6 @@ pub const MAX_CELLS: usize = 2 * MAX_SIDE - 1;
 pub const MAX_SHEET_TEXT: usize = 8_732;
 /// No plan text is longer, in bytes.
 pub const MAX_PLAN_TEXT: usize = 15_059;
-
-/// A paired amount: `q` bags and `e` marks. Pairs compare by `q` first.
-#[repr(C)]
-#[derive(Clone, Copy, Debug, Default, PartialEq, Eq, PartialOrd, Ord)]
-pub struct Pair {
-    /// Bags.
-    pub q: i64,
-    /// Marks.
-    pub e: i64,
-}
-
-/// A basic cell with its amount. Rows (roasteries) and columns (cafés) count from 0.
-#[repr(C)]
-#[derive(Clone, Copy, Debug, Default, PartialEq, Eq)]
-pub struct Cell {
-    /// The roastery.
-    pub row: usize,
-    /// The café.
-    pub col: usize,
-    /// What the cell holds.
-    pub amount: Pair,
-}
-
-/// A tableau: its first `count` cells, in sheet order. One that a call gives holds zeros in the rest.
-#[repr(C)]
-#[derive(Clone, Copy, Debug, PartialEq, Eq)]
-pub struct Tableau {
-    /// Room for the cells.
-    pub cells: [Cell; MAX_CELLS],
-    /// How many of them count. The calls refuse a count that does not fit the sheet, also one above 63.
-    pub count: usize,
-}
-
-impl Tableau {
-    /// The tableau of these cells, or none if they are more than 63.
-    pub fn new(cells: &[Cell]) -> Option<Tableau> {
-        let mut tableau = Tableau { cells: [Cell::default(); MAX_CELLS], count: cells.len() };
-        tableau.cells.get_mut(..cells.len())?.copy_from_slice(cells);
-        Some(tableau)
-    }
-
-    /// The cells that count.
-    pub fn basic(&self) -> &[Cell] {
-        &self.cells[..self.count.min(MAX_CELLS)]
-    }
-}
 
 /// What a round gives.
 #[derive(Clone, Copy, Debug, PartialEq, Eq)]
@@ -117,24 +73,26 @@ pub fn start(supply: &[u64], demand: &[u64], cost: &[u64]) -> Result<Tableau, Re
     Ok(r.tableau)
 }
 
-/// One round.
-pub fn round(supply: &[u64], demand: &[u64], cost: &[u64], tableau: &Tableau) -> Result<Round, Refusal> {
+/// One round on the tableau of these cells.
+pub fn round(supply: &[u64], demand: &[u64], cost: &[u64], cells: &[Cell]) -> Result<Round, Refusal> {
+    let (m, n, lanes) = (supply.len(), demand.len(), cost.len());
     // SAFETY: slices are what `ffi` asks for.
-    let r = unsafe { ffi::panel_round(supply.as_ptr(), supply.len(), demand.as_ptr(), demand.len(), cost.as_ptr(), cost.len(), *tableau) };
+    let r = unsafe { ffi::panel_round(supply.as_ptr(), m, demand.as_ptr(), n, cost.as_ptr(), lanes, cells.as_ptr(), cells.len()) };
     Refusal::check(r.refusal, 0)?;
     Ok(if r.finished { Round::Finished { u: r.u, v: r.v } } else { Round::Next(r.tableau) })
 }
 
-/// Rounds until the tableau is finished, but no more than `allowance`.
-pub fn run(supply: &[u64], demand: &[u64], cost: &[u64], tableau: &Tableau, allowance: u32) -> Result<Run, Refusal> {
+/// Rounds until the tableau of these cells is finished, but no more than `allowance`.
+pub fn run(supply: &[u64], demand: &[u64], cost: &[u64], cells: &[Cell], allowance: u32) -> Result<Run, Refusal> {
+    let (m, n, lanes) = (supply.len(), demand.len(), cost.len());
     // SAFETY: slices are what `ffi` asks for.
-    let r = unsafe { ffi::panel_run(supply.as_ptr(), supply.len(), demand.as_ptr(), demand.len(), cost.as_ptr(), cost.len(), *tableau, allowance) };
+    let r = unsafe { ffi::panel_run(supply.as_ptr(), m, demand.as_ptr(), n, cost.as_ptr(), lanes, cells.as_ptr(), cells.len(), allowance) };
     Refusal::check(r.refusal, 0)?;
     Ok(Run { finished: r.finished, rounds: r.rounds, tableau: r.tableau })
 }
 
-/// The settled plan of a finished tableau: m × n quantities at the front of `plan`.
-pub fn settle(supply: &[u64], demand: &[u64], cost: &[u64], tableau: &Tableau, plan: &mut [u64]) -> Result<(), Refusal> {
+/// The settled plan of the finished tableau of these cells: m × n quantities at the front of `plan`.
+pub fn settle(supply: &[u64], demand: &[u64], cost: &[u64], cells: &[Cell], plan: &mut [u64]) -> Result<(), Refusal> {
     // SAFETY: slices are what `ffi` asks for.
     let refusal = unsafe {
         ffi::panel_settle(
@@ -144,7 +102,8 @@ pub fn settle(supply: &[u64], demand: &[u64], cost: &[u64], tableau: &Tableau, p
             demand.len(),
             cost.as_ptr(),
             cost.len(),
-            *tableau,
+            cells.as_ptr(),
+            cells.len(),
             plan.as_mut_ptr(),
             plan.len(),
         )
@@ -265,20 +224,20 @@ impl Sheet {
         start(&self.supply, &self.demand, &self.cost)
     }
 
-    /// One round.
-    pub fn round(&self, tableau: &Tableau) -> Result<Round, Refusal> {
-        round(&self.supply, &self.demand, &self.cost, tableau)
+    /// One round on the tableau of these cells.
+    pub fn round(&self, cells: &[Cell]) -> Result<Round, Refusal> {
+        round(&self.supply, &self.demand, &self.cost, cells)
     }
 
-    /// Rounds until the tableau is finished, but no more than `allowance`.
-    pub fn run(&self, tableau: &Tableau, allowance: u32) -> Result<Run, Refusal> {
-        run(&self.supply, &self.demand, &self.cost, tableau, allowance)
+    /// Rounds until the tableau of these cells is finished, but no more than `allowance`.
+    pub fn run(&self, cells: &[Cell], allowance: u32) -> Result<Run, Refusal> {
+        run(&self.supply, &self.demand, &self.cost, cells, allowance)
     }
 
-    /// The settled plan of a finished tableau, in sheet order.
-    pub fn settle(&self, tableau: &Tableau) -> Result<Vec<u64>, Refusal> {
+    /// The settled plan of the finished tableau of these cells, in sheet order.
+    pub fn settle(&self, cells: &[Cell]) -> Result<Vec<u64>, Refusal> {
         let mut plan = [0; MAX_LANES];
-        settle(&self.supply, &self.demand, &self.cost, tableau, &mut plan)?;
+        settle(&self.supply, &self.demand, &self.cost, cells, &mut plan)?;
         Ok(plan[..self.cost.len()].to_vec())
     }
 

@@ -1,32 +1,29 @@
-//! Lent lists: what a call fills, what it leaves, and every refusal, in the order of paper 01.
+//! Lent lists: what a call fills, what it leaves, and every refusal, in the order of paper 01. `tableaux.rs` has 6.
+mod common;
+use common::{cell, p1, p1_last, p3, p4, p5, p6, p7, p9, sheet, MARK};
 use panel::*;
 
 const SUPPLY: [u64; 2] = [3, 4];
 const DEMAND: [u64; 2] = [5, 2];
 const COST: [u64; 4] = [4, 1, 2, 6];
-const MARK: u64 = 0x5a5a_5a5a_5a5a_5a5a;
 const SIGNED_MARK: i64 = MARK as i64;
 const MARK_BYTE: u8 = 0x5a;
 
-fn finished() -> Tableau {
-    run(&SUPPLY, &DEMAND, &COST, &start(&SUPPLY, &DEMAND, &COST).unwrap(), u32::MAX).unwrap().tableau
-}
-
-/// Makes every call that takes a sheet as lists and lends it room of all kinds; each must refuse alike and change nothing.
+/// Makes every call that takes a sheet as lists and lends it rooms that are too short, and others that are long enough; each must refuse alike and change
+/// nothing. The tableau is one of no sheet, then P1's: 6 and 8 come after the sheet check.
 fn all_refuse(supply: &[u64], demand: &[u64], cost: &[u64], refusal: Refusal) {
-    // The tableau fits no sheet, and the rooms are too short: 6 and 8 come after the sheet check.
-    let t = Tableau::new(&[]).unwrap();
-    let (mut u, mut v, mut plan, mut out) = ([SIGNED_MARK; 1], [SIGNED_MARK; 1], [MARK; 1], [MARK_BYTE; 8]);
     assert_eq!(start(supply, demand, cost), Err(refusal));
-    assert_eq!(round(supply, demand, cost, &t), Err(refusal));
-    assert_eq!(run(supply, demand, cost, &t, 1), Err(refusal));
-    assert_eq!(settle(supply, demand, cost, &t, &mut plan[..0]), Err(refusal));
-    assert_eq!(settle(supply, demand, cost, &t, &mut plan), Err(refusal));
-    assert_eq!(solve(supply, demand, cost, &mut u[..0], &mut v[..0], &mut plan[..0]), Err(refusal));
-    assert_eq!(solve(supply, demand, cost, &mut u, &mut v, &mut plan), Err(refusal));
-    assert_eq!(write_sheet(supply, demand, cost, &mut out), Err(refusal));
-    assert_eq!(write_plan(supply, demand, cost, &mut out), Err(refusal));
-    assert_eq!((u, v, plan, out), ([SIGNED_MARK; 1], [SIGNED_MARK; 1], [MARK; 1], [MARK_BYTE; 8]));
+    for (cells, room) in [(&[][..], 0), (&[], 1), (&p1_last(), 1), (&p1_last(), MAX_PLAN_TEXT)] {
+        let (mut u, mut v, mut plan, mut out) = (vec![SIGNED_MARK; room], vec![SIGNED_MARK; room], vec![MARK; room], vec![MARK_BYTE; room]);
+        assert_eq!(round(supply, demand, cost, cells), Err(refusal));
+        assert_eq!(run(supply, demand, cost, cells, 1), Err(refusal));
+        assert_eq!(settle(supply, demand, cost, cells, &mut plan), Err(refusal));
+        assert_eq!(solve(supply, demand, cost, &mut u, &mut v, &mut plan), Err(refusal));
+        assert_eq!(write_sheet(supply, demand, cost, &mut out), Err(refusal));
+        assert_eq!(write_plan(supply, demand, cost, &mut out), Err(refusal));
+        assert!(u.iter().chain(&v).all(|&price| price == SIGNED_MARK));
+        assert!(plan.iter().all(|&bags| bags == MARK) && out.iter().all(|&byte| byte == MARK_BYTE));
+    }
 }
 
 #[test]
@@ -34,6 +31,7 @@ fn refused_1() {
     all_refuse(&[], &DEMAND, &COST, Refusal::Sides);
     all_refuse(&SUPPLY, &[], &COST, Refusal::Sides);
     all_refuse(&[], &[], &[], Refusal::Sides);
+    all_refuse(&[], &DEMAND, &[], Refusal::Sides);
     all_refuse(&[1; 33], &[33], &[0; 33], Refusal::Sides);
     all_refuse(&[0], &[1; 33], &[], Refusal::Sides);
 }
@@ -47,6 +45,8 @@ fn refused_2() {
 
 #[test]
 fn refused_3() {
+    all_refuse(&[0], &[2], &[0], Refusal::Amount);
+    all_refuse(&[3, 0], &[1, 2], &COST, Refusal::Amount);
     all_refuse(&[0, 7], &DEMAND, &COST, Refusal::Amount);
     all_refuse(&SUPPLY, &[5, 1_000_001], &COST, Refusal::Amount);
     all_refuse(&[u64::MAX, 8], &DEMAND, &[u64::MAX; 4], Refusal::Amount);
@@ -54,41 +54,16 @@ fn refused_3() {
 
 #[test]
 fn refused_4() {
+    all_refuse(&[1_000_000], &[1_000_000], &[1_000_001], Refusal::Cost);
     all_refuse(&SUPPLY, &DEMAND, &[4, 1, 2, 1_000_001], Refusal::Cost);
     all_refuse(&[3, 5], &DEMAND, &[u64::MAX, 1, 2, 6], Refusal::Cost);
 }
 
 #[test]
 fn refused_5() {
+    all_refuse(&[3], &[2], &[0], Refusal::Unbalanced);
+    all_refuse(&SUPPLY, &[5, 3], &COST, Refusal::Unbalanced);
     all_refuse(&[3, 5], &DEMAND, &COST, Refusal::Unbalanced);
-}
-
-#[test]
-fn refused_6() {
-    let foreign = |t: Tableau| {
-        let mut plan = [MARK; 4];
-        assert_eq!(round(&SUPPLY, &DEMAND, &COST, &t), Err(Refusal::ForeignTableau));
-        assert_eq!(run(&SUPPLY, &DEMAND, &COST, &t, 0), Err(Refusal::ForeignTableau));
-        assert_eq!(settle(&SUPPLY, &DEMAND, &COST, &t, &mut plan[..3]), Err(Refusal::ForeignTableau));
-        assert_eq!(settle(&SUPPLY, &DEMAND, &COST, &t, &mut plan), Err(Refusal::ForeignTableau));
-        assert_eq!(plan, [MARK; 4]);
-    };
-    for count in [0, 2, 4, 63, 64, 1 << 32, usize::MAX] {
-        foreign(Tableau { count, ..finished() });
-    }
-    let change = |k: usize, edit: fn(&mut Cell)| {
-        let mut t = finished();
-        edit(&mut t.cells[k]);
-        foreign(t);
-    };
-    change(0, |c| c.amount.q += 1);
-    change(1, |c| c.amount = Pair { q: i64::MIN, e: i64::MAX });
-    change(1, |c| c.col = 2);
-    change(2, |c| c.row = usize::MAX);
-    change(2, |c| *c = Cell { row: 0, col: 0, amount: c.amount });
-    let mut swapped = finished();
-    swapped.cells.swap(0, 1);
-    foreign(swapped);
 }
 
 #[test]
@@ -103,7 +78,7 @@ fn refused_7() {
 #[test]
 fn refused_8() {
     let (mut u, mut v, mut plan) = ([SIGNED_MARK; 2], [SIGNED_MARK; 2], [MARK; 4]);
-    assert_eq!(settle(&SUPPLY, &DEMAND, &COST, &finished(), &mut plan[..3]), Err(Refusal::Room));
+    assert_eq!(settle(&SUPPLY, &DEMAND, &COST, &p1_last(), &mut plan[..3]), Err(Refusal::Room));
     assert_eq!(solve(&SUPPLY, &DEMAND, &COST, &mut u[..1], &mut v, &mut plan), Err(Refusal::Room));
     assert_eq!(solve(&SUPPLY, &DEMAND, &COST, &mut u, &mut v[..1], &mut plan), Err(Refusal::Room));
     assert_eq!(solve(&SUPPLY, &DEMAND, &COST, &mut u, &mut v, &mut plan[..3]), Err(Refusal::Room));
@@ -142,7 +117,7 @@ fn refused_9() {
 #[test]
 fn only_the_front_is_filled() {
     let mut plan = [MARK; 6];
-    assert_eq!(settle(&SUPPLY, &DEMAND, &COST, &finished(), &mut plan[1..]), Ok(()));
+    assert_eq!(settle(&SUPPLY, &DEMAND, &COST, &p1_last(), &mut plan[1..]), Ok(()));
     assert_eq!(plan, [MARK, 1, 2, 4, 0, MARK]);
 
     let (mut u, mut v, mut plan) = ([SIGNED_MARK; 4], [SIGNED_MARK; 4], [MARK; 7]);
@@ -168,6 +143,53 @@ fn only_the_front_is_filled() {
     }
 }
 
+/// What solve answers, and what `u`, `v` and `plan` then hold. Each has a place more than is needed, but for what `less` takes from it.
+fn solve_marked(sheet: &Sheet, less: [usize; 3]) -> (Result<Solved, Refusal>, Vec<i64>, Vec<i64>, Vec<u64>) {
+    let (m, n) = (sheet.supply.len(), sheet.demand.len());
+    let (mut u, mut v) = (vec![SIGNED_MARK; m + 1 - less[0]], vec![SIGNED_MARK; n + 1 - less[1]]);
+    let mut plan = vec![MARK; m * n + 1 - less[2]];
+    let answer = solve(&sheet.supply, &sheet.demand, &sheet.cost, &mut u, &mut v, &mut plan);
+    (answer, u, v, plan)
+}
+
+#[test]
+fn solve_fills_the_fronts() {
+    let solved = |sheet: Sheet, cost: u64, rounds: u64, u: &[i64], v: &[i64], plan: &[u64]| {
+        let lists = ([u, &[SIGNED_MARK]].concat(), [v, &[SIGNED_MARK]].concat(), [plan, &[MARK]].concat());
+        assert_eq!(solve_marked(&sheet, [0; 3]), (Ok(Solved { cost, rounds }), lists.0, lists.1, lists.2));
+    };
+    solved(p1(), 14, 1, &[0, -2], &[4, 1], &[1, 2, 4, 0]);
+    solved(p3(), 10, 0, &[0, 0], &[1, 1], &[5, 0, 0, 5]);
+    solved(p4(), 0, 2, &[0, 0], &[0, 0, 0], &[0, 1, 0, 2, 0, 1]);
+    solved(p6(), 0, 0, &[0], &[0], &[1]);
+    solved(p7(), 1_000_000_000_000, 0, &[0], &[1_000_000], &[1_000_000]);
+}
+
+#[test]
+fn solve_with_a_short_list() {
+    for less in [[2, 0, 0], [0, 2, 0], [0, 0, 2], [3, 3, 5]] {
+        let (answer, u, v, plan) = solve_marked(&p1(), less);
+        assert_eq!(answer, Err(Refusal::Room));
+        assert!(u.iter().chain(&v).all(|&price| price == SIGNED_MARK) && plan.iter().all(|&bags| bags == MARK));
+    }
+}
+
+#[test]
+fn settle_with_marks() {
+    let settled = |sheet: Sheet, cells: &[Cell], room: usize| {
+        let mut plan = vec![MARK; room];
+        (settle(&sheet.supply, &sheet.demand, &sheet.cost, cells, &mut plan), plan)
+    };
+    let uneven = sheet(&[1, 2], &[2, 1, 1], &[9, 0, 0, 0, 0, 0]);
+    assert_eq!(settled(p4(), &p5(), 7), (Ok(()), vec![0, 1, 0, 2, 0, 1, MARK]));
+    assert_eq!(settled(p4(), &p5(), 6), (Ok(()), vec![0, 1, 0, 2, 0, 1]));
+    assert_eq!(settled(p4(), &p5(), 5), (Err(Refusal::Room), vec![MARK; 5]));
+    assert_eq!(settled(uneven, &p5(), 7), (Err(Refusal::Unbalanced), vec![MARK; 7]));
+    assert_eq!(settled(p3(), &p9(), 5), (Err(Refusal::ForeignTableau), vec![MARK; 5]));
+    let start = [cell(1, 1, 3, 1), cell(2, 1, 2, -1), cell(2, 2, 2, 2)];
+    assert_eq!(settled(p1(), &start, 5), (Err(Refusal::Unfinished), vec![MARK; 5]));
+}
+
 #[test]
 fn refusals_by_number_and_name() {
     use Refusal::*;
@@ -175,11 +197,4 @@ fn refusals_by_number_and_name() {
     assert!(all.iter().map(|r| r.number()).eq(1..=9));
     assert_eq!(Unbalanced.to_string(), "total supply differs from total demand");
     assert_eq!(NotSheetText { place: 38 }.to_string(), "not a sheet text, at place 38");
-}
-
-#[test]
-fn a_tableau_of_too_many_cells() {
-    assert_eq!(Tableau::new(&[Cell::default(); 63]).map(|t| t.basic().len()), Some(63));
-    assert_eq!(Tableau::new(&[Cell::default(); 64]), None);
-    assert_eq!(Tableau { count: usize::MAX, ..finished() }.basic().len(), 63);
 }

@@ -1,33 +1,7 @@
 //! The sample sheets of paper 01, through the owned calls.
-use panel::{Cell, Pair, Refusal, Round, Sheet, Tableau};
-
-const WORKED: &str = include_str!("../../examples/worked.sheet");
-const WORKED_PLAN: &str = include_str!("../../examples/worked.plan");
-
-fn sheet(supply: &[u64], demand: &[u64], cost: &[u64]) -> Sheet {
-    Sheet { supply: supply.to_vec(), demand: demand.to_vec(), cost: cost.to_vec() }
-}
-
-/// A cell as the paper writes it: roastery and café from 1, bags and marks.
-fn cell(roastery: usize, cafe: usize, q: i64, e: i64) -> Cell {
-    Cell { row: roastery - 1, col: cafe - 1, amount: Pair { q, e } }
-}
-
-fn tableau(cells: &[Cell]) -> Tableau {
-    Tableau::new(cells).expect("at most 63 cells")
-}
-
-fn p1() -> Sheet {
-    sheet(&[3, 4], &[5, 2], &[4, 1, 2, 6])
-}
-
-fn p3() -> Sheet {
-    sheet(&[5, 5], &[5, 5], &[1; 4])
-}
-
-fn p4() -> Sheet {
-    sheet(&[1, 3], &[2, 1, 1], &[9, 0, 0, 0, 0, 0])
-}
+mod common;
+use common::{cell, finished, largest, p1, p1_last, p3, p4, p5, p6, p7, p9, sheet};
+use panel::{Refusal, Round, Run, Sheet, Tableau};
 
 fn next(sheet: &Sheet, t: &Tableau) -> Tableau {
     match sheet.round(t) {
@@ -39,12 +13,10 @@ fn next(sheet: &Sheet, t: &Tableau) -> Tableau {
 #[test]
 fn p1_start_round_and_prices() {
     let start = p1().start().unwrap();
-    assert_eq!(start, tableau(&[cell(1, 1, 3, 1), cell(2, 1, 2, -1), cell(2, 2, 2, 2)]));
+    assert_eq!(*start, [cell(1, 1, 3, 1), cell(2, 1, 2, -1), cell(2, 2, 2, 2)]);
     let last = next(&p1(), &start);
-    assert_eq!(last, tableau(&[cell(1, 1, 1, -1), cell(1, 2, 2, 2), cell(2, 1, 4, 1)]));
-    let (mut u, mut v) = ([0; 32], [0; 32]);
-    (u[1], v[0], v[1]) = (-2, 4, 1);
-    assert_eq!(p1().round(&last), Ok(Round::Finished { u, v }));
+    assert_eq!(*last, p1_last());
+    assert_eq!(p1().round(&last), finished(&[0, -2], &[4, 1]));
     assert_eq!(p1().settle(&last), Ok(vec![1, 2, 4, 0]));
 }
 
@@ -58,55 +30,62 @@ fn p1_solved() {
 #[test]
 fn p2_allowance() {
     let start = p1().start().unwrap();
-    let spent = p1().run(&start, 0).unwrap();
-    assert_eq!((spent.finished, spent.rounds, spent.tableau), (false, 0, start));
+    assert_eq!(p1().run(&start, 0), Ok(Run { finished: false, rounds: 0, tableau: start }));
     let last = next(&p1(), &start);
     for allowance in [1, 2, u32::MAX] {
-        let run = p1().run(&start, allowance).unwrap();
-        assert_eq!((run.finished, run.rounds, run.tableau), (true, 1, last));
+        assert_eq!(p1().run(&start, allowance), Ok(Run { finished: true, rounds: 1, tableau: last }));
     }
-    let run = p1().run(&last, 0).unwrap();
-    assert_eq!((run.finished, run.rounds, run.tableau), (true, 0, last));
+    assert_eq!(p1().run(&last, 0), Ok(Run { finished: true, rounds: 0, tableau: last }));
 }
 
 #[test]
 fn p3_start_is_finished() {
     let start = p3().start().unwrap();
-    assert_eq!(start, tableau(&[cell(1, 1, 5, 0), cell(1, 2, 0, 1), cell(2, 2, 5, 1)]));
-    assert!(matches!(p3().round(&start), Ok(Round::Finished { .. })));
+    assert_eq!(*start, [cell(1, 1, 5, 0), cell(1, 2, 0, 1), cell(2, 2, 5, 1)]);
+    assert_eq!(p3().round(&start), finished(&[0, 0], &[1, 1]));
+    assert_eq!(p3().run(&start, u32::MAX), Ok(Run { finished: true, rounds: 0, tableau: start }));
     let s = p3().solve().unwrap();
-    assert_eq!((s.cost, s.rounds, s.plan), (10, 0, vec![5, 0, 0, 5]));
+    assert_eq!((s.cost, s.rounds), (10, 0));
+    assert_eq!((s.u, s.v, s.plan), (vec![0, 0], vec![1, 1], vec![5, 0, 0, 5]));
 }
 
 #[test]
 fn p4_the_second_step_is_a_mark() {
-    let first = next(&p4(), &p4().start().unwrap());
-    assert_eq!(first, tableau(&[cell(1, 1, 0, 1), cell(1, 2, 1, 0), cell(2, 1, 2, -1), cell(2, 3, 1, 2)]));
+    let start = p4().start().unwrap();
+    assert_eq!(*start, [cell(1, 1, 1, 1), cell(2, 1, 1, -1), cell(2, 2, 1, 0), cell(2, 3, 1, 2)]);
+    let first = next(&p4(), &start);
+    assert_eq!(*first, [cell(1, 1, 0, 1), cell(1, 2, 1, 0), cell(2, 1, 2, -1), cell(2, 3, 1, 2)]);
     let second = next(&p4(), &first);
-    assert_eq!(second, tableau(&[cell(1, 2, 1, 0), cell(1, 3, 0, 1), cell(2, 1, 2, 0), cell(2, 3, 1, 1)]));
-    assert_eq!(p4().round(&second), Ok(Round::Finished { u: [0; 32], v: [0; 32] }));
+    assert_eq!(*second, [cell(1, 2, 1, 0), cell(1, 3, 0, 1), cell(2, 1, 2, 0), cell(2, 3, 1, 1)]);
+    assert_eq!(p4().round(&second), finished(&[0; 2], &[0; 3]));
+    assert_eq!(p4().run(&start, 1), Ok(Run { finished: false, rounds: 1, tableau: first }));
+    assert_eq!(p4().run(&start, u32::MAX), Ok(Run { finished: true, rounds: 2, tableau: second }));
     let s = p4().solve().unwrap();
-    assert_eq!((s.cost, s.rounds, s.plan), (0, 2, vec![0, 1, 0, 2, 0, 1]));
-    assert_eq!((s.u, s.v), (vec![0; 2], vec![0; 3]));
+    assert_eq!((s.cost, s.rounds), (0, 2));
+    assert_eq!((s.u, s.v, s.plan), (vec![0; 2], vec![0; 3], vec![0, 1, 0, 2, 0, 1]));
 }
 
 #[test]
 fn p5_another_tableau_settles_to_the_same_plan() {
-    let t = tableau(&[cell(1, 3, 1, 1), cell(2, 1, 2, 0), cell(2, 2, 1, 0), cell(2, 3, 0, 1)]);
-    assert_eq!(p4().round(&t), Ok(Round::Finished { u: [0; 32], v: [0; 32] }));
-    assert_eq!(p4().settle(&t), Ok(vec![0, 1, 0, 2, 0, 1]));
+    assert_eq!(p4().round(&p5()), finished(&[0; 2], &[0; 3]));
+    let run = p4().run(&p5(), 7).unwrap();
+    assert_eq!((run.finished, run.rounds, &*run.tableau), (true, 0, &p5()[..]));
+    assert_eq!(p4().settle(&p5()), Ok(vec![0, 1, 0, 2, 0, 1]));
 }
 
 #[test]
 fn p6_one_bag() {
-    let s = sheet(&[1], &[1], &[0]).solve().unwrap();
-    assert_eq!((s.cost, s.rounds, s.plan), (0, 0, vec![1]));
+    assert_eq!(*p6().start().unwrap(), [cell(1, 1, 1, 1)]);
+    let s = p6().solve().unwrap();
+    assert_eq!((s.cost, s.rounds), (0, 0));
+    assert_eq!((s.u, s.v, s.plan), (vec![0], vec![0], vec![1]));
 }
 
 #[test]
 fn p7_the_greatest_numbers() {
-    let s = sheet(&[1_000_000], &[1_000_000], &[1_000_000]).solve().unwrap();
+    let s = p7().solve().unwrap();
     assert_eq!((s.cost, s.rounds), (1_000_000_000_000, 0));
+    assert_eq!((s.u, s.v, s.plan), (vec![0], vec![1_000_000], vec![1_000_000]));
     assert_eq!(sheet(&[1_000_000], &[1_000_000], &[1_000_001]).solve(), Err(Refusal::Cost));
 }
 
@@ -118,36 +97,16 @@ fn p8_refused_sheets() {
 
 #[test]
 fn p9_refused_tableaux() {
-    let t = tableau(&[cell(1, 1, 5, 0), cell(1, 2, 0, 0), cell(2, 2, 5, 1)]);
-    assert_eq!(p3().round(&t), Err(Refusal::ForeignTableau));
-    assert_eq!(p3().run(&t, 1), Err(Refusal::ForeignTableau));
-    assert_eq!(p3().settle(&t), Err(Refusal::ForeignTableau));
+    assert_eq!(p3().round(&p9()), Err(Refusal::ForeignTableau));
+    assert_eq!(p3().run(&p9(), 1), Err(Refusal::ForeignTableau));
+    assert_eq!(p3().settle(&p9()), Err(Refusal::ForeignTableau));
     assert_eq!(p1().settle(&p1().start().unwrap()), Err(Refusal::Unfinished));
 }
 
 #[test]
-fn texts_there_and_back() {
-    let read = Sheet::read(WORKED.as_bytes()).unwrap();
-    assert_eq!(read, p1());
-    assert_eq!(read.text().unwrap(), WORKED);
-    assert_eq!(read.plan_text().unwrap(), WORKED_PLAN);
-}
-
-#[test]
-fn places_of_texts() {
-    for (text, place) in [("", 0), ("supply 33", 8), ("supply 01", 7), (&WORKED[..WORKED.len() - 1], WORKED.len() - 1)] {
-        assert_eq!(Sheet::read(text.as_bytes()), Err(Refusal::NotSheetText { place }), "{text:?}");
-    }
-}
-
-#[test]
 fn the_largest_sheet() {
-    let largest = sheet(&[1_000_000; 32], &[1_000_000; 32], &[1_000_000; 1024]);
-    let text = largest.text().unwrap();
-    assert_eq!(text.len(), panel::MAX_SHEET_TEXT);
-    assert_eq!(Sheet::read(text.as_bytes()), Ok(largest.clone()));
-    assert_eq!(largest.start().unwrap().basic().len(), panel::MAX_CELLS);
-    assert_eq!(largest.solve().unwrap().cost, 32_000_000_000_000);
+    assert_eq!(largest().start().unwrap().len(), panel::MAX_CELLS);
+    assert_eq!(largest().solve().unwrap().cost, 32_000_000_000_000);
 }
 
 #[test]
@@ -165,12 +124,12 @@ fn threads_agree() {
 #[test]
 fn small_stack() {
     let calls = || {
-        let mut largest = sheet(&[1_000_000; 32], &[1_000_000; 32], &[1_000_000; 1024]);
-        (0..1024).for_each(|k| largest.cost[k] = (k as u64 * 7919) % 1_000_001);
-        let run = largest.run(&largest.start().unwrap(), u32::MAX).unwrap();
-        assert!(matches!(largest.round(&run.tableau), Ok(Round::Finished { .. })));
-        assert_eq!(largest.settle(&run.tableau).unwrap(), largest.solve().unwrap().plan);
-        assert_eq!(Sheet::read(largest.text().unwrap().as_bytes()).unwrap().plan_text(), largest.plan_text());
+        let mut large = largest();
+        (0..1024).for_each(|k| large.cost[k] = (k as u64 * 7919) % 1_000_001);
+        let run = large.run(&large.start().unwrap(), u32::MAX).unwrap();
+        assert!(matches!(large.round(&run.tableau), Ok(Round::Finished { .. })));
+        assert_eq!(large.settle(&run.tableau).unwrap(), large.solve().unwrap().plan);
+        assert_eq!(Sheet::read(large.text().unwrap().as_bytes()).unwrap().plan_text(), large.plan_text());
     };
     std::thread::Builder::new().stack_size(128 << 10).spawn(calls).unwrap().join().unwrap();
 }

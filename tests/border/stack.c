@@ -27,15 +27,15 @@ static void start(void) {
     first = r.tableau;
 }
 
-static void round_(void) { refusal = panel_round(SHEET, first).refusal; }
+static void round_(void) { refusal = panel_round(SHEET, first.cells, first.count).refusal; }
 
 static void run(void) {
-    struct panel_run_result r = panel_run(SHEET, first, UINT32_MAX);
+    struct panel_run_result r = panel_run(SHEET, first.cells, first.count, UINT32_MAX);
     refusal = r.refusal;
     last = r.tableau;
 }
 
-static void settle(void) { refusal = panel_settle(SHEET, last, plan, LANES); }
+static void settle(void) { refusal = panel_settle(SHEET, last.cells, last.count, plan, LANES); }
 
 static void solve(void) { refusal = panel_solve(SHEET, u, SIDE, v, SIDE, plan, LANES).refusal; }
 

@@ -1,8 +1,8 @@
 #include "reference.h"
 
 #include <algorithm>
-#include <deque>
 #include <functional>
+#include <numeric>
 #include <optional>
 #include <sstream>
 
@@ -17,6 +17,39 @@ Whole total(const List &list) {
     Whole sum = 0;
     for (Whole number : list) sum += number;
     return sum;
+}
+
+Lists lists_of(const Sheet &sheet) {
+    Lists lists = {Numbers(sheet.supply.begin(), sheet.supply.end()), Numbers(sheet.demand.begin(), sheet.demand.end()), {}};
+    for (const List &row : sheet.cost) lists.cost.insert(lists.cost.end(), row.begin(), row.end());
+    return lists;
+}
+
+Sheet sheet_of(const Lists &lists) {
+    Sheet sheet = {List(lists.supply.begin(), lists.supply.end()), List(lists.demand.begin(), lists.demand.end()), {}};
+    for (auto lane = lists.cost.begin(); lane != lists.cost.end(); lane += (long)sheet.n()) sheet.cost.emplace_back(lane, lane + (long)sheet.n());
+    return sheet;
+}
+
+// ---- refusals
+
+static bool any_outside(const Numbers &list, uint64_t low, uint64_t high) {
+    return std::any_of(list.begin(), list.end(), [&](uint64_t number) { return number < low || number > high; });
+}
+
+static int refusal_of_numbers(const Lists &lists) {
+    if (any_outside(lists.supply, 1, most) || any_outside(lists.demand, 1, most)) return 3;
+    if (any_outside(lists.cost, 0, most)) return 4;
+    auto sum = [](const Numbers &list) { return std::accumulate(list.begin(), list.end(), uint64_t{0}); };
+    if (sum(lists.supply) != sum(lists.demand)) return 5;
+    return no_refusal;
+}
+
+int refusal_of(const Lists &lists) {
+    size_t m = lists.supply.size(), n = lists.demand.size();
+    if (m < 1 || m > most_parties || n < 1 || n > most_parties) return 1;
+    if (lists.cost.size() != m * n) return 2;
+    return refusal_of_numbers(lists);
 }
 
 // ---- reading: an automaton that says for each byte whether it may follow on those before
@@ -96,25 +129,13 @@ Sheet Automaton::sheet() const {
 
 } // namespace
 
-static bool any_outside(const List &list, Whole low, Whole high) {
-    return std::any_of(list.begin(), list.end(), [&](Whole number) { return number < low || number > high; });
-}
-
-static int refusal_of_numbers(const Sheet &sheet) {
-    if (any_outside(sheet.supply, 1, most) || any_outside(sheet.demand, 1, most)) return 3;
-    for (const List &row : sheet.cost)
-        if (any_outside(row, 0, most)) return 4;
-    if (total(sheet.supply) != total(sheet.demand)) return 5;
-    return no_refusal;
-}
-
 Reading read_sheet(const std::string &text) {
     Automaton automaton;
     size_t place = 0;
     while (place < text.size() && automaton.may_follow(text[place])) automaton.take(text[place++]);
     if (place < text.size() || !automaton.at_end()) return {9, place, {}};
     Sheet sheet = automaton.sheet();
-    return {refusal_of_numbers(sheet), 0, sheet};
+    return {refusal_of_numbers(lists_of(sheet)), 0, sheet};
 }
 
 std::string sheet_text(const Sheet &sheet) {
@@ -133,14 +154,81 @@ std::string sheet_text(const Sheet &sheet) {
 
 static const Amount nothing = {0, 0};
 
-static Amount sum(Amount a, Amount b) { return {a.first + b.first, a.second + b.second}; }
-static Amount difference(Amount a, Amount b) { return {a.first - b.first, a.second - b.second}; }
+Amount sum(Amount a, Amount b) { return {a.first + b.first, a.second + b.second}; }
+Amount difference(Amount a, Amount b) { return {a.first - b.first, a.second - b.second}; }
+
+std::vector<Amount> paired_supplies(const Sheet &sheet) {
+    std::vector<Amount> paired;
+    for (Whole bags : sheet.supply) paired.push_back({bags, 1});
+    return paired;
+}
+
+std::vector<Amount> paired_demands(const Sheet &sheet) {
+    std::vector<Amount> paired;
+    for (Whole bags : sheet.demand) paired.push_back({bags, 0});
+    paired.back().second = (Whole)sheet.m();
+    return paired;
+}
+
+Cells cells_of(const Tableau &tableau) {
+    Cells cells;
+    for (const auto &[lane, amount] : tableau) cells.push_back({lane.first, lane.second, amount});
+    return cells;
+}
+
+Tableau tableau_of(const Cells &cells) {
+    Tableau tableau;
+    for (const Cell &cell : cells) tableau[{cell.row, cell.col}] = cell.amount;
+    return tableau;
+}
+
+static bool are_in_sheet_order(const Cells &cells) {
+    for (size_t k = 1; k < cells.size(); k++)
+        if (!(Lane{cells[k - 1].row, cells[k - 1].col} < Lane{cells[k].row, cells[k].col})) return false;
+    return true;
+}
+
+// In numbers so long that no sum of cells passes them.
+static bool add_up(const Sheet &sheet, const Cells &cells) {
+    using Long = __int128;
+    std::vector<std::pair<Long, Long>> left, wanted;
+    for (Amount supply : paired_supplies(sheet)) left.push_back(supply);
+    for (Amount demand : paired_demands(sheet)) wanted.push_back(demand);
+    for (const Cell &cell : cells)
+        for (auto *party : {&left[cell.row], &wanted[cell.col]}) {
+            party->first -= cell.amount.first;
+            party->second -= cell.amount.second;
+        }
+    auto is_nothing = [](const std::pair<Long, Long> &rest) { return rest.first == 0 && rest.second == 0; };
+    return std::all_of(left.begin(), left.end(), is_nothing) && std::all_of(wanted.begin(), wanted.end(), is_nothing);
+}
+
+Parts::Parts(const Sheet &sheet) : m(sheet.m()), part(sheet.m() + sheet.n()) { std::iota(part.begin(), part.end(), 0); }
+
+bool Parts::join(Lane lane) {
+    size_t one = part[lane.first], other = part[m + lane.second];
+    std::replace(part.begin(), part.end(), other, one);
+    return one != other;
+}
+
+// A cell whose ends are in one part closes a loop. Each other leaves a part fewer, so that m + n - 1 of them leave one.
+static bool join_all_without_loop(const Sheet &sheet, const Cells &cells) {
+    Parts parts(sheet);
+    for (const Cell &cell : cells)
+        if (!parts.join({cell.row, cell.col})) return false;
+    return cells.size() == sheet.m() + sheet.n() - 1;
+}
+
+bool belongs(const Sheet &sheet, const Cells &cells) {
+    auto is_on_sheet = [&](const Cell &cell) { return cell.row < sheet.m() && cell.col < sheet.n(); };
+    auto is_above_nothing = [](const Cell &cell) { return cell.amount > nothing; };
+    if (cells.size() != sheet.m() + sheet.n() - 1 || !are_in_sheet_order(cells)) return false;
+    if (!std::all_of(cells.begin(), cells.end(), is_on_sheet) || !std::all_of(cells.begin(), cells.end(), is_above_nothing)) return false;
+    return add_up(sheet, cells) && join_all_without_loop(sheet, cells);
+}
 
 Tableau start(const Sheet &sheet) {
-    std::vector<Amount> left, wanted;
-    for (Whole bags : sheet.supply) left.push_back({bags, 1});
-    for (Whole bags : sheet.demand) wanted.push_back({bags, 0});
-    wanted.back().second = (Whole)sheet.m();
+    std::vector<Amount> left = paired_supplies(sheet), wanted = paired_demands(sheet);
     Tableau tableau;
     for (size_t i = 0, j = 0; i < sheet.m() && j < sheet.n();) {
         Amount put = std::min(left[i], wanted[j]);
@@ -173,7 +261,9 @@ Prices prices(const Sheet &sheet, const Tableau &tableau) {
     Prices found;
     for (auto price : u) found.u.push_back(*price);
     for (auto price : v) found.v.push_back(*price);
-    claim(!any_outside(found.u, -most_price, most_price) && !any_outside(found.v, -most_price, most_price), "no price passes 63,000,000");
+    auto is_within = [](Whole price) { return -most_price <= price && price <= most_price; };
+    claim(std::all_of(found.u.begin(), found.u.end(), is_within), "no price passes 63,000,000");
+    claim(std::all_of(found.v.begin(), found.v.end(), is_within), "no price passes 63,000,000");
     return found;
 }
 
@@ -231,6 +321,23 @@ Amount make_round(const Sheet &sheet, Tableau &tableau, Lane entering) {
     tableau[entering] = step;
     for (const auto &cell : tableau) claim(cell.second > nothing, "two minus cells never tie for the step");
     return step;
+}
+
+Path::Path(const Sheet &sheet, const Tableau &first) : sheet(sheet) { add(first); }
+
+void Path::add(const Tableau &tableau) {
+    Prices found = ::prices(sheet, tableau);
+    Lane least = least_lane(sheet, found);
+    stops.push_back({stops.size(), tableau, found, least, found.reduced(sheet, least) >= 0});
+}
+
+const Path::Stop &Path::after(uint64_t rounds) {
+    while (stops.size() <= rounds && !stops.back().finished) {
+        Tableau tableau = stops.back().tableau;
+        make_round(sheet, tableau, stops.back().least);
+        add(tableau);
+    }
+    return stops[std::min<uint64_t>(rounds, stops.size() - 1)];
 }
 
 // ---- plans
@@ -313,23 +420,15 @@ static void claim_least(const Sheet &sheet, const Prices &prices, const Grid &pl
         }
 }
 
-Solution solve(const Sheet &sheet) {
-    Tableau tableau = start(sheet);
-    Prices found = prices(sheet, tableau);
-    Lane least = least_lane(sheet, found);
-    Whole rounds = 0;
-    while (found.reduced(sheet, least) < 0) {
-        make_round(sheet, tableau, least);
-        rounds++;
-        found = prices(sheet, tableau);
-        least = least_lane(sheet, found);
-    }
-    Grid plan = settle(sheet, found, bags_of(sheet, tableau));
+Solution solution_at(const Sheet &sheet, const Path::Stop &end) {
+    Grid plan = settle(sheet, end.prices, bags_of(sheet, end.tableau));
     claim_meets(sheet, plan);
-    claim_least(sheet, found, plan);
+    claim_least(sheet, end.prices, plan);
     claim(!has_few_plans(sheet) || search(sheet) == plan, "a search through all plans finds the settled plan");
-    return {cost_of(sheet, plan), rounds, found, plan};
+    return {cost_of(sheet, plan), end.rounds, end.prices, plan};
 }
+
+Solution solve(const Sheet &sheet) { return solution_at(sheet, Path(sheet, start(sheet)).end()); }
 
 static void write_list(std::ostream &text, const char *name, const List &list) {
     text << name << " " << list.size() << "\n";
@@ -346,7 +445,7 @@ std::string plan_text(const Solution &solution) {
             count++;
         }
     write_list(text, "total", {solution.cost});
-    write_list(text, "rounds", {solution.rounds});
+    write_list(text, "rounds", {(Whole)solution.rounds});
     write_list(text, "roasteries", solution.prices.u);
     write_list(text, "cafes", solution.prices.v);
     text << "lanes " << count << "\n" << lanes.str();

@@ -1,9 +1,11 @@
-// What the program has to print for any input, found in the plainest way from the words of paper 01. Shares nothing with the panel's code.
+// What the program has to print for any input, and what the calls have to give, found in the plainest way from the words of paper 01. Shares nothing with the
+// panel's code.
 #ifndef REFERENCE_H
 #define REFERENCE_H
 
 #include <cstddef>
 #include <cstdint>
+#include <deque>
 #include <map>
 #include <stdexcept>
 #include <string>
@@ -23,14 +25,30 @@ struct Sheet {
 
 Whole total(const List &list);
 
+// A sheet as it is lent: lists of any length, with any numbers.
+using Numbers = std::vector<uint64_t>;
+struct Lists {
+    Numbers supply, demand, cost;
+};
+
+Lists lists_of(const Sheet &sheet);
+// Of lists that the sheet check does not refuse.
+Sheet sheet_of(const Lists &lists);
+
 // The reference throws this where something that the paper says of sheets and tableaux does not hold.
 struct Broken : std::runtime_error {
     using std::runtime_error::runtime_error;
 };
 
-// ---- texts
+// ---- refusals
 
 const int no_refusal = 0;
+
+// The first of the sheet check.
+int refusal_of(const Lists &lists);
+
+// ---- texts
+
 struct Reading {
     int refusal;
     size_t place; // of refusal 9
@@ -54,12 +72,62 @@ struct Prices {
     Whole reduced(const Sheet &sheet, Lane lane) const { return sheet.cost[lane.first][lane.second] - u[lane.first] - v[lane.second]; }
 };
 
+Amount sum(Amount a, Amount b), difference(Amount a, Amount b);
+
+// The roasteries and cafés in parts. At first each is a part of its own.
+class Parts {
+    const size_t m;
+    std::vector<size_t> part; // of each roastery, and then of each café
+
+public:
+    explicit Parts(const Sheet &sheet);
+    // Joins the parts of the lane's two ends. False if they were one.
+    bool join(Lane lane);
+};
+
+// A lent list of cells, which may be any.
+struct Cell {
+    size_t row, col;
+    Amount amount;
+};
+using Cells = std::vector<Cell>;
+
+Cells cells_of(const Tableau &tableau);
+// Whether the cells are a tableau of the sheet.
+bool belongs(const Sheet &sheet, const Cells &cells);
+// Of cells that belong.
+Tableau tableau_of(const Cells &cells);
+
 Tableau start(const Sheet &sheet);
+// What a supply or demand becomes in the tableau.
+std::vector<Amount> paired_supplies(const Sheet &sheet), paired_demands(const Sheet &sheet);
 Prices prices(const Sheet &sheet, const Tableau &tableau);
 // The lane of least reduced cost, the first in sheet order.
 Lane least_lane(const Sheet &sheet, const Prices &prices);
 // Makes a round, and gives its step.
 Amount make_round(const Sheet &sheet, Tableau &tableau, Lane entering);
+
+// The tableaux from one up to the finished one. Each is found when it is first asked for.
+class Path {
+public:
+    struct Stop {
+        uint64_t rounds; // made up to here
+        Tableau tableau;
+        Prices prices;
+        Lane least;
+        bool finished;
+    };
+
+    Path(const Sheet &sheet, const Tableau &first);
+    // After so many rounds, or where it is finished if that is sooner.
+    const Stop &after(uint64_t rounds);
+    const Stop &end() { return after(UINT64_MAX); }
+
+private:
+    const Sheet &sheet;
+    std::deque<Stop> stops;
+    void add(const Tableau &tableau);
+};
 
 // ---- plans
 
@@ -73,13 +141,16 @@ Grid search(const Sheet &sheet);
 bool has_few_plans(const Sheet &sheet);
 
 struct Solution {
-    Whole cost, rounds;
+    Whole cost;
+    uint64_t rounds;
     Prices prices;
     Grid plan;
 };
 
 // The solution, once its prices have proved its plan, and a search has found it again if that is quick.
 Solution solve(const Sheet &sheet);
+// The same from the end of the path from the start.
+Solution solution_at(const Sheet &sheet, const Path::Stop &end);
 std::string plan_text(const Solution &solution);
 
 // What the program prints for a text.

@@ -1,32 +1,12 @@
 // Holds a program to the reference: to the samples of paper 01, and then to COUNT texts that are made from a seed, of each kind in turn.
-// A kind of text is one test.
-#include "cases.h"
+// A kind of text is one test. A case that differs is told in full; with its number as FIRST and a count of 1 it runs alone.
 #include "program.h"
+#include "random_texts.h"
+#include "report.h"
 
-#include <algorithm>
 #include <cstdio>
 #include <exception>
 #include <stdexcept>
-
-static int passed = 0, failed = 0;
-
-static void test(const std::string &name, bool good) {
-    (good ? passed : failed)++;
-    std::printf("%s: %s\n", good ? "passed" : "failed", name.c_str());
-}
-
-// As printf '%b' of a shell takes it.
-static std::string escaped(const std::string &bytes) {
-    std::string shown;
-    for (char byte : bytes) {
-        char code[5];
-        std::snprintf(code, sizeof code, "\\x%02x", (unsigned char)byte);
-        if (byte == '\n') shown += "\\n";
-        else if (byte < ' ' || byte > '~' || byte == '\\' || byte == '\'') shown += code;
-        else shown += byte;
-    }
-    return "'" + shown + "'";
-}
 
 // What the reference says, or which claim of the paper it found broken.
 static std::string reference_answer(const std::string &text) {
@@ -101,8 +81,18 @@ static bool meets_first_round() {
     return met && tableau == Tableau{{{0, 0}, {1, -1}}, {{0, 1}, {2, 2}}, {{1, 0}, {4, 1}}};
 }
 
-// P3: the start has a cell of no bags.
-static bool meets_tied_start() { return start(sheet3) == Tableau{{{0, 0}, {5, 0}}, {{0, 1}, {0, 1}}, {{1, 1}, {5, 1}}}; }
+// P2: allowance 0 is spent, allowance 1 is enough.
+static bool meets_allowances() {
+    Path path(sheet1, start(sheet1));
+    return !path.after(0).finished && path.after(1).finished && path.end().rounds == 1;
+}
+
+// P3: the start has a cell of no bags. P9: with (0, 0) there it does not belong.
+static bool meets_tied_start() {
+    Cells cells = cells_of(start(sheet3)), emptied = cells;
+    emptied[1].amount = {0, 0};
+    return tableau_of(cells) == Tableau{{{0, 0}, {5, 0}}, {{0, 1}, {0, 1}}, {{1, 1}, {5, 1}}} && belongs(sheet3, cells) && !belongs(sheet3, emptied);
+}
 
 // P4: the second round moves a mark and no bag.
 static bool meets_small_step() {
@@ -114,78 +104,50 @@ static bool meets_small_step() {
 // P5: another finished tableau settles to the plan of P4.
 static bool meets_other_end() {
     Tableau tableau = {{{0, 2}, {1, 1}}, {{1, 0}, {2, 0}}, {{1, 1}, {1, 0}}, {{1, 2}, {0, 1}}};
-    return settle(sheet4, prices(sheet4, tableau), bags_of(sheet4, tableau)) == Grid{{0, 1, 0}, {2, 0, 1}};
+    return belongs(sheet4, cells_of(tableau)) && settle(sheet4, prices(sheet4, tableau), bags_of(sheet4, tableau)) == Grid{{0, 1, 0}, {2, 0, 1}};
 }
 
 static void test_samples(const std::string &program) {
     test("the paper's samples, by the program and by the reference", samples_are_met(program));
-    test("the paper's tableaux, by the reference", meets_first_round() && meets_tied_start() && meets_small_step() && meets_other_end());
+    bool met = meets_first_round() && meets_allowances() && meets_tied_start() && meets_small_step() && meets_other_end();
+    test("the paper's tableaux, by the reference", met);
 }
 
 // ---- random texts
 
-struct Tally {
-    size_t texts = 0, differ = 0, in_pieces = 0, plans = 0, searched = 0;
-    size_t refused[10] = {};
-    Whole most_rounds = 0;
-};
-
-// Notes what sort of text it is, so that a run tells what it has seen.
+// Notes what sort of text it is.
 static void note(Tally &tally, const std::string &text, const std::string &expected) {
     Reading reading = read_sheet(text);
-    tally.texts++;
+    tally.count("texts");
     if (reading.refusal != no_refusal) {
-        tally.refused[reading.refusal]++;
+        tally.refused(reading.refusal);
         return;
     }
-    tally.plans++;
-    tally.searched += has_few_plans(reading.sheet);
+    tally.count("plans");
+    tally.count("plans searched", has_few_plans(reading.sheet));
     long long rounds = 0;
-    if (std::sscanf(expected.c_str(), "total 1 %*d rounds 1 %lld", &rounds) == 1) tally.most_rounds = std::max(tally.most_rounds, (Whole)rounds);
+    if (std::sscanf(expected.c_str(), "total 1 %*d rounds 1 %lld", &rounds) == 1) tally.note_most("most rounds", (uint64_t)rounds);
 }
 
-static void run_case(const std::string &program, uint64_t seed, uint64_t number, Tally &tally) {
-    const Kind &kind = kinds[number % kinds.size()];
-    Dice dice(seed, number);
-    std::string text = kind.make(dice), expected = reference_answer(text);
+static void run_case(const std::string &program, const Case &at_hand, Tally &tally) {
+    Dice dice(at_hand.seed, at_hand.number);
+    std::string text = text_kinds[at_hand.kind].make(dice), expected = reference_answer(text);
     std::vector<std::string> pieces = pieces_of(dice, text);
-    std::string name = "seed " + std::to_string(seed) + ", case " + std::to_string(number) + " of " + kind.name;
     note(tally, text, expected);
-    tally.in_pieces += pieces.size() > 1;
-    tally.differ += !agrees(program, name, pieces, expected);
-}
-
-static std::string told(const Tally &tally) {
-    std::string line = std::to_string(tally.texts) + " texts";
-    auto add = [&](const std::string &what, size_t count) {
-        if (count > 0) line += ", " + what + " " + std::to_string(count);
-    };
-    add("in pieces", tally.in_pieces);
-    add("plans", tally.plans);
-    add("plans searched", tally.searched);
-    add("most rounds", (size_t)tally.most_rounds);
-    for (size_t number = 1; number < 10; number++) add("refused " + std::to_string(number) + ":", tally.refused[number]);
-    add("DIFFER", tally.differ);
-    return line;
-}
-
-static void test_texts(const std::string &program, uint64_t seed, uint64_t count) {
-    std::vector<Tally> tallies(kinds.size());
-    for (uint64_t number = 0; number < count; number++) run_case(program, seed, number, tallies[number % kinds.size()]);
-    for (size_t k = 0; k < kinds.size(); k++) test(std::string(kinds[k].name) + ": " + told(tallies[k]), tallies[k].differ == 0);
+    tally.count("in pieces", pieces.size() > 1);
+    tally.differ += !agrees(program, at_hand.name, pieces, expected);
 }
 
 int main(int count, char **arguments) {
-    if (count != 4) {
-        std::fprintf(stderr, "usage: %s PANEL SEED COUNT\n", arguments[0]);
+    if (count != 4 && count != 5) {
+        std::fprintf(stderr, "usage: %s PANEL SEED COUNT [FIRST]\n", arguments[0]);
         return 2;
     }
     try {
         test_samples(arguments[1]);
-        test_texts(arguments[1], std::stoull(arguments[2]), std::stoull(arguments[3]));
+        test_kinds(text_kinds, cases_of(count - 2, arguments + 2), [&](const Case &at_hand, Tally &tally) { run_case(arguments[1], at_hand, tally); });
     } catch (const std::exception &error) {
         test(error.what(), false);
     }
-    std::printf("%d passed, %d failed\n", passed, failed);
-    return failed > 0;
+    return tell_count();
 }

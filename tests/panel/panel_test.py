@@ -1,7 +1,7 @@
 """Holds the program to stored texts, to a search through all plans, and to plans that prove themselves; and its reading and writing
 to docs/FORMATS.md. The variable PANEL may name another program to hold to them.
 
-P2, P5 and P9 of paper 01 speak of run and settle on tableaux, which no text can ask for: the programs simplex_run and planning_run show them.
+P2, P5 and P9 of paper 01 speak of run and settle on tableaux, which no text can ask for: rust/tests has them.
 """
 import contextlib
 import os

@@ -4,8 +4,8 @@ use native.Mathlib.Omega.{arith}
 use native.Mathlib.Decide.{decLt}
 use mathlib.Core.Path.{_≡_, refl, sym, ap, _∙_}
 use mathlib.Core.Logic.{by-cases}
-use mathlib.Core.Bool.{Bool, true, false, not, _&&_}
-use mathlib.Core.Option.{Option, none, some}
+use mathlib.Core.Bool.{Bool, true, false, _&&_, true≢false}
+use mathlib.Core.Option.{none}
 use mathlib.Core.List.{List, [], _∷_, _++_, append-assoc}
 use lib.Dec.{eqb}
 use lib.ListN.{length, take, getD, set, replicate, length-append, length-map}
@@ -19,18 +19,15 @@ use Rattle.transport.specs.Sheet.{Sheet, sources, sinks, sheetTests, refusal}
 use Rattle.transport.specs.SheetLaws.{checked}
 use Rattle.transport.specs.Tableau.{noCell, laneOf, basisOf, basisSize, onSheet, inOrder, aboveZero, balanced, cellsOf, tableauOf, noTableau}
 use Rattle.transport.specs.Leaf.{spans, cellsBelong, belongs}
-use Rattle.transport.specs.Round.{round}
-use Rattle.transport.specs.Calls.{unless, tableauTests, roundCall}
-use Rattle.transport.specs.CallLaws.{unless-before, unless-last}
-use Rattle.cells.specs.Lent.{lentTableau, roundCellsCall, maxCount, addCell, added}
+use Rattle.cells.specs.Lent.{lentTableau, maxCount, addCell, added}
 
-pub added-none : (T : List Cell) (t : Tableau) → added T t 0 ≡ t
+pub added-none : (T : List Cell) → added T 0 ≡ noTableau
 unfolding added
-added-none T t = refl
+added-none T = refl
 
-pub added-one : (T : List Cell) (t : Tableau) (n : ℕ) → added T t (suc n) ≡ addCell (added T t n) (getD T n noCell)
+pub added-one : (T : List Cell) (n : ℕ) → added T (suc n) ≡ addCell (added T n) (getD T n noCell)
 unfolding added
-added-one T t n = refl
+added-one T n = refl
 
 -- A list that the array has room for is the tableau of its cells.
 pub lent-tableau : (T : List Cell) → length T ≤ maxCells → lentTableau T ≡ tableauOf T
@@ -62,21 +59,21 @@ add-lent T c l =
 
 -- ---- all cells
 
-added-lent : (T : List Cell) → length T < 2 ^ 64 → (n : ℕ) → n ≤ length T → added T noTableau n ≡ lentTableau (take n T)
+added-lent : (T : List Cell) → length T < 2 ^ 64 → (n : ℕ) → n ≤ length T → added T n ≡ lentTableau (take n T)
 unfolding added maxCount
 added-lent T f zero l = sym lent-nothing
 added-lent T f (suc n) l =
     rw (added-lent T f n (omega arith), take-suc T n noCell l)
     (add-lent (take n T) (getD T n noCell) (omega (arith, length-take-le n T (omega arith))))
 
-pub added-all : (T : List Cell) → length T < 2 ^ 64 → added T noTableau (length T) ≡ lentTableau T
+pub added-all : (T : List Cell) → length T < 2 ^ 64 → added T (length T) ≡ lentTableau T
 added-all T f = added-lent T f (length T) (omega arith) ∙ ap lentTableau (take-length T)
 
--- ---- the call: on the tableau that a list is, it is the call on the list
+-- ---- what a call on the tableau that a list is goes by: whether the list belongs to the sheet, and its cells
 
-pub lent-cells : (T : List Cell) → length T ≤ maxCells → cellsOf (lentTableau T) ≡ T
+cells-back : (T : List Cell) → length T ≤ maxCells → cellsOf (lentTableau T) ≡ T
 unfolding cellsOf tableauOf padded
-lent-cells T l = rw (lent-tableau T l) (take-append-seam T _)
+cells-back T l = rw (lent-tableau T l) (take-append-seam T _)
 
 third-false : (a b d e : Bool) → a && b && false && d && e ≡ false
 third-false true true d e = refl
@@ -90,33 +87,33 @@ module _ (S : Sheet) (T : List Cell) where
   other-count e = rw (length-map T laneOf, e) (third-false (all (onSheet S) T) (inOrder (sinks S) T) (all aboveZero T) (balanced S T))
 
   -- .. nor as a tableau.
-  pub lent-astray : eqb (length T) (basisSize (sources S) (sinks S)) ≡ false → belongs S (lentTableau T) ≡ false
+  other-count-lent : eqb (length T) (basisSize (sources S) (sinks S)) ≡ false → belongs S (lentTableau T) ≡ false
   unfolding belongs lentTableau
-  lent-astray e = rw e
+  other-count-lent e = rw e
 
-  pub lent-belongs : length T ≤ maxCells → belongs S (lentTableau T) ≡ cellsBelong S T
+  few-belong : length T ≤ maxCells → belongs S (lentTableau T) ≡ cellsBelong S T
   unfolding belongs lentTableau
-  lent-belongs l = rw (lent-cells T l) (go (eqb (length T) (basisSize (sources S) (sinks S))) refl)
+  few-belong l = rw (cells-back T l) (go (eqb (length T) (basisSize (sources S) (sinks S))) refl)
     where
       go : (b : Bool) → eqb (length T) (basisSize (sources S) (sinks S)) ≡ b → eqb (length T) (basisSize (sources S) (sinks S)) && cellsBelong S T ≡ cellsBelong S T
       go true e = ap (λ (b : Bool). b && cellsBelong S T) e
       go false e = ap (λ (b : Bool). b && cellsBelong S T) e ∙ sym (other-count e)
 
   -- More cells than the array has room for are more than an accepted sheet asks for.
-  lent-many : refusal (sheetTests S) ≡ none → maxCells < length T → eqb (length T) (basisSize (sources S) (sinks S)) ≡ false
+  too-many : refusal (sheetTests S) ≡ none → maxCells < length T → eqb (length T) (basisSize (sources S) (sinks S)) ≡ false
   unfolding basisSize maxCells
-  lent-many e l = let h = checked S e in ne-eqb (length T) (sources S + sinks S - 1) (λ z. omega (arith, h .sourcesHigh, h .sinksHigh))
+  too-many e l = let h = checked S e in ne-eqb (length T) (sources S + sinks S - 1) (λ z. omega (arith, h .sourcesHigh, h .sinksHigh))
 
-  pub round-lent : roundCall S (lentTableau T) ≡ roundCellsCall S T
-  unfolding roundCall roundCellsCall tableauTests
-  round-lent = by-cases (decLt maxCells (length T)) (λ l. go (refusal (sheetTests S)) refl l) (λ l. rw (lent-belongs (omega arith), lent-cells T (omega arith)))
-    where
-      go : (o : Option ℕ) → refusal (sheetTests S) ≡ o → maxCells < length T
-          → unless (sheetTests S ++ ((not (belongs S (lentTableau T)), 6) ∷ [])) (round S (cellsOf (lentTableau T))) ≡ unless (sheetTests S ++ ((not (cellsBelong S T), 6) ∷ [])) (round S T)
-      go (some k) e l =
-          unless-before (sheetTests S) (not (belongs S (lentTableau T))) 6 (round S (cellsOf (lentTableau T))) k e
-          ∙ sym (unless-before (sheetTests S) (not (cellsBelong S T)) 6 (round S T) k e)
-      go none e l =
-          let d = lent-many e l in
-          unless-last (sheetTests S) (not (belongs S (lentTableau T))) 6 (round S (cellsOf (lentTableau T))) e (ap not (lent-astray d))
-          ∙ sym (unless-last (sheetTests S) (not (cellsBelong S T)) 6 (round S T) e (ap not (other-count d)))
+  -- On an accepted sheet the tableau belongs exactly if the cells do, however many they are ..
+  pub lent-belongs : refusal (sheetTests S) ≡ none → belongs S (lentTableau T) ≡ cellsBelong S T
+  lent-belongs e =
+      by-cases (decLt maxCells (length T))
+      (λ l. other-count-lent (too-many e l) ∙ sym (other-count (too-many e l)))
+      (λ l. few-belong (omega arith))
+
+  -- .. and then it holds them all.
+  pub lent-cells : refusal (sheetTests S) ≡ none → cellsBelong S T ≡ true → cellsOf (lentTableau T) ≡ T
+  lent-cells e b =
+      by-cases (decLt maxCells (length T))
+      (λ l. absurd (true≢false (sym b ∙ other-count (too-many e l))))
+      (λ l. cells-back T (omega arith))

@@ -1,17 +1,11 @@
-// Round on a tableau that is lent as a list of its cells. The borrow checker does not cover a lent list of structs, so the two functions that take one are
-// proved by hand: the loop is thin, and all work is done by functions that take structs by value.
-use simplex::round;
+// A tableau that is lent as a list of its cells. The borrow checker does not cover a lent list of structs, so a function that takes one is proved by hand: the
+// loop is thin, and the work is done by a function that takes structs by value.
 use simplex::tableau;
 use transport::Cell;
 use transport::MAX_CELLS;
-use transport::RoundAnswer;
 use transport::Tableau;
 ghost use mathlib.Core.Path.{_≡_};
-ghost use lib.ListN.{length};
-ghost use Rattle.transport.specs.Calls.{roundCall};
-ghost use Rattle.transport.specs.Answers.{roundAnswer};
-ghost use Rattle.sheet.specs.Check.{sheetOf};
-ghost use Rattle.cells.specs.Lent.{addCell, added, lentTableau};
+ghost use Rattle.cells.specs.Lent.{lentTableau, addCell};
 
 // The greatest count that a tableau can hold.
 const MAX_COUNT: usize = 18_446_744_073_709_551_615;
@@ -34,30 +28,16 @@ fn add_cell(t: Tableau, c: Cell) -> Tableau
     u
 }
 
-// The tableau with all the cells more, in their order.
-fn add_cells(t: Tableau, cells: &[Cell]) -> Tableau
-    ensures { λ r. ⌜ r ≡ added (now (cells .entry)) t (length (now (cells .entry))) ⌝ }
+// The tableau that a lent list of cells is. Calls that take such a list go by it: where the cells are not those of a tableau that belongs to the sheet, be it
+// for another count or order of cells or a cell off the sheet, nor does it.
+pub fn lent_tableau(cells: &[Cell]) -> Tableau
+    ensures { λ r. ⌜ r ≡ lentTableau (now (cells .entry)) ⌝ }
 {
-    let mut u = t;
+    let mut t = tableau::empty_tableau();
     let mut k: usize = 0;
     while k < cells.len() {
-        u = add_cell(u, cells[k]);
+        t = add_cell(t, cells[k]);
         k += 1;
     }
-    u
-}
-
-// Round, given the tableau as the list of its cells. Sheet check, then 6 if they are not those of a tableau that belongs to the sheet: also for another
-// count or order of cells, or a cell off the sheet.
-pub fn round_cells(supply: &[u64], demand: &[u64], cost: &[u64], cells: &[Cell]) -> RoundAnswer
-    ensures { λ r.
-        let S = sheetOf (now (supply .entry)) (now (demand .entry)) (now (cost .entry)) in
-        ⌜ r ≡ roundAnswer (roundCall S (lentTableau (now (cells .entry)))) ⌝ }
-{
-    round::round(
-        supply,
-        demand,
-        cost,
-        add_cells(tableau::empty_tableau(), cells),
-    )
+    t
 }

@@ -1,5 +1,6 @@
 // What programs in C and Rust link: every call of paper 01. A result is a struct by value; its `refusal` is the number of the refusal, or 0, and where it is
 // not 0 the other fields are zeros but for the place with 9, and no lent list is changed.
+use transport::Cell;
 use transport::MAX_SIDE;
 use transport::ReadAnswer;
 use transport::RoundOutcome;
@@ -15,6 +16,7 @@ ghost use Rattle.transport.specs.Calls.{lentAfter, startCall, roundCall, runCal
 ghost use Rattle.transport.specs.SheetText.{readSheetCall, writeSheetCall};
 ghost use Rattle.transport.specs.PlanText.{writePlanCall};
 ghost use Rattle.sheet.specs.Check.{sheetOf};
+ghost use Rattle.cells.specs.Lent.{lentTableau};
 ghost use Rattle.exports.specs.Border.{startOut, roundOut, runOut, numberOf, solveOut, readOut, writeOut};
 ghost use Rattle.exports.specs.Crossing.{written};
 
@@ -87,8 +89,9 @@ pub extern "C" fn panel_start(supply: &[u64], demand: &[u64], cost: &[u64]) -> S
     }
 }
 
-#[no_mangle]
-pub extern "C" fn panel_round(supply: &[u64], demand: &[u64], cost: &[u64], t: Tableau) -> RoundOut
+// The calls on tableaux take a list of cells: what is passed on is the tableau that the list is.
+
+fn round_from(supply: &[u64], demand: &[u64], cost: &[u64], t: Tableau) -> RoundOut
     ensures { λ r. ⌜ r ≡ roundOut (roundCall (sheetOf (now (supply .entry)) (now (demand .entry)) (now (cost .entry))) t) ⌝ }
 {
     let answer = simplex::round::round(supply, demand, cost, t);
@@ -122,13 +125,20 @@ pub extern "C" fn panel_round(supply: &[u64], demand: &[u64], cost: &[u64], t: T
 }
 
 #[no_mangle]
-pub extern "C" fn panel_run(
+pub extern "C" fn panel_round(
     supply: &[u64],
     demand: &[u64],
     cost: &[u64],
-    t: Tableau,
-    allowance: u32,
-) -> RunOut
+    cells: &[Cell],
+) -> RoundOut
+    ensures { λ r.
+        let S = sheetOf (now (supply .entry)) (now (demand .entry)) (now (cost .entry)) in
+        ⌜ r ≡ roundOut (roundCall S (lentTableau (now (cells .entry)))) ⌝ }
+{
+    round_from(supply, demand, cost, cells::lent_tableau(cells))
+}
+
+fn run_from(supply: &[u64], demand: &[u64], cost: &[u64], t: Tableau, allowance: u32) -> RunOut
     ensures { λ r. ⌜ r ≡ runOut (runCall (sheetOf (now (supply .entry)) (now (demand .entry)) (now (cost .entry))) t allowance) ⌝ }
 {
     let answer = simplex::run::run(supply, demand, cost, t, allowance);
@@ -156,15 +166,23 @@ pub extern "C" fn panel_run(
     }
 }
 
-// Settle: 0, or the number of the refusal.
 #[no_mangle]
-pub extern "C" fn panel_settle(
+pub extern "C" fn panel_run(
     supply: &[u64],
     demand: &[u64],
     cost: &[u64],
-    t: Tableau,
-    plan: &mut [u64],
-) -> u8
+    cells: &[Cell],
+    allowance: u32,
+) -> RunOut
+    ensures { λ r.
+        let S = sheetOf (now (supply .entry)) (now (demand .entry)) (now (cost .entry)) in
+        ⌜ r ≡ runOut (runCall S (lentTableau (now (cells .entry))) allowance) ⌝ }
+{
+    run_from(supply, demand, cost, cells::lent_tableau(cells), allowance)
+}
+
+// Settle: 0, or the number of the refusal.
+fn settle_from(supply: &[u64], demand: &[u64], cost: &[u64], t: Tableau, plan: &mut [u64]) -> u8
     ensures { λ r.
         let S = sheetOf (now (supply .entry)) (now (demand .entry)) (now (cost .entry)) in
         let a = settleCall S t (length (now (plan .entry))) in
@@ -175,6 +193,22 @@ pub extern "C" fn panel_settle(
         SettleAnswer::Settled => 0,
         SettleAnswer::Refused(number) => number,
     }
+}
+
+#[no_mangle]
+pub extern "C" fn panel_settle(
+    supply: &[u64],
+    demand: &[u64],
+    cost: &[u64],
+    cells: &[Cell],
+    plan: &mut [u64],
+) -> u8
+    ensures { λ r.
+        let S = sheetOf (now (supply .entry)) (now (demand .entry)) (now (cost .entry)) in
+        let a = settleCall S (lentTableau (now (cells .entry))) (length (now (plan .entry))) in
+        ⌜ (r ≡ numberOf a) × (now (plan .exit) ≡ lentAfter (λ x. x) a (now (plan .entry))) ⌝ }
+{
+    settle_from(supply, demand, cost, cells::lent_tableau(cells), plan)
 }
 
 #[no_mangle]

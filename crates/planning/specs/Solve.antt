@@ -12,6 +12,7 @@ use Rattle.transport.specs.declared.SolveAnswer.the-variants.{Solved, Refused}
 use Rattle.transport.specs.Lists.{at, sumTo, table}
 use Rattle.transport.specs.ListLaws.{length-table}
 use Rattle.transport.specs.Sheet.{Sheet, sources, sinks, sheetTests, refusal}
+use Rattle.transport.specs.SheetLaws.{Checked}
 use Rattle.transport.specs.Tableau.{start}
 use Rattle.transport.specs.Potential.{sourcePrices, sinkPrices}
 use Rattle.transport.specs.Round.{run}
@@ -25,7 +26,7 @@ use Rattle.demands.specs.Bought.{bought}
 use Rattle.demands.specs.Demand3.{settled-length}
 use Rattle.rounds.specs.Boards.{Ran}
 use Rattle.simplex.specs.Dealt.{source-prices, sink-prices}
-use Rattle.planning.specs.Cost.{settled-cost}
+use Rattle.planning.specs.Cost.{Summable, settled-summable, settled-cost}
 use Rattle.planning.specs.Finished.{Finished}
 
 -- ---- the call
@@ -78,27 +79,53 @@ pub told-all : {S : Sheet} {r : SolveAnswer} {u u′ v v′ : List ℤ} {plan pl
 told-all {S} {r} {u} {u′} {v} {v′} {plan} {plan′} t =
     (t .answer, (t .uHeld, (t .vHeld, (t .planHeld, bought S r u v plan u′ v′ plan′ (t .answer) (t .uHeld) (t .vHeld) (t .planHeld)))))
 
+-- ---- what is written before the cost is told
+
+-- The rounds are those of the solution, and each lent list, as it was and as it is, holds its part of it.
+pub record Written (S : Sheet) (made : ℕ) (u u′ v v′ : List ℤ) (plan plan′ : List ℕ) : Type 0 where
+  pub rounds : made ≡ solution S .rounds
+  pub uHeld : u′ ≡ lentAfter (λ s. s .u) (given (solution S)) u
+  pub vHeld : v′ ≡ lentAfter (λ s. s .v) (given (solution S)) v
+  pub planHeld : plan′ ≡ lentAfter (λ s. s .plan) (given (solution S)) plan
+
+module _ {S : Sheet} {made : ℕ} {u u′ v v′ : List ℤ} {plan plan′ : List ℕ} (w : Written S made u u′ v v′ plan plan′) where
+  written-plan : plan′ ≡ settled S ++ drop (length (settled S)) plan
+  unfolding lentAfter solution
+  written-plan = w .planHeld
+
+  pub written-summable : Checked S → Summable plan′ (S .cost)
+  written-summable ok = settled-summable ok (drop (length (settled S)) plan) written-plan refl
+
+  -- The cost is that of the plan that was written.
+  pub told-written : {total : ℕ} → Checked S → total ≡ sumTo (length (S .cost)) (λ l. at plan′ l * at (S .cost) l)
+      → Told (given (solution S)) (Solved total made) u u′ v v′ plan plan′
+  unfolding solveAnswer solution
+  told-written ok t = record {
+    answer = rw (t, settled-cost ok (drop (length (settled S)) plan) written-plan refl, w .rounds);
+    uHeld = w .uHeld;
+    vHeld = w .vHeld;
+    planHeld = w .planHeld;
+  }
+
 -- The rounds have come from the start to the finished tableau.
 module _ {S : Sheet} {adj : List ℕ} {q e cost price : List ℤ} {m n made : ℕ} (r : Ran S (start S) (roundBound S) adj q e cost price m n true made) where
   pub ran-finished : Finished S (run S (roundBound S) (start S) .tableau) adj q e cost price m n
   ran-finished = record { board = r .board; done = start-finished (r .board .checked); prices = r .prices }
 
-  module _ {costs : List ℕ} {u u′ v v′ : List ℤ} {plan plan′ : List ℕ} {total : ℕ}
-      (costsAre : S .cost ≡ costs)
+  module _ {u u′ v v′ : List ℤ} {plan plan′ : List ℕ}
       (uIs : u′ ≡ table m (λ k. getD price (0 + k) (pos 0)) ++ drop m u)
       (vIs : v′ ≡ table n (λ k. getD price (m + k) (pos 0)) ++ drop n v)
-      (planIs : plan′ ≡ settled S ++ drop (m * n) plan)
-      (totalIs : total ≡ sumTo (length costs) (λ l. at plan′ l * at costs l)) where
-    pub told-given : Told (given (solution S)) (Solved total made) u u′ v v′ plan plan′
-    unfolding solveAnswer lentAfter solution
-    told-given =
+      (planIs : plan′ ≡ settled S ++ drop (m * n) plan) where
+    pub written-given : Written S made u u′ v v′ plan plan′
+    unfolding lentAfter solution
+    written-given =
         let rows = source-prices (r .board) price (r .prices) in
         let columns = sink-prices (r .board) price (r .prices) in
         let uLong : length (sourcePrices S (run S (roundBound S) (start S) .tableau)) ≡ m = ap length (sym rows) ∙ length-table _ m in
         let vLong : length (sinkPrices S (run S (roundBound S) (start S) .tableau)) ≡ n = ap length (sym columns) ∙ length-table _ n in
         let planLong : length (settled S) ≡ m * n = settled-length (r .board .checked) ∙ rw (r .board .rows, r .board .columns) in
         record {
-          answer = rw (totalIs, settled-cost (r .board .checked) (drop (m * n) plan) planIs costsAre, r .rounds);
+          rounds = sym (r .rounds);
           uHeld = uIs ∙ rw (rows, uLong);
           vHeld = vIs ∙ rw (columns, vLong);
           planHeld = planIs ∙ rw planLong;

@@ -16,13 +16,13 @@ ghost use Prim.Native.Nat.{_+_, _*_, _-_, _≤_};
 ghost use lib.ListN.{length};
 ghost use Rattle.transport.specs.Sheet.{Sheet};
 ghost use Rattle.transport.specs.Tableau.{start};
-ghost use Rattle.transport.specs.Calls.{given, lentAfter, solution, solveCall};
+ghost use Rattle.transport.specs.Calls.{lentAfter, solveCall};
 ghost use Rattle.transport.specs.Answers.{solveAnswer};
 ghost use Rattle.transport.specs.Statements.{Bought};
 ghost use Rattle.basis.specs.Layout.{stride};
 ghost use Rattle.sheet.specs.Check.{sheetOf};
 ghost use Rattle.simplex.specs.Dealt.{Dealt};
-ghost use Rattle.planning.specs.Solve.{Told};
+ghost use Rattle.planning.specs.Solve.{Written};
 
 // How many places a list of this length lacks for so many numbers.
 fn lacking(len: usize, count: usize) -> usize
@@ -40,7 +40,7 @@ fn lacking_room(u: usize, v: usize, plan: usize, m: usize, n: usize) -> usize
     lacking(u, m) + lacking(v, n) + lacking(plan, m * n)
 }
 
-// Solves from the first tableau of a sheet of m sources and n sinks, which the arrays hold.
+// Solves from the first tableau of a sheet of m sources and n sinks, which the arrays hold: the rounds made. Prices and plan then stand in their lists.
 fn solve_on(
     cost: &[u64],
     m: usize,
@@ -51,10 +51,13 @@ fn solve_on(
     u: &mut [i64],
     v: &mut [i64],
     plan: &mut [u64],
-) -> SolveAnswer
+) -> u64
     requires { ⌜ ((S : Sheet) × Dealt S (start S) (now cost) (now adj) (now q) (now e) m n) ⌝ }
     requires { ⌜ (m ≤ length (now u)) × (n ≤ length (now v)) × (m * n ≤ length (now plan)) ⌝ }
-    ensures { λ r. ⌜ ((S : Sheet) → Dealt S (start S) (now (cost .entry)) (now (adj .entry)) (now (q .entry)) (now (e .entry)) m n → Told (given (solution S)) r (now (u .entry)) (now (u .exit)) (now (v .entry)) (now (v .exit)) (now (plan .entry)) (now (plan .exit))) ⌝ }
+    ensures { λ r. ⌜
+        ((S : Sheet) → Dealt S (start S) (now (cost .entry)) (now (adj .entry)) (now (q .entry)) (now (e .entry)) m n
+        → Written S r (now (u .entry)) (now (u .exit)) (now (v .entry)) (now (v .exit)) (now (plan .entry)) (now (plan .exit)))
+        ⌝ }
 {
     let mut lane_cost: [Price; LANES] = [0; LANES];
     let mut price: [Price; NODES] = [0; NODES];
@@ -63,11 +66,7 @@ fn solve_on(
     write_prices(&price, 0, m, u);
     write_prices(&price, m, n, v);
     settle_board(adj, q, e, &lane_cost, &price, plan, m, n);
-    let total = plan_cost(plan, cost);
-    SolveAnswer::Solved {
-        cost: total,
-        rounds,
-    }
+    rounds
 }
 
 // Solve gives the cost, the rounds from the start to the first finished tableau, its m and n prices, and its settled plan, whose cost it is. Sheet check, then 8 if a
@@ -102,6 +101,11 @@ pub fn solve(
     let mut e = [0i64; LANES];
     let first = first_tableau(supply, demand);
     spread(first, m, &mut adj, &mut q, &mut e);
-    let solved = solve_on(cost, m, n, &mut adj, &mut q, &mut e, u, v, plan);
+    let rounds = solve_on(cost, m, n, &mut adj, &mut q, &mut e, u, v, plan);
+    let total = plan_cost(plan, cost);
+    let solved = SolveAnswer::Solved {
+        cost: total,
+        rounds,
+    };
     solved
 }

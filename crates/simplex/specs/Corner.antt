@@ -2,7 +2,7 @@
 use Prim.Native.Nat.{ℕ, zero, suc, _+_, _*_, _-_, _≤_, _<_}
 use native.Mathlib.Omega.{arith}
 use native.Mathlib.Nat.{add-suc, suc-add}
-use mathlib.Core.Path.{_≡_, refl, ap, _∙_}
+use mathlib.Core.Path.{_≡_, refl, sym, ap, _∙_}
 use mathlib.Core.Bool.{Bool, true, false, cond}
 use mathlib.Core.List.{List, _∷_}
 use lib.Dec.{eqb}
@@ -52,6 +52,23 @@ module _ (S : Sheet) where
     demandHigh = ok .demandHigh;
     costHigh = λ l. omega (arith, at-zeros (length (S .supply) * length (S .demand)) l);
     balance = ok .balance;
+  }
+
+  -- The sheet with its sides changed passes the check too.
+  pub checked-turned : Checked S → Checked (costless (S .demand) (S .supply))
+  unfolding sources sinks
+  checked-turned ok = record {
+    sourcesLow = ok .sinksLow;
+    sourcesHigh = ok .sinksHigh;
+    sinksLow = ok .sourcesLow;
+    sinksHigh = ok .sourcesHigh;
+    costLength = length-replicate _ 0;
+    supplyLow = ok .demandLow;
+    supplyHigh = ok .demandHigh;
+    demandLow = ok .supplyLow;
+    demandHigh = ok .supplyHigh;
+    costHigh = λ l. omega (arith, at-zeros (length (S .demand) * length (S .supply)) l);
+    balance = sym (ok .balance);
   }
 
   corner-costless : (left i j : ℕ) (s d : Pair) → corner free left i j s d ≡ corner S left i j s d

@@ -2,7 +2,7 @@
 use Prim.Native.Nat.{ℕ, _+_, _*_, _<_, _≤_}
 use native.Mathlib.Omega.{arith}
 use mathlib.Core.Path.{_≡_, refl, sym, ap, _∙_}
-use mathlib.Core.Bool.{true, false, not}
+use mathlib.Core.Bool.{Bool, true, false, not}
 use mathlib.Core.Option.{none, some}
 use mathlib.Core.List.{List}
 use lib.Dec.{eqb}
@@ -28,8 +28,9 @@ use Rattle.tableaux.specs.Belonging.{belongs-iff, fits-of, spans-of}
 use Rattle.tableaux.specs.Potentials.{price-size, price-limit}
 use Rattle.basis.specs.Layout.{stride, stride-is, maxPotential}
 use Rattle.board.specs.Held.{Held}
+use Rattle.board.specs.Lanes.{RowMasks, gathered}
 use Rattle.rounds.specs.Costs.{Spread, spread-costed}
-use Rattle.rounds.specs.Boards.{Board}
+use Rattle.rounds.specs.Boards.{Board, Advanced, Ran, board-masks, board-gathered}
 
 -- The sheet S, of m sources and n sinks and with these costs, passes the check, and the arrays hold its tableau T.
 pub record Dealt (S : Sheet) (T : List Cell) (cost adj : List ℕ) (q e : List ℤ) (m n : ℕ) : Type 0 where
@@ -86,6 +87,43 @@ module _ {S : Sheet} {T : List Cell} {adj : List ℕ} {q e cost : List ℤ} {m n
   pub sink-prices : table n (λ k. getD price (m + k) (pos 0)) ≡ sinkPrices S T
   unfolding sinkPrices
   sink-prices = table-cong n (λ k. getD price (m + k) (pos 0)) (λ k. potential S T (m + k)) (λ k l. p (m + k) (omega arith)) ∙ rw (b .rows, b .columns)
+
+-- ---- what the arrays hold after a round, and after a run
+
+-- The round on T: whether it is finished, and its prices. The arrays hold a tableau, the next one if T is not finished.
+pub record Rounded (S : Sheet) (T : List Cell) (adj : List ℕ) (q e price : List ℤ) (m n : ℕ) (finished : Bool) : Type 0 where
+  pub done : isFinished S T ≡ finished
+  pub small : (k : ℕ) → k < m + n → natAbs (getD price k (pos 0)) ≤ maxPotential
+  pub rowPrices : table m (λ k. getD price (0 + k) (pos 0)) ≡ sourcePrices S T
+  pub columnPrices : table n (λ k. getD price (m + k) (pos 0)) ≡ sinkPrices S T
+  pub masks : RowMasks adj m
+  pub moved : finished ≡ false → gathered m adj q e ≡ next S T
+
+pub rounded : {S : Sheet} {T : List Cell} {adj adj′ : List ℕ} {q q′ e e′ cost : List ℤ} {m n : ℕ} {finished : Bool} (price : List ℤ)
+    → Board S T adj q e cost m n → Advanced S T adj′ q′ e′ cost price m n finished → Rounded S T adj′ q′ e′ price m n finished
+rounded {S} {T} {adj} {adj′} {q} {q′} {e} {e′} {cost} {m} {n} {finished} price b r = record {
+  done = r .done;
+  small = prices-small b price (r .prices);
+  rowPrices = source-prices b price (r .prices);
+  columnPrices = sink-prices b price (r .prices);
+  masks = held finished refl;
+  moved = λ f. board-gathered (r .moves f);
+}
+  where
+    held : (f : Bool) → finished ≡ f → RowMasks adj′ m
+    held true f = board-masks (r .stays f)
+    held false f = board-masks (r .moves f)
+
+-- The run R has ended after `made` rounds, and the arrays hold its last tableau.
+pub record Ended (R : Run) (adj : List ℕ) (q e : List ℤ) (m : ℕ) (finished : Bool) (made : ℕ) : Type 0 where
+  pub done : R .done ≡ finished
+  pub rounds : R .rounds ≡ made
+  pub masks : RowMasks adj m
+  pub last : gathered m adj q e ≡ R .tableau
+
+pub ended : {S : Sheet} {T : List Cell} {allowance : ℕ} {adj : List ℕ} {q e cost price : List ℤ} {m n : ℕ} {finished : Bool} {made : ℕ}
+    → Ran S T allowance adj q e cost price m n finished made → Ended (run S allowance T) adj q e m finished made
+ended r = record { done = r .done; rounds = r .rounds; masks = board-masks (r .board); last = board-gathered (r .board) }
 
 -- ---- round, case by case
 

@@ -19,12 +19,11 @@ ghost use lib.ListN.{getD};
 ghost use Rattle.transport.specs.Lists.{table};
 ghost use Rattle.transport.specs.Sheet.{Sheet};
 ghost use Rattle.transport.specs.declared.Cell.{Cell};
-ghost use Rattle.transport.specs.Round.{round};
-ghost use Rattle.transport.specs.Calls.{given, refusedBy, roundCall};
+ghost use Rattle.transport.specs.Calls.{refusedBy, roundCall};
 ghost use Rattle.transport.specs.Answers.{prices, roundAnswer};
 ghost use Rattle.basis.specs.Layout.{stride, maxPotential};
 ghost use Rattle.sheet.specs.Check.{sheetOf};
-ghost use Rattle.simplex.specs.Dealt.{Dealt};
+ghost use Rattle.simplex.specs.Dealt.{Dealt, Rounded};
 
 // The prices of one side, from the node `from` on, as an answer holds them.
 fn side_prices(price: &[Price; NODES], from: usize, count: usize) -> [i64; MAX_SIDE]
@@ -47,7 +46,7 @@ fn refused_round(number: u8) -> RoundAnswer
     }
 }
 
-// The round on a tableau that belongs to its sheet, of m sources and n sinks.
+// The round on a tableau that belongs to its sheet, of m sources and n sinks: whether it is finished, and its prices. If it is not, the arrays hold the next.
 fn round_on(
     cost: &[u64],
     m: usize,
@@ -55,27 +54,17 @@ fn round_on(
     adj: &mut [u64; NODES],
     q: &mut [i64; LANES],
     e: &mut [i64; LANES],
-) -> RoundAnswer
+    price: &mut [Price; NODES],
+) -> bool
     requires { ⌜ ((S : Sheet) × (T : List Cell) × Dealt S T (now cost) (now adj) (now q) (now e) m n) ⌝ }
-    ensures { λ r. ⌜ ((S : Sheet) (T : List Cell) → Dealt S T (now (cost .entry)) (now (adj .entry)) (now (q .entry)) (now (e .entry)) m n → r ≡ roundAnswer (given (round S T))) ⌝ }
+    ensures { λ r. ⌜
+        ((S : Sheet) (T : List Cell) → Dealt S T (now (cost .entry)) (now (adj .entry)) (now (q .entry)) (now (e .entry)) m n
+        → Rounded S T (now (adj .exit)) (now (q .exit)) (now (e .exit)) (now (price .exit)) m n r)
+        ⌝ }
 {
     let mut lane_cost: [Price; LANES] = [0; LANES];
-    let mut price: [Price; NODES] = [0; NODES];
     costs::spread_costs(cost, m, n, &mut lane_cost);
-    if rounds::run::round(adj, q, e, &lane_cost, &mut price, m, n) {
-        return RoundAnswer {
-            outcome: RoundOutcome::Finished,
-            tableau: tableau::empty_tableau(),
-            u: side_prices(&price, 0, m),
-            v: side_prices(&price, m, n),
-        };
-    }
-    RoundAnswer {
-        outcome: RoundOutcome::Moved,
-        tableau: gather::gather(adj, q, e, m),
-        u: [0; MAX_SIDE],
-        v: [0; MAX_SIDE],
-    }
+    rounds::run::round(adj, q, e, &lane_cost, price, m, n)
 }
 
 // Round gives the next tableau, or `finished` with the prices. Sheet check, then 6 if the tableau doesn't belong to the sheet.
@@ -86,11 +75,29 @@ pub fn round(supply: &[u64], demand: &[u64], cost: &[u64], t: Tableau) -> RoundA
     if let SheetCheck::Refused(number) = check {
         return refused_round(number);
     }
+    let m = supply.len();
+    let n = demand.len();
     let mut adj = [0u64; NODES];
     let mut q = [0i64; LANES];
     let mut e = [0i64; LANES];
+    let mut price: [Price; NODES] = [0; NODES];
     if !belonging::load(supply, demand, t, &mut adj, &mut q, &mut e) {
         return refused_round(6);
     }
-    round_on(cost, supply.len(), demand.len(), &mut adj, &mut q, &mut e)
+    let finished = round_on(cost, m, n, &mut adj, &mut q, &mut e, &mut price);
+    if finished {
+        return RoundAnswer {
+            outcome: RoundOutcome::Finished,
+            tableau: tableau::empty_tableau(),
+            u: side_prices(&price, 0, m),
+            v: side_prices(&price, m, n),
+        };
+    }
+    let next = gather::gather(&adj, &q, &e, m);
+    RoundAnswer {
+        outcome: RoundOutcome::Moved,
+        tableau: next,
+        u: [0; MAX_SIDE],
+        v: [0; MAX_SIDE],
+    }
 }

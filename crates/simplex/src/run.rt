@@ -5,6 +5,7 @@ use basis::NODES;
 use basis::Price;
 use board::gather;
 use rounds::costs;
+use rounds::run::Made;
 use sheet::SheetCheck;
 use transport::RunAnswer;
 use transport::RunOutcome;
@@ -14,10 +15,10 @@ ghost use mathlib.Core.List.{List};
 ghost use Rattle.transport.specs.Sheet.{Sheet};
 ghost use Rattle.transport.specs.declared.Cell.{Cell};
 ghost use Rattle.transport.specs.Round.{run};
-ghost use Rattle.transport.specs.Calls.{given, refusedBy, runCall};
+ghost use Rattle.transport.specs.Calls.{refusedBy, runCall};
 ghost use Rattle.transport.specs.Answers.{runAnswer};
 ghost use Rattle.sheet.specs.Check.{sheetOf};
-ghost use Rattle.simplex.specs.Dealt.{Dealt};
+ghost use Rattle.simplex.specs.Dealt.{Dealt, Ended};
 
 fn refused_run(number: u8) -> RunAnswer
     ensures { λ r. ⌜ r ≡ runAnswer (refusedBy number) ⌝ }
@@ -28,7 +29,7 @@ fn refused_run(number: u8) -> RunAnswer
     }
 }
 
-// The run on a tableau that belongs to its sheet, of m sources and n sinks.
+// The run on a tableau that belongs to its sheet, of m sources and n sinks: how it ended. The arrays then hold its last tableau.
 fn run_on(
     cost: &[u64],
     m: usize,
@@ -37,25 +38,17 @@ fn run_on(
     q: &mut [i64; LANES],
     e: &mut [i64; LANES],
     allowance: u64,
-) -> RunAnswer
+) -> Made
     requires { ⌜ ((S : Sheet) × (T : List Cell) × Dealt S T (now cost) (now adj) (now q) (now e) m n) ⌝ }
-    ensures { λ r. ⌜ ((S : Sheet) (T : List Cell) → Dealt S T (now (cost .entry)) (now (adj .entry)) (now (q .entry)) (now (e .entry)) m n → r ≡ runAnswer (given (run S allowance T))) ⌝ }
+    ensures { λ r. ⌜
+        ((S : Sheet) (T : List Cell) → Dealt S T (now (cost .entry)) (now (adj .entry)) (now (q .entry)) (now (e .entry)) m n
+        → Ended (run S allowance T) (now (adj .exit)) (now (q .exit)) (now (e .exit)) m (r .finished) (r .made))
+        ⌝ }
 {
     let mut lane_cost: [Price; LANES] = [0; LANES];
     let mut price: [Price; NODES] = [0; NODES];
     costs::spread_costs(cost, m, n, &mut lane_cost);
-    let end = rounds::run::rounds(adj, q, e, &lane_cost, &mut price, m, n, allowance);
-    let made = end.made;
-    if end.finished {
-        return RunAnswer {
-            outcome: RunOutcome::Finished(made),
-            tableau: gather::gather(adj, q, e, m),
-        };
-    }
-    RunAnswer {
-        outcome: RunOutcome::Spent(made),
-        tableau: gather::gather(adj, q, e, m),
-    }
+    rounds::run::rounds(adj, q, e, &lane_cost, &mut price, m, n, allowance)
 }
 
 // Run makes rounds: `finished` with the tableau and the number of rounds, if it finishes within the allowance; else `spent`, after exactly that many. Refusals as for a round.
@@ -66,19 +59,26 @@ pub fn run(supply: &[u64], demand: &[u64], cost: &[u64], t: Tableau, allowance: 
     if let SheetCheck::Refused(number) = check {
         return refused_run(number);
     }
+    let m = supply.len();
+    let n = demand.len();
     let mut adj = [0u64; NODES];
     let mut q = [0i64; LANES];
     let mut e = [0i64; LANES];
     if !belonging::load(supply, demand, t, &mut adj, &mut q, &mut e) {
         return refused_run(6);
     }
-    run_on(
-        cost,
-        supply.len(),
-        demand.len(),
-        &mut adj,
-        &mut q,
-        &mut e,
-        allowance as u64,
-    )
+    let within = allowance as u64;
+    let end = run_on(cost, m, n, &mut adj, &mut q, &mut e, within);
+    let made = end.made;
+    let last = gather::gather(&adj, &q, &e, m);
+    if end.finished {
+        return RunAnswer {
+            outcome: RunOutcome::Finished(made),
+            tableau: last,
+        };
+    }
+    RunAnswer {
+        outcome: RunOutcome::Spent(made),
+        tableau: last,
+    }
 }

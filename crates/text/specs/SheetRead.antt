@@ -1,12 +1,14 @@
 -- The sheet reader by its sections: two lists, the costs and the end.
 use mathlib.Core.Path.{_≡_, refl, sym, ap, _∙_}
-use mathlib.Core.List.{List, [], _∷_, flatten}
+use mathlib.Core.List.{List, [], _∷_, _++_, flatten}
 use Prim.Native.Nat.{ℕ, zero, suc, _*_, _-_, _≤_}
 use native.Mathlib.Omega.{arith}
-use lib.ListN.{length}
+use lib.ListN.{length, take}
 use Rattle.transport.specs.Text.{bytes, headLine}
 use Rattle.transport.specs.Sheet.{Sheet}
 use Rattle.transport.specs.SheetText.{Reading, stuck, got, Reader, _>>=_, _>>_, pure, times, word, end, number, side, line, row, sheetReader}
+use Rattle.sections.specs.Front.{front, front-take}
+use Rattle.sections.specs.Lines.{ended, head-line}
 use Rattle.text.specs.Reading.{bind-got, bind-stuck, bind-inside, bind-same, bind-assoc, then-got, then-stuck, then-same, then-assoc}
 use Rattle.text.specs.LinesRead.{readLines, column-lines, rows-lines, flat}
 
@@ -46,6 +48,14 @@ flat-pure r t = go (r t) refl
     go : (v : Reading (List (List ℕ))) → r t ≡ v → (r >>= λ rows. pure (flatten rows)) t ≡ flat v
     go (stuck u) e = bind-stuck r t u _ e
     go (got rows u) e = bind-got r t u _ rows e
+
+-- A head line that was written first, with the count k, and was then read as a word.
+pub head-read : (k size : ℕ) (written out t : List ℕ) {r : Reading (Unit {0})} → size ≡ length (bytes "cost " ++ ended k 10)
+    → written ≡ front (bytes "cost " ++ ended k 10) out → word (take size written) t ≡ r → word (headLine "cost" k) t ≡ r
+unfolding bytes
+head-read k size written out t s e w =
+    let same : take size written ≡ headLine "cost" k = (rw e (front-take (bytes "cost " ++ ended k 10) out size s)) ∙ sym (head-line "cost" k) in
+    rw same at w
 
 module _ (m n : ℕ) (t u : List ℕ) where
   pub cost-unnamed : word (headLine "cost" m) t ≡ stuck u → costReader m n t ≡ stuck u

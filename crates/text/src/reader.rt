@@ -438,12 +438,14 @@ pub fn read_sheet(
         return answer;
     };
     let lanes = m * n;
-    store_sheet(
+    // What was read and what was stored have names, so that a program that tells the one for the other is an operand away.
+    let stored = store_sheet(
         &supplies[..m],
         &demands[..n],
         &costs[..lanes],
         supply,
         demand,
         cost,
-    )
+    );
+    stored
 }

@@ -11,7 +11,7 @@ use Rattle.basis.specs.Layout.{stride-is}
 use Rattle.sheet.specs.Check.{sheetOf, accepted-none, refused-some}
 use Rattle.simplex.specs.Corner.{checked-costless}
 use Rattle.planning.specs.First.{first-fits, first-dealt}
-use Rattle.planning.specs.Solve.{solve-early, solve-short, solve-given, told-refused, told-by, told-all}
+use Rattle.planning.specs.Solve.{solve-early, solve-short, solve-given, told-refused, told-by, told-all, written-summable, told-written}
 use Rattle.planning.proofs.solve.solve.Statement.{statement}
 use Rattle.planning.proofs.solve.solve.Tie as tie
 
@@ -73,6 +73,16 @@ solve-on-requires c κs =
     let S = sheetAt (a .before .before .before .before .before .before .before) in
     ((S, first-dealt (checked S (accepted a)) (f .first-tableau .ensures) (d .spread .ensures)), rooms l)
 
+plan-cost-requires : tie.Need-plan-cost-requires
+plan-cost-requires c κs =
+    let o = c .before .before .before .before .before in
+    let d = o .before .before .before .before .before .before .before in
+    let f = d .before .before .before .before in
+    let a = f .before .before .before in
+    let S = sheetAt (a .before .before .before .before .before .before .before) in
+    let ok = checked S (accepted a) in
+    written-summable (o .solve-on .ensures S (first-dealt ok (f .first-tableau .ensures) (d .spread .ensures))) ok
+
 same-length : tie.Need-same-length
 same-length c = search needs
 
@@ -85,14 +95,15 @@ same-length-3 c = search needs
 returns-3 : tie.Need-returns-3
 unfolding sources sinks
 returns-3 c =
-    let o = c .before .before .before .before in
+    let o = c .before .before .before .before .before .before in
     let d = o .before .before .before .before .before .before .before in
     let f = d .before .before .before .before in
     let l = f .before in
     let a = l .before .before in
     let S = sheetAt (a .before .before .before .before .before .before .before) in
-    let dealt = first-dealt (checked S (accepted a)) (f .first-tableau .ensures) (d .spread .ensures) in
-    told-all (told-by (solve-given S _ _ _ (accepted a) (rooms l)) (o .solve-on .ensures S dealt))
+    let ok = checked S (accepted a) in
+    let written = o .solve-on .ensures S (first-dealt ok (f .first-tableau .ensures) (d .spread .ensures)) in
+    told-all (told-by (solve-given S _ _ _ (accepted a) (rooms l)) (told-written written ok (c .plan-cost .ensures)))
 
 pub solve-spec : {M : Type 1} → statement M
 solve-spec =
@@ -107,6 +118,7 @@ solve-spec =
     first-tableau-requires
     spread-requires
     solve-on-requires
+    plan-cost-requires
     same-length
     same-length-2
     same-length-3

@@ -3,8 +3,7 @@ use native.Mathlib.Omega.{arith}
 use borrow.Author.Needs.{needs}
 use Rattle.transport.specs.Tableau.{start}
 use Rattle.simplex.specs.Dealt.{dealt-costs, dealt-board, prices-small}
-use Rattle.planning.specs.Cost.{settled-summable}
-use Rattle.planning.specs.Solve.{ran-finished, told-given}
+use Rattle.planning.specs.Solve.{ran-finished, written-given}
 use Rattle.planning.proofs.solve.solve_on.Statement.{statement}
 use Rattle.planning.proofs.solve.solve_on.Tie as tie
 
@@ -38,15 +37,6 @@ settle-board-requires c κs =
     let r = f .finish .ensures S (start S) (dealt-board d (f .before .before .before .before .before .before .spread-costs .ensures)) in
     ((S, _, ran-finished r), s .pre .1 .2)
 
-plan-cost-requires : tie.Need-plan-cost-requires
-plan-cost-requires c κs =
-    let b = c .before .before .before in
-    let f = b .before .before .before .before .before .before .before .before .before .before .before .before .before .before .before in
-    let s = f .before .before .before .before .before .before .before .before .before .before in
-    let (S, d) = s .pre .0 in
-    let r = f .finish .ensures S (start S) (dealt-board d (f .before .before .before .before .before .before .spread-costs .ensures)) in
-    settled-summable (d .checked) _ (b .settle-board .ensures S _ (ran-finished r)) (d .costs)
-
 same-length : tie.Need-same-length
 same-length c = search needs
 
@@ -58,12 +48,12 @@ same-length-3 c = search needs
 
 returns : tie.Need-returns
 returns c = λ S d.
-    let b = c .before .before .before .before in
+    let b = c .before .before in
     let v = b .before .before .before .before .before .before .before .before in
     let u = v .before .before .before .before in
     let f = u .before .before .before in
     let r = f .finish .ensures S (start S) (dealt-board d (f .before .before .before .before .before .before .spread-costs .ensures)) in
-    told-given r (d .costs) (u .write-prices .ensures) (v .write-prices2 .ensures) (b .settle-board .ensures S _ (ran-finished r)) (c .plan-cost .ensures)
+    written-given r (u .write-prices .ensures) (v .write-prices2 .ensures) (b .settle-board .ensures S _ (ran-finished r))
 
 pub solve-on-spec : {M : Type 1} → statement M
 solve-on-spec =
@@ -74,7 +64,6 @@ solve-on-spec =
     write-prices-requires
     write-prices-requires-2
     settle-board-requires
-    plan-cost-requires
     same-length
     same-length-2
     same-length-3

@@ -1,16 +1,20 @@
 -- `simplex::round::round` meets its contract: each way out is a case of the call.
+use native.Mathlib.Omega.{arith}
 use mathlib.Core.Path.{_≡_, sym, ap, _∙_}
 use mathlib.Core.Bool.{true}
 use mathlib.Core.Option.{none}
 use borrow.Author.Needs.{needs}
 use borrow.Author.Tests.{not-true, not-false}
+use lib.ListN.{length}
+use Rattle.transport.specs.Lists.{padded}
+use Rattle.transport.specs.Limits.{maxSide}
 use Rattle.transport.specs.Sheet.{Sheet, refusal, sheetTests}
 use Rattle.transport.specs.SheetLaws.{checked}
 use Rattle.transport.specs.Tableau.{cellsOf}
 use Rattle.transport.specs.Leaf.{belongs}
-use Rattle.transport.specs.Answers.{roundAnswer}
+use Rattle.transport.specs.Answers.{prices, noPrices, roundAnswer}
 use Rattle.sheet.specs.Check.{sheetOf, accepted-none, refused-some}
-use Rattle.simplex.specs.Dealt.{dealt-loaded, round-early, round-astray, round-given}
+use Rattle.simplex.specs.Dealt.{Dealt, dealt-costs, dealt-loaded, round-early, round-astray, round-given, round-finished, round-moved}
 use Rattle.simplex.proofs.round.round.Statement.{statement}
 use Rattle.simplex.proofs.round.round.Tie as tie
 
@@ -51,27 +55,86 @@ returns-2 c =
     c .refused-round2 .ensures
     ∙ ap roundAnswer (sym (round-astray (sheetAt s) (s .args .t) (accepted (a .before .before .before .before)) (sym (a .load .ensures .0 (s .args .cost .now)) ∙ not-true _ (c .before .if1 .taken))))
 
--- The tableau belongs to the sheet.
-within : (c : tie.Else1) → let s = c .before .before .before .before .before .before .before .before .before .before .before in belongs (sheetAt s) (s .args .t) ≡ true
-within c = sym (c .before .load .ensures .0 (c .before .before .before .before .before .before .before .before .before .before .before .args .cost .now)) ∙ not-false _ (c .if1 .left)
+-- ---- the tableau belongs to the sheet
+
+abbrev toldBefore : tie.Else1 → tie.After-enum-told
+toldBefore c = c .before .before .before .before .before
+
+abbrev startBefore : tie.Else1 → tie.Start
+startBefore c = toldBefore c .before .before .before .before .before .before
+
+within : (c : tie.Else1) → belongs (sheetAt (startBefore c)) (startBefore c .args .t) ≡ true
+within c = sym (c .before .load .ensures .0 (startBefore c .args .cost .now)) ∙ not-false _ (c .if1 .left)
+
+dealt : (c : tie.Else1)
+    → let s = startBefore c in
+    let l = c .before .load .last .1 .1 .1 in
+    Dealt (sheetAt s) (cellsOf (s .args .t)) (s .args .cost .now) (l .0) (l .1 .0) (l .1 .1 .0) (length (s .args .supply .now)) (length (s .args .demand .now))
+dealt c =
+    let s = startBefore c in
+    dealt-loaded (sheetAt s) (s .args .t) (checked (sheetAt s) (accepted (toldBefore c))) (within c) (c .before .load .ensures .1 (not-false _ (c .if1 .left)))
 
 round-on-requires : tie.Need-round-on-requires
 round-on-requires c κs =
+    let b = c .before .before .before .before in
+    let s = startBefore b in
+    (sheetAt s, cellsOf (s .args .t), dealt b)
+
+-- ---- the answer is made of what the round gives; what its parts ask for holds of a finished tableau and of one that is not
+
+empty-tableau-requires : tie.Need-empty-tableau-requires
+empty-tableau-requires c κs = tt
+
+side-prices-requires : tie.Need-side-prices-requires
+side-prices-requires c κs =
     let a = c .before .before .before in
-    let s = a .before .before .before .before .before .before .before .before .before .before .before in (
-      sheetAt s,
-      cellsOf (s .args .t),
-      dealt-loaded (sheetAt s) (s .args .t) (checked (sheetAt s) (accepted (a .before .before .before .before .before))) (within a) (a .before .load .ensures .1 (not-false _ (a .if1 .left))),
-    )
+    let b = a .before .before .before .before .before in
+    let s = startBefore b in
+    (omega arith, dealt-costs (dealt b) .0, λ k l. a .round-on .ensures (sheetAt s) (cellsOf (s .args .t)) (dealt b) .small k (omega arith))
+
+side-prices-requires-2 : tie.Need-side-prices-requires-2
+side-prices-requires-2 c κs =
+    let a = c .before .before .before .before .before in
+    let b = a .before .before .before .before .before in
+    let s = startBefore b in
+    (dealt-costs (dealt b) .0, dealt-costs (dealt b) .1, a .round-on .ensures (sheetAt s) (cellsOf (s .args .t)) (dealt b) .small)
 
 returns-3 : tie.Need-returns-3
 returns-3 c =
-    let a = c .before .before .before .before in
-    let s = a .before .before .before .before .before .before .before .before .before .before .before in
+    let a = c .before .before .before .before .before .before in
+    let b = a .before .before .before .before .before in
+    let s = startBefore b in
+    let S = sheetAt s in
     let t = s .args .t in
-    let ok = accepted (a .before .before .before .before .before) in
-    c .round-on .ensures (sheetAt s) (cellsOf t) (dealt-loaded (sheetAt s) t (checked (sheetAt s) ok) (within a) (a .before .load .ensures .1 (not-false _ (a .if1 .left))))
-    ∙ ap roundAnswer (sym (round-given (sheetAt s) t ok (within a)))
+    let r = a .round-on .ensures S (cellsOf t) (dealt b) in
+    rw (
+      round-given S t (accepted (toldBefore b)) (within b),
+      c .before .before .before .before .empty-tableau .ensures,
+      c .before .before .side-prices .ensures,
+      c .side-prices2 .ensures,
+      r .rowPrices,
+      r .columnPrices,
+    )
+    (round-finished S (cellsOf t) (r .done ∙ c .before .before .before .before .before .if2 .taken))
+
+gather-requires : tie.Need-gather-requires
+gather-requires c κs =
+    let a = c .before .before .before .before in
+    let b = a .before .before .before .before .before in
+    let s = startBefore b in
+    a .round-on .ensures (sheetAt s) (cellsOf (s .args .t)) (dealt b) .masks
+
+returns-4 : tie.Need-returns-4
+unfolding noPrices prices padded maxSide
+returns-4 c =
+    let a = c .before .before .before .before .before in
+    let b = a .before .before .before .before .before in
+    let s = startBefore b in
+    let S = sheetAt s in
+    let t = s .args .t in
+    let r = a .round-on .ensures S (cellsOf t) (dealt b) in
+    let f = c .before .before .before .before .if2 .left in
+    rw (round-given S t (accepted (toldBefore b)) (within b), c .gather .ensures, r .moved f) (round-moved S (cellsOf t) (r .done ∙ f))
 
 pub round-spec : {M : Type 1} → statement M
 round-spec =
@@ -86,4 +149,9 @@ round-spec =
     refused-round-requires-2
     returns-2
     round-on-requires
-    returns-3)
+    empty-tableau-requires
+    side-prices-requires
+    side-prices-requires-2
+    returns-3
+    gather-requires
+    returns-4)

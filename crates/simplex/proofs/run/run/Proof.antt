@@ -4,13 +4,15 @@ use mathlib.Core.Bool.{true}
 use mathlib.Core.Option.{none}
 use borrow.Author.Needs.{needs}
 use borrow.Author.Tests.{not-true, not-false}
+use lib.ListN.{length}
 use Rattle.transport.specs.Sheet.{Sheet, refusal, sheetTests}
 use Rattle.transport.specs.SheetLaws.{checked}
 use Rattle.transport.specs.Tableau.{cellsOf}
 use Rattle.transport.specs.Leaf.{belongs}
+use Rattle.transport.specs.Round.{run}
 use Rattle.transport.specs.Answers.{runAnswer}
 use Rattle.sheet.specs.Check.{sheetOf, accepted-none, refused-some}
-use Rattle.simplex.specs.Dealt.{dealt-loaded, run-early, run-astray, run-given}
+use Rattle.simplex.specs.Dealt.{Dealt, dealt-loaded, run-early, run-astray, run-given, run-finished, run-spent}
 use Rattle.simplex.proofs.run.run.Statement.{statement}
 use Rattle.simplex.proofs.run.run.Tie as tie
 
@@ -51,27 +53,61 @@ returns-2 c =
     c .refused-run2 .ensures
     ∙ ap runAnswer (sym (run-astray (sheetAt s) (s .args .t) (s .args .allowance) (accepted (a .before .before .before .before)) (sym (a .load .ensures .0 (s .args .cost .now)) ∙ not-true _ (c .before .if1 .taken))))
 
--- The tableau belongs to the sheet.
-within : (c : tie.Else1) → let s = c .before .before .before .before .before .before .before .before .before .before .before in belongs (sheetAt s) (s .args .t) ≡ true
-within c = sym (c .before .load .ensures .0 (c .before .before .before .before .before .before .before .before .before .before .before .args .cost .now)) ∙ not-false _ (c .if1 .left)
+-- ---- the tableau belongs to the sheet
+
+abbrev toldBefore : tie.Else1 → tie.After-enum-told
+toldBefore c = c .before .before .before .before .before
+
+abbrev startBefore : tie.Else1 → tie.Start
+startBefore c = toldBefore c .before .before .before .before .before .before
+
+within : (c : tie.Else1) → belongs (sheetAt (startBefore c)) (startBefore c .args .t) ≡ true
+within c = sym (c .before .load .ensures .0 (startBefore c .args .cost .now)) ∙ not-false _ (c .if1 .left)
+
+dealt : (c : tie.Else1)
+    → let s = startBefore c in
+    let l = c .before .load .last .1 .1 .1 in
+    Dealt (sheetAt s) (cellsOf (s .args .t)) (s .args .cost .now) (l .0) (l .1 .0) (l .1 .1 .0) (length (s .args .supply .now)) (length (s .args .demand .now))
+dealt c =
+    let s = startBefore c in
+    dealt-loaded (sheetAt s) (s .args .t) (checked (sheetAt s) (accepted (toldBefore c))) (within c) (c .before .load .ensures .1 (not-false _ (c .if1 .left)))
 
 run-on-requires : tie.Need-run-on-requires
 run-on-requires c κs =
+    let b = c .before .before .before in
+    let s = startBefore b in
+    (sheetAt s, cellsOf (s .args .t), dealt b)
+
+-- ---- the answer is made of what the run gives, whatever its allowance
+
+gather-requires : tie.Need-gather-requires
+gather-requires c κs =
     let a = c .before .before .before in
-    let s = a .before .before .before .before .before .before .before .before .before .before .before in (
-      sheetAt s,
-      cellsOf (s .args .t),
-      dealt-loaded (sheetAt s) (s .args .t) (checked (sheetAt s) (accepted (a .before .before .before .before .before))) (within a) (a .before .load .ensures .1 (not-false _ (a .if1 .left))),
-    )
+    let b = a .before .before .before .before in
+    let s = startBefore b in
+    a .run-on .ensures (sheetAt s) (cellsOf (s .args .t)) (dealt b) .masks
 
 returns-3 : tie.Need-returns-3
 returns-3 c =
-    let a = c .before .before .before .before in
-    let s = a .before .before .before .before .before .before .before .before .before .before .before in
+    let a = c .before .before .before .before .before in
+    let b = a .before .before .before .before in
+    let s = startBefore b in
+    let S = sheetAt s in
     let t = s .args .t in
-    let ok = accepted (a .before .before .before .before .before) in
-    c .run-on .ensures (sheetAt s) (cellsOf t) (dealt-loaded (sheetAt s) t (checked (sheetAt s) ok) (within a) (a .before .load .ensures .1 (not-false _ (a .if1 .left))))
-    ∙ ap runAnswer (sym (run-given (sheetAt s) t (s .args .allowance) ok (within a)))
+    let r = a .run-on .ensures S (cellsOf t) (dealt b) in
+    rw (run-given S t (s .args .allowance) (accepted (toldBefore b)) (within b), c .before .gather .ensures, r .last, ← r .rounds)
+    (run-finished (run S (s .args .allowance) (cellsOf t)) (r .done ∙ c .if2 .taken))
+
+returns-4 : tie.Need-returns-4
+returns-4 c =
+    let a = c .before .before .before .before .before in
+    let b = a .before .before .before .before in
+    let s = startBefore b in
+    let S = sheetAt s in
+    let t = s .args .t in
+    let r = a .run-on .ensures S (cellsOf t) (dealt b) in
+    rw (run-given S t (s .args .allowance) (accepted (toldBefore b)) (within b), c .before .gather .ensures, r .last, ← r .rounds)
+    (run-spent (run S (s .args .allowance) (cellsOf t)) (r .done ∙ c .if2 .left))
 
 pub run-spec : {M : Type 1} → statement M
 run-spec =
@@ -86,4 +122,6 @@ run-spec =
     refused-run-requires-2
     returns-2
     run-on-requires
-    returns-3)
+    gather-requires
+    returns-3
+    returns-4)

@@ -4,7 +4,7 @@ use mathlib.Core.Option.{none}
 use Rattle.transport.specs.Sheet.{Sheet, refusal, sheetTests}
 use Rattle.transport.specs.SheetLaws.{checked}
 use Rattle.sheet.specs.Check.{sheetOf, accepted-none, refused-some}
-use Rattle.simplex.specs.Corner.{checked-costless, start-costless}
+use Rattle.simplex.specs.Corner.{checked-costless, checked-turned, start-costless}
 use Rattle.simplex.specs.Start.{start-refused, start-given}
 use borrow.Author.Needs.{needs}
 use Rattle.simplex.proofs.start.start.Statement.{statement}
@@ -33,10 +33,11 @@ enum-told c = search needs
 accepted : (c : tie.After-enum-told) → refusal (sheetTests (sheetAt (c .before .before .before .before .before .before))) ≡ none
 accepted c = accepted-none _ (sym (c .before .before .check-sheet .ensures) ∙ c .enum-told .given .1)
 
+-- This holds whichever side comes first: a program that changes them (must-fail/sides_changed) fails only where it returns.
 first-tableau-requires : tie.Need-first-tableau-requires
 first-tableau-requires c κs =
     let S = sheetAt (c .before .before .before .before .before .before) in
-    checked-costless S (checked S (accepted c))
+    search (needs, checked-costless S (checked S (accepted c)), checked-turned S (checked S (accepted c)))
 
 returns-2 : tie.Need-returns-2
 returns-2 c =

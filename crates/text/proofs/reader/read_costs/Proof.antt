@@ -1,19 +1,17 @@
 -- The head line that must come is written first; then it is read as a word, and the lines after it.
--- The head of either count has room: a program that writes the other one (must-fail/other_row_count) fails only where the line is read.
-use mathlib.Core.Path.{_≡_, sym, ap, _∙_}
+-- The head of either count has room: a program that writes the other one (must-fail/other_row_count) fails only where it returns.
+use mathlib.Core.Path.{sym, ap, _∙_}
 use Prim.Native.Nat.{ℕ, _≤_}
 use native.Mathlib.Omega.{arith}
-use lib.ListN.{length, take, drop}
+use lib.ListN.{length, drop}
 use lib.Seq.{length-take-le}
 use Rattle.transport.specs.Limits.{maxSide}
-use Rattle.transport.specs.Text.{bytes, headLine}
-use Rattle.transport.specs.SheetText.{word}
+use Rattle.transport.specs.Text.{bytes}
 use Rattle.sheet.specs.Laws.{sides-product}
 use Rattle.grammar.specs.Digits.{digits-length}
-use Rattle.sections.specs.Front.{front-take, length-front}
-use Rattle.sections.specs.Lines.{ended, length-ended, head-line}
-use Rattle.text.specs.Reading.{readingOf}
-use Rattle.text.specs.SheetRead.{cost-unnamed, cost-named}
+use Rattle.sections.specs.Front.{length-front}
+use Rattle.sections.specs.Lines.{ended, length-ended}
+use Rattle.text.specs.SheetRead.{head-read, cost-unnamed, cost-named}
 use borrow.Author.Needs.{needs}
 use Rattle.text.proofs.reader.read_costs.Statement.{statement}
 use Rattle.text.proofs.reader.read_costs.Tie as tie
@@ -38,10 +36,6 @@ module _ (c : tie.After-write-head) where
   fits : c .write-head .result ≤ length (c .write-head .last .1 .1 .0)
   fits = omega (arith, c .write-head .ensures .0, ap length (c .write-head .ensures .1) ∙ length-front _ _ (omega (arith, heads-short (c .before .before .before .before .before))), heads-short (c .before .before .before .before .before))
 
-  head-is : take (c .write-head .result) (c .write-head .last .1 .1 .0) ≡ headLine "cost" (c .before .before .before .before .before .args .m)
-  unfolding bytes
-  head-is = (rw (c .write-head .ensures .1) (front-take _ _ (c .write-head .result) (c .write-head .ensures .0))) ∙ sym (head-line "cost" (c .before .before .before .before .before .args .m))
-
 array-share-prefix-line : tie.Need-array-share-prefix-line
 array-share-prefix-line c = fits (c .before)
 
@@ -57,15 +51,16 @@ enum-known-head c = search needs
 enum-told : tie.Need-enum-told
 enum-told c = search needs
 
-headed : (c : tie.After-read-word) → word (headLine "cost" (c .before .before .before .before .before .before .before .before .args .m)) (drop (c .before .before .before .before .before .before .before .before .args .at) (c .before .before .before .before .before .before .before .before .args .text .now)) ≡ readingOf (c .before .before .before .before .before .before .before .before .args .text .now) (λ v. tt) (c .read-word .result)
-headed c = rw (head-is (c .before .before .before)) at (c .read-word .ensures .0)
-
 returns : tie.Need-returns
+unfolding bytes
 returns c =
     let w = c .before .before .read-word in
+    let h = c .before .before .before .before .before .write-head in
     let a = c .before .before .before .before .before .before .before .before .before .before .args in
+    let rest = drop (a .at) (a .text .now) in
     let stopped = c .enum-told .given .1 in
-    (rw stopped (cost-unnamed (a .m) (a .n) (drop (a .at) (a .text .now)) _ (headed (c .before .before) ∙ (rw stopped))), w .ensures .1, rw stopped tt)
+    let head = head-read (a .m) (h .result) _ _ rest (h .ensures .0) (h .ensures .1) (w .ensures .0) in
+    (rw stopped (cost-unnamed (a .m) (a .n) rest _ (head ∙ (rw stopped))), w .ensures .1, rw stopped tt)
 
 mul-read-lines : tie.Need-mul-read-lines
 mul-read-lines c = record { fits = sides-product _ _ (c .before .before .before .before .before .before .before .before .before .before .before .pre .1) (c .before .before .before .before .before .before .before .before .before .before .before .pre .3) }
@@ -79,11 +74,17 @@ same-length : tie.Need-same-length
 same-length c = search needs
 
 returns-2 : tie.Need-returns-2
+unfolding bytes
 returns-2 c =
     let w = c .before .before .read-lines in
-    let a = c .before .before .before .before .before .before .before .before .before .before .before .before .before .before .before .args in
-    let k = c .before .before .before .before .before .head .given in (
-      cost-named (a .m) (a .n) (drop (a .at) (a .text .now)) (drop (k .0 .1 .0) (a .text .now)) (c .before .before .before .before .before .before .before .before .before .before .before .before .before .before .before .pre .2) (headed (c .before .before .before .before .before .before .before) ∙ (rw (k .1))) ∙ w .ensures .0,
+    let d = c .before .before .before .before .before .before .before in
+    let h = d .before .before .before .write-head in
+    let s = d .before .before .before .before .before .before .before .before in
+    let a = s .args in
+    let rest = drop (a .at) (a .text .now) in
+    let k = c .before .before .before .before .before .head .given in
+    let head = head-read (a .m) (h .result) _ _ rest (h .ensures .0) (h .ensures .1) (d .read-word .ensures .0) in (
+      cost-named (a .m) (a .n) rest (drop (k .0 .1 .0) (a .text .now)) (s .pre .2) (head ∙ (rw (k .1))) ∙ w .ensures .0,
       w .ensures .1,
       w .ensures .2,
     )

@@ -1,0 +1,59 @@
+-- Each way out is a case of the answer.
+use mathlib.Core.Path.{sym, ap, _∙_}
+use Rattle.transport.specs.declared.RunAnswer.{RunAnswer}
+use Rattle.transport.specs.declared.RunOutcome.{RunOutcome}
+use Rattle.transport.specs.Sheet.{Sheet}
+use Rattle.sheet.specs.Check.{sheetOf}
+use Rattle.transport.specs.Calls.{runCall}
+use Rattle.exports.specs.Crossing.{ran, ran-is}
+use borrow.Author.Needs.{needs}
+use Rattle.exports.proofs.run_from.Statement.{statement}
+use Rattle.exports.proofs.run_from.Tie as tie
+
+run-requires : tie.Need-run-requires
+run-requires c κs = search needs
+
+enum-known-outcome : tie.Need-enum-known-outcome
+enum-known-outcome c = search needs
+
+enum-known-outcome-2 : tie.Need-enum-known-outcome-2
+enum-known-outcome-2 c = search needs
+
+enum-known-outcome-3 : tie.Need-enum-known-outcome-3
+enum-known-outcome-3 c = search needs
+
+abbrev sheetAt : (t : tie.Start) → Sheet
+sheetAt t = sheetOf (t .args .supply .now) (t .args .demand .now) (t .args .cost .now)
+
+returns : tie.Need-returns
+returns c =
+    let t = c .before .before .before .before .before .before .before .before in
+    let w = c .before .before .before .before .run in
+    let a = runCall (sheetAt t) (t .args .t) (t .args .allowance) in
+    ap (λ (o : RunOutcome). ran o (w .result .tableau)) (sym (c .before .outcome .given .1)) ∙ ap (λ (x : RunAnswer). ran (x .outcome) (x .tableau)) (w .ensures) ∙ ran-is a
+
+returns-2 : tie.Need-returns-2
+returns-2 c =
+    let t = c .before .before .before .before .before .before .before .before in
+    let w = c .before .before .before .before .run in
+    let a = runCall (sheetAt t) (t .args .t) (t .args .allowance) in
+    ap (λ (o : RunOutcome). ran o (w .result .tableau)) (sym (c .before .outcome2 .given .1)) ∙ ap (λ (x : RunAnswer). ran (x .outcome) (x .tableau)) (w .ensures) ∙ ran-is a
+
+returns-3 : tie.Need-returns-3
+returns-3 c =
+    let t = c .before .before .before .before .before .before .before .before in
+    let w = c .before .before .before .before .run in
+    let a = runCall (sheetAt t) (t .args .t) (t .args .allowance) in
+    ap (λ (o : RunOutcome). ran o (w .result .tableau)) (sym (c .before .outcome3 .given .1)) ∙ ap (λ (x : RunAnswer). ran (x .outcome) (x .tableau)) (w .ensures) ∙ ran-is a
+
+pub run-from-spec : {M : Type 1} → statement M
+run-from-spec =
+    tie.close
+    (tie.spec
+    run-requires
+    enum-known-outcome
+    enum-known-outcome-2
+    enum-known-outcome-3
+    returns
+    returns-2
+    returns-3)

@@ -1,0 +1,62 @@
+//! Sheets and cells of the paper's samples, for the tests that want them.
+#![allow(dead_code)] // no test wants all
+use panel::{Cell, Pair, Refusal, Round, Sheet, MAX_LANES, MAX_SIDE};
+
+/// What a lent list holds before a call.
+pub const MARK: u64 = 0x5a5a_5a5a_5a5a_5a5a;
+
+pub fn sheet(supply: &[u64], demand: &[u64], cost: &[u64]) -> Sheet {
+    Sheet { supply: supply.to_vec(), demand: demand.to_vec(), cost: cost.to_vec() }
+}
+
+/// A cell as the paper writes it: roastery and café from 1, bags and marks.
+pub fn cell(roastery: usize, cafe: usize, q: i64, e: i64) -> Cell {
+    Cell { row: roastery - 1, col: cafe - 1, amount: Pair { q, e } }
+}
+
+pub fn p1() -> Sheet {
+    sheet(&[3, 4], &[5, 2], &[4, 1, 2, 6])
+}
+
+/// The tableau that P1's round gives: it is finished.
+pub fn p1_last() -> [Cell; 3] {
+    [cell(1, 1, 1, -1), cell(1, 2, 2, 2), cell(2, 1, 4, 1)]
+}
+
+pub fn p3() -> Sheet {
+    sheet(&[5, 5], &[5, 5], &[1; 4])
+}
+
+pub fn p4() -> Sheet {
+    sheet(&[1, 3], &[2, 1, 1], &[9, 0, 0, 0, 0, 0])
+}
+
+/// P5's tableau, of P4's sheet: it is finished.
+pub fn p5() -> [Cell; 4] {
+    [cell(1, 3, 1, 1), cell(2, 1, 2, 0), cell(2, 2, 1, 0), cell(2, 3, 0, 1)]
+}
+
+pub fn p6() -> Sheet {
+    sheet(&[1], &[1], &[0])
+}
+
+pub fn p7() -> Sheet {
+    sheet(&[1_000_000], &[1_000_000], &[1_000_000])
+}
+
+/// P9's first tableau, of P3's sheet: no pair above (0, 0) at (1,2).
+pub fn p9() -> [Cell; 3] {
+    [cell(1, 1, 5, 0), cell(1, 2, 0, 0), cell(2, 2, 5, 1)]
+}
+
+pub fn largest() -> Sheet {
+    sheet(&[1_000_000; MAX_SIDE], &[1_000_000; MAX_SIDE], &[1_000_000; MAX_LANES])
+}
+
+/// What a round on a finished tableau gives, with these prices.
+pub fn finished(roasteries: &[i64], cafes: &[i64]) -> Result<Round, Refusal> {
+    let (mut u, mut v) = ([0; MAX_SIDE], [0; MAX_SIDE]);
+    u[..roasteries.len()].copy_from_slice(roasteries);
+    v[..cafes.len()].copy_from_slice(cafes);
+    Ok(Round::Finished { u, v })
+}

@@ -1,0 +1,206 @@
+#include "random_sheets.h"
+
+#include <algorithm>
+#include <cstdlib>
+
+// ---- bags
+
+Sheet blank(size_t m, size_t n) { return {List(m, 1), List(n, 1), Grid(m, List(n, 0))}; }
+
+static Sheet blank_to(Dice &dice, size_t top) {
+    size_t m = 1 + dice.below(top), n = 1 + dice.below(top);
+    return blank(m, n);
+}
+
+// Moves random bags on and off until the totals are equal, within the limits.
+static void balance(Dice &dice, Sheet &sheet) {
+    while (total(sheet.supply) != total(sheet.demand)) {
+        Whole over = total(sheet.supply) - total(sheet.demand);
+        bool raise = dice.once_in(2);
+        Whole &bags = dice.one_of(raise == (over < 0) ? sheet.supply : sheet.demand);
+        Whole change = dice.between(0, std::min(std::abs(over), raise ? most - bags : bags - 1));
+        bags += raise ? change : -change;
+    }
+}
+
+static void random_bags(Dice &dice, Sheet &sheet, Whole top) {
+    for (Whole &bags : sheet.supply) bags = dice.between(1, top);
+    for (Whole &bags : sheet.demand) bags = dice.between(1, top);
+    balance(dice, sheet);
+}
+
+// Cuts a bar of so many units into as many parts as the list has.
+static void cut_bar(Dice &dice, List &parts, size_t units, Whole unit) {
+    std::vector<bool> cut(units + 1, false);
+    cut[0] = cut[units] = true;
+    for (size_t cuts = 1; cuts < parts.size();) {
+        size_t place = 1 + dice.below(units - 1);
+        if (!cut[place]) cuts++;
+        cut[place] = true;
+    }
+    size_t part = 0, last = 0;
+    for (size_t place = 1; place <= units; place++) {
+        if (!cut[place]) continue;
+        parts[part++] = (Whole)(place - last) * unit;
+        last = place;
+    }
+}
+
+// Few units in all, so that many sums of first supplies are sums of first demands too.
+static void tied_bags(Dice &dice, Sheet &sheet) {
+    size_t parties = std::max(sheet.m(), sheet.n());
+    size_t units = parties + dice.below(parties + 1);
+    Whole unit = dice.one_of({1, 7, most / 64});
+    cut_bar(dice, sheet.supply, units, unit);
+    cut_bar(dice, sheet.demand, units, unit);
+}
+
+static void any_bags(Dice &dice, Sheet &sheet) {
+    if (dice.once_in(3)) tied_bags(dice, sheet);
+    else random_bags(dice, sheet, dice.one_of({1, 5, 1'000, most}));
+}
+
+// ---- costs
+
+void random_costs(Dice &dice, Sheet &sheet, Whole top) {
+    for (List &row : sheet.cost)
+        for (Whole &cost : row) cost = dice.between(0, top);
+}
+
+// Nothing or the most. The prices of the first tableaux grow large.
+static void far_costs(Dice &dice, Sheet &sheet) {
+    for (List &row : sheet.cost)
+        for (Whole &cost : row) cost = dice.one_of({0, most});
+}
+
+// A part for the roastery and a part for the café, so that every plan costs the same; or nearly so.
+static void summed_costs(Dice &dice, Sheet &sheet) {
+    Whole top = dice.one_of({0, 2, most / 2});
+    List columns(sheet.n());
+    for (Whole &part : columns) part = dice.between(0, top);
+    for (List &row : sheet.cost) {
+        Whole part = dice.between(0, top);
+        for (size_t j = 0; j < row.size(); j++) row[j] = part + columns[j];
+    }
+    for (size_t change = dice.below(4); change > 0; change--) dice.one_of(dice.one_of(sheet.cost)) = dice.between(0, 2 * top);
+}
+
+static void equal_costs(Dice &dice, Sheet &sheet) {
+    Whole cost = dice.one_of({0, 1, dice.between(0, most), most});
+    for (List &row : sheet.cost) row.assign(row.size(), cost);
+}
+
+static Whole orderly_cost(int order, Whole i, Whole j) {
+    switch (order) {
+    case 0: return i * j;
+    case 1: return (31 - i) * j;
+    case 2: return std::abs(i - j);
+    case 3: return (i - j) * (i - j);
+    case 4: return (i + j) % 3;
+    case 5: return i ^ j;
+    case 6: return i == j ? 0 : 961;
+    default: return i == j ? 961 : 0;
+    }
+}
+
+static void orderly_costs(Dice &dice, Sheet &sheet) {
+    int order = (int)dice.below(8);
+    Whole factor = dice.one_of({1, 1, most / 961});
+    for (size_t i = 0; i < sheet.m(); i++)
+        for (size_t j = 0; j < sheet.n(); j++) sheet.cost[i][j] = factor * orderly_cost(order, (Whole)i, (Whole)j);
+}
+
+static void any_costs(Dice &dice, Sheet &sheet) {
+    switch (dice.below(6)) {
+    case 0: return summed_costs(dice, sheet);
+    case 1: return equal_costs(dice, sheet);
+    case 2: return orderly_costs(dice, sheet);
+    case 3: return far_costs(dice, sheet);
+    default: return random_costs(dice, sheet, dice.one_of({1, 3, 1'000, most}));
+    }
+}
+
+// ---- sheets
+
+static size_t any_size(Dice &dice) { return (size_t)dice.one_of({3, 3, 6, 12, 32}); }
+
+Sheet filled(Dice &dice, Sheet sheet) {
+    any_bags(dice, sheet);
+    any_costs(dice, sheet);
+    return sheet;
+}
+
+Sheet any_sheet(Dice &dice) { return filled(dice, blank_to(dice, any_size(dice))); }
+
+Sheet small_sheet(Dice &dice) {
+    Sheet sheet = blank_to(dice, 4);
+    random_bags(dice, sheet, 3);
+    random_costs(dice, sheet, dice.one_of({0, 1, 2, 5, most}));
+    return sheet;
+}
+
+Sheet sheet_of_ties(Dice &dice) {
+    Sheet sheet = blank_to(dice, 12);
+    random_bags(dice, sheet, 5);
+    random_costs(dice, sheet, dice.between(1, 3));
+    return sheet;
+}
+
+Sheet degenerate_sheet(Dice &dice) {
+    Sheet sheet = blank_to(dice, 16);
+    tied_bags(dice, sheet);
+    any_costs(dice, sheet);
+    return sheet;
+}
+
+Sheet sheet_of_summed_costs(Dice &dice) {
+    Sheet sheet = blank_to(dice, 16);
+    any_bags(dice, sheet);
+    if (dice.once_in(4)) equal_costs(dice, sheet);
+    else summed_costs(dice, sheet);
+    return sheet;
+}
+
+Sheet sheet_of_orderly_costs(Dice &dice) {
+    Sheet sheet = blank_to(dice, 24);
+    any_bags(dice, sheet);
+    orderly_costs(dice, sheet);
+    return sheet;
+}
+
+Sheet sheet_of_large_numbers(Dice &dice) {
+    Sheet sheet = blank_to(dice, 24);
+    random_bags(dice, sheet, most);
+    random_costs(dice, sheet, most);
+    return sheet;
+}
+
+Sheet narrow_sheet(Dice &dice) {
+    size_t narrow = 1 + dice.below(2), wide = 1 + dice.below(full);
+    Sheet sheet = dice.once_in(2) ? blank(narrow, wide) : blank(wide, narrow);
+    return filled(dice, sheet);
+}
+
+Sheet full_sheet(Dice &dice) { return filled(dice, blank(full, full)); }
+
+// ---- sheets to refuse by 3, 4 or 5, or just not
+
+Sheet unequal_sheet(Dice &dice) {
+    Sheet sheet = any_sheet(dice);
+    Whole &bags = dice.one_of(dice.once_in(2) ? sheet.supply : sheet.demand);
+    bags = dice.one_of({std::min(bags + 1, most), std::max<Whole>(bags - 1, 1), dice.between(1, most)});
+    return sheet;
+}
+
+static Whole at_the_limits(Dice &dice) { return dice.one_of({0, 1, most - 1, most, most + 1, seven_nines}); }
+
+Sheet sheet_at_the_limits(Dice &dice) {
+    Sheet sheet = any_sheet(dice);
+    for (size_t change = 1 + dice.below(3); change > 0; change--)
+        switch (dice.below(4)) {
+        case 0: dice.one_of(sheet.supply) = at_the_limits(dice); break;
+        case 1: dice.one_of(sheet.demand) = at_the_limits(dice); break;
+        default: dice.one_of(dice.one_of(sheet.cost)) = at_the_limits(dice);
+        }
+    return sheet;
+}
