@@ -10,11 +10,11 @@ use lib.Dec.{eqb}
 use lib.ListN.{length, drop, getD, set, replicate, drop-of-length-le}
 use lib.Seq.{drop-cons, getD-set-same, getD-set-other}
 use borrow.Author.Tests.{eqb-true, eqb-false}
-use Rattle.transport.specs.Limits.{maxSide, maxCost}
+use Rattle.transport.specs.Limits.{maxSide, costAbove}
 use Rattle.transport.specs.Lists.{table}
-use Rattle.transport.specs.ListLaws.{length-table, getD-table}
-use Rattle.transport.specs.Sheet.{Lane}
-use Rattle.transport.specs.SheetLaws.{lane}
+use Rattle.transport.specs.Laws.ListLaws.{length-table, getD-table}
+use Rattle.transport.specs.Problem.{Lane}
+use Rattle.transport.specs.Laws.ProblemLaws.{lane}
 use Rattle.transport.specs.Leaf.{Strike}
 
 -- The lane of row i and column j lies at i * stride + j.
@@ -34,7 +34,7 @@ laneRoom = stride * stride
 
 -- No potential by strikes within the room passes this: each strike adds a cost at most.
 abbrev pub maxPotential : ℕ
-maxPotential = nodeRoom * maxCost
+maxPotential = nodeRoom * costAbove
 
 abbrev pub laneAt : ℕ → Lane
 laneAt l = record { row = l / stride; col = l % stride }

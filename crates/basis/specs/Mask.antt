@@ -12,8 +12,6 @@ use lib.Bits.{bitAnd, bitOr, bitXor, differ, or-shr, or-step, and-shr, and-step,
 use native.Mathlib.Numerals.{one-add}
 use lib.Pow.{shr-shr, shl-shr, shl-exact, pow-lt, pow-add}
 use lib.Count.{trailing-le, onesIn, ones, ones-step, trailingZeros, under}
-use Rattle.transport.specs.Lists.{sumTo}
-use Rattle.transport.specs.ListLaws.{sumTo-zero, sumTo-first, sumTo-cong}
 
 abbrev pub bit : ℕ → ℕ → ℕ
 bit x j = x / 2 ^ j % 2
@@ -176,8 +174,3 @@ pub has-zero : (k : ℕ) → has 0 k ≡ false
 has-zero k = rw (none 0 k ones-zero)
 
 -- ---- the count of ones is the sum of the bits
-
-pub ones-sum : (K x : ℕ) → x < 2 ^ K → ones x ≡ sumTo K (bit x)
-ones-sum zero x p = let e : x ≡ 0 = omega arith in rw (e, ones-zero, sumTo-zero)
-ones-sum (suc K) x p =
-    omega (arith, ones-step x, ones-sum K (x / 2) (omega (arith, pow-suc 2 K)), sumTo-first K (bit x), sumTo-cong K (λ k. bit x (suc k)) (bit (x / 2)) (λ k l. bit-suc x k))

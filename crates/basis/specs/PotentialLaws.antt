@@ -9,10 +9,10 @@ use lib.Dec.{eqb}
 use lib.IntN.{ℤ, pos, natAbs, _-ℤ_}
 use lib.ListN.{length, getD, set, length-drop}
 use lib.Seq.{getD-drop}
-use Rattle.transport.specs.Sheet.{Lane}
+use Rattle.transport.specs.Problem.{Lane}
 use Rattle.transport.specs.Leaf.{Strike}
 use Rattle.transport.specs.Potential.{potentialBy}
-use Rattle.transport.specs.RangeLaws.{abs-diff}
+use Rattle.transport.specs.Laws.RangeLaws.{abs-diff}
 use Rattle.basis.specs.Layout.{nodeRoom, costOf, costOf-at, strikeOf, strikesOf, strikesFrom, strikesFrom-cons, length-strikes, getD-strikes, getD-set, Struck}
 
 module _ (cost : Lane → ℤ) where

@@ -13,9 +13,9 @@ use lib.Signed.{ltZ}
 use lib.ListN.{getD}
 use Rattle.integers.specs.Bridge.{z-add, eq!, !, _-'_}
 use Rattle.integers.specs.Tests.{lt-yes, lt-no, yes-lt, no-lt, abs-z}
-use Rattle.transport.specs.Limits.{maxCost}
-use Rattle.transport.specs.AmountLaws.{ltZ-tie}
-use Rattle.transport.specs.RangeLaws.{abs-diff}
+use Rattle.transport.specs.Limits.{maxCost, costAbove}
+use Rattle.transport.specs.Laws.AmountLaws.{ltZ-tie}
+use Rattle.transport.specs.Laws.RangeLaws.{abs-diff}
 use Rattle.basis.specs.Layout.{stride, nodeRoom, maxPotential}
 
 -- ---- the least of f 0, .., f (n − 1) that is below b, and the first place that has it
@@ -97,24 +97,15 @@ module _ (b : ℤ) (f : ℕ → ℤ) where
   pub lowest-below : (n k : ℕ) → k < n → ltZ (f k) b ≡ true → ltZ (lowest b f n) b ≡ true
   lowest-below n k p e = yes-lt (lowest b f n) b (omega (arith, lt-no (f k) (lowest b f n) (lowest-le n k p), lt-yes (f k) b e))
 
-  pub lowest-abs : (most n : ℕ) → natAbs b ≤ most → ((k : ℕ) → k < n → natAbs (f k) ≤ most) → natAbs (lowest b f n) ≤ most
-  unfolding lowest
-  lowest-abs most zero p h = p
-  lowest-abs most (suc n) p h = go (ltZ (f n) (lowest b f n)) (lowest-abs most n p (λ k q. h k (omega arith)))
-    where
-      go : (t : Bool) → natAbs (lowest b f n) ≤ most → natAbs (cond t (f n) (lowest b f n)) ≤ most
-      go true ih = h n (omega arith)
-      go false ih = ih
-
 -- ---- reduced costs by arrays
 
 -- The cost of a column past the sheet: so great that its lane never enters.
 abbrev pub padCost : ℕ
-padCost = 500_000_000
+padCost = 8 * maxPotential
 
 -- Greater than every cost less a potential.
 abbrev pub far : ℕ
-far = 1_000_000_000
+far = 2 * padCost
 
 -- The cost of a lane less the potential of its sink ..
 abbrev pub slackAt : List ℤ → List ℤ → ℕ → ℕ → ℕ → ℤ
@@ -159,7 +150,7 @@ module _ (cost price : List ℤ) (m : ℕ) (w : InRange cost price m) (i : ℕ) 
 
   -- The row's least is below `far`.
   pub row-near : ltZ (lowest (pos far) (slackAt cost price m i) stride) (pos far) ≡ true
-  unfolding maxCost
+  unfolding costAbove maxCost
   row-near = lowest-below (pos far) (slackAt cost price m i) stride 0 (omega arith) (near (slackAt cost price m i 0) far (omega (arith, slack-abs 0 (omega arith))))
 
   pub row-place : FirstLow (slackAt cost price m i) stride (lowestPlace (pos far) (slackAt cost price m i) stride)

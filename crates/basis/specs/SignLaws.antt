@@ -14,12 +14,12 @@ use lib.ListN.{length, take, getD, set, length-set}
 use lib.Seq.{getD-set-other, lt-length-set, take-suc-set, take-set-le}
 use borrow.Author.Tests.{eqb-true, eq-eqb, ne-eqb}
 use Rattle.transport.specs.Lists.{sumTo, keep}
-use Rattle.transport.specs.ListLaws.{sumTo-none, sumTo-each, sumTo-cong, keep-one}
-use Rattle.transport.specs.Sheet.{Lane}
+use Rattle.transport.specs.Laws.ListLaws.{sumTo-none, sumTo-each, sumTo-cong, keep-one}
+use Rattle.transport.specs.Problem.{Lane}
 use Rattle.transport.specs.Leaf.{Strike}
 use Rattle.transport.specs.Round.{takeFrom, flow, sign}
-use Rattle.transport.specs.RoundLaws.{leftBy, flow-here, flow-later}
-use Rattle.transport.specs.RangeLaws.{abs-diff}
+use Rattle.transport.specs.Laws.RoundLaws.{leftBy, flow-here, flow-later}
+use Rattle.transport.specs.Laws.RangeLaws.{abs-diff}
 use Rattle.basis.specs.Layout.{nodeRoom, laneAt, placeOf, place-laneAt, strikeOf, strikesOf, strikesFrom, strikesFrom-cons, getD-set, Distinct, Struck}
 
 -- ---- one strike

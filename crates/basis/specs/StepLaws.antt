@@ -10,11 +10,11 @@ use lib.Dec.{eqb}
 use lib.ListN.{length, take, getD, set, length-set}
 use lib.Seq.{take-suc, take-length, length-take-le, getD-take}
 use Rattle.transport.specs.Lists.{keep}
-use Rattle.transport.specs.ListLaws.{and-left, and-right, member-at, member-place, keep-member}
+use Rattle.transport.specs.Laws.ListLaws.{and-left, and-right, member-at, member-place, keep-member}
+use Rattle.transport.specs.Amount.{less}
+use Rattle.transport.specs.Laws.RangeLaws.{abs-add}
 use borrow.Author.Tests.{eqb-true, eq-eqb, ne-eqb, not-true}
 use Rattle.transport.specs.declared.Pair.{Pair}
-use Rattle.transport.specs.Amount.{less}
-use Rattle.transport.specs.RangeLaws.{abs-add}
 use Rattle.basis.specs.Layout.{nodeRoom, laneRoom, Distinct, getD-set, Struck}
 use Rattle.basis.specs.SignLaws.{LoopLanes}
 

@@ -9,7 +9,10 @@ pub mod step;
 // The room for nodes, and for lanes.
 pub const NODES: usize = 2 * transport::MAX_SIDE;
 
-pub const LANES: usize = transport::MAX_LANES;
+pub const LANES: usize = transport::MAX_SIDE * transport::MAX_SIDE;
 
-// A cost or a potential: wide enough for NODES costs together.
+// A cost or a potential: wide enough for NODES costs together, many times over.
 pub type Price = i32;
+
+// No potential is greater: each strike adds a cost at most.
+pub const MAX_POTENTIAL: Price = NODES as Price * transport::MAX_COST as Price;

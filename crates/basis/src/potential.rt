@@ -6,7 +6,7 @@ ghost use mathlib.Core.Path.{_≡_};
 ghost use Prim.Native.Nat.{ℕ, _<_, _≤_};
 ghost use lib.IntN.{pos, natAbs};
 ghost use lib.ListN.{length, getD};
-ghost use Rattle.transport.specs.Limits.{maxCost};
+ghost use Rattle.transport.specs.Limits.{costAbove};
 ghost use Rattle.transport.specs.Potential.{potentialBy};
 ghost use Rattle.basis.specs.Layout.{nodeRoom, costOf, strikesOf, Struck};
 
@@ -20,8 +20,13 @@ pub fn potentials(
     price: &mut [Price; NODES],
 )
     requires { ⌜ Struck (now leaf) (now other) (now lane) count ⌝ }
-    requires { ⌜ ((k : ℕ) → k < count → natAbs (getD (now cost) (getD (now lane) k 0) (pos 0)) ≤ maxCost) ⌝ }
-    ensures { λ _. ⌜ (length (now (price .exit)) ≡ nodeRoom) × ((k : ℕ) → k < nodeRoom → getD (now (price .exit)) k (pos 0) ≡ potentialBy (costOf (now (cost .entry))) (strikesOf (now (leaf .entry)) (now (other .entry)) (now (lane .entry)) count) k) ⌝ }
+    requires { ⌜ ((k : ℕ) → k < count → natAbs (getD (now cost) (getD (now lane) k 0) (pos 0)) ≤ costAbove) ⌝ }
+    ensures { λ _. ⌜
+        (length (now (price .exit)) ≡ nodeRoom)
+        × ((k : ℕ) → k < nodeRoom
+        → getD (now (price .exit)) k (pos 0)
+        ≡ potentialBy (costOf (now (cost .entry))) (strikesOf (now (leaf .entry)) (now (other .entry)) (now (lane .entry)) count) k)
+        ⌝ }
 {
     *price = [0; NODES];
     let mut k = count;

@@ -1,5 +1,6 @@
 // The scan of reduced costs. A row's least is found first, in a loop that the compiler turns into vector code, and then its place.
 use crate::LANES;
+use crate::MAX_POTENTIAL;
 use crate::NODES;
 use crate::Price;
 use transport::MAX_SIDE;
@@ -9,10 +10,10 @@ ghost use Rattle.basis.specs.Layout.{stride};
 ghost use Rattle.basis.specs.ScanLaws.{InRange, slackAt, rowLeast, Scanned};
 
 // The cost of a column past the sheet, in every row: so great that its lane never enters.
-pub const PAD: Price = 500_000_000;
+pub const PAD: Price = 8 * MAX_POTENTIAL;
 
 // Greater than every cost less a potential.
-const FAR: Price = 1_000_000_000;
+const FAR: Price = 2 * PAD;
 
 // The least reduced cost of row i, over all columns that there is room for.
 fn least_in_row(cost: &[Price; LANES], price: &[Price; NODES], m: usize, i: usize) -> Price
@@ -42,7 +43,11 @@ fn place_in_row(
 ) -> usize
     requires { ⌜ InRange (now cost) (now price) m ⌝ }
     requires { ⌜ i < m ⌝ }
-    ensures { λ r. ⌜ (r ≤ stride) × ((j : ℕ) → j < r → slackAt (now (cost .entry)) (now (price .entry)) m i j ≡ slack → ⊥) × (r < stride → slackAt (now (cost .entry)) (now (price .entry)) m i r ≡ slack) ⌝ }
+    ensures { λ r. ⌜
+        (r ≤ stride)
+        × ((j : ℕ) → j < r → slackAt (now (cost .entry)) (now (price .entry)) m i j ≡ slack → ⊥)
+        × (r < stride → slackAt (now (cost .entry)) (now (price .entry)) m i r ≡ slack)
+        ⌝ }
 {
     let mut j = 0;
     while j < MAX_SIDE {

@@ -28,7 +28,10 @@ pub fn loop_signs(
     requires { ⌜ Distinct (now lane) count ⌝ }
     requires { ⌜ (row < sink) × (sink < nodeRoom) ⌝ }
     requires { ⌜ (length (now minus) ≡ nodeRoom) × (length (now plus) ≡ nodeRoom) ⌝ }
-    ensures { λ r. ⌜ LoopLanes (now (leaf .entry)) (now (other .entry)) (now (lane .entry)) count row sink (now (minus .exit)) (now (plus .exit)) (r .minus) (r .plus) count ⌝ }
+    ensures { λ r. ⌜
+        LoopLanes (now (leaf .entry)) (now (other .entry)) (now (lane .entry)) count row sink
+        (now (minus .exit)) (now (plus .exit)) (r .minus) (r .plus) count
+        ⌝ }
 {
     let mut need = [0i32; NODES];
     need[row] = -1;

@@ -17,16 +17,17 @@ use Rattle.integers.specs.SumLaws.{sum-cong}
 use Rattle.network.specs.Flow.{Flow}
 use Rattle.network.specs.FlowLaws.{on-zero}
 use Rattle.transport.specs.Lists.{all, below, sumTo, at, total}
-use Rattle.transport.specs.ListLaws.{and-left, and-right, all-below, all-below-at, sumTo-cong, sumTo-none}
-use Rattle.transport.specs.Sheet.{Sheet, sources, sinks}
-use Rattle.transport.specs.SheetLaws.{lane}
+use Rattle.transport.specs.Laws.ListLaws.{and-left, and-right, all-below, all-below-at, sumTo-cong, sumTo-none}
+use Rattle.transport.specs.Problem.{Problem, sources, sinks}
+use Rattle.transport.specs.Laws.ProblemLaws.{lane}
+use Rattle.transport.specs.Amount.{nothing, add, same, pairedSupply, pairedDemand}
+use Rattle.transport.specs.Laws.AmountLaws.{same-true, same-self}
+use Rattle.transport.specs.Tableau.{basisOf}
+use Rattle.transport.specs.Belonging.{rowTotal, columnTotal, balanced, spans}
+use Rattle.transport.specs.Leaf.{Strike}
+use Rattle.transport.specs.Round.{flow}
 use Rattle.transport.specs.declared.Pair.{Pair}
 use Rattle.transport.specs.declared.Cell.{Cell}
-use Rattle.transport.specs.Amount.{nothing, add, same, pairedSupply, pairedDemand}
-use Rattle.transport.specs.AmountLaws.{same-true, same-self}
-use Rattle.transport.specs.Tableau.{basisOf, rowTotal, columnTotal, balanced}
-use Rattle.transport.specs.Leaf.{Strike, spans}
-use Rattle.transport.specs.Round.{flow}
 use Rattle.tableaux.specs.View.{Distinct, Inside, amountAt, amount-none, row-sum, column-sum}
 use Rattle.tableaux.specs.Lanes.{Has, has-basic, member-dec}
 use Rattle.tableaux.specs.Striking.{Struck}
@@ -134,60 +135,60 @@ marks-even m (suc n) p =
     rw (eq-eqb n (suc n - 1) (omega arith))
     (omega (arith, sum-ones m, sumTo-cong n (markOf m (suc n)) (λ k. 0) (λ k l. rw (ne-eqb k (suc n - 1) (omega arith))), sumTo-none n))
 
-module _ (S : Sheet) {T : List Cell} {ss : List Strike} (t : Tree (sources S) (sinks S) T ss) (totals : total (S .supply) ≡ total (S .demand)) {bags marks : List ℤ}
-    (b : Weights (sources S) (sinks S) (at (S .supply)) (at (S .demand)) bags) (e : Weights (sources S) (sinks S) (λ i. 1) (markOf (sources S) (sinks S)) marks) where
+module _ (P : Problem) {T : List Cell} {ss : List Strike} (t : Tree (sources P) (sinks P) T ss) (totals : total (P .supply) ≡ total (P .demand)) {bags marks : List ℤ}
+    (b : Weights (sources P) (sinks P) (at (P .supply)) (at (P .demand)) bags) (e : Weights (sources P) (sinks P) (λ i. 1) (markOf (sources P) (sinks P)) marks) where
   abbrev Both : Type 0
   Both = Carry T ss (λ a. a .q) (weightsOf bags) × Carry T ss (λ a. a .e) (weightsOf marks)
 
-  bags-iff : Carry T ss (λ a. a .q) (weightsOf bags) ↔ AddUp (sources S) (sinks S) T (λ a. a .q) (weightsOf bags)
+  bags-iff : Carry T ss (λ a. a .q) (weightsOf bags) ↔ AddUp (sources P) (sinks P) T (λ a. a .q) (weightsOf bags)
   unfolding nothing add total sources sinks
   bags-iff = carry-iff t (λ a. a .q) refl (λ a b. refl) (weightsOf bags) (weights-even b totals)
 
-  marks-iff : Carry T ss (λ a. a .e) (weightsOf marks) ↔ AddUp (sources S) (sinks S) T (λ a. a .e) (weightsOf marks)
+  marks-iff : Carry T ss (λ a. a .e) (weightsOf marks) ↔ AddUp (sources P) (sinks P) T (λ a. a .e) (weightsOf marks)
   unfolding nothing add
-  marks-iff = carry-iff t (λ a. a .e) refl (λ a b. refl) (weightsOf marks) (weights-even e (marks-even (sources S) (sinks S) (t .colsLow)))
+  marks-iff = carry-iff t (λ a. a .e) refl (λ a b. refl) (weightsOf marks) (weights-even e (marks-even (sources P) (sinks P) (t .colsLow)))
 
   rowsTest : Bool
-  rowsTest = all (λ i. same (rowTotal T i) (pairedSupply S i)) (below (sources S))
+  rowsTest = all (λ i. same (rowTotal T i) (pairedSupply P i)) (below (sources P))
 
   columnsTest : Bool
-  columnsTest = all (λ j. same (columnTotal T j) (pairedDemand S j)) (below (sinks S))
+  columnsTest = all (λ j. same (columnTotal T j) (pairedDemand P j)) (below (sinks P))
 
-  to : balanced S T ≡ true → Both
+  to : balanced P T ≡ true → Both
   unfolding balanced rowsTest columnsTest pairedSupply pairedDemand
   to h = (
     bags-iff .1 ((λ i l. ap (λ a. a .q) (row i l) ∙ sym (b .rows i l)), (λ j l. ap (λ a. a .q) (column j l) ∙ sym (b .columns j l))),
     marks-iff .1 ((λ i l. ap (λ a. a .e) (row i l) ∙ sym (e .rows i l)), (λ j l. ap (λ a. a .e) (column j l) ∙ sym (e .columns j l))),
   )
     where
-      row : (i : ℕ) → i < sources S → rowTotal T i ≡ pairedSupply S i
-      row i l = same-true _ _ (all-below-at (λ i. same (rowTotal T i) (pairedSupply S i)) (sources S) i (and-left rowsTest columnsTest h) l)
+      row : (i : ℕ) → i < sources P → rowTotal T i ≡ pairedSupply P i
+      row i l = same-true _ _ (all-below-at (λ i. same (rowTotal T i) (pairedSupply P i)) (sources P) i (and-left rowsTest columnsTest h) l)
 
-      column : (j : ℕ) → j < sinks S → columnTotal T j ≡ pairedDemand S j
-      column j l = same-true _ _ (all-below-at (λ j. same (columnTotal T j) (pairedDemand S j)) (sinks S) j (and-right rowsTest columnsTest h) l)
+      column : (j : ℕ) → j < sinks P → columnTotal T j ≡ pairedDemand P j
+      column j l = same-true _ _ (all-below-at (λ j. same (columnTotal T j) (pairedDemand P j)) (sinks P) j (and-right rowsTest columnsTest h) l)
 
-  from : Both → balanced S T ≡ true
+  from : Both → balanced P T ≡ true
   unfolding balanced rowsTest columnsTest pairedSupply pairedDemand
   from (h, k) = rw (rows, columns)
     where
-      add-bags : AddUp (sources S) (sinks S) T (λ a. a .q) (weightsOf bags)
+      add-bags : AddUp (sources P) (sinks P) T (λ a. a .q) (weightsOf bags)
       add-bags = bags-iff .0 h
 
-      add-marks : AddUp (sources S) (sinks S) T (λ a. a .e) (weightsOf marks)
+      add-marks : AddUp (sources P) (sinks P) T (λ a. a .e) (weightsOf marks)
       add-marks = marks-iff .0 k
 
-      row : (i : ℕ) → i < sources S → rowTotal T i ≡ pairedSupply S i
+      row : (i : ℕ) → i < sources P → rowTotal T i ≡ pairedSupply P i
       row i l = λ z. record { q = (add-bags .0 i l ∙ b .rows i l) z; e = (add-marks .0 i l ∙ e .rows i l) z }
 
-      column : (j : ℕ) → j < sinks S → columnTotal T j ≡ pairedDemand S j
+      column : (j : ℕ) → j < sinks P → columnTotal T j ≡ pairedDemand P j
       column j l = λ z. record { q = (add-bags .1 j l ∙ b .columns j l) z; e = (add-marks .1 j l ∙ e .columns j l) z }
 
       rows : rowsTest ≡ true
-      rows = all-below (λ i. same (rowTotal T i) (pairedSupply S i)) (sources S) (λ i l. rw (row i l) (same-self (pairedSupply S i)))
+      rows = all-below (λ i. same (rowTotal T i) (pairedSupply P i)) (sources P) (λ i l. rw (row i l) (same-self (pairedSupply P i)))
 
       columns : columnsTest ≡ true
-      columns = all-below (λ j. same (columnTotal T j) (pairedDemand S j)) (sinks S) (λ j l. rw (column j l) (same-self (pairedDemand S j)))
+      columns = all-below (λ j. same (columnTotal T j) (pairedDemand P j)) (sinks P) (λ j l. rw (column j l) (same-self (pairedDemand P j)))
 
   -- The tableau is balanced exactly if its bags and its marks are the flows.
-  pub balanced-iff : (balanced S T ≡ true) ↔ (Carry T ss (λ a. a .q) (weightsOf bags) × Carry T ss (λ a. a .e) (weightsOf marks))
+  pub balanced-iff : (balanced P T ≡ true) ↔ (Carry T ss (λ a. a .q) (weightsOf bags) × Carry T ss (λ a. a .e) (weightsOf marks))
   balanced-iff = (to, from)

@@ -11,11 +11,11 @@ use lib.ListN.{length, getD, set}
 use lib.Signed.{mag}
 use mir.Syntax.{w64}
 use mir.Val.{toZ, ofZ}
-use Rattle.transport.specs.RangeLaws.{back}
+use Rattle.transport.specs.Laws.RangeLaws.{back}
 use Rattle.transport.specs.Lists.{all, below}
-use Rattle.transport.specs.ListLaws.{all-below, all-below-at}
+use Rattle.transport.specs.Laws.ListLaws.{all-below, all-below-at}
 use Rattle.transport.specs.Amount.{eqZ}
-use Rattle.transport.specs.AmountLaws.{eqZ-true, eqZ-same}
+use Rattle.transport.specs.Laws.AmountLaws.{eqZ-true, eqZ-same}
 use Rattle.transport.specs.Leaf.{Strike}
 use Rattle.transport.specs.Round.{flow}
 use Rattle.basis.specs.Layout.{nodeRoom, laneAt, strikesOf, Distinct, Struck}

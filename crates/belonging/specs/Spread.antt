@@ -9,17 +9,18 @@ use borrow.Author.Tests.{ltb-true, eq-eqb, ne-eqb}
 use lib.IntN.{ℤ, pos}
 use lib.ListN.{length, getD, length-map}
 use Rattle.transport.specs.Lists.{all, at, total}
-use Rattle.transport.specs.ListLaws.{and-left, and-right, all-at, member-table, table-member}
-use Rattle.transport.specs.Sheet.{Sheet, sources, sinks}
-use Rattle.transport.specs.SheetLaws.{lane, Checked}
+use Rattle.transport.specs.Laws.ListLaws.{and-left, and-right, all-at, member-table, table-member}
+use Rattle.transport.specs.Problem.{Problem, sources, sinks}
+use Rattle.transport.specs.Laws.ProblemLaws.{lane}
+use Rattle.transport.specs.Laws.Sound.{Sound, supply-most, demand-most}
 use Rattle.transport.specs.Limits.{maxSide}
+use Rattle.transport.specs.Tableau.{noCell, laneOf, basisOf, basisSize, cellsOf}
+use Rattle.transport.specs.Belonging.{onSheet, inOrder, aboveZero, balanced, spans, cellsBelong, belongs}
+use Rattle.transport.specs.Round.{flow}
 use Rattle.transport.specs.declared.Pair.{Pair}
 use Rattle.transport.specs.declared.Cell.{Cell}
 use Rattle.transport.specs.declared.Tableau.{Tableau}
-use Rattle.transport.specs.Tableau.{noCell, laneOf, basisOf, basisSize, onSheet, inOrder, aboveZero, balanced, cellsOf}
-use Rattle.transport.specs.Leaf.{spans, cellsBelong, belongs}
-use Rattle.transport.specs.Round.{flow}
-use Rattle.sheet.specs.Check.{sheetOf}
+use Rattle.transport.specs.Laws.ProblemLaws.{problem}
 use Rattle.tableaux.specs.View.{Distinct, Inside, rowOf, colOf, amountAt}
 use Rattle.tableaux.specs.Belonging.{fits-inside, order-true}
 use Rattle.tableaux.specs.Order.{ordered-by, ordered-distinct}
@@ -43,13 +44,13 @@ pub record Sides (m n : ℕ) : Type 0 where
   pub colsLow : 1 ≤ n
   pub colsHigh : n ≤ stride
 
-module _ {supply demand cost : List ℕ} (ok : Checked (sheetOf supply demand cost)) where
-  pub checked-sides : Sides (length supply) (length demand)
+module _ {supply demand : List ℕ} {cost : List ℤ} (ok : Sound (problem supply demand cost)) where
+  pub sound-sides : Sides (length supply) (length demand)
   unfolding sources sinks maxSide
-  checked-sides = record { rowsLow = ok .sourcesLow; rowsHigh = ok .sourcesHigh; colsLow = ok .sinksLow; colsHigh = ok .sinksHigh }
+  sound-sides = record { rowsLow = ok .sourcesLow; rowsHigh = ok .sourcesHigh; colsLow = ok .sinksLow; colsHigh = ok .sinksHigh }
 
-  pub checked-modest : Modest supply × Modest demand
-  checked-modest = (record { few = checked-sides .rowsHigh; high = ok .supplyHigh }, record { few = checked-sides .colsHigh; high = ok .demandHigh })
+  pub sound-modest : Modest supply × Modest demand
+  sound-modest = (record { few = sound-sides .rowsHigh; high = supply-most ok }, record { few = sound-sides .colsHigh; high = demand-most ok })
 
 -- ---- masks
 
@@ -119,18 +120,18 @@ module _ {m n : ℕ} {T : List Cell} (leaf other lanes : List ℕ) (count : ℕ)
 
 -- ---- balanced, by the two flows
 
-module _ (supply demand cost : List ℕ) {T : List Cell} {adj : List ℕ} {q e : List ℤ} (h : Held (length supply) (length demand) T adj q e) (leaf other lanes : List ℕ) (count : ℕ)
+module _ (supply demand : List ℕ) (cost : List ℤ) {T : List Cell} {adj : List ℕ} {q e : List ℤ} (h : Held (length supply) (length demand) T adj q e) (leaf other lanes : List ℕ) (count : ℕ)
     (t : Tree (length supply) (length demand) T (strikesOf leaf other lanes count)) (totals : total supply ≡ total demand) {bags marks : List ℤ}
     (b : Weights (length supply) (length demand) (at supply) (at demand) bags) (k : Weights (length supply) (length demand) (λ i. 1) (markOf (length supply) (length demand)) marks) where
-  pub balanced-is : balanced (sheetOf supply demand cost) T
+  pub balanced-is : balanced (problem supply demand cost) T
       ≡ carries (weightsOf bags) (strikesOf leaf other lanes count) q lanes count && carries (weightsOf marks) (strikesOf leaf other lanes count) e lanes count
   unfolding sources sinks
-  balanced-is = iff-same (balanced S T) (first && second)
+  balanced-is = iff-same (balanced P T) (first && second)
       (λ s. let (x, y) = both .0 s in rw (bagsAre .1 x, marksAre .1 y))
       (λ s. both .1 (bagsAre .0 (and-left first second s), marksAre .0 (and-right first second s)))
     where
-      S : Sheet
-      S = sheetOf supply demand cost
+      P : Problem
+      P = problem supply demand cost
 
       first : Bool
       first = carries (weightsOf bags) (strikesOf leaf other lanes count) q lanes count
@@ -138,8 +139,8 @@ module _ (supply demand cost : List ℕ) {T : List Cell} {adj : List ℕ} {q e :
       second : Bool
       second = carries (weightsOf marks) (strikesOf leaf other lanes count) e lanes count
 
-      both : (balanced S T ≡ true) ↔ (Carry T (strikesOf leaf other lanes count) (λ a. a .q) (weightsOf bags) × Carry T (strikesOf leaf other lanes count) (λ a. a .e) (weightsOf marks))
-      both = balanced-iff S t totals b k
+      both : (balanced P T ≡ true) ↔ (Carry T (strikesOf leaf other lanes count) (λ a. a .q) (weightsOf bags) × Carry T (strikesOf leaf other lanes count) (λ a. a .e) (weightsOf marks))
+      both = balanced-iff P t totals b k
 
       bagsAre : (first ≡ true) ↔ Carry T (strikesOf leaf other lanes count) (λ a. a .q) (weightsOf bags)
       bagsAre = carries-iff leaf other lanes count t (λ a. a .q) q (h .bags) (weightsOf bags)
@@ -159,9 +160,9 @@ regroup true false false d e = refl
 regroup false b c d e = refl
 
 -- The tests of belonging as the code makes them: of the count, of cell after cell, and of the whole.
-module _ (supply demand cost : List ℕ) (t : Tableau) where
-  abbrev S : Sheet
-  S = sheetOf supply demand cost
+module _ (supply demand : List ℕ) (cost : List ℤ) (t : Tableau) where
+  abbrev P : Problem
+  P = problem supply demand cost
 
   abbrev size : ℕ
   size = basisSize (length supply) (length demand)
@@ -170,23 +171,23 @@ module _ (supply demand cost : List ℕ) (t : Tableau) where
   fits = cellsFit (length supply) (length demand) (cellsOf t)
 
   abbrev whole : Bool
-  whole = spans (length supply) (length demand) (basisOf (cellsOf t)) && balanced S (cellsOf t)
+  whole = spans (length supply) (length demand) (basisOf (cellsOf t)) && balanced P (cellsOf t)
 
-  belongs-is : belongs S t ≡ eqb (t .count) size && (fits && whole)
+  belongs-is : belongs P t ≡ eqb (t .count) size && (fits && whole)
   unfolding belongs cellsBelong cellsFit onBoard onSheet sources sinks
-  belongs-is = ap (λ (b : Bool). eqb (t .count) size && b) (regroup (all (onSheet S) (cellsOf t)) (inOrder (length demand) (cellsOf t)) (spans (length supply) (length demand) (basisOf (cellsOf t))) (all aboveZero (cellsOf t)) (balanced S (cellsOf t)))
+  belongs-is = ap (λ (b : Bool). eqb (t .count) size && b) (regroup (all (onSheet P) (cellsOf t)) (inOrder (length demand) (cellsOf t)) (spans (length supply) (length demand) (basisOf (cellsOf t))) (all aboveZero (cellsOf t)) (balanced P (cellsOf t)))
 
-  pub other-count : (t .count ≡ size → ⊥) → belongs S t ≡ false
+  pub other-count : (t .count ≡ size → ⊥) → belongs P t ≡ false
   other-count d = belongs-is ∙ rw (ne-eqb (t .count) size d)
 
-  pub other-cells : fits ≡ false → belongs S t ≡ false
+  pub other-cells : fits ≡ false → belongs P t ≡ false
   other-cells f = belongs-is ∙ rw f (both (eqb (t .count) size))
     where
       both : (b : Bool) → b && false ≡ false
       both true = refl
       both false = refl
 
-  pub belongs-whole : t .count ≡ size → fits ≡ true → belongs S t ≡ whole
+  pub belongs-whole : t .count ≡ size → fits ≡ true → belongs P t ≡ whole
   belongs-whole c f = belongs-is ∙ rw (eq-eqb (t .count) size c, f)
 
 -- Cells that fit are distinct and inside the sheet.

@@ -11,8 +11,8 @@ use lib.ListN.{length, getD, set, length-set}
 use lib.Seq.{getD-set-same, getD-set-other}
 use borrow.Author.Tests.{eq-eqb, ne-eqb}
 use Rattle.transport.specs.Lists.{at}
-use Rattle.transport.specs.ListLaws.{sumTo-bound}
-use Rattle.transport.specs.Limits.{maxAmount}
+use Rattle.transport.specs.Laws.ListLaws.{sumTo-bound}
+use Rattle.transport.specs.Limits.{maxAmount, maxBags, maxSide}
 use Rattle.basis.specs.Layout.{stride, nodeRoom}
 use Rattle.basis.specs.SignLaws.{size}
 use Rattle.belonging.specs.Carried.{Light}
@@ -21,12 +21,12 @@ use Rattle.belonging.specs.Balance.{Weights, markOf}
 -- Supplies or demands within their limits.
 pub record Modest (amounts : List ℕ) : Type 0 where
   pub few : length amounts ≤ stride
-  pub high : (k : ℕ) → at amounts k ≤ maxAmount
+  pub high : (k : ℕ) → at amounts k ≤ maxBags
 
 -- An array whose numbers are all within the limit of amounts is light.
-pub light-of : (weight : List ℤ) → length weight ≡ nodeRoom → ((j : ℕ) → natAbs (getD weight j (pos 0)) ≤ maxAmount) → Light weight
-unfolding size maxAmount
-light-of weight l h = record { long = l; small = omega (arith, sumTo-bound nodeRoom maxAmount (λ j. natAbs (getD weight j (pos 0))) (λ j p. h j)) }
+pub light-of : (weight : List ℤ) → length weight ≡ nodeRoom → ((j : ℕ) → natAbs (getD weight j (pos 0)) ≤ maxBags) → Light weight
+unfolding size maxBags maxSide maxAmount
+light-of weight l h = record { long = l; small = omega (arith, sumTo-bound nodeRoom maxBags (λ j. natAbs (getD weight j (pos 0))) (λ j p. h j)) }
 
 -- ---- amounts from a place on
 
@@ -55,7 +55,7 @@ put-more {amounts} {from} {old} {new} {k} p h = record {
     other i d = getD-set-other new (from + k) i (pos (at amounts k)) (pos 0) d
 
 put-small : {amounts : List ℕ} {from : ℕ} {old new : List ℤ} {k : ℕ} → Modest amounts → Put amounts from old new k
-    → ((j : ℕ) → natAbs (getD old j (pos 0)) ≤ maxAmount) → (j : ℕ) → natAbs (getD new j (pos 0)) ≤ maxAmount
+    → ((j : ℕ) → natAbs (getD old j (pos 0)) ≤ maxBags) → (j : ℕ) → natAbs (getD new j (pos 0)) ≤ maxBags
 put-small {amounts} {from} {old} {new} {k} w h s j = by-cases (decLt j from)
     (λ p. rw (h .before j p) (s j))
     (λ p. by-cases (decLt j (from + k))
@@ -94,7 +94,7 @@ marked-more {weight} {k} p h = record {
 
 -- All m marks go to the last column.
 pub marks-put : {weight : List ℤ} (m n : ℕ) → m ≤ stride → 1 ≤ n → n ≤ stride → Marked weight m → Weights m n (λ i. 1) (markOf m n) (set weight (m + n - 1) (pos m))
-unfolding maxAmount
+unfolding maxBags maxSide maxAmount
 marks-put {weight} m n p q r h = record {
   light = light-of (set weight (m + n - 1) (pos m)) (length-set weight _ _ ∙ h .long) small;
   rows = λ i l. other i (omega arith) ∙ h .ones i l;
@@ -109,7 +109,7 @@ marks-put {weight} m n p q r h = record {
     other : (i : ℕ) → (i ≡ m + n - 1 → ⊥) → getD (set weight (m + n - 1) (pos m)) i (pos 0) ≡ getD weight i (pos 0)
     other i d = getD-set-other weight (m + n - 1) i (pos m) (pos 0) d
 
-    small : (j : ℕ) → natAbs (getD (set weight (m + n - 1) (pos m)) j (pos 0)) ≤ maxAmount
+    small : (j : ℕ) → natAbs (getD (set weight (m + n - 1) (pos m)) j (pos 0)) ≤ maxBags
     small j = by-cases (ℕ-discrete j (m + n - 1))
         (λ e. rw (e, last) (omega arith))
         (λ e. rw (other j e) (by-cases (decLt j m) (λ l. rw (h .ones j l) (omega arith)) (λ l. rw (h .none j (omega arith)) (omega arith))))

@@ -6,8 +6,8 @@ ghost use Rattle.basis.specs.Layout.{Distinct, Struck, strikesOf};
 ghost use Rattle.basis.specs.SignLaws.{weightsOf};
 ghost use Rattle.belonging.specs.Carried.{Light, carries};
 
-// Forwards through the strikes: a leaf's lane must carry exactly what the leaf still needs, which is then taken from both ends of the lane. Amounts are compared
-// and never added up, so that none can be too great. The weights are used up.
+// Forwards through the strikes: a leaf's lane must carry exactly what the leaf still needs, which is then taken from both ends of the lane. Amounts are
+// compared and never added up, so that none can be too great. The weights are used up.
 pub(crate) fn flows_match(
     weight: &mut [i64; NODES],
     amount: &[i64; LANES],
@@ -19,7 +19,10 @@ pub(crate) fn flows_match(
     requires { ⌜ Struck (now leaf) (now other) (now lane) count ⌝ }
     requires { ⌜ Distinct (now lane) count ⌝ }
     requires { ⌜ Light (now weight) ⌝ }
-    ensures { λ r. ⌜ r ≡ carries (weightsOf (now (weight .entry))) (strikesOf (now (leaf .entry)) (now (other .entry)) (now (lane .entry)) count) (now (amount .entry)) (now (lane .entry)) count ⌝ }
+    ensures { λ r. ⌜
+        r ≡ carries (weightsOf (now (weight .entry))) (strikesOf (now (leaf .entry)) (now (other .entry)) (now (lane .entry)) count)
+        (now (amount .entry)) (now (lane .entry)) count
+        ⌝ }
 {
     let mut k = 0;
     while k < count {

@@ -10,18 +10,19 @@ use transport::Tableau;
 ghost use mathlib.Core.Path.{_≡_};
 ghost use mathlib.Core.Bool.{true, _&&_};
 ghost use mathlib.Core.List.{List};
+ghost use lib.IntN.{ℤ};
 ghost use Prim.Native.Nat.{ℕ};
 ghost use lib.ListN.{length};
-ghost use Rattle.transport.specs.SheetLaws.{Checked};
+ghost use Rattle.transport.specs.Laws.Sound.{Sound};
+ghost use Rattle.transport.specs.Tableau.{cellsOf, basisOf};
+ghost use Rattle.transport.specs.Belonging.{balanced, spans, belongs};
 ghost use Rattle.transport.specs.declared.Cell.{Cell};
-ghost use Rattle.transport.specs.Tableau.{cellsOf, basisOf, balanced};
-ghost use Rattle.transport.specs.Leaf.{spans, belongs};
-ghost use Rattle.sheet.specs.Check.{sheetOf};
+ghost use Rattle.transport.specs.Laws.ProblemLaws.{problem};
 ghost use Rattle.board.specs.Held.{Held};
 ghost use Rattle.belonging.specs.Spread.{Laid};
 
-// Whether the basic lanes join all nodes without a loop, and the amounts on them add up to the paired supplies and demands. There are m + n - 1 lanes, so they do
-// join if all are struck off; and then the amounts that add up are one flow of the bags and one of the marks.
+// Whether the basic lanes join all nodes without a loop, and the amounts on them add up to the paired supplies and demands. There are m + n - 1 lanes, so they
+// do join if all are struck off; and then the amounts that add up are one flow of the bags and one of the marks.
 fn spans_and_balances(
     supply: &[u64],
     demand: &[u64],
@@ -29,9 +30,14 @@ fn spans_and_balances(
     q: &[i64; LANES],
     e: &[i64; LANES],
 ) -> bool
-    requires { ⌜ ((cost : List ℕ) × Checked (sheetOf (now supply) (now demand) cost)) ⌝ }
+    requires { ⌜ ((cost : List ℤ) × Sound (problem (now supply) (now demand) cost)) ⌝ }
     requires { ⌜ ((T : List Cell) × Laid (length (now supply)) (length (now demand)) T (now adj) (now q) (now e)) ⌝ }
-    ensures { λ r. ⌜ ((cost : List ℕ) (T : List Cell) → Laid (length (now (supply .entry))) (length (now (demand .entry))) T (now (adj .entry)) (now (q .entry)) (now (e .entry)) → r ≡ spans (length (now (supply .entry))) (length (now (demand .entry))) (basisOf T) && balanced (sheetOf (now (supply .entry)) (now (demand .entry)) cost) T) ⌝ }
+    ensures { λ r. ⌜
+        ((cost : List ℤ) (T : List Cell)
+        → Laid (length (now (supply .entry))) (length (now (demand .entry))) T (now (adj .entry)) (now (q .entry)) (now (e .entry))
+        → r ≡ spans (length (now (supply .entry))) (length (now (demand .entry))) (basisOf T)
+        && balanced (problem (now (supply .entry)) (now (demand .entry)) cost) T)
+        ⌝ }
 {
     let m = supply.len();
     let n = demand.len();
@@ -61,9 +67,12 @@ pub fn load(
     q: &mut [i64; LANES],
     e: &mut [i64; LANES],
 ) -> bool
-    requires { ⌜ ((cost : List ℕ) × Checked (sheetOf (now supply) (now demand) cost)) ⌝ }
-    ensures { λ r. ⌜ ((cost : List ℕ) → r ≡ belongs (sheetOf (now (supply .entry)) (now (demand .entry)) cost) t) ⌝ }
-    ensures { λ r. ⌜ (r ≡ true → Held (length (now (supply .entry))) (length (now (demand .entry))) (cellsOf t) (now (adj .exit)) (now (q .exit)) (now (e .exit))) ⌝ }
+    requires { ⌜ ((cost : List ℤ) × Sound (problem (now supply) (now demand) cost)) ⌝ }
+    ensures { λ r. ⌜ ((cost : List ℤ) → r ≡ belongs (problem (now (supply .entry)) (now (demand .entry)) cost) t) ⌝ }
+    ensures { λ r. ⌜
+        (r ≡ true
+        → Held (length (now (supply .entry))) (length (now (demand .entry))) (cellsOf t) (now (adj .exit)) (now (q .exit)) (now (e .exit)))
+        ⌝ }
 {
     let m = supply.len();
     let n = demand.len();

@@ -24,7 +24,10 @@ fn put_from(amounts: &[u64], from: usize, weight: &mut [i64; NODES])
 // Bags: each supply at its row's node, each demand at its column's.
 pub(crate) fn weigh_bags(supply: &[u64], demand: &[u64], weight: &mut [i64; NODES])
     requires { ⌜ Modest (now supply) × Modest (now demand) ⌝ }
-    ensures { λ _. ⌜ Weights (length (now (supply .entry))) (length (now (demand .entry))) (at (now (supply .entry))) (at (now (demand .entry))) (now (weight .exit)) ⌝ }
+    ensures { λ _. ⌜
+        Weights (length (now (supply .entry))) (length (now (demand .entry)))
+        (at (now (supply .entry))) (at (now (demand .entry))) (now (weight .exit))
+        ⌝ }
 {
     *weight = [0; NODES];
     put_from(supply, 0, weight);

@@ -8,10 +8,10 @@ use mathlib.Core.List.{List, [], _∷_}
 use lib.Dec.{ltb, leb}
 use borrow.Author.Tests.{ltb-true, ltb-false, lt-leb, le-leb}
 use Rattle.transport.specs.Lists.{all}
-use Rattle.transport.specs.ListLaws.{and-left, and-right}
-use Rattle.transport.specs.Sheet.{place}
+use Rattle.transport.specs.Laws.ListLaws.{and-left, and-right}
+use Rattle.transport.specs.Problem.{place}
+use Rattle.transport.specs.Belonging.{inOrder, aboveZero}
 use Rattle.transport.specs.declared.Cell.{Cell}
-use Rattle.transport.specs.Tableau.{inOrder, aboveZero}
 use Rattle.basis.specs.Layout.{stride, laneRoom}
 
 -- A cell of m rows and n columns.

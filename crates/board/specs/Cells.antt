@@ -6,8 +6,8 @@ use mathlib.Core.List.{List, _∷_, map}
 use lib.ListN.{length, drop, getD, length-map}
 use lib.Seq.{drop-cons, getD-take, length-take-le}
 use Rattle.transport.specs.Limits.{maxSide, maxCells}
-use Rattle.transport.specs.declared.Tableau.{Tableau}
 use Rattle.transport.specs.Tableau.{noCell, cellsOf}
+use Rattle.transport.specs.declared.Tableau.{Tableau}
 use Rattle.tableaux.specs.View.{Inside}
 
 -- The room for cells.

@@ -10,14 +10,14 @@ use lib.IntN.{ℤ, pos}
 use lib.ListN.{length, getD, set, length-set, length-map, List·getD-map}
 use lib.Seq.{lt-length-set, getD-set-same, getD-set-other}
 use borrow.Author.Tests.{eqb-true, eqb-false, eq-eqb, ne-eqb}
-use Rattle.transport.specs.ListLaws.{and-left, and-right}
-use Rattle.transport.specs.Sheet.{Lane}
-use Rattle.transport.specs.SheetLaws.{lane}
+use Rattle.transport.specs.Laws.ListLaws.{and-left, and-right}
+use Rattle.transport.specs.Problem.{Lane}
+use Rattle.transport.specs.Laws.ProblemLaws.{lane}
 use Rattle.transport.specs.Amount.{nothing}
-use Rattle.transport.specs.declared.Pair.{Pair}
-use Rattle.transport.specs.declared.Cell.{Cell}
 use Rattle.transport.specs.Tableau.{noCell, laneOf, basisOf}
 use Rattle.transport.specs.Statements.{Basic}
+use Rattle.transport.specs.declared.Pair.{Pair}
+use Rattle.transport.specs.declared.Cell.{Cell}
 use Rattle.tableaux.specs.View.{Distinct, Inside, rowOf, colOf, amountAt, basic-later}
 use Rattle.tableaux.specs.Lanes.{Has, has-basic}
 use Rattle.basis.specs.Layout.{stride, nodeRoom, laneRoom, getD-set}

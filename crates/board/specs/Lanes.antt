@@ -11,12 +11,12 @@ use lib.IntN.{ℤ, pos}
 use lib.ListN.{length, take, drop, getD, set, replicate, length-append, length-map, length-replicate}
 use lib.Seq.{getD-take}
 use Rattle.transport.specs.Lists.{keep, table, below, padded}
-use Rattle.transport.specs.ListLaws.{table-zero, table-split, table-first, table-cong, table-getD, fill-one, member-at, keep-member, map-table, keep-append, keep-yes, keep-no, keep-none, keep-map, keep-cong, table-member, length-table, getD-table, map-member, member-map}
-use Rattle.transport.specs.Sheet.{place}
+use Rattle.transport.specs.Laws.ListLaws.{table-zero, table-split, table-first, table-cong, table-getD, fill-one, member-at, keep-member, map-table, keep-append, keep-yes, keep-no, keep-none, keep-map, keep-cong, table-member, length-table, getD-table, map-member, member-map}
+use Rattle.transport.specs.Problem.{place}
 use Rattle.transport.specs.Limits.{maxCells}
+use Rattle.transport.specs.Tableau.{noCell, tableauOf}
 use Rattle.transport.specs.declared.Cell.{Cell}
 use Rattle.transport.specs.declared.Tableau.{Tableau}
-use Rattle.transport.specs.Tableau.{noCell, tableauOf}
 use Rattle.tableaux.specs.View.{Inside}
 use Rattle.tableaux.specs.Order.{Ordered, basic-member, CellAt, cell-at, amount-member, ordered-distinct}
 use Rattle.basis.specs.Layout.{stride, nodeRoom, laneRoom}

@@ -18,7 +18,11 @@ ghost use Rattle.board.specs.Lanes.{rowLanes, RowMasks, Lanes, gathered}
 // Behind the first `count` lanes come those of one more row, which begins at the lane `first`; the count then.
 fn row_lanes(mask: u64, first: usize, lanes: &mut [usize; NODES], count: usize) -> usize
     requires { ⌜ (length (now lanes) ≡ nodeRoom) × (count + length (rowLanes first mask) ≤ nodeRoom) × (first ≤ laneRoom) ⌝ }
-    ensures { λ r. ⌜ (length (now (lanes .exit)) ≡ nodeRoom) × (r ≡ count + length (rowLanes first mask)) × (take r (now (lanes .exit)) ≡ take count (now (lanes .entry)) ++ rowLanes first mask) ⌝ }
+    ensures { λ r. ⌜
+        (length (now (lanes .exit)) ≡ nodeRoom)
+        × (r ≡ count + length (rowLanes first mask))
+        × (take r (now (lanes .exit)) ≡ take count (now (lanes .entry)) ++ rowLanes first mask)
+        ⌝ }
 {
     let mut bits = mask;
     let mut k = count;

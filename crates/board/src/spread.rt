@@ -36,7 +36,11 @@ fn clear(adj: &mut [u64; NODES], q: &mut [i64; LANES], e: &mut [i64; LANES])
 // A cell: its lane becomes basic, and its amount lies on the lane.
 fn put_cell(c: Cell, m: usize, adj: &mut [u64; NODES], q: &mut [i64; LANES], e: &mut [i64; LANES])
     requires { ⌜ (c .row < m) × (m ≤ stride) × (c .col < stride) ⌝ }
-    ensures { λ _. ⌜ (now (adj .exit) ≡ linked m (c .row) (c .col) (now (adj .entry))) × (now (q .exit) ≡ set (now (q .entry)) (c .row * stride + c .col) (c .amount .q)) × (now (e .exit) ≡ set (now (e .entry)) (c .row * stride + c .col) (c .amount .e)) ⌝ }
+    ensures { λ _. ⌜
+        (now (adj .exit) ≡ linked m (c .row) (c .col) (now (adj .entry)))
+        × (now (q .exit) ≡ set (now (q .entry)) (c .row * stride + c .col) (c .amount .q))
+        × (now (e .exit) ≡ set (now (e .entry)) (c .row * stride + c .col) (c .amount .e))
+        ⌝ }
 {
     let row = c.row;
     let col = c.col;

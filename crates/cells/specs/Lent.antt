@@ -6,9 +6,9 @@ use lib.Dec.{ltb}
 use lib.ListN.{length, take, getD, set}
 use Rattle.transport.specs.Lists.{padded}
 use Rattle.transport.specs.Limits.{maxCells}
+use Rattle.transport.specs.Tableau.{noCell, noTableau}
 use Rattle.transport.specs.declared.Cell.{Cell}
 use Rattle.transport.specs.declared.Tableau.{Tableau}
-use Rattle.transport.specs.Tableau.{noCell, noTableau}
 
 -- The tableau that a list of cells is: all are counted, and as many as the array has room for are in it.
 unfoldable pub lentTableau : List Cell → Tableau

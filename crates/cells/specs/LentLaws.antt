@@ -5,7 +5,6 @@ use native.Mathlib.Decide.{decLt}
 use mathlib.Core.Path.{_≡_, refl, sym, ap, _∙_}
 use mathlib.Core.Logic.{by-cases}
 use mathlib.Core.Bool.{Bool, true, false, _&&_, true≢false}
-use mathlib.Core.Option.{none}
 use mathlib.Core.List.{List, [], _∷_, _++_, append-assoc}
 use lib.Dec.{eqb}
 use lib.ListN.{length, take, getD, set, replicate, length-append, length-map}
@@ -13,12 +12,12 @@ use lib.Seq.{take-all, take-suc, take-length, take-append-le, take-append-seam, 
 use borrow.Author.Tests.{lt-ltb, le-ltb, ne-eqb}
 use Rattle.transport.specs.Lists.{all, padded}
 use Rattle.transport.specs.Limits.{maxCells}
+use Rattle.transport.specs.Problem.{Problem, sources, sinks}
+use Rattle.transport.specs.Laws.Sound.{Sound}
+use Rattle.transport.specs.Tableau.{noCell, laneOf, basisOf, basisSize, cellsOf, tableauOf, noTableau}
+use Rattle.transport.specs.Belonging.{onSheet, inOrder, aboveZero, balanced, spans, cellsBelong, belongs}
 use Rattle.transport.specs.declared.Cell.{Cell}
 use Rattle.transport.specs.declared.Tableau.{Tableau}
-use Rattle.transport.specs.Sheet.{Sheet, sources, sinks, sheetTests, refusal}
-use Rattle.transport.specs.SheetLaws.{checked}
-use Rattle.transport.specs.Tableau.{noCell, laneOf, basisOf, basisSize, onSheet, inOrder, aboveZero, balanced, cellsOf, tableauOf, noTableau}
-use Rattle.transport.specs.Leaf.{spans, cellsBelong, belongs}
 use Rattle.cells.specs.Lent.{lentTableau, maxCount, addCell, added}
 
 pub added-none : (T : List Cell) → added T 0 ≡ noTableau
@@ -80,39 +79,39 @@ third-false true true d e = refl
 third-false true false d e = refl
 third-false false b d e = refl
 
-module _ (S : Sheet) (T : List Cell) where
+module _ (P : Problem) (T : List Cell) where
   -- Cells of another count do not belong, neither as a list ..
-  other-count : eqb (length T) (basisSize (sources S) (sinks S)) ≡ false → cellsBelong S T ≡ false
+  other-count : eqb (length T) (basisSize (sources P) (sinks P)) ≡ false → cellsBelong P T ≡ false
   unfolding cellsBelong spans basisOf
-  other-count e = rw (length-map T laneOf, e) (third-false (all (onSheet S) T) (inOrder (sinks S) T) (all aboveZero T) (balanced S T))
+  other-count e = rw (length-map T laneOf, e) (third-false (all (onSheet P) T) (inOrder (sinks P) T) (all aboveZero T) (balanced P T))
 
   -- .. nor as a tableau.
-  other-count-lent : eqb (length T) (basisSize (sources S) (sinks S)) ≡ false → belongs S (lentTableau T) ≡ false
+  other-count-lent : eqb (length T) (basisSize (sources P) (sinks P)) ≡ false → belongs P (lentTableau T) ≡ false
   unfolding belongs lentTableau
   other-count-lent e = rw e
 
-  few-belong : length T ≤ maxCells → belongs S (lentTableau T) ≡ cellsBelong S T
+  few-belong : length T ≤ maxCells → belongs P (lentTableau T) ≡ cellsBelong P T
   unfolding belongs lentTableau
-  few-belong l = rw (cells-back T l) (go (eqb (length T) (basisSize (sources S) (sinks S))) refl)
+  few-belong l = rw (cells-back T l) (go (eqb (length T) (basisSize (sources P) (sinks P))) refl)
     where
-      go : (b : Bool) → eqb (length T) (basisSize (sources S) (sinks S)) ≡ b → eqb (length T) (basisSize (sources S) (sinks S)) && cellsBelong S T ≡ cellsBelong S T
-      go true e = ap (λ (b : Bool). b && cellsBelong S T) e
-      go false e = ap (λ (b : Bool). b && cellsBelong S T) e ∙ sym (other-count e)
+      go : (b : Bool) → eqb (length T) (basisSize (sources P) (sinks P)) ≡ b → eqb (length T) (basisSize (sources P) (sinks P)) && cellsBelong P T ≡ cellsBelong P T
+      go true e = ap (λ (b : Bool). b && cellsBelong P T) e
+      go false e = ap (λ (b : Bool). b && cellsBelong P T) e ∙ sym (other-count e)
 
-  -- More cells than the array has room for are more than an accepted sheet asks for.
-  too-many : refusal (sheetTests S) ≡ none → maxCells < length T → eqb (length T) (basisSize (sources S) (sinks S)) ≡ false
+  -- More cells than the array has room for are more than a sound problem asks for.
+  too-many : Sound P → maxCells < length T → eqb (length T) (basisSize (sources P) (sinks P)) ≡ false
   unfolding basisSize maxCells
-  too-many e l = let h = checked S e in ne-eqb (length T) (sources S + sinks S - 1) (λ z. omega (arith, h .sourcesHigh, h .sinksHigh))
+  too-many e l = ne-eqb (length T) (sources P + sinks P - 1) (λ z. omega (arith, e .sourcesHigh, e .sinksHigh))
 
-  -- On an accepted sheet the tableau belongs exactly if the cells do, however many they are ..
-  pub lent-belongs : refusal (sheetTests S) ≡ none → belongs S (lentTableau T) ≡ cellsBelong S T
+  -- To a sound problem the tableau belongs exactly if the cells do, however many they are ..
+  pub lent-belongs : Sound P → belongs P (lentTableau T) ≡ cellsBelong P T
   lent-belongs e =
       by-cases (decLt maxCells (length T))
       (λ l. other-count-lent (too-many e l) ∙ sym (other-count (too-many e l)))
       (λ l. few-belong (omega arith))
 
   -- .. and then it holds them all.
-  pub lent-cells : refusal (sheetTests S) ≡ none → cellsBelong S T ≡ true → cellsOf (lentTableau T) ≡ T
+  pub lent-cells : Sound P → cellsBelong P T ≡ true → cellsOf (lentTableau T) ≡ T
   lent-cells e b =
       by-cases (decLt maxCells (length T))
       (λ l. absurd (true≢false (sym b ∙ other-count (too-many e l))))

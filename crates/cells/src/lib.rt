@@ -1,6 +1,6 @@
 // A tableau that is lent as a list of its cells. The borrow checker does not cover a lent list of structs, so a function that takes one is proved by hand: the
 // loop is thin, and the work is done by a function that takes structs by value.
-use simplex::tableau;
+use dealing::tableau;
 use transport::Cell;
 use transport::MAX_CELLS;
 use transport::Tableau;

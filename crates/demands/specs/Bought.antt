@@ -4,15 +4,16 @@ use mathlib.Core.Logic.{_↔_}
 use mathlib.Core.List.{List}
 use Prim.Native.Nat.{ℕ, _*_}
 use native.Mathlib.Omega.{arith}
-use lib.IntN.{ℤ}
+use lib.IntN.{ℤ, pos, natAbs}
 use lib.ListN.{length, take, drop}
 use lib.Seq.{take-at, drop-at}
 use Rattle.transport.specs.declared.SolveAnswer.{SolveAnswer}
 use Rattle.transport.specs.declared.SolveAnswer.the-variants as SolveAnswer
-use Rattle.transport.specs.Sheet.{Sheet, sources, sinks}
+use Rattle.transport.specs.Sheet.{Sheet, roasteries, cafes}
 use Rattle.transport.specs.Calls.{Answer, refused, given, refusedBy, lentAfter, Solution, solveCall}
 use Rattle.transport.specs.Answers.{solveAnswer}
 use Rattle.transport.specs.Statements.{Balanced, Best, Bought}
+use Rattle.transport.specs.Laws.PlanLaws.{planCost-size}
 use Rattle.demands.specs.Demand3.{Solved, Fills, demand3, solve-fills}
 
 solved≢refused : {cost rounds k : ℕ} → SolveAnswer.Solved cost rounds ≡ SolveAnswer.Refused k → ⊥
@@ -31,12 +32,13 @@ module _ {A B : Type 0} (part : A → List B) (x : A) (n : ℕ) (e : length (par
 -- ---- the fields, for any answer of the paper
 
 gives-best : (S : Sheet) (a : Answer Solution) (plan : List ℕ) → Solved S a
-    → (cost : ℕ) × (rounds : ℕ) × (solveAnswer a ≡ SolveAnswer.Solved cost rounds) × Best S (take (sources S * sinks S) (lentAfter (λ s. s .plan) a plan)) cost
+    → (cost : ℕ) × (rounds : ℕ) × (solveAnswer a ≡ SolveAnswer.Solved cost rounds) × Best S (take (roasteries S * cafes S) (lentAfter (λ s. s .plan) a plan)) (pos cost)
 unfolding solveAnswer
 gives-best S a plan h =
     let s = h .found in
-    let front = lent-filled (λ s. s .plan) s (sources S * sinks S) (h .best .meets .quantities) plan in
-    (s .cost, s .rounds, rw (h .answered), rw (h .answered, front) (h .best))
+    let front = lent-filled (λ s. s .plan) s (roasteries S * cafes S) (h .best .meets .quantities) plan in
+    let size : pos (natAbs (s .cost)) ≡ s .cost = ap (λ (c : ℤ). pos (natAbs c)) (h .best .shown) ∙ planCost-size S (s .plan) ∙ sym (h .best .shown) in
+    (natAbs (s .cost), s .rounds, rw (h .answered), rw (h .answered, front, size) (h .best))
 
 refuses-exactly : (S : Sheet) (a : Answer Solution) → (Balanced S → Solved S a) × (¬ Balanced S → a ≡ refusedBy 5)
     → (k : ℕ) → (solveAnswer a ≡ SolveAnswer.Refused k) ↔ (k ≡ 5) × ¬ Balanced S
@@ -57,14 +59,14 @@ leaves-all (given s) u v plan k e = absurd (solved≢refused e)
 
 leaves-rest : (S : Sheet) (a : Answer Solution) (u v : List ℤ) (plan : List ℕ) → ((s : Solution) → a ≡ given s → Fills S s)
     → (cost rounds : ℕ) → solveAnswer a ≡ SolveAnswer.Solved cost rounds
-    → (drop (sources S) (lentAfter (λ s. s .u) a u) ≡ drop (sources S) u)
-    × (drop (sinks S) (lentAfter (λ s. s .v) a v) ≡ drop (sinks S) v)
-    × (drop (sources S * sinks S) (lentAfter (λ s. s .plan) a plan) ≡ drop (sources S * sinks S) plan)
+    → (drop (roasteries S) (lentAfter (λ s. s .u) a u) ≡ drop (roasteries S) u)
+    × (drop (cafes S) (lentAfter (λ s. s .v) a v) ≡ drop (cafes S) v)
+    × (drop (roasteries S * cafes S) (lentAfter (λ s. s .plan) a plan) ≡ drop (roasteries S * cafes S) plan)
 unfolding solveAnswer
 leaves-rest S (refused r) u v plan h cost rounds e = absurd (solved≢refused (sym e))
 leaves-rest S (given s) u v plan h cost rounds e =
     let f = h s refl in
-    (lent-beyond (λ s. s .u) s (sources S) (f .u) u, lent-beyond (λ s. s .v) s (sinks S) (f .v) v, lent-beyond (λ s. s .plan) s (sources S * sinks S) (f .plan) plan)
+    (lent-beyond (λ s. s .u) s (roasteries S) (f .u) u, lent-beyond (λ s. s .v) s (cafes S) (f .v) v, lent-beyond (λ s. s .plan) s (roasteries S * cafes S) (f .plan) plan)
 
 -- ---- the call
 

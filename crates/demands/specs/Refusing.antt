@@ -5,28 +5,29 @@ use mathlib.Core.List.{[], _∷_, _++_}
 use Prim.Native.Nat.{ℕ, _*_}
 use borrow.Author.Tests.{eq-eqb, ne-eqb, le-ltb}
 use Rattle.transport.specs.Lists.{total}
-use Rattle.transport.specs.Sheet.{Sheet, sources, sinks, sheetTests, numberTests, badSides, badLength, badAmount, badCost, unbalanced, refusal}
-use Rattle.transport.specs.SheetLaws.{refusal-yes, refusal-no}
+use Rattle.transport.specs.Sheet.{Sheet, roasteries, cafes, sheetTests, numberTests, badSides, badLength, badAmount, badCost, unbalanced, refusal}
+use Rattle.transport.specs.Laws.SheetLaws.{refusal-yes, refusal-no, limits-pass}
 use Rattle.transport.specs.Calls.{given, refusedBy, tooShort, solution, solveCall}
-use Rattle.transport.specs.CallLaws.{unless-given, unless-refused}
+use Rattle.transport.specs.Laws.CallLaws.{unless-given, unless-refused}
 use Rattle.transport.specs.Statements.{WithinLimits, Balanced, LongEnough}
 
 module _ (S : Sheet) (a b c : ℕ) (w : WithinLimits S) (r : LongEnough S a b c) where
   -- the tests but that of equal totals let the sheet pass
   abbrev last : Bool × ℕ
-  last = (tooShort a (sources S) || tooShort b (sinks S) || tooShort c (sources S * sinks S), 8)
+  last = (tooShort a (roasteries S) || tooShort b (cafes S) || tooShort c (roasteries S * cafes S), 8)
 
   left : refusal (sheetTests S ++ (last ∷ [])) ≡ refusal (unbalanced S ∷ last ∷ [])
   unfolding sheetTests numberTests
   left =
-      refusal-no (badSides S) (badLength S ∷ badAmount S ∷ badCost S ∷ unbalanced S ∷ last ∷ []) (w .sides)
-      ∙ refusal-no (badLength S) (badAmount S ∷ badCost S ∷ unbalanced S ∷ last ∷ []) (w .lengths)
-      ∙ refusal-no (badAmount S) (badCost S ∷ unbalanced S ∷ last ∷ []) (w .amounts)
-      ∙ refusal-no (badCost S) (unbalanced S ∷ last ∷ []) (w .costs)
+      let p = limits-pass w in
+      refusal-no (badSides S) (badLength S ∷ badAmount S ∷ badCost S ∷ unbalanced S ∷ last ∷ []) (p .sides)
+      ∙ refusal-no (badLength S) (badAmount S ∷ badCost S ∷ unbalanced S ∷ last ∷ []) (p .lengths)
+      ∙ refusal-no (badAmount S) (badCost S ∷ unbalanced S ∷ last ∷ []) (p .amounts)
+      ∙ refusal-no (badCost S) (unbalanced S ∷ last ∷ []) (p .costs)
 
   long : last .0 ≡ false
   unfolding tooShort
-  long = rw (le-ltb a (sources S) (r .u), le-ltb b (sinks S) (r .v), le-ltb c (sources S * sinks S) (r .plan))
+  long = rw (le-ltb a (roasteries S) (r .u), le-ltb b (cafes S) (r .v), le-ltb c (roasteries S * cafes S) (r .plan))
 
   -- unequal totals: refused by 5
   pub solve-refuses : ¬ Balanced S → solveCall S a b c ≡ refusedBy 5

@@ -13,15 +13,18 @@ use lib.Seq.{take-at, take-append-seam}
 use Rattle.transport.specs.declared.Cell.{Cell}
 use Rattle.transport.specs.declared.Tableau.{Tableau}
 use Rattle.transport.specs.Lists.{padded}
-use Rattle.transport.specs.ListLaws.{length-table}
-use Rattle.transport.specs.Sheet.{Sheet, sources, sinks, sheetTests, refusal}
-use Rattle.transport.specs.SheetLaws.{checked, refusal-stands}
+use Rattle.transport.specs.Laws.ListLaws.{length-table}
+use Rattle.transport.specs.Problem.{Problem, sources, sinks}
+use Rattle.transport.specs.Laws.PlanLaws.{planCost-size}
+use Rattle.transport.specs.Calls.{solutionFrom, Answer, given, refusedBy, unless, lentAfter, tableauTests, startCall, roundCall, runCall, settleCall, solution, solveCall}
+use Rattle.transport.specs.Sheet.{roasteries, cafes, problemOf, Sheet, sheetTests, refusal}
+use Rattle.transport.specs.Laws.SheetLaws.{refusal-stands}
+use Rattle.transport.specs.Laws.Sound.{accepted-sound}
 use Rattle.transport.specs.Tableau.{cellsOf, tableauOf, start}
 use Rattle.transport.specs.Potential.{sourcePrices, sinkPrices, isFinished}
 use Rattle.transport.specs.Round.{round, Run, run}
 use Rattle.transport.specs.Plan.{settled}
-use Rattle.transport.specs.Calls.{Answer, given, refusedBy, unless, lentAfter, tableauTests, startCall, roundCall, runCall, settleCall, solution, solveCall}
-use Rattle.transport.specs.CallLaws.{some≢none, unless-given, unless-refused, unless-given-iff}
+use Rattle.transport.specs.Laws.CallLaws.{some≢none, unless-given, unless-refused, unless-given-iff}
 use Rattle.transport.specs.SheetText.{Reading, stuck, got, sheetReader, sheetText, writeSheetCall, readWith, readTests, readSheetCall}
 use Rattle.transport.specs.PlanText.{planText, writePlanCall}
 use Rattle.transport.specs.Answers.{startAnswer, startSays, prices, roundAnswer, roundSays, runOutcome, runAnswer, runSays, settleAnswer, settleSays, solveAnswer, solveSays, readAnswer, readSays, writeAnswer, writeSays}
@@ -53,33 +56,33 @@ prices-front u n e = take-at u _ n e
 
 pub start-says : (S : Sheet) → startSays (startAnswer (startCall S)) ≡ startCall S
 unfolding startCall startAnswer startSays refusedBy
-start-says S = unless-says (λ a. startSays (startAnswer a)) (sheetTests S) (start S) (λ k. refl) (λ e. ap given (cells-of (start S)))
+start-says S = unless-says (λ a. startSays (startAnswer a)) (sheetTests S) (start (problemOf S)) (λ k. refl) (λ e. ap given (cells-of (start (problemOf S))))
 
-round-back : (S : Sheet) (T : List Cell) → roundSays (sources S) (sinks S) (roundAnswer (given (round S T))) ≡ given (round S T)
+round-back : (P : Problem) (T : List Cell) → roundSays (sources P) (sinks P) (roundAnswer (given (round P T))) ≡ given (round P T)
 unfolding round roundAnswer roundSays sourcePrices sinkPrices
-round-back S T = go (isFinished S T) refl
+round-back P T = go (isFinished P T) refl
   where
-    go : (b : Bool) → isFinished S T ≡ b → roundSays (sources S) (sinks S) (roundAnswer (given (round S T))) ≡ given (round S T)
-    go true e = rw (e, round, prices-front (sourcePrices S T) (sources S) (length-table _ (sources S)), prices-front (sinkPrices S T) (sinks S) (length-table _ (sinks S)))
+    go : (b : Bool) → isFinished P T ≡ b → roundSays (sources P) (sinks P) (roundAnswer (given (round P T))) ≡ given (round P T)
+    go true e = rw (e, round, prices-front (sourcePrices P T) (sources P) (length-table _ (sources P)), prices-front (sinkPrices P T) (sinks P) (length-table _ (sinks P)))
     go false e = rw (e, round, cells-of)
 
-pub round-says : (S : Sheet) (t : Tableau) → roundSays (sources S) (sinks S) (roundAnswer (roundCall S t)) ≡ roundCall S t
-unfolding roundCall roundAnswer roundSays refusedBy
+pub round-says : (S : Sheet) (t : Tableau) → roundSays (roasteries S) (cafes S) (roundAnswer (roundCall S t)) ≡ roundCall S t
+unfolding roundCall roundAnswer roundSays refusedBy problemOf sources sinks roasteries cafes
 round-says S t =
-    unless-says (λ a. roundSays (sources S) (sinks S) (roundAnswer a)) (tableauTests S t) (round S (cellsOf t)) (λ k. refl) (λ e. round-back S (cellsOf t))
+    unless-says (λ a. roundSays (roasteries S) (cafes S) (roundAnswer a)) (tableauTests S t) (round (problemOf S) (cellsOf t)) (λ k. refl) (λ e. round-back (problemOf S) (cellsOf t))
 
 run-back : (r : Run) → runSays (runAnswer (given r)) ≡ given r
 unfolding runOutcome runAnswer runSays
-run-back r = go (r .done)
+run-back r = go (r .finished)
   where
-    go : (b : Bool) → runSays (runAnswer (given (record { done = b; tableau = r .tableau; rounds = r .rounds }))) ≡ given (record { done = b; tableau = r .tableau; rounds = r .rounds })
+    go : (b : Bool) → runSays (runAnswer (given (record { finished = b; tableau = r .tableau; rounds = r .rounds }))) ≡ given (record { finished = b; tableau = r .tableau; rounds = r .rounds })
     go true = rw cells-of
     go false = rw cells-of
 
 pub run-says : (S : Sheet) (t : Tableau) (allowance : ℕ) → runSays (runAnswer (runCall S t allowance)) ≡ runCall S t allowance
 unfolding runCall runAnswer runSays refusedBy
 run-says S t allowance =
-    unless-says (λ a. runSays (runAnswer a)) (tableauTests S t) (run S allowance (cellsOf t)) (λ k. refl) (λ e. run-back (run S allowance (cellsOf t)))
+    unless-says (λ a. runSays (runAnswer a)) (tableauTests S t) (run (problemOf S) allowance (cellsOf t)) (λ k. refl) (λ e. run-back (run (problemOf S) allowance (cellsOf t)))
 
 -- ---- plans
 
@@ -92,32 +95,32 @@ refusal-front ts us e = go (refusal ts) refl
     go (some k) f = absurd (some≢none (sym (refusal-stands ts us k f) ∙ e))
 
 pub settle-says : (S : Sheet) (t : Tableau) (plan : List ℕ)
-    → let a = settleCall S t (length plan) in settleSays (sources S * sinks S) (settleAnswer a) (lentAfter (λ x. x) a plan) ≡ a
+    → let a = settleCall S t (length plan) in settleSays (roasteries S * cafes S) (settleAnswer a) (lentAfter (λ x. x) a plan) ≡ a
 unfolding settleCall tableauTests settleAnswer settleSays refusedBy
 settle-says S t plan =
-    unless-says (λ a. settleSays (sources S * sinks S) (settleAnswer a) (lentAfter (λ x. x) a plan)) (tableauTests S t ++ _) (settled S) (λ k. refl)
+    unless-says (λ a. settleSays (roasteries S * cafes S) (settleAnswer a) (lentAfter (λ x. x) a plan)) (tableauTests S t ++ _) (settled S) (λ k. refl)
     (λ e.
-    let ok = checked S (refusal-front (sheetTests S) _ (refusal-front (tableauTests S t) _ (unless-given-iff _ (settled S) (settled S) .0 e .0))) in
-    ap given (lent-filled (λ x. x) (settled S) (sources S * sinks S) (settled-length ok) plan))
+    let ok = accepted-sound S (refusal-front (sheetTests S) _ (refusal-front (tableauTests S t) _ (unless-given-iff _ (settled S) (settled S) .0 e .0))) in
+    ap given (lent-filled (λ x. x) (settled S) (roasteries S * cafes S) (settled-length S ok) plan))
 
 pub solve-says : (S : Sheet) (u v : List ℤ) (plan : List ℕ)
     → let a = solveCall S (length u) (length v) (length plan) in
-    solveSays (sources S) (sinks S) (solveAnswer a) (lentAfter (λ s. s .u) a u) (lentAfter (λ s. s .v) a v) (lentAfter (λ s. s .plan) a plan) ≡ a
-unfolding solveCall solveAnswer solveSays refusedBy
+    solveSays (roasteries S) (cafes S) (solveAnswer a) (lentAfter (λ s. s .u) a u) (lentAfter (λ s. s .v) a v) (lentAfter (λ s. s .plan) a plan) ≡ a
+unfolding solveCall solution solutionFrom solveAnswer solveSays refusedBy
 solve-says S u v plan =
-    unless-says (λ a. solveSays (sources S) (sinks S) (solveAnswer a) (lentAfter (λ s. s .u) a u) (lentAfter (λ s. s .v) a v) (lentAfter (λ s. s .plan) a plan))
+    unless-says (λ a. solveSays (roasteries S) (cafes S) (solveAnswer a) (lentAfter (λ s. s .u) a u) (lentAfter (λ s. s .v) a v) (lentAfter (λ s. s .plan) a plan))
     (sheetTests S ++ _) (solution S) (λ k. refl)
     (λ e.
     let f = solve-fills S (length u) (length v) (length plan) (solution S) e in
     let s = solution S in
-    rw (lent-filled (λ s. s .u) s (sources S) (f .u) u, lent-filled (λ s. s .v) s (sinks S) (f .v) v, lent-filled (λ s. s .plan) s (sources S * sinks S) (f .plan) plan))
+    rw (lent-filled (λ s. s .u) s (roasteries S) (f .u) u, lent-filled (λ s. s .v) s (cafes S) (f .v) v, lent-filled (λ s. s .plan) s (roasteries S * cafes S) (f .plan) plan, planCost-size S (settled S)))
 
 -- ---- texts
 
 pub readSheet-says : (text supply demand cost : List ℕ)
     → let a = readSheetCall text (length supply) (length demand) (length cost) in
     readSays (readAnswer a) (lentAfter (λ S. S .supply) a supply) (lentAfter (λ S. S .demand) a demand) (lentAfter (λ S. S .cost) a cost) ≡ a
-unfolding readSheetCall readAnswer readSays refusedBy sources sinks
+unfolding readSheetCall readAnswer readSays refusedBy roasteries cafes
 readSheet-says text supply demand cost = go (sheetReader text) refl
   where
     tests : Sheet → List (Bool × ℕ)
@@ -126,9 +129,9 @@ readSheet-says text supply demand cost = go (sheetReader text) refl
     says : Answer Sheet → Answer Sheet
     says a = readSays (readAnswer a) (lentAfter (λ S. S .supply) a supply) (lentAfter (λ S. S .demand) a demand) (lentAfter (λ S. S .cost) a cost)
 
-    back : (S : Sheet) → length (S .cost) ≡ sources S * sinks S → says (given S) ≡ given S
+    back : (S : Sheet) → length (S .cost) ≡ roasteries S * cafes S → says (given S) ≡ given S
     back S whole =
-        rw (lent-filled (λ S. S .supply) S (sources S) refl supply, lent-filled (λ S. S .demand) S (sinks S) refl demand, lent-filled (λ S. S .cost) S (sources S * sinks S) whole cost)
+        rw (lent-filled (λ S. S .supply) S (roasteries S) refl supply, lent-filled (λ S. S .demand) S (cafes S) refl demand, lent-filled (λ S. S .cost) S (roasteries S * cafes S) whole cost)
 
     go : (o : Reading Sheet) → sheetReader text ≡ o → says (readWith tests text) ≡ readWith tests text
     go (stuck rest) e = rw (read-stuck tests text rest e)

@@ -5,8 +5,8 @@ use mathlib.Core.Bool.{true}
 use mathlib.Core.List.{List}
 use Prim.Native.Nat.{ℕ, _+_, _<_, _≤_}
 use lib.ListN.{length, getD}
-use Rattle.transport.specs.Sheet.{Lane}
-use Rattle.transport.specs.SheetLaws.{lane}
+use Rattle.transport.specs.Problem.{Lane}
+use Rattle.transport.specs.Laws.ProblemLaws.{lane}
 use Rattle.basis.specs.Layout.{stride}
 use Rattle.tableaux.specs.Lanes.{Has, Fits}
 use Rattle.elimination.specs.Links.{Links, Masks, tied, iff-same}

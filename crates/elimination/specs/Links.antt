@@ -11,9 +11,9 @@ use lib.Dec.{eqb, ltb}
 use lib.Count.{ones, ones-step, trailingZeros}
 use lib.ListN.{length, getD, set, length-set}
 use lib.Seq.{getD-set-same, getD-set-other}
-use Rattle.transport.specs.Sheet.{Lane}
-use Rattle.transport.specs.SheetLaws.{lane}
-use Rattle.transport.specs.ListLaws.{and-left, and-right}
+use Rattle.transport.specs.Problem.{Lane}
+use Rattle.transport.specs.Laws.ProblemLaws.{lane}
+use Rattle.transport.specs.Laws.ListLaws.{and-left, and-right}
 use Rattle.basis.specs.Mask.{bit, has, cut, has-cut, has-zero, bit-suc, first-in, ones-zero}
 use Rattle.basis.specs.Layout.{stride, nodeRoom}
 use Rattle.tableaux.specs.Lanes.{Has, Fits}

@@ -12,7 +12,7 @@ use lib.Count.{ones}
 use lib.ListN.{length, getD, set}
 use lib.Seq.{getD-set-same, getD-set-other}
 use Rattle.transport.specs.Lists.{sumTo}
-use Rattle.transport.specs.ListLaws.{and-left, and-right, sumTo-cong, sumTo-add, sumTo-each}
+use Rattle.transport.specs.Laws.ListLaws.{and-left, and-right, sumTo-cong, sumTo-add, sumTo-each}
 use Rattle.basis.specs.Mask.{bit, has, cut, has-cut, has-zero, ones-zero, only}
 use Rattle.basis.specs.Layout.{nodeRoom}
 use Rattle.tableaux.specs.Leaves.{one-at, sum-one-at, sum-ones, unless, unless-bits}

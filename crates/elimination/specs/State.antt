@@ -7,9 +7,9 @@ use native.Mathlib.Omega.{arith}
 use lib.ListN.{length, getD, set, length-set}
 use lib.Seq.{getD-set-same, getD-set-other}
 use Rattle.transport.specs.Lists.{table}
-use Rattle.transport.specs.ListLaws.{table-zero, table-one, table-cong}
-use Rattle.transport.specs.Sheet.{Lane}
-use Rattle.transport.specs.SheetLaws.{lane}
+use Rattle.transport.specs.Laws.ListLaws.{table-zero, table-one, table-cong}
+use Rattle.transport.specs.Problem.{Lane}
+use Rattle.transport.specs.Laws.ProblemLaws.{lane}
 use Rattle.basis.specs.Mask.{cut}
 use Rattle.basis.specs.Layout.{stride, nodeRoom, laneAt, strikeOf, strikesOf, length-strikes}
 use Rattle.elimination.specs.Links.{Links, Masks, otherEnd, ownBit, laneTo, joins, tied, Seen, of-row, of-col, seen, without-lane, links-without, place-row, place-col}

@@ -5,8 +5,8 @@ use mathlib.Core.List.{List}
 use Prim.Native.Nat.{ℕ, zero, suc, _+_, _<_, _≤_}
 use native.Mathlib.Omega.{arith}
 use lib.ListN.{length, getD}
-use Rattle.transport.specs.ListLaws.{member-at}
-use Rattle.transport.specs.Sheet.{Lane}
+use Rattle.transport.specs.Laws.ListLaws.{member-at}
+use Rattle.transport.specs.Problem.{Lane}
 use Rattle.transport.specs.Leaf.{Strike}
 use Rattle.basis.specs.Layout.{stride, nodeRoom, laneRoom, laneAt, Distinct, strikeOf, strikesOf, length-strikes, getD-strikes}
 use Rattle.basis.specs.Layout as layout

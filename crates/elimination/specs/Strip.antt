@@ -11,11 +11,12 @@ use lib.Dec.{ltb}
 use lib.ListN.{length, getD, set}
 use lib.Seq.{getD-set-other}
 use Rattle.transport.specs.Lists.{keep, table}
-use Rattle.transport.specs.ListLaws.{keep-yes, keep-no, keep-none, keep-all, keep-cong, keep-keep, keep-member, member-keep, all-members, member-place, member-at, and-left, and-right}
-use Rattle.transport.specs.Sheet.{Lane}
-use Rattle.transport.specs.SheetLaws.{lane}
+use Rattle.transport.specs.Laws.ListLaws.{keep-yes, keep-no, keep-none, keep-all, keep-cong, keep-keep, keep-member, member-keep, all-members, member-place, member-at, and-left, and-right}
+use Rattle.transport.specs.Problem.{Lane}
+use Rattle.transport.specs.Laws.ProblemLaws.{lane}
 use Rattle.transport.specs.Tableau.{basisSize}
-use Rattle.transport.specs.Leaf.{Strike, touches, spans}
+use Rattle.transport.specs.Leaf.{Strike, touches}
+use Rattle.transport.specs.Belonging.{spans}
 use Rattle.basis.specs.Mask.{has, has-zero}
 use Rattle.basis.specs.Layout.{nodeRoom}
 use Rattle.tableaux.specs.Lanes.{Has}

@@ -1,5 +1,5 @@
-// Striking off leaves: a node with a single lane is taken away with that lane, again and again. The lanes join all nodes without a loop exactly if m + n - 1 are struck.
-// Nodes and lanes are numbered as in crate basis: source i is node i, sink j is node m + j, and node 0 is the root, which is never struck.
+// Striking off leaves: a node with a single lane is taken away with that lane, again and again. The lanes join all nodes without a loop exactly if m + n - 1
+// are struck. Nodes and lanes are numbered as in crate basis: source i is node i, sink j is node m + j, and node 0 is the root, which is never struck.
 use basis::NODES;
 use basis::mask;
 use transport::MAX_SIDE;
@@ -8,7 +8,7 @@ ghost use mathlib.Core.Bool.{cond};
 ghost use mathlib.Core.List.{List};
 ghost use Prim.Native.Nat.{_+_, _<_, _≤_};
 ghost use lib.ListN.{length};
-ghost use Rattle.transport.specs.Sheet.{Lane};
+ghost use Rattle.transport.specs.Problem.{Lane};
 ghost use Rattle.basis.specs.Layout.{stride, nodeRoom, strikesOf};
 ghost use Rattle.elimination.specs.Links.{Links, Masks, otherEnd, ownBit, laneTo, joins};
 ghost use Rattle.elimination.specs.Queue.{Queue};
@@ -70,8 +70,8 @@ fn first_leaves(live: &[u64; NODES], leaf: &mut [usize; NODES], m: usize, n: usi
 }
 
 // Strikes off leaves in the order in which they become leaves, and says how many. Strike k is the leaf, the node at the other end and the place of the lane.
-// `leaf` is the queue too: what is struck stands before k, what waits from k up to tail. A node that waits can lose its lane to its neighbour's strike only where the
-// two are cut off from the root; then the lanes do not join all nodes, and striking ends.
+// `leaf` is the queue too: what is struck stands before k, what waits from k up to tail. A node that waits can lose its lane to its neighbour's strike only
+// where the two are cut off from the root; then the lanes do not join all nodes, and striking ends.
 pub fn strike(
     adj: &[u64; NODES],
     leaf: &mut [usize; NODES],
@@ -83,7 +83,10 @@ pub fn strike(
     requires { ⌜ Links m n (now adj) ⌝ }
     requires { ⌜ (length (now adj) ≡ nodeRoom) × (length (now leaf) ≡ nodeRoom) × (length (now other) ≡ nodeRoom) × (length (now lane) ≡ nodeRoom) ⌝ }
     ensures { λ _. ⌜ (length (now (leaf .exit)) ≡ nodeRoom) × (length (now (other .exit)) ≡ nodeRoom) × (length (now (lane .exit)) ≡ nodeRoom) ⌝ }
-    ensures { λ r. ⌜ ((B : List Lane) → Masks m n B (now (adj .entry)) → Stripped m n B (strikesOf (now (leaf .exit)) (now (other .exit)) (now (lane .exit)) r) r) ⌝ }
+    ensures { λ r. ⌜
+        ((B : List Lane) → Masks m n B (now (adj .entry))
+        → Stripped m n B (strikesOf (now (leaf .exit)) (now (other .exit)) (now (lane .exit)) r) r)
+        ⌝ }
 {
     let mut live = *adj;
     let mut tail = first_leaves(adj, leaf, m, n);

@@ -3,6 +3,7 @@ use mathlib.Core.Bool.{true, false}
 use mathlib.Core.List.{List}
 use mathlib.Core.Option.{none, some}
 use Prim.Native.Nat.{ℕ}
+use lib.IntN.{natAbs}
 use lib.ListN.{length}
 pub use Rattle.exports.specs.declared.StartOut.{StartOut}
 pub use Rattle.exports.specs.declared.RoundOut.{RoundOut}
@@ -10,12 +11,12 @@ pub use Rattle.exports.specs.declared.RunOut.{RunOut}
 pub use Rattle.exports.specs.declared.SolveOut.{SolveOut}
 pub use Rattle.exports.specs.declared.ReadOut.{ReadOut}
 pub use Rattle.exports.specs.declared.WriteOut.{WriteOut}
-use Rattle.transport.specs.Sheet.{Sheet, sources, sinks}
-use Rattle.transport.specs.declared.Cell.{Cell}
+use Rattle.transport.specs.Sheet.{Sheet, roasteries, cafes}
 use Rattle.transport.specs.Tableau.{tableauOf, noTableau}
 use Rattle.transport.specs.Round.{Round, finished, moved, Run}
 use Rattle.transport.specs.Calls.{Answer, refused, given, Solution}
 use Rattle.transport.specs.Answers.{prices, noPrices}
+use Rattle.transport.specs.declared.Cell.{Cell}
 
 unfoldable pub startOut : Answer (List Cell) → StartOut
 startOut (refused r) = record { refusal = r .number; tableau = noTableau }
@@ -28,7 +29,7 @@ roundOut (given (finished u v)) = record { refusal = 0; finished = true; tableau
 
 unfoldable pub runOut : Answer Run → RunOut
 runOut (refused r) = record { refusal = r .number; finished = false; rounds = 0; tableau = noTableau }
-runOut (given r) = record { refusal = 0; finished = r .done; rounds = r .rounds; tableau = tableauOf (r .tableau) }
+runOut (given r) = record { refusal = 0; finished = r .finished; rounds = r .rounds; tableau = tableauOf (r .tableau) }
 
 -- The number of the refusal, or 0.
 unfoldable pub numberOf : {A : Type 0} → Answer A → ℕ
@@ -37,14 +38,14 @@ numberOf (given x) = 0
 
 unfoldable pub solveOut : Answer Solution → SolveOut
 solveOut (refused r) = record { refusal = r .number; cost = 0; rounds = 0 }
-solveOut (given s) = record { refusal = 0; cost = s .cost; rounds = s .rounds }
+solveOut (given s) = record { refusal = 0; cost = natAbs (s .cost); rounds = s .rounds }
 
 unfoldable pub readOut : Answer Sheet → ReadOut
 readOut (refused r) = elim (r .position) [
   | none ↦ record { refusal = r .number; sources = 0; sinks = 0; place = 0 }
   | some p ↦ record { refusal = r .number; sources = 0; sinks = 0; place = p }
 ]
-readOut (given S) = record { refusal = 0; sources = sources S; sinks = sinks S; place = 0 }
+readOut (given S) = record { refusal = 0; sources = roasteries S; sinks = cafes S; place = 0 }
 
 unfoldable pub writeOut : Answer (List ℕ) → WriteOut
 writeOut (refused r) = record { refusal = r .number; length = 0 }

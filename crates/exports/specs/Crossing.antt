@@ -22,12 +22,12 @@ use Rattle.transport.specs.declared.ReadAnswer.the-variants as ReadAnswer
 use Rattle.transport.specs.declared.WriteAnswer.{WriteAnswer}
 use Rattle.transport.specs.declared.WriteAnswer.the-variants as WriteAnswer
 use Rattle.transport.specs.Sheet.{Sheet}
-use Rattle.transport.specs.declared.Cell.{Cell}
 use Rattle.transport.specs.Round.{Round, finished, moved, Run}
 use Rattle.transport.specs.Calls.{Answer, refused, given, Refusal, Solution}
-use Rattle.transport.specs.CallLaws.{unless-placeless, some≢none}
+use Rattle.transport.specs.Laws.CallLaws.{unless-placeless, some≢none}
 use Rattle.transport.specs.SheetText.{Reading, stuck, got, sheetReader, readTests, readSheetCall}
 use Rattle.transport.specs.Answers.{startAnswer, roundAnswer, runOutcome, runAnswer, settleAnswer, solveAnswer, readAnswer, writeAnswer}
+use Rattle.transport.specs.declared.Cell.{Cell}
 use Rattle.grammar.specs.SheetCalls.{read-got, read-stuck}
 use Rattle.exports.specs.Border.{StartOut, startOut, RoundOut, roundOut, RunOut, runOut, numberOf, SolveOut, solveOut, ReadOut, readOut, WriteOut, writeOut}
 
@@ -59,9 +59,9 @@ ran (RunOutcome.Refused k) t = record { refusal = k; finished = false; rounds = 
 pub ran-is : (a : Answer Run) → ran (runAnswer a .outcome) (runAnswer a .tableau) ≡ runOut a
 unfolding runAnswer runOut runOutcome
 ran-is (refused r) = refl
-ran-is (given r) = go (r .done) refl
+ran-is (given r) = go (r .finished) refl
   where
-    go : (b : Bool) → r .done ≡ b → ran (runAnswer (given r) .outcome) (runAnswer (given r) .tableau) ≡ runOut (given r)
+    go : (b : Bool) → r .finished ≡ b → ran (runAnswer (given r) .outcome) (runAnswer (given r) .tableau) ≡ runOut (given r)
     go true e = rw (e, runOutcome)
     go false e = rw (e, runOutcome)
 

@@ -72,9 +72,11 @@ pub struct WriteOut {
 
 #[no_mangle]
 pub extern "C" fn panel_start(supply: &[u64], demand: &[u64], cost: &[u64]) -> StartOut
-    ensures { λ r. ⌜ r ≡ startOut (startCall (sheetOf (now (supply .entry)) (now (demand .entry)) (now (cost .entry)))) ⌝ }
+    ensures { λ r.
+        let S = sheetOf (now (supply .entry)) (now (demand .entry)) (now (cost .entry)) in
+        ⌜ r ≡ startOut (startCall S) ⌝ }
 {
-    let answer = simplex::start::start(supply, demand, cost);
+    let answer = tableau_calls::start::start(supply, demand, cost);
     let tableau = answer.tableau;
     let outcome = answer.outcome;
     match outcome {
@@ -92,9 +94,11 @@ pub extern "C" fn panel_start(supply: &[u64], demand: &[u64], cost: &[u64]) -> S
 // The calls on tableaux take a list of cells: what is passed on is the tableau that the list is.
 
 fn round_from(supply: &[u64], demand: &[u64], cost: &[u64], t: Tableau) -> RoundOut
-    ensures { λ r. ⌜ r ≡ roundOut (roundCall (sheetOf (now (supply .entry)) (now (demand .entry)) (now (cost .entry))) t) ⌝ }
+    ensures { λ r.
+        let S = sheetOf (now (supply .entry)) (now (demand .entry)) (now (cost .entry)) in
+        ⌜ r ≡ roundOut (roundCall S t) ⌝ }
 {
-    let answer = simplex::round::round(supply, demand, cost, t);
+    let answer = tableau_calls::round::round(supply, demand, cost, t);
     let tableau = answer.tableau;
     let u = answer.u;
     let v = answer.v;
@@ -139,9 +143,11 @@ pub extern "C" fn panel_round(
 }
 
 fn run_from(supply: &[u64], demand: &[u64], cost: &[u64], t: Tableau, allowance: u32) -> RunOut
-    ensures { λ r. ⌜ r ≡ runOut (runCall (sheetOf (now (supply .entry)) (now (demand .entry)) (now (cost .entry))) t allowance) ⌝ }
+    ensures { λ r.
+        let S = sheetOf (now (supply .entry)) (now (demand .entry)) (now (cost .entry)) in
+        ⌜ r ≡ runOut (runCall S t allowance) ⌝ }
 {
-    let answer = simplex::run::run(supply, demand, cost, t, allowance);
+    let answer = tableau_calls::run::run(supply, demand, cost, t, allowance);
     let tableau = answer.tableau;
     let outcome = answer.outcome;
     match outcome {
@@ -188,7 +194,7 @@ fn settle_from(supply: &[u64], demand: &[u64], cost: &[u64], t: Tableau, plan: &
         let a = settleCall S t (length (now (plan .entry))) in
         ⌜ (r ≡ numberOf a) × (now (plan .exit) ≡ lentAfter (λ x. x) a (now (plan .entry))) ⌝ }
 {
-    let answer = planning::settling::settle(supply, demand, cost, t, plan);
+    let answer = plan_calls::settling::settle(supply, demand, cost, t, plan);
     match answer {
         SettleAnswer::Settled => 0,
         SettleAnswer::Refused(number) => number,
@@ -230,7 +236,7 @@ pub extern "C" fn panel_solve(
         × (now (plan .exit) ≡ lentAfter (λ s. s .plan) a (now (plan .entry)))
         ⌝ }
 {
-    let answer = planning::solve::solve(supply, demand, cost, u, v, plan);
+    let answer = plan_calls::solve::solve(supply, demand, cost, u, v, plan);
     match answer {
         SolveAnswer::Solved {
             cost: total,
@@ -264,7 +270,7 @@ pub extern "C" fn panel_read_sheet(
         × (now (cost .exit) ≡ lentAfter (λ S. S .cost) a (now (cost .entry)))
         ⌝ }
 {
-    let answer = text::read_sheet(text, supply, demand, cost);
+    let answer = sheet_reader::read_sheet(text, supply, demand, cost);
     match answer {
         ReadAnswer::Sheet { sources, sinks } => ReadOut {
             refusal: 0,
@@ -311,7 +317,7 @@ pub extern "C" fn panel_write_sheet(
         let a = writeSheetCall S (length (now (out .entry))) in
         ⌜ (r ≡ writeOut a) × (now (out .exit) ≡ lentAfter (λ t. t) a (now (out .entry))) ⌝ }
 {
-    write_out(text::write_sheet(supply, demand, cost, out))
+    write_out(sheet_writer::write_sheet(supply, demand, cost, out))
 }
 
 #[no_mangle]

@@ -3,7 +3,8 @@ use mathlib.Core.Path.{_≡_, refl, sym, _∙_, ap}
 use mathlib.Core.List.{List, [], _++_, append-assoc, append-nil, flatMap, flatten}
 use Prim.Native.Nat.{ℕ}
 use lib.ListN.{length}
-use Rattle.transport.specs.Sheet.{Sheet, sources, sinks}
+use Rattle.transport.specs.Limits.{maxSources, maxSinks}
+use Rattle.transport.specs.Sheet.{Sheet, roasteries, cafes}
 use Rattle.transport.specs.Text.{bytes, headLine, numberLine, rowLine}
 use Rattle.transport.specs.SheetText.{rowsOf, sheetText, sheetReader}
 use Rattle.transport.specs.Statements.{HasText, SheetTextOf}
@@ -11,7 +12,7 @@ use Rattle.grammar.specs.Numbers.{Side, Small, every-at, at-every}
 use Rattle.grammar.specs.Exact.{Exact, AtEnd, Then, joining, glued, bind, then, reworded}
 use Rattle.grammar.specs.Every.{Every, Count}
 use Rattle.grammar.specs.Readers.{Only, Bytes, word-exact, end-exact, Of, times-exact}
-use Rattle.grammar.specs.Lines.{number-line-exact, side-line-exact, row-exact}
+use Rattle.grammar.specs.Lines.{number-line-exact, source-line-exact, sink-line-exact, row-exact}
 use Rattle.grammar.specs.Rows.{flatten-every, flatten-length, rowsOf-flatten, rowsOf-length, rowsOf-every, flatten-rowsOf}
 
 -- The sheet of what the sections hold.
@@ -22,10 +23,10 @@ sheetOf supply demand rows = record { supply = supply; demand = demand; cost = f
 abbrev Sections : Sheet → List ℕ → Type 0
 Sections =
     Then (Bytes (bytes "supply ")) (λ u.
-    Then (Of Side numberLine) (λ m.
+    Then (Of (Side maxSources) numberLine) (λ m.
     Then (Of (Count Small m) (flatMap numberLine)) (λ supply.
     Then (Bytes (bytes "demand ")) (λ u.
-    Then (Of Side numberLine) (λ n.
+    Then (Of (Side maxSinks) numberLine) (λ n.
     Then (Of (Count Small n) (flatMap numberLine)) (λ demand.
     Then (Bytes (headLine "cost" m)) (λ u.
     Then (Of (Count (Count Small n) m) (flatMap rowLine)) (λ rows.
@@ -37,11 +38,11 @@ unfolding sheetReader sheetOf
 sections-exact =
     then
     (word-exact (bytes "supply "))
-    (bind side-line-exact (λ m.
+    (bind source-line-exact (λ m.
     bind (times-exact Small numberLine number-line-exact m) (λ supply.
     then
     (word-exact (bytes "demand "))
-    (bind side-line-exact (λ n.
+    (bind sink-line-exact (λ n.
     bind (times-exact Small numberLine number-line-exact n) (λ demand.
     then
     (word-exact (headLine "cost" m))
@@ -71,11 +72,11 @@ module _ (m n : ℕ) (supply demand : List ℕ) (rows : List (List ℕ)) (ms : l
   cut = rw (← rs .0) (rowsOf-flatten Small n rows (rs .1))
 
   sheetText-sections : sheetText (sheetOf supply demand rows) ≡ laidOut m n supply demand rows
-  unfolding sheetText sheetOf sources sinks laidOut
+  unfolding sheetText sheetOf roasteries cafes laidOut
   sheetText-sections = rw (ms, ns, cut, head-line m .0, head-line n .1) (simp (append-assoc, append-nil))
 
-  hasText-sections : Side m → Every Small supply → Side n → Every Small demand → HasText (sheetOf supply demand rows)
-  unfolding sheetOf sources sinks
+  hasText-sections : Side maxSources m → Every Small supply → Side maxSinks n → Every Small demand → HasText (sheetOf supply demand rows)
+  unfolding sheetOf roasteries cafes
   hasText-sections sm es sn ed = record {
     sides = (rw ms sm, rw ns sn);
     lengths = flatten-length Small n rows (rs .1) ∙ rw (rs .0, ms, ns);
@@ -118,10 +119,10 @@ sections-there S text h =
     })
 
 sections-back : (S : Sheet) (text : List ℕ) → SheetTextOf S text → Sections S text
-unfolding laidOut sheetOf sources sinks
+unfolding laidOut sheetOf roasteries cafes
 sections-back S text h =
-    let m = sources S in
-    let n = sinks S in
+    let m = roasteries S in
+    let n = cafes S in
     let rows = rowsOf m n (S .cost) in
     let numbers = h .sheet .numbers in
     let costs : Every Small (S .cost) = at-every (S .cost) (λ k. numbers k .2) in

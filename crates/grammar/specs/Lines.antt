@@ -8,6 +8,7 @@ use native.Mathlib.Omega.{arith}
 use lib.ListN.{length}
 use Rattle.transport.specs.Lists.{within}
 use Rattle.transport.specs.Text.{bytes, kindOf, digits, numberLine, rowLine}
+use Rattle.transport.specs.Limits.{maxSources, maxSinks}
 use Rattle.transport.specs.SheetText.{Reading, stuck, got, Reader, _>>=_, _>>_, pure, word, isDigit, number, side, line, row}
 use Rattle.grammar.specs.Numbers.{Side, Small}
 use Rattle.grammar.specs.Exact.{Exact, Any, Then, glued, bind, then, reworded, agreeing}
@@ -30,9 +31,13 @@ pub number-line-exact : Exact (line number) (Of Small numberLine) Any
 unfolding line closedBy bytes numberLine
 number-line-exact = number-exact 10 LF-plain
 
-pub side-line-exact : Exact (line side) (Of Side numberLine) Any
-unfolding line closedBy bytes numberLine
-side-line-exact = side-exact 10 LF-plain
+pub source-line-exact : Exact (line (side maxSources)) (Of (Side maxSources) numberLine) Any
+unfolding line closedBy numberLine bytes maxSources
+source-line-exact = side-exact maxSources (omega arith) (omega arith) 10 LF-plain
+
+pub sink-line-exact : Exact (line (side maxSinks)) (Of (Side maxSinks) numberLine) Any
+unfolding line closedBy numberLine bytes maxSinks
+sink-line-exact = side-exact maxSinks (omega arith) (omega arith) 10 LF-plain
 
 -- ---- rows
 

@@ -6,10 +6,11 @@ use native.Mathlib.Omega.{arith}
 use native.Mathlib.Nat.{mul-le-mul}
 use lib.ListN.{length, length-append, replicate}
 use Rattle.transport.specs.Lists.{within, at, all, total, sumTo}
-use Rattle.transport.specs.Limits.{maxSide, maxDigits, maxText, maxAmount, maxCost}
-use Rattle.transport.specs.Sheet.{Sheet, sources, sinks, refusal, sheetTests, numberTests, badSides, badLength, badAmount, badCost, unbalanced}
+use Rattle.transport.specs.Limits.{maxSources, maxSinks, maxSide, maxDigits, maxText, maxAmount, maxCost}
+use Rattle.transport.specs.Sheet.{Sheet, roasteries, cafes, refusal, sheetTests, numberTests, badSides, badLength, badAmount, badCost, unbalanced}
 use Rattle.transport.specs.Text.{bytes, digits, digitsUpTo, headLine, numberLine, rowLine}
 use Rattle.transport.specs.SheetText.{sheetText, rowsOf}
+use Rattle.transport.specs.Laws.SheetLaws.{accepted}
 use Rattle.transport.specs.Statements.{HasText, Accepted}
 use Rattle.grammar.specs.Numbers.{within-iff, Small, at-every}
 use Rattle.grammar.specs.Digits.{digits-length}
@@ -58,12 +59,12 @@ side-length m h = digits-length 1 m .1 (omega arith)
 
 -- No sheet text is longer: 10 bytes for each of the first two heads and 8 for the third, 8 for each supply and demand, and 8 for each cost.
 pub text-length : (S : Sheet) → HasText S → length (sheetText S) ≤ maxText
-unfolding sheetText headLine bytes sources sinks maxSide maxDigits maxText
+unfolding sheetText headLine bytes roasteries cafes maxSources maxSinks maxSide maxDigits maxText
 text-length S h =
-    let m : ℕ = sources S in
-    let n : ℕ = sinks S in
-    let ms : (1 ≤ m) × (m ≤ maxSide) = within-iff 1 maxSide m .0 (h .sides .0) in
-    let ns : (1 ≤ n) × (n ≤ maxSide) = within-iff 1 maxSide n .0 (h .sides .1) in
+    let m : ℕ = roasteries S in
+    let n : ℕ = cafes S in
+    let ms : (1 ≤ m) × (m ≤ maxSources) = within-iff 1 maxSources m .0 (h .sides .0) in
+    let ns : (1 ≤ n) × (n ≤ maxSinks) = within-iff 1 maxSinks n .0 (h .sides .1) in
     let rows : List (List ℕ) = rowsOf m n (S .cost) in
     let costs : Every (Count Small n) rows = rowsOf-every Small n m (S .cost) (h .lengths) (at-every (S .cost) (λ k. h .numbers k .2)) in
     let supplies : length (flatMap numberLine (S .supply)) ≤ m * suc maxDigits =
@@ -75,20 +76,20 @@ text-length S h =
     let lanes : length (flatMap rowLine rows) ≤ m * (n * suc maxDigits) =
     rw (rowsOf-length n m (S .cost)) at (lines-length (Count Small n) rowLine (n * suc maxDigits) (row-length n (ns .0)) rows costs)
     in
-    let most : m * n ≤ maxSide * maxSide = mul-le-mul (ms .1) (ns .1) in
-    simp length-append (omega (arith, side-length m (ms .1), side-length n (ns .1)))
+    let most : m * n ≤ maxSources * maxSinks = mul-le-mul (ms .1) (ns .1) in
+    simp length-append (omega (arith, side-length m (omega (arith, ms .1)), side-length n (omega (arith, ns .1))))
 
 -- The bound is met, and by a sheet that the sheet check accepts: every count, amount and cost is at its limit.
 unfoldable pub largest : Sheet
-largest = record { supply = replicate maxSide maxAmount; demand = replicate maxSide maxAmount; cost = replicate (maxSide * maxSide) maxCost }
+largest = record { supply = replicate maxSources maxAmount; demand = replicate maxSinks maxAmount; cost = replicate (maxSources * maxSinks) maxCost }
 
 pub largest-length : length (sheetText largest) ≡ maxText
-unfolding largest sheetText sources sinks headLine bytes digits digitsUpTo flatMap numberLine rowsOf rowLine maxSide maxAmount maxCost maxText
+unfolding largest sheetText roasteries cafes headLine bytes digits digitsUpTo flatMap numberLine rowsOf rowLine maxSources maxSinks maxAmount maxCost maxText
 largest-length = refl
 
 pub largest-accepted : Accepted largest
-unfolding largest sources sinks refusal sheetTests numberTests badSides badLength badAmount badCost unbalanced within all total sumTo at maxSide maxAmount maxCost
-largest-accepted = record { accepted = refl }
+unfolding largest roasteries cafes refusal sheetTests numberTests badSides badLength badAmount badCost unbalanced within all total sumTo at maxSources maxSinks maxAmount maxCost
+largest-accepted = accepted largest refl
 
 pub largest-text : HasText largest
 largest-text = accepted-text largest largest-accepted

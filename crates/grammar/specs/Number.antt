@@ -7,7 +7,7 @@ use native.Mathlib.Omega.{arith}
 use lib.Dec.{eqb}
 use borrow.Author.Tests.{eqb-false, ne-eqb}
 use Rattle.transport.specs.Lists.{within}
-use Rattle.transport.specs.Limits.{maxSide, maxDigits}
+use Rattle.transport.specs.Limits.{maxDigits}
 use Rattle.transport.specs.Text.{kindOf, digits}
 use Rattle.transport.specs.SheetText.{isDigit, digitValue, number, side}
 use Rattle.grammar.specs.Numbers.{within-iff, Side, Small}
@@ -67,47 +67,47 @@ module _ (c : ℕ) (plain : isDigit c ≡ false) where
   unfolding number first-then room
   number-exact = reworded (λ n t. (number-there n t, number-back n t)) (first-exact c plain isDigit (λ x. true) room 48 (digit-of 0 (omega arith)))
 
--- ---- the counts m and n
+-- ---- the counts m and n, whose limits have one or two digits
 
-side-begins : Beginnings (within 1 maxSide)
-unfolding maxSide
-side-begins n l e = let k = within-iff 1 maxSide n .0 e in within-iff 1 maxSide (n / 10) .1 (omega arith)
+module _ (most : ℕ) (some : 1 ≤ most) (few : most < 100) where
+  side-begins : Beginnings (within 1 most)
+  side-begins n l e = let k = within-iff 1 most n .0 e in within-iff 1 most (n / 10) .1 (omega arith)
 
-isFirst : ℕ → Bool
-isFirst b = isDigit b && within 1 maxSide (digitValue b)
+  isFirst : ℕ → Bool
+  isFirst b = isDigit b && within 1 most (digitValue b)
 
-one-first : isFirst 49 ≡ true
-unfolding isFirst isDigit kindOf digitValue within maxSide
-one-first = refl
+  one-first : isFirst 49 ≡ true
+  unfolding isFirst isDigit kindOf digitValue within
+  one-first = within-iff 1 most 1 .1 (omega arith, some)
 
-module _ (c : ℕ) (plain : isDigit c ≡ false) where
-  side-there : (n : ℕ) (t : List ℕ) → Begun c isFirst (within 1 maxSide) (λ b. 1) n t → Closed Side c n t
-  unfolding isFirst
-  side-there n t h =
-      let b = h .value in
-      let ds = h .second .ds in
-      let k = and-eq-true-iff (isDigit b) (within 1 maxSide (digitValue b)) .0 (h .first .0) in
-      let l = within-iff 1 maxSide (digitValue b) .0 (k .1) .0 in (
-        rw (h .second .whole) (follows-test (within 1 maxSide) 1 (digitValue b) ds (k .1) (h .second .follows)),
-        begun-written
-            c
-            isFirst
-            (within 1 maxSide)
-            (λ d. 1)
-            n
-            t
-            h
-            (rw (h .second .whole) (first-digits (within 1 maxSide) 1 b ds (k .0) l (h .second .follows))),
-      )
+  module _ (c : ℕ) (plain : isDigit c ≡ false) where
+    side-there : (n : ℕ) (t : List ℕ) → Begun c isFirst (within 1 most) (λ b. 1) n t → Closed (Side most) c n t
+    unfolding isFirst
+    side-there n t h =
+        let b = h .value in
+        let ds = h .second .ds in
+        let k = and-eq-true-iff (isDigit b) (within 1 most (digitValue b)) .0 (h .first .0) in
+        let l = within-iff 1 most (digitValue b) .0 (k .1) .0 in (
+          rw (h .second .whole) (follows-test (within 1 most) 1 (digitValue b) ds (k .1) (h .second .follows)),
+          begun-written
+              c
+              isFirst
+              (within 1 most)
+              (λ d. 1)
+              n
+              t
+              h
+              (rw (h .second .whole) (first-digits (within 1 most) 1 b ds (k .0) l (h .second .follows))),
+        )
 
-  side-back : (n : ℕ) (t : List ℕ) → Closed Side c n t → Begun c isFirst (within 1 maxSide) (λ b. 1) n t
-  unfolding isFirst maxSide
-  side-back n t h =
-      let k = within-iff 1 maxSide n .0 (h .0) in
-      let x = numeral (within 1 maxSide) side-begins 1 n (k .0) (omega arith) (h .0) in
-      let d : isDigit (48 + x .first) ≡ true = digit-of (x .first) (x .small) in
-      numeral-begun c isFirst (within 1 maxSide) (λ b. 1) 1 n t x (rw (d, value-of (x .first)) (x .passes)) refl (h .1)
+    side-back : (n : ℕ) (t : List ℕ) → Closed (Side most) c n t → Begun c isFirst (within 1 most) (λ b. 1) n t
+    unfolding isFirst
+    side-back n t h =
+        let k = within-iff 1 most n .0 (h .0) in
+        let x = numeral (within 1 most) side-begins 1 n (k .0) (omega (arith, k .1, few)) (h .0) in
+        let d : isDigit (48 + x .first) ≡ true = digit-of (x .first) (x .small) in
+        numeral-begun c isFirst (within 1 most) (λ b. 1) 1 n t x (rw (d, value-of (x .first)) (x .passes)) refl (h .1)
 
-  pub side-exact : Exact (closedBy c side) (Closed Side c) Any
-  unfolding side first-then isFirst
-  side-exact = reworded (λ n t. (side-there n t, side-back n t)) (first-exact c plain isFirst (within 1 maxSide) (λ b. 1) 49 one-first)
+    pub side-exact : Exact (closedBy c (side most)) (Closed (Side most) c) Any
+    unfolding side first-then isFirst
+    side-exact = reworded (λ n t. (side-there n t, side-back n t)) (first-exact c plain isFirst (within 1 most) (λ b. 1) 49 one-first)

@@ -6,16 +6,16 @@ use mathlib.Core.List.{List, [], _∷_}
 use Prim.Native.Nat.{ℕ, zero, suc, _^_, _≤_, _<_}
 use native.Mathlib.Omega.{arith}
 use Rattle.transport.specs.Lists.{at, within}
-use Rattle.transport.specs.SheetLaws.{within-true, true-within}
-use Rattle.transport.specs.Limits.{maxSide, maxDigits}
+use Rattle.transport.specs.Laws.SheetLaws.{within-true, true-within}
+use Rattle.transport.specs.Limits.{maxDigits}
 use Rattle.grammar.specs.Every.{Every}
 
 pub within-iff : (low high x : ℕ) → (within low high x ≡ true) ↔ (low ≤ x) × (x ≤ high)
 within-iff low high x = (within-true low high x, λ h. true-within low high x (h .0) (h .1))
 
 -- m and n.
-abbrev pub Side : ℕ → Type 0
-Side n = within 1 maxSide n ≡ true
+abbrev pub Side : ℕ → ℕ → Type 0
+Side most n = within 1 most n ≡ true
 
 -- A supply, a demand or a cost, as far as the text goes.
 abbrev pub Small : ℕ → Type 0

@@ -10,16 +10,17 @@ use native.Mathlib.Nat.{mul-le-mul}
 use native.Mathlib.Decide.{decLe}
 use lib.ListN.{length, take}
 use lib.Seq.{take-all}
-use Rattle.transport.specs.Limits.{maxSide, maxText}
-use Rattle.transport.specs.Sheet.{Sheet, sources, sinks, refusal, sheetTests, numberTests}
+use Rattle.transport.specs.Limits.{maxSources, maxSinks, maxText}
+use Rattle.transport.specs.Sheet.{Sheet, roasteries, cafes, refusal, sheetTests, numberTests}
 use Rattle.transport.specs.Calls.{Refusal, refused, given, unless, tooShort}
 use Rattle.transport.specs.SheetText.{Reading, stuck, got, sheetText, sheetReader, writeSheetCall, readWith, readTests, readSheetCall}
+use Rattle.transport.specs.Laws.SheetLaws.{accepted, passes}
 use Rattle.transport.specs.Statements.{Accepted, SheetTextOf, Place, Undo}
+use Rattle.transport.specs.Laws.CallLaws.{refusal-last, unless-given-iff, unless-placeless, room-iff, rooms-iff, some≢none, refused≢given}
 use Rattle.grammar.specs.Numbers.{within-iff}
 use Rattle.grammar.specs.Exact.{stuck≢got}
 use Rattle.grammar.specs.Place.{reader-iff, place, place-unique, place-cut}
 use Rattle.grammar.specs.Longest.{text-length}
-use Rattle.transport.specs.CallLaws.{refusal-last, unless-given-iff, unless-placeless, room-iff, rooms-iff, some≢none, refused≢given}
 use Rattle.grammar.specs.Refusals.{text-accepted, accepted-text}
 
 -- ---- write sheet
@@ -32,8 +33,8 @@ writeSheet-iff S room text = (
   λ e.
       let h = unless-given-iff _ (sheetText S) text .0 e in
       let k = refusal-last (sheetTests S) short .0 (h .0) in
-      (record { accepted = k .0 }, fits .0 (k .1), h .1),
-  λ h. unless-given-iff _ (sheetText S) text .1 (refusal-last (sheetTests S) short .1 (h .0 .accepted, fits .1 (h .1)), h .2),
+      (accepted S (k .0), fits .0 (k .1), h .1),
+  λ h. unless-given-iff _ (sheetText S) text .1 (refusal-last (sheetTests S) short .1 (passes (h .0), fits .1 (h .1)), h .2),
 )
   where
     short : Bool × ℕ
@@ -94,7 +95,7 @@ module _ (tests : Sheet → List (Bool × ℕ)) (text : List ℕ) where
 -- A text is read exactly if it is a sheet text, of a sheet within the limits and balanced, and the lent lists are long enough.
 pub readSheet-iff : (text : List ℕ) (a b c : ℕ) (S : Sheet)
     → (readSheetCall text a b c ≡ given S)
-    ↔ SheetTextOf S text × Accepted S × (sources S ≤ a) × (sinks S ≤ b) × (sources S * sinks S ≤ c)
+    ↔ SheetTextOf S text × Accepted S × (roasteries S ≤ a) × (cafes S ≤ b) × (roasteries S * cafes S ≤ c)
 unfolding readSheetCall readTests
 readSheet-iff text a b c S = (
   λ e.
@@ -108,25 +109,25 @@ readSheet-iff text a b c S = (
 )
   where
     short : Bool × ℕ
-    short = (tooShort a (sources S) || tooShort b (sinks S) || tooShort c (sources S * sinks S), 8)
+    short = (tooShort a (roasteries S) || tooShort b (cafes S) || tooShort c (roasteries S * cafes S), 8)
 
-    rooms : (short .0 ≡ false) ↔ (sources S ≤ a) × (sinks S ≤ b) × (sources S * sinks S ≤ c)
-    rooms = rooms-iff a (sources S) b (sinks S) c (sources S * sinks S)
+    rooms : (short .0 ≡ false) ↔ (roasteries S ≤ a) × (cafes S ≤ b) × (roasteries S * cafes S ≤ c)
+    rooms = rooms-iff a (roasteries S) b (cafes S) c (roasteries S * cafes S)
 
 -- ---- both ways round
 
 -- Writing and reading undo each other, with room for any sheet text and any sheet.
-pub undo : Undo (λ S. writeSheetCall S maxText) (λ text. readSheetCall text maxSide maxSide (maxSide * maxSide))
+pub undo : Undo (λ S. writeSheetCall S maxText) (λ text. readSheetCall text maxSources maxSinks (maxSources * maxSinks))
 undo = record {
   readWritten = λ S text e.
       let h = writeSheet-iff S maxText text .0 e in
       let t = accepted-text S (h .0) in
-      let m = within-iff 1 maxSide (sources S) .0 (t .sides .0) .1 in
-      let n = within-iff 1 maxSide (sinks S) .0 (t .sides .1) .1 in
-      readSheet-iff text maxSide maxSide (maxSide * maxSide) S .1
+      let m = within-iff 1 maxSources (roasteries S) .0 (t .sides .0) .1 in
+      let n = within-iff 1 maxSinks (cafes S) .0 (t .sides .1) .1 in
+      readSheet-iff text maxSources maxSinks (maxSources * maxSinks) S .1
       (record { sheet = t; written = h .2 }, h .0, m, n, mul-le-mul m n);
   writeRead = λ text S e.
-      let h = readSheet-iff text maxSide maxSide (maxSide * maxSide) S .0 e in
+      let h = readSheet-iff text maxSources maxSinks (maxSources * maxSinks) S .0 e in
       writeSheet-iff S maxText text .1 (h .1, text-length S (h .0 .sheet), h .0 .written);
 }
 

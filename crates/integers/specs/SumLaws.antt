@@ -1,14 +1,13 @@
 -- The laws of finite sums. A function argument is to be written out by the caller: `sum-add n (λ i. ..) (λ i. ..)`.
 use mathlib.Core.Path.{_≡_, refl}
 use mathlib.Core.Logic.{_≢_, by-cases, if-pos, if-neg}
-use mathlib.Core.List.{List, [], _∷_}
-use Prim.Native.Nat.{ℕ, zero, suc, _<_}
+use Prim.Native.Nat.{ℕ, zero, suc, _+_, _*_, _<_}
 use native.Mathlib.Omega.{arith}
+use native.Mathlib.Nat.{zero-mul, suc-mul, add-zero, add-suc}
 use native.Mathlib.Decide.{ℕ-discrete}
-use lib.ListN.{length, getD}
 use Rattle.integers.specs.Integer.{Z, _≈_, _≼_, _≺_, ≼-dec, _⊕_, _⊖_, _⊗_, neg, nat}
 use Rattle.integers.specs.IntegerLaws.{⊗-cong}
-use Rattle.integers.specs.Sum.{sum, sum₂, sumN, total, point}
+use Rattle.integers.specs.Sum.{sum, sum₂, sumN, point}
 
 -- ---- term by term
 pub sum-cong : (n : ℕ) (f g : ℕ → Z) → ((i : ℕ) → i < n → f i ≈ g i) → sum n f ≈ sum n g
@@ -74,10 +73,6 @@ sum-negative (suc n) f h = by-cases (≼-dec (nat 0) (f n))
 pub sum-change : (n : ℕ) (f g : ℕ → Z) (k : ℕ) → k < n → ((i : ℕ) → i < n → i ≢ k → g i ≈ f i) → sum n g ≈ sum n f ⊕ (g k ⊖ f k)
 sum-change n f g k l h = omega (arith, sum-one n (λ i. g i ⊕ neg (f i)) k l (λ i m e. omega (arith, h i m e)), sum-add n g (λ i. neg (f i)), sum-neg n f)
 
-pub sum-first : (n : ℕ) (f : ℕ → Z) → sum (suc n) f ≈ f 0 ⊕ sum n (λ i. f (suc i))
-sum-first zero f = omega arith
-sum-first (suc n) f = omega (arith, sum-first n f)
-
 pub point-at : (p : ℕ) (k : Z) → point p k p ≡ k
 point-at p k = if-pos (ℕ-discrete p p) refl k (nat 0)
 
@@ -132,6 +127,11 @@ pub sum-nat : (n : ℕ) (f : ℕ → ℕ) → sum n (λ i. nat (f i)) ≈ nat (s
 sum-nat zero f = omega arith
 sum-nat (suc n) f = omega (arith, sum-nat n f)
 
-pub sum-list : (l : List Z) (d : Z) → sum (length l) (λ i. getD l i d) ≈ total l
-sum-list [] d = omega arith
-sum-list (x ∷ xs) d = omega (arith, sum-first (length xs) (λ i. getD (x ∷ xs) i d), sum-list xs d)
+-- ---- runs of n terms
+sum-split : (k n : ℕ) (f : ℕ → Z) → sum (k + n) f ≈ sum k f ⊕ sum n (λ j. f (k + j))
+sum-split k zero f = rw (add-zero k) (omega arith)
+sum-split k (suc n) f = rw add-suc (omega (arith, sum-split k n f))
+
+pub sum-runs : (m n : ℕ) (f : ℕ → Z) → sum (m * n) f ≈ sum₂ m n (λ i j. f (i * n + j))
+sum-runs zero n f = rw zero-mul (omega arith)
+sum-runs (suc m) n f = rw suc-mul (omega (arith, sum-split (m * n) n f, sum-runs m n f))

@@ -9,8 +9,8 @@ use Rattle.integers.specs.Integer.{Z, _≈_, _≼_, _≺_, ≈-dec, _⊗_, neg,
 use Rattle.integers.specs.IntegerLaws.{⊗-cong}
 use Rattle.integers.specs.Sum.{point}
 use Rattle.integers.specs.SumLaws.{sum₂-one, point-at, point-off}
-use Rattle.transport.specs.Sheet.{place}
-use Rattle.transport.specs.SheetLaws.{place-below, place-injective}
+use Rattle.transport.specs.Problem.{place}
+use Rattle.transport.specs.Laws.ProblemLaws.{place-below, place-injective}
 use Rattle.network.specs.Flow.{On, Flow, Nonneg, Plan, cost, Feasible, Tight}
 use Rattle.network.specs.FlowLaws.{on-zero, flow-on, flow-cong, flow-scale, plan-whole, plan-on, plan-restrict}
 use Rattle.network.specs.Duality.{least, least-tight}

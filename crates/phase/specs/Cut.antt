@@ -11,15 +11,15 @@ use lib.Bits.{bitAnd}
 use lib.Dec.{eqb, ltb}
 use lib.IntN.{ℤ, pos, negsuc, _-ℤ_}
 use lib.ListN.{drop, getD}
-use Rattle.transport.specs.Sheet.{Lane}
-use Rattle.transport.specs.SheetLaws.{lane}
+use Rattle.transport.specs.Problem.{Lane}
+use Rattle.transport.specs.Laws.ProblemLaws.{lane}
 use Rattle.transport.specs.Leaf.{Strike}
 use Rattle.transport.specs.Potential.{potentialBy}
-use Rattle.transport.specs.RoundLaws.{lane-same, lane-other}
+use Rattle.transport.specs.Laws.RoundLaws.{lane-same, lane-other}
 use Rattle.tableaux.specs.Leaves.{Ends, row-struck, column-struck}
 use Rattle.tableaux.specs.Striking.{Step, Peeled, bare, peel, lane-once, root-no-leaf}
 use Rattle.tableaux.specs.Potentials.{potential-off}
-use Rattle.demands.specs.Phases.{mostOn}
+use Rattle.optimality.specs.Phases.{mostOn}
 use Rattle.basis.specs.Layout.{laneAt, placeOf, place-laneAt, strikeOf, strikesOf, strikesFrom, strikesFrom-cons, strikesFrom-nil}
 use Rattle.basis.specs.Mask.{bit, has, put, has-put, has-zero, bit-and}
 use Rattle.phase.specs.MaskLaws.{firstBits, first-below, first-above, minus, bit-minus, bit-shift}

@@ -1,5 +1,5 @@
-// The cut that a basic lane makes in the tree of basic lanes. In the phase for a lane only this lane has a cost, −1, so the potentials are 0 on the root's side of
-// the cut, and −1 or 1 beyond it.
+// The cut that a basic lane makes in the tree of basic lanes. In the phase for a lane only this lane has a cost, −1, so the potentials are 0 on the root's side
+// of the cut, and −1 or 1 beyond it.
 use crate::mask::first_bits;
 use crate::mask::without;
 use basis::NODES;
@@ -16,8 +16,8 @@ pub struct Far {
     pub row: bool,
 }
 
-// The nodes whose way to the root goes over the lane at the place `at`, back through the strikes: a leaf is beyond the lane if this is its lane, or if the node it
-// hangs on is beyond. None is if no strike has the lane.
+// The nodes whose way to the root goes over the lane at the place `at`, back through the strikes: a leaf is beyond the lane if this is its lane, or if the node
+// it hangs on is beyond. None is if no strike has the lane.
 fn beyond(
     leaf: &[usize; NODES],
     other: &[usize; NODES],
@@ -51,8 +51,8 @@ fn beyond(
     }
 }
 
-// The cut by lane (p, q): the rows on the side of column q, and the columns on the side of row p. Lanes from these rows to these columns have reduced cost −1, lanes
-// from the other rows to the other columns cross the cut the other way and have 1, but lane (p, q) itself 0, and all lanes that do not cross it have 0.
+// The cut by lane (p, q): the rows on the side of column q, and the columns on the side of row p. Lanes from these rows to these columns have reduced cost −1,
+// lanes from the other rows to the other columns cross the cut the other way and have 1, but lane (p, q) itself 0, and all lanes that do not cross it have 0.
 pub struct Cut {
     pub rows: u64,
     pub cols: u64,

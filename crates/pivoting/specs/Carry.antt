@@ -10,11 +10,11 @@ use lib.ListN.{length, take, getD, set, length-set}
 use lib.Seq.{getD-take, length-take-le, getD-set-same, getD-set-other}
 use borrow.Author.Tests.{eqb-true, eq-eqb}
 use Rattle.transport.specs.Lists.{firstLeast}
-use Rattle.transport.specs.ListLaws.{member-at, member-place, by-key, firstLeast-is}
+use Rattle.transport.specs.Laws.ListLaws.{member-at, member-place, by-key, firstLeast-is}
+use Rattle.transport.specs.Laws.RangeLaws.{mag-abs, back}
+use Rattle.transport.specs.Laws.AmountLaws.{less-weak}
 use mir.Syntax.{w64}
 use mir.Val.{toZ, ofZ}
-use Rattle.transport.specs.RangeLaws.{mag-abs, back}
-use Rattle.transport.specs.AmountLaws.{less-weak}
 use Rattle.basis.specs.Layout.{laneRoom}
 use Rattle.basis.specs.StepLaws.{pairAt, lessAt, among, LaneList, Changed}
 

@@ -10,14 +10,16 @@ use lib.ListN.{length, take, getD}
 use lib.Seq.{getD-take, length-take-le}
 use Rattle.integers.specs.Bridge.{eq-z}
 use Rattle.transport.specs.Lists.{keep}
-use Rattle.transport.specs.ListLaws.{member-place, member-table, table-member, keep-member}
-use Rattle.transport.specs.Sheet.{Sheet, sources, sinks, Lane}
-use Rattle.transport.specs.SheetLaws.{lane, Checked}
-use Rattle.transport.specs.declared.Cell.{Cell}
+use Rattle.transport.specs.Laws.ListLaws.{member-place, member-table, table-member, keep-member}
+use Rattle.transport.specs.Problem.{Problem, sources, sinks, Lane}
+use Rattle.transport.specs.Laws.ProblemLaws.{lane}
+use Rattle.transport.specs.Laws.Sound.{Sound}
 use Rattle.transport.specs.Tableau.{basisOf}
-use Rattle.transport.specs.Leaf.{Strike, cellsBelong}
+use Rattle.transport.specs.Leaf.{Strike}
+use Rattle.transport.specs.Belonging.{cellsBelong}
 use Rattle.transport.specs.Round.{flow, sign}
 use Rattle.transport.specs.Statements.{Basic, Belongs}
+use Rattle.transport.specs.declared.Cell.{Cell}
 use Rattle.tableaux.specs.Lanes.{has-basic}
 use Rattle.tableaux.specs.Striking.{Struck}
 use Rattle.tableaux.specs.Flows.{struck-signs, signs-of, flow-only, sign-off}
@@ -32,44 +34,44 @@ use Rattle.basis.specs.SignLaws.{enterWeight, sign-is}
 use Rattle.basis.specs.StepLaws.{among, among-keep}
 use Rattle.pivoting.specs.Carry.{member-among, no-member-among, member-first}
 
--- The lane e, on the sheet and not basic, enters the tableau T of the sheet S, and the strikes in the arrays strike off the basis of T.
-pub record Enters (S : Sheet) (T : List Cell) (leaf other lanes : List ℕ) (count : ℕ) (e : Lane) : Type 0 where
-  pub checked : Checked S
-  pub belongs : cellsBelong S T ≡ true
-  pub struck : Struck (sources S) (sinks S) (basisOf T) (strikesOf leaf other lanes count)
+-- The lane e, on the sheet and not basic, enters the tableau T of the sheet P, and the strikes in the arrays strike off the basis of T.
+pub record Enters (P : Problem) (T : List Cell) (leaf other lanes : List ℕ) (count : ℕ) (e : Lane) : Type 0 where
+  pub sound : Sound P
+  pub belongs : cellsBelong P T ≡ true
+  pub struck : Struck (sources P) (sinks P) (basisOf T) (strikesOf leaf other lanes count)
   pub long : length lanes ≡ nodeRoom
-  pub row : e .row < sources S
-  pub col : e .col < sinks S
+  pub row : e .row < sources P
+  pub col : e .col < sinks P
   pub new : ¬ Basic T (e .row) (e .col)
 
-module _ {S : Sheet} {T : List Cell} {leaf other lanes : List ℕ} {count : ℕ} {e : Lane} (h : Enters S T leaf other lanes count e) where
+module _ {P : Problem} {T : List Cell} {leaf other lanes : List ℕ} {count : ℕ} {e : Lane} (h : Enters P T leaf other lanes count e) where
   abbrev m : ℕ
-  m = sources S
+  m = sources P
 
   abbrev n : ℕ
-  n = sinks S
+  n = sinks P
 
   abbrev ss : List Strike
   ss = strikesOf leaf other lanes count
 
-  pub enters-belongs : Belongs S T
-  enters-belongs = belongs-iff S T (h .checked .sourcesLow) (h .checked .sinksLow) .0 (h .belongs)
+  pub enters-belongs : Belongs P T
+  enters-belongs = belongs-iff P T (h .sound .sourcesLow) (h .sound .sinksLow) .0 (h .belongs)
 
-  pub sides : (sources S ≤ stride) × (sinks S ≤ stride)
-  sides = (omega (arith, stride-is, h .checked .sourcesHigh), omega (arith, stride-is, h .checked .sinksHigh))
+  pub sides : (sources P ≤ stride) × (sinks P ≤ stride)
+  sides = (omega (arith, stride-is, h .sound .sourcesHigh), omega (arith, stride-is, h .sound .sinksHigh))
 
   -- ---- the signs do not depend on the order of the strikes
 
   sign-same : (i j : ℕ) → i < m → j < n → sign m ss e (lane i j) ≡ signs m n T e (lane i j)
   sign-same i j hi hj =
-      let fits = fits-of (h .checked) enters-belongs in
-      let spans = spans-of (h .checked) enters-belongs in
-      let low = h .checked .sourcesLow in
-      eq-z _ _ (flow-only low fits spans (h .checked .sinksLow) (struck-signs (h .row) (h .col) low (h .struck)) (signs-of low fits spans e (h .row) (h .col)) i j hi hj)
+      let fits = fits-of (h .sound) enters-belongs in
+      let spans = spans-of (h .sound) enters-belongs in
+      let low = h .sound .sourcesLow in
+      eq-z _ _ (flow-only low fits spans (h .sound .sinksLow) (struck-signs (h .row) (h .col) low (h .struck)) (signs-of low fits spans e (h .row) (h .col)) i j hi hj)
 
-  pub sign-none : (i j : ℕ) → ¬ Basic T i j → signs (sources S) (sinks S) T e (lane i j) ≡ pos 0
+  pub sign-none : (i j : ℕ) → ¬ Basic T i j → signs (sources P) (sinks P) T e (lane i j) ≡ pos 0
   sign-none i j d =
-      sign-off (h .checked .sourcesLow) (fits-of (h .checked) enters-belongs) (spans-of (h .checked) enters-belongs) e (lane i j) (λ b. d (has-basic T i j .0 b))
+      sign-off (h .sound .sourcesLow) (fits-of (h .sound) enters-belongs) (spans-of (h .sound) enters-belongs) e (lane i j) (λ b. d (has-basic T i j .0 b))
 
   -- ---- strikes in arrays
 
@@ -105,10 +107,10 @@ module _ {S : Sheet} {T : List Cell} {leaf other lanes : List ℕ} {count : ℕ}
 
   -- Of the lanes of the strikes, those whose sign passes the test.
   abbrev pub signed : (ℤ → Bool) → List ℕ
-  signed test = keep (λ p. test (flow (enterWeight (e .row) (sources S + e .col)) (strikesOf leaf other lanes count) (laneAt p))) (take count lanes)
+  signed test = keep (λ p. test (flow (enterWeight (e .row) (sources P + e .col)) (strikesOf leaf other lanes count) (laneAt p))) (take count lanes)
 
   module _ (test : ℤ → Bool) (none : test (pos 0) ≡ false) where
-    pub signed-among : (i j : ℕ) → i < sources S → j < sinks S → among (signed test) (i * stride + j) ≡ test (signs (sources S) (sinks S) T e (lane i j))
+    pub signed-among : (i j : ℕ) → i < sources P → j < sinks P → among (signed test) (i * stride + j) ≡ test (signs (sources P) (sinks P) T e (lane i j))
     signed-among i j hi hj = among-keep _ (take count lanes) (i * stride + j) ∙ by-cases (basic-dec T i j)
         (λ b. rw (member-among (basic-listed i j (omega (arith, sides)) b)) (ap test here))
         (λ d. rw (no-member-among (take count lanes) (i * stride + j) (λ mem. d (unlisted mem)), sign-none i j d, none))
@@ -122,8 +124,8 @@ module _ {S : Sheet} {T : List Cell} {leaf other lanes : List ℕ} {count : ℕ}
         unlisted : List·Memᴰ (i * stride + j) (take count lanes) → Basic T i j
         unlisted mem = subst (λ (l : Lane). Basic T (l .row) (l .col)) at (listed-basic (i * stride + j) mem)
 
-    pub signed-basic : (p : ℕ) → List·Memᴰ p (signed test) → Basic T (p / stride) (p % stride) × (test (signs (sources S) (sinks S) T e (laneAt p)) ≡ true)
+    pub signed-basic : (p : ℕ) → List·Memᴰ p (signed test) → Basic T (p / stride) (p % stride) × (test (signs (sources P) (sinks P) T e (laneAt p)) ≡ true)
     signed-basic p mem =
         let b = listed-basic p (keep-member _ (take count lanes) mem .0) in
-        let (hi, hj) = inside-basic (inside-of (h .checked) enters-belongs) b in
+        let (hi, hj) = inside-basic (inside-of (h .sound) enters-belongs) b in
         (b, sym (signed-among (p / stride) (p % stride) hi hj) ∙ ap (among (signed test)) (place-laneAt p) ∙ member-among mem)

@@ -10,10 +10,10 @@ use lib.Dec.{eqb}
 use lib.ListN.{length, getD, set, length-set}
 use lib.Seq.{lt-length-set, getD-set-same, getD-set-other}
 use borrow.Author.Tests.{eq-eqb, ne-eqb}
-use Rattle.transport.specs.Sheet.{Lane}
-use Rattle.transport.specs.declared.Cell.{Cell}
+use Rattle.transport.specs.Problem.{Lane}
 use Rattle.transport.specs.Round.{pivot}
 use Rattle.transport.specs.Statements.{Basic}
+use Rattle.transport.specs.declared.Cell.{Cell}
 use Rattle.tableaux.specs.Order.{basic-dec}
 use Rattle.tableaux.specs.PivotView.{Stands, stands-dec, leaver, pivot-basic}
 use Rattle.basis.specs.Mask.{has, cut, has-cut}

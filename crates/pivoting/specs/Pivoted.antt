@@ -11,16 +11,16 @@ use lib.IntN.{ℤ, pos, negsuc, _+ℤ_, _-ℤ_}
 use lib.Signed.{ltZ}
 use lib.ListN.{length, getD}
 use Rattle.transport.specs.Lists.{firstLeast}
-use Rattle.transport.specs.ListLaws.{member-at, member-place, FirstLeast, firstLeast-is, by-key}
-use Rattle.transport.specs.Sheet.{Sheet, sources, sinks, Lane}
-use Rattle.transport.specs.SheetLaws.{lane}
-use Rattle.transport.specs.declared.Pair.{Pair}
-use Rattle.transport.specs.declared.Cell.{Cell}
+use Rattle.transport.specs.Laws.ListLaws.{member-at, member-place, FirstLeast, firstLeast-is, by-key}
+use Rattle.transport.specs.Problem.{Problem, sources, sinks, Lane}
+use Rattle.transport.specs.Laws.ProblemLaws.{lane}
 use Rattle.transport.specs.Amount.{nothing, add, subtract, less}
-use Rattle.transport.specs.AmountLaws.{less-weak, less-q, less-e, ltZ-tie, Compared, fewer, equal, more, compared}
+use Rattle.transport.specs.Laws.AmountLaws.{less-weak, less-q, less-e, ltZ-tie, Compared, fewer, equal, more, compared}
 use Rattle.transport.specs.Tableau.{laneOf}
 use Rattle.transport.specs.Round.{gain, pivot}
 use Rattle.transport.specs.Statements.{Basic, Belongs}
+use Rattle.transport.specs.declared.Pair.{Pair}
+use Rattle.transport.specs.declared.Cell.{Cell}
 use Rattle.tableaux.specs.View.{amountAt, amount-none}
 use Rattle.tableaux.specs.Belonging.{inside-of, distinct-of}
 use Rattle.tableaux.specs.PairLaws.{subtract-self}
@@ -65,26 +65,26 @@ gain-part part f g (pos zero) s a = refl
 gain-part part f g (pos (suc k)) s a = rw (le-ltb (suc k) 0 (omega arith), lt-ltb 0 (suc k) (omega arith)) (f a s)
 gain-part part f g (negsuc k) s a = g a s
 
-module _ {S : Sheet} {T : List Cell} {leaf other lanes : List ℕ} {count : ℕ} {e : Lane} (h : Enters S T leaf other lanes count e) where
+module _ {P : Problem} {T : List Cell} {leaf other lanes : List ℕ} {count : ℕ} {e : Lane} (h : Enters P T leaf other lanes count e) where
   abbrev m : ℕ
-  m = sources S
+  m = sources P
 
   abbrev n : ℕ
-  n = sinks S
+  n = sinks P
 
   abbrev out : Cell
   out = leaver m n T e
 
-  belongs : Belongs S T
+  belongs : Belongs P T
   belongs = enters-belongs h
 
   leaves : Leaves (signs m n T e) T out
-  leaves = pivot-leaves (h .checked) belongs (h .row) (h .col) (h .new)
+  leaves = pivot-leaves (h .sound) belongs (h .row) (h .col) (h .new)
 
   -- ---- the leaving lane
 
-  pub out-inside : (leaver (sources S) (sinks S) T e .row < sources S) × (leaver (sources S) (sinks S) T e .col < sinks S)
-  out-inside = inside-member (inside-of (h .checked) belongs) (leaves .member)
+  pub out-inside : (leaver (sources P) (sinks P) T e .row < sources P) × (leaver (sources P) (sinks P) T e .col < sinks P)
+  out-inside = inside-member (inside-of (h .sound) belongs) (leaves .member)
 
   out-minus : List·Memᴰ (cellPlace out) (signed h isMinus)
   unfolding laneOf
@@ -93,17 +93,17 @@ module _ {S : Sheet} {T : List Cell} {leaf other lanes : List ℕ} {count : ℕ}
   pub some-minus : 1 ≤ length (signed h isMinus)
   some-minus = let (k, l, s) = member-place 0 out-minus in omega arith
 
-  module _ (q x : List ℤ) (laid : Laid (sources S) (sinks S) T q x) where
+  module _ (q x : List ℤ) (laid : Laid (sources P) (sinks P) T q x) where
     laid-at : {c : Cell} → List·Memᴰ c T → pairAt q x (cellPlace c) ≡ c .amount
     laid-at {c} mem =
-        let (hi, hj) = inside-member (inside-of (h .checked) belongs) mem in
-        laid (c .row) (c .col) hi hj ∙ amount-member (distinct-of (h .checked) belongs) mem
+        let (hi, hj) = inside-member (inside-of (h .sound) belongs) mem in
+        laid (c .row) (c .col) hi hj ∙ amount-member (distinct-of (h .sound) belongs) mem
 
-    pub out-holds : pairAt q x (cellPlace (leaver (sources S) (sinks S) T e)) ≡ step (sources S) (sinks S) T e
+    pub out-holds : pairAt q x (cellPlace (leaver (sources P) (sinks P) T e)) ≡ step (sources P) (sinks P) T e
     out-holds = laid-at (leaves .member)
 
     -- Whatever the order of the minus lanes, the least is the leaving one: it holds the step, and no other minus cell does.
-    pub least-leaves : firstLeast (lessAt q x) 0 (signed h isMinus) ≡ cellPlace (leaver (sources S) (sinks S) T e)
+    pub least-leaves : firstLeast (lessAt q x) 0 (signed h isMinus) ≡ cellPlace (leaver (sources P) (sinks P) T e)
     unfolding laneOf
     least-leaves = go (firstLeast-is (lessAt q x) (by-key (pairAt q x) less-weak) 0 (signed h isMinus) some-minus)
       where
@@ -116,7 +116,7 @@ module _ {S : Sheet} {T : List Cell} {leaf other lanes : List ℕ} {count : ℕ}
             let held : pairAt q x r ≡ c .amount = ap (pairAt q x) (sym place) ∙ laid-at mem in
             let minus : isMinus (signs m n T e (laneOf c)) ≡ true = ap (λ l. isMinus (signs m n T e l)) (λ i. lane (p i) (s i)) ∙ minus in
             let same : c .amount ≡ out .amount = less-tie (c .amount) (out .amount) (leaves .least c mem minus) (ap (less (out .amount)) (sym held) ∙ least) in
-            sym place ∙ ap cellPlace (pivot-no-tie (h .checked) belongs (h .row) (h .col) (h .new) mem minus same)
+            sym place ∙ ap cellPlace (pivot-no-tie (h .sound) belongs (h .row) (h .col) (h .new) mem minus same)
 
         not-below : (k : ℕ) × (k < length (signed h isMinus)) × (getD (signed h isMinus) k 0 ≡ cellPlace out)
             → ((k : ℕ) → k < length (signed h isMinus) → lessAt q x (getD (signed h isMinus) k 0) r ≡ false) → less (out .amount) (pairAt q x r) ≡ false
@@ -136,7 +136,7 @@ module _ {S : Sheet} {T : List Cell} {leaf other lanes : List ℕ} {count : ℕ}
 
   -- Off the entering lane every amount gains by its sign.
   pub amount-gains : (i j : ℕ) → ¬ ((i ≡ e .row) × (j ≡ e .col))
-      → amountAt (pivot (sources S) (sinks S) T e) i j ≡ gain (signs (sources S) (sinks S) T e (lane i j)) (step (sources S) (sinks S) T e) (amountAt T i j)
+      → amountAt (pivot (sources P) (sinks P) T e) i j ≡ gain (signs (sources P) (sinks P) T e (lane i j)) (step (sources P) (sinks P) T e) (amountAt T i j)
   unfolding gain laneOf
   amount-gains i j d = go (basic-dec T i j) (stands-dec out i j)
     where
@@ -149,13 +149,13 @@ module _ {S : Sheet} {T : List Cell} {leaf other lanes : List ℕ} {count : ℕ}
       go (yes b) (no o) = amount-stays order (belongs .onSheet) (h .col) (h .new) i j b o
       go (yes b) (yes o) = rw (o .0, o .1)
           (amount-leaves order (belongs .onSheet) (h .col) (h .new) (leaves .member)
-          ∙ sym (ap (gain (signs m n T e (laneOf out)) (out .amount)) (amount-member (distinct-of (h .checked) belongs) (leaves .member)) ∙ gains-minus (signs m n T e (laneOf out)) (out .amount) (leaves .minus)))
+          ∙ sym (ap (gain (signs m n T e (laneOf out)) (out .amount)) (amount-member (distinct-of (h .sound) belongs) (leaves .member)) ∙ gains-minus (signs m n T e (laneOf out)) (out .amount) (leaves .minus)))
 
   -- One part of the amounts, carried round the loop, is that of the pivot.
   pub carried-part : (part : Pair → ℤ) → ((a b : Pair) → part (add a b) ≡ part a +ℤ part b) → ((a b : Pair) → part (subtract a b) ≡ part a -ℤ part b)
-      → (xs ys : List ℤ) → ((i j : ℕ) → i < sources S → j < sinks S → getD xs (i * stride + j) (pos 0) ≡ part (amountAt T i j))
-      → Carried (signed h isMinus) (signed h isPlus) (e .row * stride + e .col) (part (step (sources S) (sinks S) T e)) xs ys
-      → (i j : ℕ) → i < sources S → j < sinks S → getD ys (i * stride + j) (pos 0) ≡ part (amountAt (pivot (sources S) (sinks S) T e) i j)
+      → (xs ys : List ℤ) → ((i j : ℕ) → i < sources P → j < sinks P → getD xs (i * stride + j) (pos 0) ≡ part (amountAt T i j))
+      → Carried (signed h isMinus) (signed h isPlus) (e .row * stride + e .col) (part (step (sources P) (sinks P) T e)) xs ys
+      → (i j : ℕ) → i < sources P → j < sinks P → getD ys (i * stride + j) (pos 0) ≡ part (amountAt (pivot (sources P) (sinks P) T e) i j)
   carried-part part f g xs ys held c i j hi hj = by-cases (Dec·and (ℕ-discrete i (e .row)) (ℕ-discrete j (e .col)))
       (λ s. rw (s .0, s .1) (c .enters ∙ sym (ap part (amount-enters order (belongs .onSheet) (h .col) (h .new)))))
       (λ d.

@@ -11,7 +11,7 @@ ghost use mathlib.Core.List.{List};
 ghost use Prim.Native.Nat.{_<_, _≤_, _^_};
 ghost use lib.IntN.{natAbs};
 ghost use lib.ListN.{length, take};
-ghost use Rattle.transport.specs.Sheet.{Sheet, sinks};
+ghost use Rattle.transport.specs.Problem.{Problem, sinks};
 ghost use Rattle.transport.specs.declared.Cell.{Cell};
 ghost use Rattle.transport.specs.Round as round;
 ghost use Rattle.basis.specs.Layout.{stride, nodeRoom, laneRoom};
@@ -55,7 +55,10 @@ fn turn(
     into: usize,
 ) -> usize
     requires { ⌜ Turns (now q) (now e) (now minus) losing (now plus) gaining into ⌝ }
-    ensures { λ r. ⌜ Turned (take losing (now (minus .entry))) (take gaining (now (plus .entry))) into (now (q .entry)) (now (e .entry)) (now (q .exit)) (now (e .exit)) r ⌝ }
+    ensures { λ r. ⌜
+        Turned (take losing (now (minus .entry))) (take gaining (now (plus .entry))) into
+        (now (q .entry)) (now (e .entry)) (now (q .exit)) (now (e .exit)) r
+        ⌝ }
 {
     let out = step::least_lane(q, e, minus, losing);
     let bags = q[out];
@@ -75,7 +78,8 @@ fn unlink(adj: &mut [u64; NODES], m: usize, row: usize, col: usize)
     adj[sink] = mask::clear_bit(adj[sink], row);
 }
 
-// The lane from `row` to `col`, which is not basic, enters. The strikes are those of the basis, in any order; `minus` and `plus` are room for the lanes of the loop.
+// The lane from `row` to `col`, which is not basic, enters. The strikes are those of the basis, in any order;
+// `minus` and `plus` are room for the lanes of the loop.
 pub fn pivot(
     adj: &mut [u64; NODES],
     q: &mut [i64; LANES],
@@ -90,9 +94,14 @@ pub fn pivot(
     minus: &mut [usize; NODES],
     plus: &mut [usize; NODES],
 )
-    requires { ⌜ ((S : Sheet) × (T : List Cell) × Ready S T (now adj) (now q) (now e) (now leaf) (now other) (now lane) count m row col) ⌝ }
+    requires { ⌜ ((P : Problem) × (T : List Cell) × Ready P T (now adj) (now q) (now e) (now leaf) (now other) (now lane) count m row col) ⌝ }
     requires { ⌜ (length (now minus) ≡ nodeRoom) × (length (now plus) ≡ nodeRoom) ⌝ }
-    ensures { λ _. ⌜ ((S : Sheet) (T : List Cell) → Ready S T (now (adj .entry)) (now (q .entry)) (now (e .entry)) (now (leaf .entry)) (now (other .entry)) (now (lane .entry)) count m row col → Held m (sinks S) (round.pivot m (sinks S) T (record { row = row; col = col })) (now (adj .exit)) (now (q .exit)) (now (e .exit))) ⌝ }
+    ensures { λ _. ⌜
+        ((P : Problem) (T : List Cell)
+        → Ready P T (now (adj .entry)) (now (q .entry)) (now (e .entry))
+        (now (leaf .entry)) (now (other .entry)) (now (lane .entry)) count m row col
+        → Held m (sinks P) (round.pivot m (sinks P) T (record { row = row; col = col })) (now (adj .exit)) (now (q .exit)) (now (e .exit)))
+        ⌝ }
     ensures { λ _. ⌜ (length (now (minus .exit)) ≡ nodeRoom) × (length (now (plus .exit)) ≡ nodeRoom) ⌝ }
 {
     let lanes = signs::loop_signs(leaf, other, lane, count, row, m + col, minus, plus);

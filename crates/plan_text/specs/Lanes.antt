@@ -10,9 +10,9 @@ use lib.Dec.{eqb}
 use lib.ListN.{length, getD, length-append}
 use borrow.Author.Tests.{ne-eqb}
 use Rattle.transport.specs.Lists.{at, keep, table}
-use Rattle.transport.specs.ListLaws.{table-cong, table-getD, flatMap-append, keep-append, keep-yes, keep-no}
-use Rattle.transport.specs.Sheet.{Lane, lanes, place}
-use Rattle.transport.specs.SheetLaws.{lane, length-lanes, getD-lanes}
+use Rattle.transport.specs.Laws.ListLaws.{table-cong, table-getD, flatMap-append, keep-append, keep-yes, keep-no}
+use Rattle.transport.specs.Problem.{Lane, lanes, place}
+use Rattle.transport.specs.Laws.ProblemLaws.{lane, length-lanes, getD-lanes}
 use Rattle.transport.specs.PlanText.{carried, used, laneLine}
 use Rattle.sections.specs.Lines.{linesFrom, lines-nil, lines-row}
 

@@ -5,21 +5,26 @@ use mathlib.Core.List.{List, _++_, flatMap, List·Memᴰ}
 use Prim.Native.String.{String}
 use Prim.Native.Nat.{ℕ, suc, _+_, _*_, _-_, _^_, _≤_, _<_}
 use native.Mathlib.Omega.{arith}
-use native.Mathlib.Nat.{mul-le-mul, mul-le-mul-left, mul-le-mul-right}
+use native.Mathlib.Nat.{le-trans, mul-le-mul, mul-le-mul-left, mul-le-mul-right}
 use borrow.Author.Tests.{eq-eqb}
-use lib.IntN.{ℤ}
+use lib.IntN.{ℤ, natAbs}
 use lib.ListN.{length, take, length-append, length-take}
 use Rattle.transport.specs.declared.Cell.{Cell}
 use Rattle.transport.specs.Lists.{at, table, below, sumTo}
-use Rattle.transport.specs.ListLaws.{length-table, table-member, flatMap-member, keep-member, length-keep, sumTo-le, sumTo-scale, sumTo-bound, sumTo-runs}
+use Rattle.transport.specs.Laws.ListLaws.{length-table, table-member, flatMap-member, keep-member, length-keep, sumTo-le, sumTo-scale, sumTo-bound, sumTo-runs}
 use Rattle.transport.specs.Limits.{maxSide, maxAmount, maxCost, maxText, maxPlanText}
-use Rattle.transport.specs.Sheet.{Sheet, sources, sinks, Lane, lanes, place, numberTests, sheetTests, refusal}
-use Rattle.transport.specs.SheetLaws.{Checked, checked, lane, length-lanes, place-below}
+use Rattle.transport.specs.Sheet.{Sheet, roasteries, cafes, numberTests, sheetTests, refusal, problemOf}
+use Rattle.transport.specs.Problem.{Lane, lanes, place, sources, sinks}
+use Rattle.transport.specs.Laws.SheetLaws.{accepted}
+use Rattle.transport.specs.Laws.Sound.{sound, sources-room, sinks-room}
+use Rattle.transport.specs.Laws.PlanLaws.{planCost-natural}
+use Rattle.transport.specs.Statements.{Accepted, HasText, Belongs, Meets}
+use Rattle.transport.specs.Calls.{solutionFrom, solution}
+use Rattle.transport.specs.Laws.ProblemLaws.{lane, length-lanes, place-below}
 use Rattle.transport.specs.Tableau.{start}
 use Rattle.transport.specs.Potential.{potential, sourcePrices, sinkPrices}
 use Rattle.transport.specs.Plan.{planCost}
-use Rattle.transport.specs.Calls.{roundBound, solution}
-use Rattle.transport.specs.Statements.{HasText, Belongs, Meets}
+use Rattle.transport.specs.Round.{roundBound}
 use Rattle.transport.specs.Text.{bytes, headLine, numberLine, rowLine}
 use Rattle.transport.specs.SheetText.{Reading, stuck, got, sheetReader}
 use Rattle.transport.specs.PlanText.{wholeLine, carried, used, laneLine, planText, printed}
@@ -35,7 +40,8 @@ use Rattle.tableaux.specs.Potentials.{price-size, price-limit}
 use Rattle.tableaux.specs.Running.{run-rounds}
 use Rattle.tableaux.specs.Ending.{roundBound-most}
 use Rattle.demands.specs.Demand3.{solution-finished, solution-best}
-use Rattle.planning.specs.Cost.{meets-small}
+use Rattle.plan_calls.specs.Cost.{meets-small}
+use Rattle.plan_text.specs.Sections.{total-line}
 use Rattle.plan_text.specs.Shown.{sheetShown, shown-plan, shown-refusal, check-number, printed-place, printed-sheet}
 
 -- ---- lines
@@ -63,17 +69,17 @@ lane-inside m n member =
 
 -- ---- the figures
 
-module _ {S : Sheet} (ok : Checked S) where
+module _ {S : Sheet} (ok : Accepted S) where
   -- A source sends its supply, and no bag costs more than the greatest cost.
-  row-cost : {Q : List ℕ} → Meets S 1 Q → (i : ℕ) → i < sources S
-      → sumTo (sinks S) (λ j. at Q (place (sinks S) i j) * at (S .cost) (place (sinks S) i j)) ≤ maxCost * maxAmount
+  row-cost : {Q : List ℕ} → Meets S 1 Q → (i : ℕ) → i < roasteries S
+      → sumTo (cafes S) (λ j. at Q (place (cafes S) i j) * at (S .cost) (place (cafes S) i j)) ≤ maxCost * maxAmount
   row-cost {Q} meets i p =
-      let n : ℕ = sinks S in
+      let n : ℕ = cafes S in
       let bags : ℕ → ℕ = λ j. at Q (place n i j) in
       let each : (j : ℕ) → j < n → bags j * at (S .cost) (place n i j) ≤ maxCost * bags j =
-      λ j q. omega (arith, mul-le-mul-left (bags j) (ok .costHigh (place n i j)))
+      λ j q. omega (arith, mul-le-mul-left (bags j) (ok .limits .costHigh (place n i j)))
       in
-      let sent : sumTo n bags ≤ maxAmount = omega (arith, meets .rows i p, ok .supplyHigh i) in
+      let sent : sumTo n bags ≤ maxAmount = omega (arith, meets .rows i p, ok .limits .supplyHigh i) in
       omega (
         arith,
         sumTo-le n (λ j. bags j * at (S .cost) (place n i j)) (λ j. maxCost * bags j) each,
@@ -81,85 +87,85 @@ module _ {S : Sheet} (ok : Checked S) where
         mul-le-mul-left maxCost sent,
       )
 
-  plan-cost : {Q : List ℕ} → Meets S 1 Q → planCost S Q ≤ maxSide * (maxCost * maxAmount)
-  unfolding planCost place
+  plan-cost : {Q : List ℕ} → Meets S 1 Q → natAbs (planCost S Q) ≤ maxSide * (maxCost * maxAmount)
+  unfolding place problemOf sources roasteries
   plan-cost {Q} meets =
       rw
-      (ok .costLength, sumTo-runs)
-      (omega (arith, sumTo-bound (sources S) (maxCost * maxAmount) _ (row-cost meets), mul-le-mul-right (maxCost * maxAmount) (ok .sourcesHigh)))
+      (planCost-natural S Q, sumTo-runs)
+      (omega (arith, sumTo-bound (roasteries S) (maxCost * maxAmount) _ (row-cost meets), mul-le-mul-right (maxCost * maxAmount) (sound ok .sourcesHigh)))
 
   -- 32 × 1,000,000 × 1,000,000 has 14 digits.
-  cost-most : solution S .cost < 10 ^ 14
+  cost-most : natAbs (solution S .cost) < 10 ^ 14
   unfolding maxSide maxAmount maxCost
-  cost-most = let best = solution-best ok in omega (arith, best .shown, plan-cost (best .meets))
+  cost-most = let best = solution-best S (sound ok) in omega (arith, ap natAbs (best .shown), plan-cost (best .meets))
 
   -- No more rounds are made than solve allows, whose bound has 16 digits.
   rounds-most : solution S .rounds < 10 ^ 16
-  unfolding solution
-  rounds-most = omega (arith, run-rounds S (roundBound S) (start S), roundBound-most ok)
+  unfolding solution solutionFrom
+  rounds-most = let P = problemOf S in omega (arith, run-rounds P (roundBound P) (start P), roundBound-most (sound ok))
 
   -- ---- the prices
 
   -- A minus, at most 8 digits and LF.
-  price-line : {T : List Cell} → Belongs S T → (k : ℕ) → length (wholeLine (potential S T k)) ≤ 10
+  price-line : {T : List Cell} → Belongs (problemOf S) T → (k : ℕ) → length (wholeLine (potential (problemOf S) T k)) ≤ 10
   price-line {T} w k =
-      let small = price-size S ok T (fits-of ok w) (spans-of ok w) k in
-      omega (arith, length-whole-line (potential S T k), whole-most 7 (potential S T k) (omega (arith, small, price-limit)))
+      let small = price-size (problemOf S) (sound ok) T (fits-of (sound ok) w) (spans-of (sound ok) w) k in
+      omega (arith, length-whole-line (potential (problemOf S) T k), whole-most 7 (potential (problemOf S) T k) (omega (arith, small, price-limit)))
 
-  prices-length : {T : List Cell} → Belongs S T → (count : ℕ) → count ≤ maxSide → (node : ℕ → ℕ)
-      → length (flatMap wholeLine (table count (λ k. potential S T (node k)))) ≤ maxSide * 10
+  prices-length : {T : List Cell} → Belongs (problemOf S) T → (count : ℕ) → count ≤ maxSide → (node : ℕ → ℕ)
+      → length (flatMap wholeLine (table count (λ k. potential (problemOf S) T (node k)))) ≤ maxSide * 10
   prices-length {T} w count few node =
-      let prices : List ℤ = table count (λ k. potential S T (node k)) in
+      let prices : List ℤ = table count (λ k. potential (problemOf S) T (node k)) in
       let line : (z : ℤ) → List·Memᴰ z prices → length (wholeLine z) ≤ 10 =
-      λ z m. let (k, p, e) = table-member count (λ k. potential S T (node k)) m in rw e (price-line w (node k))
+      λ z m. let (k, p, e) = table-member count (λ k. potential (problemOf S) T (node k)) m in rw e (price-line w (node k))
       in
-      members-length wholeLine 10 maxSide prices (omega (arith, length-table (λ k. potential S T (node k)) count)) line
+      members-length wholeLine 10 maxSide prices (omega (arith, length-table (λ k. potential (problemOf S) T (node k)) count)) line
 
   u-length : length (flatMap wholeLine (solution S .u)) ≤ maxSide * 10
-  unfolding sourcePrices
-  u-length = let last = solution-finished ok in rw (last .u) (prices-length (last .belongs) (sources S) (ok .sourcesHigh) (λ k. k))
+  unfolding sourcePrices problemOf sources roasteries
+  u-length = let last = solution-finished S (sound ok) in rw (last .u) (prices-length (last .belongs) (roasteries S) (sound ok .sourcesHigh) (λ k. k))
 
   v-length : length (flatMap wholeLine (solution S .v)) ≤ maxSide * 10
-  unfolding sinkPrices
-  v-length = let last = solution-finished ok in rw (last .v) (prices-length (last .belongs) (sinks S) (ok .sinksHigh) (λ j. sources S + j))
+  unfolding sinkPrices problemOf sources sinks roasteries cafes
+  v-length = let last = solution-finished S (sound ok) in rw (last .v) (prices-length (last .belongs) (cafes S) (sound ok .sinksHigh) (λ j. roasteries S + j))
 
   -- ---- the lanes
 
   abbrev usedLanes : List Lane
-  usedLanes = used (sources S) (sinks S) (solution S .plan)
+  usedLanes = used (roasteries S) (cafes S) (solution S .plan)
 
   -- No more than all of them.
   lanes-count : length usedLanes ≤ maxSide * maxSide
   unfolding used
   lanes-count =
-      let m : ℕ = sources S in
-      let n : ℕ = sinks S in
+      let m : ℕ = roasteries S in
+      let n : ℕ = cafes S in
       let kept : length usedLanes ≤ length (lanes m n) = length-keep _ (lanes m n) in
-      omega (arith, length-lanes m n, mul-le-mul (ok .sourcesHigh) (ok .sinksHigh))
+      omega (arith, length-lanes m n, mul-le-mul (le-trans (ok .limits .roasteriesHigh) sources-room) (le-trans (ok .limits .cafesHigh) sinks-room))
 
-  -- A lane hasBag at most 1,000,000 bags, which has 7 digits.
-  carried-most : (l : Lane) → l .row < sources S → l .col < sinks S → carried (sinks S) (solution S .plan) l < 10 ^ 7
+  -- A lane carries at most 1,000,000 bags, which has 7 digits.
+  carried-most : (l : Lane) → l .row < roasteries S → l .col < cafes S → carried (cafes S) (solution S .plan) l < 10 ^ 7
   unfolding carried maxAmount
   carried-most l p q =
-      let inside = place-below (sources S) (sinks S) (l .row) (l .col) p q in
-      omega (arith, meets-small ok (solution-best ok .meets) (place (sinks S) (l .row) (l .col)) inside)
+      let inside = place-below (roasteries S) (cafes S) (l .row) (l .col) p q in
+      omega (arith, meets-small ok (solution-best S (sound ok) .meets) (place (cafes S) (l .row) (l .col)) inside)
 
   -- A source and a sink of at most 2 digits, at most 7 digits of bags, two spaces and LF.
-  lane-line : (l : Lane) → List·Memᴰ l usedLanes → length (laneLine (sinks S) (solution S .plan) l) ≤ 14
+  lane-line : (l : Lane) → List·Memᴰ l usedLanes → length (laneLine (cafes S) (solution S .plan) l) ≤ 14
   unfolding used laneLine rowLine numberLine bytes
   lane-line l member =
-      let n : ℕ = sinks S in
-      let inside = lane-inside (sources S) n (keep-member _ (lanes (sources S) n) member .0) in
+      let n : ℕ = cafes S in
+      let inside = lane-inside (roasteries S) n (keep-member _ (lanes (roasteries S) n) member .0) in
       let bags : carried n (solution S .plan) l < 10 ^ 7 = carried-most l (inside .0) (inside .1) in
       simp length-append (omega (
         arith,
-        side-length (suc (l .row)) (omega (arith, ok .sourcesHigh)),
-        side-length (suc (l .col)) (omega (arith, ok .sinksHigh)),
+        side-length (suc (l .row)) (omega (arith, ok .limits .roasteriesHigh, sources-room)),
+        side-length (suc (l .col)) (omega (arith, ok .limits .cafesHigh, sinks-room)),
         digits-length 6 (carried n (solution S .plan) l) .1 bags,
       ))
 
-  lanes-length : length (flatMap (laneLine (sinks S) (solution S .plan)) usedLanes) ≤ maxSide * maxSide * 14
-  lanes-length = members-length (laneLine (sinks S) (solution S .plan)) 14 (maxSide * maxSide) usedLanes lanes-count lane-line
+  lanes-length : length (flatMap (laneLine (cafes S) (solution S .plan)) usedLanes) ≤ maxSide * maxSide * 14
+  lanes-length = members-length (laneLine (cafes S) (solution S .plan)) 14 (maxSide * maxSide) usedLanes lanes-count lane-line
 
 -- ---- the plan text
 
@@ -169,17 +175,18 @@ module _ {S : Sheet} (ok : Checked S) where
 pub plan-length : (S : Sheet) → refusal (sheetTests S) ≡ none → length (planText S) ≤ maxPlanText
 unfolding planText bytes maxSide maxPlanText
 plan-length S e =
-    let ok = checked S e in
+    let ok = accepted S e in
     let a = solution S in
     simp length-append (omega (
       arith,
       head-length "total" 0 1 (omega arith),
-      line-length 13 (a .cost) (cost-most ok),
+      ap length (total-line S),
+      line-length 13 (natAbs (a .cost)) (cost-most ok),
       head-length "rounds" 0 1 (omega arith),
       line-length 15 (a .rounds) (rounds-most ok),
-      head-length "roasteries" 1 (sources S) (omega (arith, ok .sourcesHigh)),
+      head-length "roasteries" 1 (roasteries S) (omega (arith, ok .limits .roasteriesHigh, sources-room)),
       u-length ok,
-      head-length "cafes" 1 (sinks S) (omega (arith, ok .sinksHigh)),
+      head-length "cafes" 1 (cafes S) (omega (arith, ok .limits .cafesHigh, sinks-room)),
       v-length ok,
       head-length "lanes" 3 (length (usedLanes ok)) (omega (arith, lanes-count ok)),
       lanes-length ok,
@@ -189,7 +196,7 @@ plan-length S e =
 
 -- A sheet that has a text is only tested for its numbers.
 text-numbers : (S : Sheet) → HasText S → refusal (sheetTests S) ≡ refusal (numberTests S)
-unfolding sources sinks
+unfolding roasteries cafes
 text-numbers S h = sheet-numbers S (h .sides .0) (h .sides .1) (eq-eqb _ _ (h .lengths))
 
 -- `refused `, a number of one digit and LF.

@@ -4,13 +4,15 @@ use mathlib.Core.List.{List, [], _∷_, _++_, flatMap, append-assoc, append-nil}
 use Prim.Native.String.{String}
 use Prim.Native.Nat.{ℕ, _+_, _*_, _/_, _≤_}
 use native.Mathlib.Omega.{arith}
-use lib.IntN.{ℤ}
+use lib.IntN.{ℤ, natAbs}
 use lib.ListN.{length, length-append}
 use Rattle.plan_text.specs.declared.plan_sections.Figures.{Figures}
-use Rattle.transport.specs.Sheet.{Sheet, sources, sinks}
-use Rattle.transport.specs.Text.{bytes, headLine, numberLine}
-use Rattle.transport.specs.Calls.{Solution, solution}
+use Rattle.transport.specs.Sheet.{Sheet, roasteries, cafes}
+use Rattle.transport.specs.Text.{bytes, wholeDigits, headLine, numberLine}
+use Rattle.transport.specs.Calls.{Solution, solutionFrom, solution}
 use Rattle.transport.specs.PlanText.{wholeLine, used, laneLine, planText}
+use Rattle.transport.specs.Plan.{settled}
+use Rattle.transport.specs.Laws.PlanLaws.{planCost-natural}
 use Rattle.demands.specs.Demand3.{Fills}
 use Rattle.sections.specs.Lines.{sectionText, linesFrom, section-of, lines-column}
 use Rattle.sections.specs.Wholes.{wholeSection, whole-section-of}
@@ -43,7 +45,7 @@ sections-length f u v numbers = simp length-append (omega arith)
 
 -- What the plan text of a solution shows in one number each, given the numbers of its lanes.
 abbrev figuresOf : Solution → List ℕ → Figures
-figuresOf a numbers = record { total = a .cost; rounds = a .rounds; used = length numbers / 3 }
+figuresOf a numbers = record { total = natAbs (a .cost); rounds = a .rounds; used = length numbers / 3 }
 
 -- A section of one number.
 one-number : (name : String) (x : ℕ) → headLine name 1 ++ numberLine x ≡ sectionText (bytes name ++ bytes " ") 1 1 (x ∷ [])
@@ -51,6 +53,11 @@ unfolding flatMap
 one-number name x =
     let line : numberLine x ≡ linesFrom 1 1 (x ∷ []) = sym (append-nil (numberLine x)) ∙ lines-column (x ∷ []) in
     rw line (section-of name 1 1 (x ∷ []))
+
+-- A cost is a natural number.
+pub total-line : (S : Sheet) → wholeLine (solution S .cost) ≡ numberLine (natAbs (solution S .cost))
+unfolding solution solutionFrom wholeLine wholeDigits numberLine
+total-line S = rw (planCost-natural S (settled S))
 
 -- A section of prices, whose count is m.
 prices-section : (name : String) (m : ℕ) (zs : List ℤ) → length zs ≡ m → headLine name m ++ flatMap wholeLine zs ≡ wholeSection (bytes name ++ bytes " ") zs
@@ -68,11 +75,11 @@ regroup : (a b c d e f g h i j : List ℕ) → a ++ b ++ c ++ d ++ e ++ f ++ g +
 regroup a b c d e f g h i j = simp append-assoc
 
 -- The plan text is the sections of the solution: its figures, its prices, and the numbers of the lanes that its plan uses.
-pub plan-sections : (S : Sheet) → 1 ≤ sinks S → Fills S (solution S) → let a = solution S in let numbers = usedNumbers (sinks S) (a .plan) (length (a .plan)) in
+pub plan-sections : (S : Sheet) → 1 ≤ cafes S → Fills S (solution S) → let a = solution S in let numbers = usedNumbers (cafes S) (a .plan) (length (a .plan)) in
     planText S ≡ planSections (figuresOf a numbers) (a .u) (a .v) numbers
 unfolding planText planSections figuresText pricesText lanesText bytes
 plan-sections S p fills =
     let a = solution S in
-    let m = sources S in
-    let n = sinks S in
-    rw (regroup, one-number "total" (a .cost), one-number "rounds" (a .rounds), prices-section "roasteries" m (a .u) (fills .u), prices-section "cafes" n (a .v) (fills .v), lanes-section "lanes" m n (a .plan) p (fills .plan))
+    let m = roasteries S in
+    let n = cafes S in
+    rw (regroup, total-line S, one-number "total" (natAbs (a .cost)), one-number "rounds" (a .rounds), prices-section "roasteries" m (a .u) (fills .u), prices-section "cafes" n (a .v) (fills .v), lanes-section "lanes" m n (a .plan) p (fills .plan))

@@ -11,18 +11,18 @@ use lib.ListN.{length, take}
 use lib.Seq.{take-all}
 use borrow.Author.Tests.{eq-eqb}
 use Rattle.transport.specs.declared.WriteAnswer.the-variants.{Written, Refused}
-use Rattle.transport.specs.Limits.{maxSide, maxText}
+use Rattle.transport.specs.Limits.{maxSources, maxSinks, maxText}
 use Rattle.transport.specs.Sheet.{Sheet, sheetTests, numberTests, badSides, badLength, badAmount, badCost, unbalanced, refusal}
-use Rattle.transport.specs.SheetLaws.{true-within, refusal-yes, refusal-no}
+use Rattle.transport.specs.Laws.SheetLaws.{true-within, refusal-yes, refusal-no}
 use Rattle.transport.specs.Calls.{Answer, given, refusedBy, lentAfter}
-use Rattle.transport.specs.CallLaws.{some≢none, short-yes, short-no, unless-given, unless-refused}
+use Rattle.transport.specs.Laws.CallLaws.{some≢none, short-yes, short-no, unless-given, unless-refused}
 use Rattle.transport.specs.Text.{bytes, digits, digitsUpTo, numberLine, rowLine}
 use Rattle.transport.specs.SheetText.{stuck, got, sheetReader}
 use Rattle.transport.specs.PlanText.{planText, writePlanCall, refusedLine, printed, fitting, shown}
+use Rattle.transport.specs.Answers.{writeAnswer}
 use Rattle.sheet.specs.Refusals.{sheet-numbers}
 use Rattle.grammar.specs.Every.{Every}
 use Rattle.grammar.specs.SheetCalls.{read-got, read-stuck}
-use Rattle.transport.specs.Answers.{writeAnswer}
 use Rattle.sections.specs.Front.{front}
 use Rattle.sections.specs.Lines.{ended}
 use Rattle.sections.specs.WriteCall.{call-checked, call-short, call-written}
@@ -167,6 +167,6 @@ module _ (input : List ℕ) where
       go (some k) n = (rw (read-got numberTests textRead S rest e, unless-refused (numberTests S) S k n, printed) (refused-line k)) ∙ sym (shown-refusal S k (same ∙ n))
 
 -- A sheet that was read has sides within their limits and a cost for each lane: only its numbers are still to be tested.
-pub read-numbers : (S : Sheet) → (1 ≤ length (S .supply)) × (length (S .supply) ≤ maxSide) → (1 ≤ length (S .demand)) × (length (S .demand) ≤ maxSide)
+pub read-numbers : (S : Sheet) → (1 ≤ length (S .supply)) × (length (S .supply) ≤ maxSources) → (1 ≤ length (S .demand)) × (length (S .demand) ≤ maxSinks)
     → length (S .cost) ≡ length (S .supply) * length (S .demand) → refusal (sheetTests S) ≡ refusal (numberTests S)
-read-numbers S m n l = sheet-numbers S (true-within 1 maxSide _ (m .0) (m .1)) (true-within 1 maxSide _ (n .0) (n .1)) (eq-eqb _ _ l)
+read-numbers S m n l = sheet-numbers S (true-within 1 maxSources _ (m .0) (m .1)) (true-within 1 maxSinks _ (n .0) (n .1)) (eq-eqb _ _ l)

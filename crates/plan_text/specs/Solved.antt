@@ -2,23 +2,30 @@
 use mathlib.Core.Path.{_≡_, refl, sym, ap, _∙_}
 use mathlib.Core.Option.{Option, none, some}
 use mathlib.Core.List.{List}
-use Prim.Native.Nat.{ℕ, _*_, _/_}
+use Prim.Native.Nat.{ℕ, _≤_, _*_, _/_}
 use native.Mathlib.Omega.{arith}
 use native.Mathlib.Nat.{mul-le-mul}
-use lib.IntN.{ℤ}
+use lib.IntN.{ℤ, natAbs}
 use lib.ListN.{length, take, drop}
 use lib.Seq.{take-at}
 use Rattle.transport.specs.declared.SolveAnswer.the-variants.{Solved, Refused}
 use Rattle.transport.specs.Limits.{maxSide}
-use Rattle.transport.specs.Sheet.{Sheet, sources, sinks, sheetTests, refusal}
-use Rattle.transport.specs.SheetLaws.{checked}
+use Rattle.transport.specs.Sheet.{Sheet, roasteries, cafes, sheetTests, refusal}
+use Rattle.transport.specs.Laws.SheetLaws.{accepted}
+use Rattle.transport.specs.Laws.Sound.{sources-room, sinks-room}
 use Rattle.transport.specs.Calls.{Answer, given, refusedBy, lentAfter, Solution, solution, solveCall}
-use Rattle.transport.specs.CallLaws.{unless-before, unless-none, rooms-iff}
+use Rattle.transport.specs.Laws.CallLaws.{unless-before, unless-none, rooms-iff}
 use Rattle.transport.specs.Answers.{solveAnswer}
 use Rattle.transport.specs.PlanText.{planText}
 use Rattle.demands.specs.Demand3.{Fills, solve-fills}
 use Rattle.plan_text.specs.Lanes.{usedNumbers}
 use Rattle.plan_text.specs.Sections.{planSections, plan-sections}
+
+-- An accepted sheet fits lists of the largest side.
+rooms-enough : (S : Sheet) → refusal (sheetTests S) ≡ none → (roasteries S ≤ maxSide) × (cafes S ≤ maxSide)
+rooms-enough S e =
+    let ok = accepted S e .limits in
+    (omega (arith, ok .roasteriesHigh, sources-room), omega (arith, ok .cafesHigh, sinks-room))
 
 module _ (S : Sheet) where
   -- Solve's answer where every list has room.
@@ -29,9 +36,9 @@ module _ (S : Sheet) where
   full-given : refusal (sheetTests S) ≡ none → full ≡ given (solution S)
   unfolding solveCall
   full-given e =
-      let ok = checked S e in
-      unless-none (sheetTests S) _ 8 (solution S) e (rooms-iff maxSide (sources S) maxSide (sinks S) (maxSide * maxSide) (sources S * sinks S) .1
-      (ok .sourcesHigh, ok .sinksHigh, mul-le-mul (ok .sourcesHigh) (ok .sinksHigh)))
+      let few = rooms-enough S e in
+      unless-none (sheetTests S) _ 8 (solution S) e (rooms-iff maxSide (roasteries S) maxSide (cafes S) (maxSide * maxSide) (roasteries S * cafes S) .1
+      (few .0, few .1, mul-le-mul (few .0) (few .1)))
 
   full-refused : (k : ℕ) → refusal (sheetTests S) ≡ some k → full ≡ refusedBy k
   unfolding solveCall
@@ -43,7 +50,7 @@ module _ (S : Sheet) where
     where
       go : (o : Option ℕ) → refusal (sheetTests S) ≡ o → refusal (sheetTests S) ≡ some k
       go none e =
-          let f : Refused k ≡ Solved (solution S .cost) (solution S .rounds) = h ∙ ap solveAnswer (full-given e) in
+          let f : Refused k ≡ Solved (natAbs (solution S .cost)) (solution S .rounds) = h ∙ ap solveAnswer (full-given e) in
           let z : _≡_ {A = ℕ} 0 1 = cc in
           absurd (omega arith)
       go (some j) e =
@@ -53,13 +60,13 @@ module _ (S : Sheet) where
 
 -- The sheet is accepted, the figures are those of its solution, and the fronts of the lists are its prices and its plan.
 pub record FoundPlan (S : Sheet) (total rounds : ℕ) (u v : List ℤ) (plan : List ℕ) : Type 0 where
-  pub accepted : refusal (sheetTests S) ≡ none
+  pub passes : refusal (sheetTests S) ≡ none
   pub fills : Fills S (solution S)
-  pub totalIs : total ≡ solution S .cost
+  pub totalIs : total ≡ natAbs (solution S .cost)
   pub roundsIs : rounds ≡ solution S .rounds
-  pub uIs : take (sources S) u ≡ solution S .u
-  pub vIs : take (sinks S) v ≡ solution S .v
-  pub planIs : take (sources S * sinks S) plan ≡ solution S .plan
+  pub uIs : take (roasteries S) u ≡ solution S .u
+  pub vIs : take (cafes S) v ≡ solution S .v
+  pub planIs : take (roasteries S * cafes S) plan ≡ solution S .plan
 
 module _ {S : Sheet} {total rounds : ℕ} {u′ v′ : List ℤ} {plan′ : List ℕ} where
   pub found : (u v : List ℤ) (plan : List ℕ) → Solved total rounds ≡ solveAnswer (full S)
@@ -76,19 +83,19 @@ module _ {S : Sheet} {total rounds : ℕ} {u′ v′ : List ℤ} {plan′ : List
       go none e =
           let a = solution S in
           let g = full-given S e in
-          let f : Solved total rounds ≡ Solved (a .cost) (a .rounds) = h ∙ ap solveAnswer g in
+          let f : Solved total rounds ≡ Solved (natAbs (a .cost)) (a .rounds) = h ∙ ap solveAnswer g in
           let fills = solve-fills S maxSide maxSide (maxSide * maxSide) a g in
           record {
-            accepted = e;
+            passes = e;
             fills = fills;
             totalIs = cc;
             roundsIs = cc;
-            uIs = rw (us, g) (take-at (a .u) (drop (length (a .u)) u) (sources S) (fills .u));
-            vIs = rw (vs, g) (take-at (a .v) (drop (length (a .v)) v) (sinks S) (fills .v));
-            planIs = rw (plans, g) (take-at (a .plan) (drop (length (a .plan)) plan) (sources S * sinks S) (fills .plan));
+            uIs = rw (us, g) (take-at (a .u) (drop (length (a .u)) u) (roasteries S) (fills .u));
+            vIs = rw (vs, g) (take-at (a .v) (drop (length (a .v)) v) (cafes S) (fills .v));
+            planIs = rw (plans, g) (take-at (a .plan) (drop (length (a .plan)) plan) (roasteries S * cafes S) (fills .plan));
           }
 
   -- The sections of what was found are the plan text.
-  pub found-sections : FoundPlan S total rounds u′ v′ plan′ → let x = take (sources S * sinks S) plan′ in let numbers = usedNumbers (sinks S) x (length x) in
-      planText S ≡ planSections (record { total = total; rounds = rounds; used = length numbers / 3 }) (take (sources S) u′) (take (sinks S) v′) numbers
-  found-sections f = rw (f .totalIs, f .roundsIs, f .uIs, f .vIs, f .planIs) (plan-sections S (checked S (f .accepted) .sinksLow) (f .fills))
+  pub found-sections : FoundPlan S total rounds u′ v′ plan′ → let x = take (roasteries S * cafes S) plan′ in let numbers = usedNumbers (cafes S) x (length x) in
+      planText S ≡ planSections (record { total = total; rounds = rounds; used = length numbers / 3 }) (take (roasteries S) u′) (take (cafes S) v′) numbers
+  found-sections f = rw (f .totalIs, f .roundsIs, f .uIs, f .vIs, f .planIs) (plan-sections S (accepted S (f .passes) .limits .cafesLow) (f .fills))

@@ -11,7 +11,7 @@ ghost use Rattle.sections.specs.Lines.{ended};
 ghost use Rattle.plan_text.specs.Shown.{sheetShown};
 use crate::writer::write_plan;
 use sections::section;
-use text::reader::read_sections;
+use sheet_reader::whole_text::read_sections;
 use transport::MAX_LANES;
 use transport::MAX_SIDE;
 use transport::MAX_TEXT;

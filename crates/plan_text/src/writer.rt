@@ -9,7 +9,7 @@ use crate::lanes::used_lanes;
 use crate::plan_sections::Figures;
 use crate::plan_sections::plan_sections_len;
 use crate::plan_sections::write_plan_sections;
-use planning::solve::solve;
+use plan_calls::solve::solve;
 use transport::MAX_LANES;
 use transport::MAX_SIDE;
 use transport::SolveAnswer;

@@ -11,8 +11,9 @@ use lib.ListN.{length, getD, take, drop, length-append, take-append-drop, List·
 use lib.Seq.{length-take-le}
 use borrow.Author.Tests.{eqb-true, eq-eqb}
 use Rattle.transport.specs.Lists.{all, sumTo, at, total}
-use Rattle.transport.specs.ListLaws.{all-at, all-of, member-at, member-place, member-map, map-member, member-flatMap, flatMap-member, getD-append-at, sumTo-cong, sumTo-first, at-past}
-use Rattle.transport.specs.Sheet.{Sheet, sources, sinks, place}
+use Rattle.transport.specs.Laws.ListLaws.{all-at, all-of, member-at, member-place, member-map, map-member, member-flatMap, flatMap-member, getD-append-at, sumTo-cong, sumTo-first, at-past}
+use Rattle.transport.specs.Sheet.{Sheet, roasteries, cafes}
+use Rattle.transport.specs.Problem.{place}
 use Rattle.transport.specs.Plan.{rowPlans, plansFor, plans}
 use Rattle.transport.specs.Statements.{Meets}
 use Rattle.plans.specs.Sorted.{Sorted, none, sorted-at, sorted-single, sorted-map, sorted-flatMap}
@@ -186,9 +187,9 @@ plansFor-sorted (s ∷ ss) ds =
 
 -- Every plan in the list meets the sheet.
 pub plans-sound : (S : Sheet) (k : ℕ) → k < length (plans S) → Meets S 1 (getD (plans S) k [])
-unfolding plans sources sinks
+unfolding plans roasteries cafes
 plans-sound S k l =
-    let g = plansFor-sound (sinks S) (S .supply) (S .demand) refl (member-at (plans S) [] k l) in
+    let g = plansFor-sound (cafes S) (S .supply) (S .demand) refl (member-at (plans S) [] k l) in
     record {
       quantities = g .size;
       rows = λ i p. omega (arith, g .rows i p);
@@ -197,12 +198,12 @@ plans-sound S k l =
 
 -- Every plan that meets the sheet is in the list.
 pub plans-complete : (S : Sheet) (x : List ℕ) → Meets S 1 x → (k : ℕ) × (k < length (plans S)) × (getD (plans S) k [] ≡ x)
-unfolding plans sources sinks
+unfolding plans roasteries cafes
 plans-complete S x g =
     member-place
     []
     (plansFor-complete
-    (sinks S)
+    (cafes S)
     (S .supply)
     (S .demand)
     x

@@ -8,7 +8,7 @@ use lib.Dec.{eqb}
 use lib.ListN.{length, getD}
 use borrow.Author.Tests.{eqb-true, eq-eqb}
 use Rattle.transport.specs.Lists.{downTo, at, total}
-use Rattle.transport.specs.ListLaws.{member-table, table-member, member-map, map-member, member-flatMap, flatMap-member, sumTo-le, total-nil, total-cons}
+use Rattle.transport.specs.Laws.ListLaws.{member-table, table-member, member-map, map-member, member-flatMap, flatMap-member, sumTo-le, total-nil, total-cons}
 use Rattle.transport.specs.Plan.{rowPlans}
 use Rattle.transport.specs.Statements.{FirstDifference}
 use Rattle.plans.specs.Sorted.{Sorted, none, sorted-single, sorted-table, sorted-map, sorted-flatMap}

@@ -1,16 +1,18 @@
 -- The settled plan is the one of least cost that carries more, on the first lane where they differ, than any other of that cost.
-use Prim.Native.Nat.{ℕ, _≤_, _<_}
+use Prim.Native.Nat.{ℕ, _<_}
 use native.Mathlib.Omega.{arith}
 use native.Mathlib.Nat.{one-mul}
-use native.Mathlib.Decide.{decLt}
 use mathlib.Core.Path.{_≡_, refl, sym, _∙_}
 use mathlib.Core.Bool.{Bool, true, false}
 use mathlib.Core.List.{List, [], _∷_}
-use lib.Dec.{ltb}
+use lib.IntN.{ℤ, pos, _*ℤ_}
+use lib.Signed.{ltZ, _≤ℤ_}
 use lib.ListN.{length, getD}
-use borrow.Author.Tests.{lt-ltb, le-ltb}
+use Rattle.integers.specs.Bridge.{z-eq, eq-z, z-le, z-mul}
+use Rattle.integers.specs.Tests.{lt-no, no-lt}
 use Rattle.transport.specs.Lists.{at}
-use Rattle.transport.specs.ListLaws.{StrictWeak, FirstLeast, by-key, ltb-weak, firstLeast-unique}
+use Rattle.transport.specs.Laws.ListLaws.{StrictWeak, FirstLeast, by-key, firstLeast-unique}
+use Rattle.transport.specs.Laws.AmountLaws.{ltZ-weak}
 use Rattle.transport.specs.Sheet.{Sheet}
 use Rattle.transport.specs.Plan.{planCost, plans, settled}
 use Rattle.transport.specs.Statements.{Meets, FirstDifference, Best, scaled}
@@ -20,7 +22,7 @@ use Rattle.plans.specs.Plans.{plans-sound, plans-complete, plans-descend
 -- Of all plans in whole bags that meet the sheet at the least cost, x carries more on the first lane where it differs from any other.
 pub record Settled (S : Sheet) (x : List ℕ) : Type 0 where
   pub meets : Meets S 1 x
-  pub least : (y : List ℕ) → Meets S 1 y → planCost S x ≤ planCost S y
+  pub least : (y : List ℕ) → Meets S 1 y → planCost S x ≤ℤ planCost S y
   pub first : (y : List ℕ) → Meets S 1 y → planCost S y ≡ planCost S x → (l : ℕ) → FirstDifference x y l → at y l < at x l
 
 -- ---- a first difference
@@ -31,11 +33,11 @@ difference-sym x y l e d = record { lane = omega (arith, d .lane); differ = λ f
 -- ---- the settled plan
 
 cheaper : Sheet → List ℕ → List ℕ → Bool
-cheaper S x y = ltb (planCost S x) (planCost S y)
+cheaper S x y = ltZ (planCost S x) (planCost S y)
 
 cheaper-weak : (S : Sheet) → StrictWeak (cheaper S)
 unfolding cheaper
-cheaper-weak S = by-key (planCost S) ltb-weak
+cheaper-weak S = by-key (planCost S) ltZ-weak
 
 -- The list holds all plans that meet the sheet, so x stands in it. None costs less; and one before x carries more than x on the first lane where they differ, so it
 -- costs more. Hence x is the first of least cost.
@@ -43,19 +45,19 @@ settled-first : (S : Sheet) (x : List ℕ) → Settled S x → (k : ℕ) × Firs
 unfolding cheaper
 settled-first S x b =
     let (k, inside, stands) = plans-complete S x (b .meets) in
-    (k, record { inside = inside; stands = stands; least = least; first = λ h l. first k inside stands h l (decLt (planCost S x) (planCost S (getD (plans S) h []))) })
+    (k, record { inside = inside; stands = stands; least = least; first = λ h l. first k inside stands h l (ltZ (planCost S x) (planCost S (getD (plans S) h []))) refl })
   where
-    least : (h : ℕ) → h < length (plans S) → ltb (planCost S (getD (plans S) h [])) (planCost S x) ≡ false
-    least h l = le-ltb (planCost S (getD (plans S) h [])) (planCost S x) (b .least _ (plans-sound S h l))
+    least : (h : ℕ) → h < length (plans S) → ltZ (planCost S (getD (plans S) h [])) (planCost S x) ≡ false
+    least h l = no-lt (planCost S (getD (plans S) h [])) (planCost S x) (z-le (b .least _ (plans-sound S h l)))
 
-    first : (k : ℕ) → k < length (plans S) → getD (plans S) k [] ≡ x → (h : ℕ) → h < k → Dec (planCost S x < planCost S (getD (plans S) h []))
-        → ltb (planCost S x) (planCost S (getD (plans S) h [])) ≡ true
-    first k inside stands h l (yes p) = lt-ltb (planCost S x) (planCost S (getD (plans S) h [])) p
-    first k inside stands h l (no p) =
+    first : (k : ℕ) → k < length (plans S) → getD (plans S) k [] ≡ x → (h : ℕ) → h < k → (t : Bool) → ltZ (planCost S x) (planCost S (getD (plans S) h [])) ≡ t
+        → ltZ (planCost S x) (planCost S (getD (plans S) h [])) ≡ true
+    first k inside stands h l true p = p
+    first k inside stands h l false p =
         let y = getD (plans S) h [] in
         let g : Meets S 1 y = plans-sound S h (omega arith) in
         let a : Ahead y x = rw stands at (plans-descending S h k l inside) in
-        let same : planCost S y ≡ planCost S x = omega (arith, b .least y g) in
+        let same : planCost S y ≡ planCost S x = eq-z (planCost S y) (planCost S x) (omega (arith, lt-no (planCost S x) (planCost S y) p, z-le (b .least y g))) in
         let d : FirstDifference x y (a .lane) = difference-sym y x (a .lane) (g .quantities ∙ sym (b .meets .quantities)) (a .difference) in
         absurd (omega (arith, a .more, b .first y g same (a .lane) d))
 
@@ -74,11 +76,14 @@ scaled-once [] = refl
 scaled-once (q ∷ x) = rw (one-mul q, scaled-once x)
 
 -- Demand 3 speaks of plans in k-ths; for k = 1 it says that its plan is the settled one.
-pub best-settled : (S : Sheet) (x : List ℕ) (cost : ℕ) → Best S x cost → settled S ≡ x
+pub best-settled : (S : Sheet) (x : List ℕ) (cost : ℤ) → Best S x cost → settled S ≡ x
 best-settled S x cost b = settled-best S x (record { meets = b .meets; least = least; first = first })
   where
-    least : (y : List ℕ) → Meets S 1 y → planCost S x ≤ planCost S y
-    least y g = omega (arith, b .shown, b .least 1 y (omega arith) g)
+    once : (pos 1 *ℤ cost) ≡ planCost S x
+    once = eq-z (pos 1 *ℤ cost) (planCost S x) (omega (arith, z-mul (pos 1) cost, z-eq (b .shown)))
+
+    least : (y : List ℕ) → Meets S 1 y → planCost S x ≤ℤ planCost S y
+    least y g = rw once at (b .least 1 y (omega arith) g)
 
     first : (y : List ℕ) → Meets S 1 y → planCost S y ≡ planCost S x → (l : ℕ) → FirstDifference x y l → at y l < at x l
-    first y g c l d = rw scaled-once at (b .first 1 y (omega arith) g (omega (arith, b .shown)) l (rw scaled-once d))
+    first y g c l d = rw scaled-once at (b .first 1 y (omega arith) g (c ∙ sym once) l (rw scaled-once d))

@@ -6,7 +6,7 @@ use mathlib.Core.Logic.{_⊎_, inl, inr}
 use mathlib.Core.List.{List, [], _∷_, _++_, map, flatMap, List·Memᴰ, List·Memᴰ·head, List·Memᴰ·tail, List·Memᴰ·append-cases, List·Memᴰ·not-nil, List·Memᴰ·eq-of-singleton}
 use lib.ListN.{length, getD}
 use Rattle.transport.specs.Lists.{table}
-use Rattle.transport.specs.ListLaws.{member-at, table-member, map-member, flatMap-member}
+use Rattle.transport.specs.Laws.ListLaws.{member-at, table-member, map-member, flatMap-member}
 
 pub data Sorted {A : Type 0} (R : A → A → Type 0) : List A → Type 0 where
   none : Sorted R []

@@ -2,15 +2,15 @@
 use Prim.Native.Nat.{ℕ, _+_, _*_, _<_, _≤_}
 use native.Mathlib.Omega.{arith}
 use native.Mathlib.Decide.{decLt}
-use mathlib.Core.Path.{_≡_, refl, _∙_}
+use mathlib.Core.Path.{_≡_, refl, sym, _∙_}
 use mathlib.Core.Logic.{by-cases}
-use mathlib.Core.List.{List}
+use mathlib.Core.List.{List, map}
 use lib.IntN.{ℤ, pos}
-use lib.ListN.{length, getD, set, replicate, length-set, getD-replicate}
+use lib.ListN.{length, getD, set, replicate, length-set, getD-replicate, List·getD-map}
 use lib.Seq.{getD-set-same, getD-set-other}
-use Rattle.transport.specs.Lists.{at}
-use Rattle.transport.specs.Sheet.{Sheet, sources, sinks, place, laneCost}
-use Rattle.transport.specs.SheetLaws.{lane}
+use Rattle.transport.specs.Lists.{at, atZ}
+use Rattle.transport.specs.Problem.{Problem, sources, sinks, place, laneCost}
+use Rattle.transport.specs.Laws.ProblemLaws.{lane}
 use Rattle.basis.specs.Layout.{stride, laneRoom}
 use Rattle.basis.specs.ScanLaws.{padCost}
 
@@ -55,13 +55,16 @@ module _ (cost : List ℕ) (n : ℕ) where
     pub part-all : j ≡ 0 → i ≤ stride → Spread cost i n out
     part-all e l = record { long = p .long; lanes = λ h k s t. p .lanes h k (omega arith) t; pads = λ h k s t u. p .pads h k (omega arith) t u }
 
--- ---- for a sheet
+-- ---- for a problem
 
--- The costs of the sheet S lie by lane.
-pub record Costed (S : Sheet) (cost : List ℤ) : Type 0 where
-  pub lanes : (i j : ℕ) → i < sources S → j < sinks S → getD cost (i * stride + j) (pos 0) ≡ laneCost S (lane i j)
-  pub pads : (i j : ℕ) → i < sources S → sinks S ≤ j → j < stride → getD cost (i * stride + j) (pos 0) ≡ pos padCost
+-- The costs of the problem P lie by lane.
+pub record Costed (P : Problem) (cost : List ℤ) : Type 0 where
+  pub lanes : (i j : ℕ) → i < sources P → j < sinks P → getD cost (i * stride + j) (pos 0) ≡ laneCost P (lane i j)
+  pub pads : (i j : ℕ) → i < sources P → sinks P ≤ j → j < stride → getD cost (i * stride + j) (pos 0) ≡ pos padCost
 
-pub spread-costed : (S : Sheet) (out : List ℤ) → Spread (S .cost) (sources S) (sinks S) out → Costed S out
-unfolding laneCost
-spread-costed S out p = record { lanes = p .lanes; pads = p .pads }
+pub spread-costed : (P : Problem) (cost : List ℕ) (out : List ℤ) → P .cost ≡ map pos cost → Spread cost (sources P) (sinks P) out → Costed P out
+unfolding laneCost atZ at sinks
+spread-costed P cost out e p = record {
+  lanes = λ i j hi hj. rw e (p .lanes i j hi hj ∙ sym (List·getD-map pos cost (place (sinks P) i j) 0));
+  pads = p .pads;
+}

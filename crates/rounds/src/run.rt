@@ -7,9 +7,9 @@ ghost use mathlib.Core.Path.{_≡_};
 ghost use mathlib.Core.Bool.{true};
 ghost use mathlib.Core.List.{List};
 ghost use lib.ListN.{length};
-ghost use Rattle.transport.specs.Sheet.{Sheet};
+ghost use Rattle.transport.specs.Problem.{Problem};
+ghost use Rattle.transport.specs.Round.{roundBound};
 ghost use Rattle.transport.specs.declared.Cell.{Cell};
-ghost use Rattle.transport.specs.Calls.{roundBound};
 ghost use Rattle.basis.specs.Layout.{nodeRoom};
 ghost use Rattle.rounds.specs.Boards.{Board, Advanced, Ran};
 
@@ -28,12 +28,15 @@ pub fn advance(
     minus: &mut [usize; NODES],
     plus: &mut [usize; NODES],
 ) -> bool
-    requires { ⌜ ((S : Sheet) × (T : List Cell) × Board S T (now adj) (now q) (now e) (now cost) m n) ⌝ }
+    requires { ⌜ ((P : Problem) × (T : List Cell) × Board P T (now adj) (now q) (now e) (now cost) m n) ⌝ }
     requires { ⌜ (length (now leaf) ≡ nodeRoom) × (length (now other) ≡ nodeRoom) × (length (now lane) ≡ nodeRoom) ⌝ }
     requires { ⌜ (length (now minus) ≡ nodeRoom) × (length (now plus) ≡ nodeRoom) ⌝ }
     ensures { λ _. ⌜ (length (now (leaf .exit)) ≡ nodeRoom) × (length (now (other .exit)) ≡ nodeRoom) × (length (now (lane .exit)) ≡ nodeRoom) ⌝ }
     ensures { λ _. ⌜ (length (now (minus .exit)) ≡ nodeRoom) × (length (now (plus .exit)) ≡ nodeRoom) ⌝ }
-    ensures { λ r. ⌜ ((S : Sheet) (T : List Cell) → Board S T (now (adj .entry)) (now (q .entry)) (now (e .entry)) (now (cost .entry)) m n → Advanced S T (now (adj .exit)) (now (q .exit)) (now (e .exit)) (now (cost .entry)) (now (price .exit)) m n r) ⌝ }
+    ensures { λ r. ⌜
+        ((P : Problem) (T : List Cell) → Board P T (now (adj .entry)) (now (q .entry)) (now (e .entry)) (now (cost .entry)) m n
+        → Advanced P T (now (adj .exit)) (now (q .exit)) (now (e .exit)) (now (cost .entry)) (now (price .exit)) m n r)
+        ⌝ }
 {
     let enter = pricing::price(adj, cost, leaf, other, lane, price, m, n);
     if enter.reduced >= 0 {
@@ -59,7 +62,7 @@ pub fn advance(
 }
 
 // One round, with room of its own.
-pub fn round(
+pub fn make_round(
     adj: &mut [u64; NODES],
     q: &mut [i64; LANES],
     e: &mut [i64; LANES],
@@ -68,8 +71,11 @@ pub fn round(
     m: usize,
     n: usize,
 ) -> bool
-    requires { ⌜ ((S : Sheet) × (T : List Cell) × Board S T (now adj) (now q) (now e) (now cost) m n) ⌝ }
-    ensures { λ r. ⌜ ((S : Sheet) (T : List Cell) → Board S T (now (adj .entry)) (now (q .entry)) (now (e .entry)) (now (cost .entry)) m n → Advanced S T (now (adj .exit)) (now (q .exit)) (now (e .exit)) (now (cost .entry)) (now (price .exit)) m n r) ⌝ }
+    requires { ⌜ ((P : Problem) × (T : List Cell) × Board P T (now adj) (now q) (now e) (now cost) m n) ⌝ }
+    ensures { λ r. ⌜
+        ((P : Problem) (T : List Cell) → Board P T (now (adj .entry)) (now (q .entry)) (now (e .entry)) (now (cost .entry)) m n
+        → Advanced P T (now (adj .exit)) (now (q .exit)) (now (e .exit)) (now (cost .entry)) (now (price .exit)) m n r)
+        ⌝ }
 {
     let mut leaf = [0usize; NODES];
     let mut other = [0usize; NODES];
@@ -109,8 +115,11 @@ pub fn rounds(
     n: usize,
     allowance: u64,
 ) -> Made
-    requires { ⌜ ((S : Sheet) × (T : List Cell) × Board S T (now adj) (now q) (now e) (now cost) m n) ⌝ }
-    ensures { λ r. ⌜ ((S : Sheet) (T : List Cell) → Board S T (now (adj .entry)) (now (q .entry)) (now (e .entry)) (now (cost .entry)) m n → Ran S T allowance (now (adj .exit)) (now (q .exit)) (now (e .exit)) (now (cost .entry)) (now (price .exit)) m n (r .finished) (r .made)) ⌝ }
+    requires { ⌜ ((P : Problem) × (T : List Cell) × Board P T (now adj) (now q) (now e) (now cost) m n) ⌝ }
+    ensures { λ r. ⌜
+        ((P : Problem) (T : List Cell) → Board P T (now (adj .entry)) (now (q .entry)) (now (e .entry)) (now (cost .entry)) m n
+        → Ran P T allowance (now (adj .exit)) (now (q .exit)) (now (e .exit)) (now (cost .entry)) (now (price .exit)) m n (r .finished) (r .made))
+        ⌝ }
 {
     let mut leaf = [0usize; NODES];
     let mut other = [0usize; NODES];
@@ -160,8 +169,11 @@ pub fn finish(
     m: usize,
     n: usize,
 ) -> u64
-    requires { ⌜ ((S : Sheet) × (T : List Cell) × Board S T (now adj) (now q) (now e) (now cost) m n) ⌝ }
-    ensures { λ r. ⌜ ((S : Sheet) (T : List Cell) → Board S T (now (adj .entry)) (now (q .entry)) (now (e .entry)) (now (cost .entry)) m n → Ran S T (roundBound S) (now (adj .exit)) (now (q .exit)) (now (e .exit)) (now (cost .entry)) (now (price .exit)) m n true r) ⌝ }
+    requires { ⌜ ((P : Problem) × (T : List Cell) × Board P T (now adj) (now q) (now e) (now cost) m n) ⌝ }
+    ensures { λ r. ⌜
+        ((P : Problem) (T : List Cell) → Board P T (now (adj .entry)) (now (q .entry)) (now (e .entry)) (now (cost .entry)) m n
+        → Ran P T (roundBound P) (now (adj .exit)) (now (q .exit)) (now (e .exit)) (now (cost .entry)) (now (price .exit)) m n true r)
+        ⌝ }
 {
     let mut leaf = [0usize; NODES];
     let mut other = [0usize; NODES];

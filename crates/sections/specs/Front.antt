@@ -7,7 +7,7 @@ use native.Mathlib.Numerals.{add-one}
 use lib.ListN.{length, take, drop, set, getD, length-append, length-drop, drop-of-length-le, take-append-drop}
 use lib.Seq.{length-take-le, take-all, take-suc, take-at, drop-at, drop-drop, drop-cons, set-at, take-add}
 use borrow.Rule.Slice.PartMut.{midOf, putMid}
-use Rattle.transport.specs.ListLaws.{flatMap-append}
+use Rattle.transport.specs.Laws.ListLaws.{flatMap-append}
 
 unfoldable pub front : List ℕ → List ℕ → List ℕ
 front text out = text ++ drop (length text) out

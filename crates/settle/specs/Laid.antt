@@ -10,18 +10,19 @@ use Rattle.integers.specs.Integer.{_≼_, nat}
 use Rattle.integers.specs.Bridge.{toZ}
 use Rattle.network.specs.Round.{bags-nonneg}
 use Rattle.transport.specs.Lists.{at}
-use Rattle.transport.specs.Sheet.{Sheet, sources, sinks, Lane}
-use Rattle.transport.specs.SheetLaws.{Checked, lane}
-use Rattle.transport.specs.declared.Cell.{Cell}
+use Rattle.transport.specs.Problem.{Problem, sources, sinks, Lane}
+use Rattle.transport.specs.Laws.Sound.{Sound}
+use Rattle.transport.specs.Laws.ProblemLaws.{lane}
 use Rattle.transport.specs.Tableau.{basisSize, basisOf}
-use Rattle.transport.specs.Leaf.{cellsBelong, spans}
+use Rattle.transport.specs.Belonging.{cellsBelong, spans}
 use Rattle.transport.specs.Statements.{Basic, Belongs}
+use Rattle.transport.specs.declared.Cell.{Cell}
 use Rattle.tableaux.specs.View.{amountAt}
 use Rattle.tableaux.specs.Lanes.{Fits}
 use Rattle.tableaux.specs.Striking.{Struck}
 use Rattle.tableaux.specs.Belonging.{belongs-iff, fits-of, spans-of, distinct-of}
 use Rattle.tableaux.specs.TableauView.{belongs-seen}
-use Rattle.demands.specs.Phases.{Restricted, Improving, improving-new}
+use Rattle.optimality.specs.Phases.{Restricted, Improving, improving-new}
 use Rattle.basis.specs.Layout as layout
 use Rattle.basis.specs.Layout.{stride, stride-is, nodeRoom, strikesOf}
 use Rattle.elimination.specs.Links.{Links, Masks}
@@ -35,14 +36,14 @@ use Rattle.pivoting.specs.Enters.{Enters}
 use Rattle.pivoting.specs.Ready.{Ready}
 use Rattle.settle.specs.Plan.{NoDebt}
 
--- The arrays hold a tableau T of the sheet S, of m sources and n sinks, and the masks allow its basic lanes.
-pub record Laid (S : Sheet) (m n : ℕ) (adj : List ℕ) (q e : List ℤ) (masks : List ℕ) (T : List Cell) : Type 0 where
-  pub checked : Checked S
-  pub rows : m ≡ sources S
-  pub cols : n ≡ sinks S
+-- The arrays hold a tableau T of the sheet P, of m sources and n sinks, and the masks allow its basic lanes.
+pub record Laid (P : Problem) (m n : ℕ) (adj : List ℕ) (q e : List ℤ) (masks : List ℕ) (T : List Cell) : Type 0 where
+  pub sound : Sound P
+  pub rows : m ≡ sources P
+  pub cols : n ≡ sinks P
   pub long : length masks ≡ stride
   pub held : Held m n T adj q e
-  pub belongs : cellsBelong S T ≡ true
+  pub belongs : cellsBelong P T ≡ true
   pub basics : (i j : ℕ) → Basic T i j → allows masks i j ≡ true
 
 -- The strikes of the tree that the masks make: whatever lanes the masks are those of, leaves were struck off as long as there were any, m + n − 1 of them.
@@ -50,19 +51,19 @@ pub record StruckOff (m n : ℕ) (adj leaf other lanes : List ℕ) : Type 0 wher
   pub long : (length leaf ≡ nodeRoom) × (length other ≡ nodeRoom) × (length lanes ≡ nodeRoom)
   pub stripped : (B : List Lane) → Masks m n B adj → Stripped m n B (strikesOf leaf other lanes (m + n - 1)) (m + n - 1)
 
-module _ {S : Sheet} {m n : ℕ} {adj : List ℕ} {q e : List ℤ} {masks : List ℕ} {T : List Cell} (l : Laid S m n adj q e masks T) where
-  pub laid-belongs : Belongs S T
-  laid-belongs = belongs-iff S T (l .checked .sourcesLow) (l .checked .sinksLow) .0 (l .belongs)
+module _ {P : Problem} {m n : ℕ} {adj : List ℕ} {q e : List ℤ} {masks : List ℕ} {T : List Cell} (l : Laid P m n adj q e masks T) where
+  pub laid-belongs : Belongs P T
+  laid-belongs = belongs-iff P T (l .sound .sourcesLow) (l .sound .sinksLow) .0 (l .belongs)
 
-  pub laid-restricted : Restricted S (allows masks) T
+  pub laid-restricted : Restricted P (allows masks) T
   laid-restricted = record { belongs = laid-belongs; basics = l .basics }
 
   pub laid-sides : (1 ≤ m) × (m ≤ stride) × (1 ≤ n) × (n ≤ stride)
   laid-sides = (
-    omega (arith, l .rows, l .checked .sourcesLow),
-    omega (arith, l .rows, stride-is, l .checked .sourcesHigh),
-    omega (arith, l .cols, l .checked .sinksLow),
-    omega (arith, l .cols, stride-is, l .checked .sinksHigh),
+    omega (arith, l .rows, l .sound .sourcesLow),
+    omega (arith, l .rows, stride-is, l .sound .sourcesHigh),
+    omega (arith, l .cols, l .sound .sinksLow),
+    omega (arith, l .cols, stride-is, l .sound .sinksHigh),
   )
 
   -- ---- the masks of the nodes
@@ -71,18 +72,18 @@ module _ {S : Sheet} {m n : ℕ} {adj : List ℕ} {q e : List ℤ} {masks : List
   laid-drawn = record { rows = row-lanes (l .held); cols = column-lanes (l .held) }
 
   laid-fits : Fits m n (basisOf T)
-  laid-fits = rw (l .rows, l .cols) (fits-of (l .checked) laid-belongs)
+  laid-fits = rw (l .rows, l .cols) (fits-of (l .sound) laid-belongs)
 
   pub laid-links : Links m n adj
   laid-links = drawn-links laid-drawn laid-fits (laid-sides .0) (laid-sides .1) (laid-sides .2) (laid-sides .3)
 
   pub laid-masks : Masks m n (basisOf T) adj
-  laid-masks = drawn-masks laid-drawn laid-fits (lanes-apart T (distinct-of (l .checked) laid-belongs))
+  laid-masks = drawn-masks laid-drawn laid-fits (lanes-apart T (distinct-of (l .sound) laid-belongs))
 
   -- ---- its strikes
 
   spanning : spans m n (basisOf T) ≡ true
-  spanning = rw (l .rows, l .cols) (spans-of (l .checked) laid-belongs)
+  spanning = rw (l .rows, l .cols) (spans-of (l .sound) laid-belongs)
 
   -- However many were struck, they are m + n − 1.
   pub laid-strikes : {leaf other lanes : List ℕ} {count : ℕ} → (length leaf ≡ nodeRoom) × (length other ≡ nodeRoom) × (length lanes ≡ nodeRoom)
@@ -94,7 +95,7 @@ module _ {S : Sheet} {m n : ℕ} {adj : List ℕ} {q e : List ℤ} {masks : List
     struck : Struck m n (basisOf T) (strikesOf leaf other lanes (m + n - 1))
     struck = w .stripped (basisOf T) laid-masks .complete spanning .1
 
-    pub laid-struck : Struck (sources S) (sinks S) (basisOf T) (strikesOf leaf other lanes (m + n - 1))
+    pub laid-struck : Struck (sources P) (sinks P) (basisOf T) (strikesOf leaf other lanes (m + n - 1))
     laid-struck = rw (l .rows, l .cols) (rw (l .rows, l .cols) at struck)
 
     pub laid-room : layout.Struck leaf other lanes (m + n - 1)
@@ -104,11 +105,11 @@ module _ {S : Sheet} {m n : ℕ} {adj : List ℕ} {q e : List ℤ} {masks : List
     laid-peels = peels-of struck
 
     -- A lane that improves may enter.
-    pub laid-ready : {p c i j : ℕ} → p < m → c < n → Improving S (allows masks) p c T i j → Ready S T adj q e leaf other lanes (m + n - 1) m i j
+    pub laid-ready : {p c i j : ℕ} → p < m → c < n → Improving P (allows masks) p c T i j → Ready P T adj q e leaf other lanes (m + n - 1) m i j
     laid-ready {p} {c} {i} {j} hp hc v =
-        let fresh : ¬ Basic T i j = improving-new (l .checked) (allows masks) (omega (arith, l .rows)) (omega (arith, l .cols)) T laid-restricted v in
-        let enters : Enters S T leaf other lanes (m + n - 1) (lane i j) = record {
-          checked = l .checked;
+        let fresh : ¬ Basic T i j = improving-new (l .sound) (allows masks) (omega (arith, l .rows)) (omega (arith, l .cols)) T laid-restricted v in
+        let enters : Enters P T leaf other lanes (m + n - 1) (lane i j) = record {
+          sound = l .sound;
           belongs = l .belongs;
           struck = laid-struck;
           long = w .long .2;
@@ -119,8 +120,8 @@ module _ {S : Sheet} {m n : ℕ} {adj : List ℕ} {q e : List ℤ} {masks : List
         record { rows = l .rows; held = rw (l .cols) at (l .held); enters = enters }
 
 -- No bags are owed on any lane.
-pub laid-debtless : {S : Sheet} {m n : ℕ} {adj : List ℕ} {q e : List ℤ} {masks : List ℕ} {T : List Cell} → Laid S m n adj q e masks T → NoDebt m n q
-laid-debtless {T = T} l i j hi hj = rw (l .held .bags i j hi hj) (whole (amountAt T i j .q) (bags-nonneg (belongs-seen (l .checked) (laid-belongs l)) i j (omega (arith, l .rows)) (omega (arith, l .cols))))
+pub laid-debtless : {P : Problem} {m n : ℕ} {adj : List ℕ} {q e : List ℤ} {masks : List ℕ} {T : List Cell} → Laid P m n adj q e masks T → NoDebt m n q
+laid-debtless {T = T} l i j hi hj = rw (l .held .bags i j hi hj) (whole (amountAt T i j .q) (bags-nonneg (belongs-seen (l .sound) (laid-belongs l)) i j (omega (arith, l .rows)) (omega (arith, l .cols))))
   where
     whole : (z : ℤ) → nat 0 ≼ toZ z → z ≡ pos (natAbs z)
     whole (pos k) p = refl

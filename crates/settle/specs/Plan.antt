@@ -8,9 +8,9 @@ use lib.IntN.{ℤ, pos, natAbs}
 use lib.ListN.{length, getD, set, drop, length-map, length-set}
 use lib.Seq.{ext-getD, drop-drop, drop-at}
 use Rattle.transport.specs.Lists.{table}
-use Rattle.transport.specs.ListLaws.{table-zero, length-table, getD-table, fill-one, getD-map}
-use Rattle.transport.specs.Sheet.{Sheet, sources, sinks, lanes, place}
-use Rattle.transport.specs.SheetLaws.{lane, place-injective, place-below, place-of, length-lanes, getD-lanes}
+use Rattle.transport.specs.Laws.ListLaws.{table-zero, length-table, getD-table, fill-one, getD-map}
+use Rattle.transport.specs.Problem.{Problem, sources, sinks, lanes, place}
+use Rattle.transport.specs.Laws.ProblemLaws.{lane, place-injective, place-below, place-of, length-lanes, getD-lanes}
 use Rattle.transport.specs.declared.Cell.{Cell}
 use Rattle.tableaux.specs.Least.{bagsOn, bagsOf}
 use Rattle.basis.specs.Layout.{stride}
@@ -56,19 +56,19 @@ module _ {n : ℕ} {q : List ℤ} {k : ℕ} {old new : List ℕ} (w : Written n 
   written-on {h} p v = record { long = v .long ∙ w .long; is = v .is ∙ rw (rest h p) }
 
 -- The bags of the tableau that the arrays hold.
-pub bags-held : (S : Sheet) {T : List Cell} {adj : List ℕ} {q e : List ℤ} → Held (sources S) (sinks S) T adj q e
-    → table (sources S * sinks S) (bagsIn (sinks S) q) ≡ bagsOf S T
+pub bags-held : (P : Problem) {T : List Cell} {adj : List ℕ} {q e : List ℤ} → Held (sources P) (sinks P) T adj q e
+    → table (sources P * sinks P) (bagsIn (sinks P) q) ≡ bagsOf P T
 unfolding bagsOf bagsOn place
-bags-held S {T} {adj} {q} {e} h = ext-getD 0 _ _ (length-table (bagsIn n q) (m * n) ∙ sym long) same
+bags-held P {T} {adj} {q} {e} h = ext-getD 0 _ _ (length-table (bagsIn n q) (m * n) ∙ sym long) same
   where
     m : ℕ
-    m = sources S
+    m = sources P
 
     n : ℕ
-    n = sinks S
+    n = sinks P
 
-    long : length (map (bagsOn T) (lanes (sources S) (sinks S))) ≡ sources S * sinks S
-    long = length-map (lanes (sources S) (sinks S)) (bagsOn T) ∙ length-lanes (sources S) (sinks S)
+    long : length (map (bagsOn T) (lanes (sources P) (sinks P))) ≡ sources P * sinks P
+    long = length-map (lanes (sources P) (sinks P)) (bagsOn T) ∙ length-lanes (sources P) (sinks P)
 
     same : (k : ℕ) → k < length (table (m * n) (bagsIn n q)) → getD (table (m * n) (bagsIn n q)) k 0 ≡ getD (map (bagsOn T) (lanes m n)) k 0
     same k p =

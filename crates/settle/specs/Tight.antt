@@ -11,18 +11,19 @@ use lib.IntN.{ℤ, pos, natAbs, _-ℤ_}
 use lib.ListN.{length, getD, set, replicate, length-set}
 use lib.Seq.{getD-set-same, getD-set-other}
 use Rattle.integers.specs.Bridge.{eq-z, z-eq, z-ev, !, _-'_}
-use Rattle.transport.specs.ListLaws.{is-false}
-use Rattle.transport.specs.Limits.{maxCost}
-use Rattle.transport.specs.Sheet.{Sheet, sources, sinks, place, laneCost}
-use Rattle.transport.specs.SheetLaws.{Checked, lane}
-use Rattle.transport.specs.declared.Cell.{Cell}
+use Rattle.transport.specs.Laws.ListLaws.{is-false}
+use Rattle.transport.specs.Limits.{maxCost, costAbove}
+use Rattle.transport.specs.Problem.{Problem, sources, sinks, place, laneCost}
+use Rattle.transport.specs.Laws.Sound.{Sound}
+use Rattle.transport.specs.Laws.ProblemLaws.{lane}
 use Rattle.transport.specs.Amount.{eqZ}
-use Rattle.transport.specs.AmountLaws.{eqZ-true, eqZ-same}
-use Rattle.transport.specs.Leaf.{cellsBelong}
+use Rattle.transport.specs.Laws.AmountLaws.{eqZ-true, eqZ-same}
+use Rattle.transport.specs.Belonging.{cellsBelong}
 use Rattle.transport.specs.Potential.{potential, reducedCost}
+use Rattle.transport.specs.declared.Cell.{Cell}
 use Rattle.tableaux.specs.Belonging.{belongs-iff, fits-of, spans-of}
-use Rattle.tableaux.specs.Potentials.{price-size, price-limit}
-use Rattle.demands.specs.Settling.{tightLanes}
+use Rattle.tableaux.specs.Potentials.{cost-size, price-size, price-limit}
+use Rattle.optimality.specs.Settling.{tightLanes}
 use Rattle.basis.specs.Layout.{stride, stride-is, maxPotential}
 use Rattle.basis.specs.Mask.{has, put, has-put, has-zero}
 use Rattle.basis.specs.ScanLaws.{slackAt, reducedAt}
@@ -34,7 +35,7 @@ isTight cost price m i j = eqZ (reducedAt cost price m i j) (pos 0)
 pub record Ranged (cost price : List ℤ) (m n : ℕ) : Type 0 where
   pub rows : m ≤ stride
   pub cols : n ≤ stride
-  pub costs : (i j : ℕ) → i < m → j < n → natAbs (getD cost (i * stride + j) (pos 0)) ≤ maxCost
+  pub costs : (i j : ℕ) → i < m → j < n → natAbs (getD cost (i * stride + j) (pos 0)) ≤ costAbove
   pub prices : (k : ℕ) → k < m + n → natAbs (getD price k (pos 0)) ≤ maxPotential
 
 -- Of the first n columns just those are in where row i has reduced cost 0, and no others.
@@ -97,24 +98,24 @@ module _ {cost price : List ℤ} {m n : ℕ} where
   }
 
 -- With the costs of the sheet and the potentials of the tableau these are the tight lanes.
-pub tight-same : (S : Sheet) (T : List Cell) {cost price : List ℤ} {masks : List ℕ} → TightLanes cost price (sources S) (sinks S) (sources S) masks
-    → ((i j : ℕ) → i < sources S → j < sinks S → getD cost (i * stride + j) (pos 0) ≡ laneCost S (lane i j))
-    → ((k : ℕ) → k < sources S + sinks S → getD price k (pos 0) ≡ potential S T k)
-    → (i j : ℕ) → i < sources S → j < sinks S → has (getD masks i 0) j ≡ tightLanes S T i j
+pub tight-same : (P : Problem) (T : List Cell) {cost price : List ℤ} {masks : List ℕ} → TightLanes cost price (sources P) (sinks P) (sources P) masks
+    → ((i j : ℕ) → i < sources P → j < sinks P → getD cost (i * stride + j) (pos 0) ≡ laneCost P (lane i j))
+    → ((k : ℕ) → k < sources P + sinks P → getD price k (pos 0) ≡ potential P T k)
+    → (i j : ℕ) → i < sources P → j < sinks P → has (getD masks i 0) j ≡ tightLanes P T i j
 unfolding tightLanes reducedCost
-tight-same S T h costs prices i j p q = h .rows i p .here j q ∙ rw (costs i j p q, prices i (omega arith), prices (sources S + j) (omega arith))
+tight-same P T h costs prices i j p q = h .rows i p .here j q ∙ rw (costs i j p q, prices i (omega arith), prices (sources P + j) (omega arith))
 
 -- And they are in range.
-pub tight-ranged : (S : Sheet) (T : List Cell) {cost price : List ℤ} → Checked S → cellsBelong S T ≡ true
-    → ((i j : ℕ) → i < sources S → j < sinks S → getD cost (i * stride + j) (pos 0) ≡ laneCost S (lane i j))
-    → ((k : ℕ) → k < sources S + sinks S → getD price k (pos 0) ≡ potential S T k)
-    → Ranged cost price (sources S) (sinks S)
-unfolding laneCost maxCost
-tight-ranged S T ok b costs prices =
-    let w = belongs-iff S T (ok .sourcesLow) (ok .sinksLow) .0 b in
+pub tight-ranged : (P : Problem) (T : List Cell) {cost price : List ℤ} → Sound P → cellsBelong P T ≡ true
+    → ((i j : ℕ) → i < sources P → j < sinks P → getD cost (i * stride + j) (pos 0) ≡ laneCost P (lane i j))
+    → ((k : ℕ) → k < sources P + sinks P → getD price k (pos 0) ≡ potential P T k)
+    → Ranged cost price (sources P) (sinks P)
+unfolding laneCost costAbove maxCost
+tight-ranged P T ok b costs prices =
+    let w = belongs-iff P T (ok .sourcesLow) (ok .sinksLow) .0 b in
     record {
       rows = omega (arith, stride-is, ok .sourcesHigh);
       cols = omega (arith, stride-is, ok .sinksHigh);
-      costs = λ i j hi hj. rw (costs i j hi hj) (ok .costHigh (place (sinks S) i j));
-      prices = λ k l. rw (prices k l) (omega (arith, price-limit, price-size S ok T (fits-of ok w) (spans-of ok w) k));
+      costs = λ i j hi hj. rw (costs i j hi hj) (cost-size ok (place (sinks P) i j));
+      prices = λ k l. rw (prices k l) (omega (arith, price-limit, price-size P ok T (fits-of ok w) (spans-of ok w) k));
     }

@@ -1,5 +1,5 @@
-// Lanes decided in sheet order. The phase for a lane puts as many bags on it as the allowed lanes can carry there, and keeps of them those of the plans that carry
-// as many; the crate phase says how.
+// Lanes decided in sheet order. The phase for a lane puts as many bags on it as the allowed lanes can carry there, and keeps of them those of the plans that
+// carry as many; the crate phase says how.
 use basis::LANES;
 use basis::NODES;
 use basis::mask::has_bit;
@@ -14,7 +14,7 @@ ghost use mathlib.Core.Bool.{true};
 ghost use mathlib.Core.List.{List};
 ghost use Prim.Native.Nat.{suc, _*_, _<_};
 ghost use lib.ListN.{length};
-ghost use Rattle.transport.specs.Sheet.{Sheet, place};
+ghost use Rattle.transport.specs.Problem.{Problem, place};
 ghost use Rattle.transport.specs.declared.Cell.{Cell};
 ghost use Rattle.basis.specs.Layout.{nodeRoom};
 ghost use Rattle.phase.specs.PhaseLaws.{allows};
@@ -22,9 +22,9 @@ ghost use Rattle.settle.specs.Laid.{Laid, StruckOff};
 ghost use Rattle.settle.specs.Step.{Advanced};
 ghost use Rattle.settle.specs.Reach.{AtStage, Reaches};
 
-// A step of the phase for lane (p, col): the lane itself enters while it is not basic, and then any allowed lane that improves on it. If there is none, the phase has
-// ended: its lanes are kept, and the answer is false. `leaf`, `other` and `lane` hold the strikes of the tree, and those of the new tree after a step; `minus` and
-// `plus` are room to work in.
+// A step of the phase for lane (p, col): the lane itself enters while it is not basic, and then any allowed lane that improves on it. If there is none, the
+// phase has ended: its lanes are kept, and the answer is false. `leaf`, `other` and `lane` hold the strikes of the tree, and those of the new tree after a
+// step; `minus` and `plus` are room to work in.
 fn advance(
     adj: &mut [u64; NODES],
     q: &mut [i64; LANES],
@@ -40,13 +40,18 @@ fn advance(
     p: usize,
     col: usize,
 ) -> bool
-    requires { ⌜ ((S : Sheet) × (T : List Cell) × Laid S m n (now adj) (now q) (now e) (now allowed) T) ⌝ }
+    requires { ⌜ ((P : Problem) × (T : List Cell) × Laid P m n (now adj) (now q) (now e) (now allowed) T) ⌝ }
     requires { ⌜ StruckOff m n (now adj) (now leaf) (now other) (now lane) ⌝ }
     requires { ⌜ (p < m) × (col < n) × (allows (now allowed) p col ≡ true) ⌝ }
     requires { ⌜ (length (now minus) ≡ nodeRoom) × (length (now plus) ≡ nodeRoom) ⌝ }
     ensures { λ _. ⌜ StruckOff m n (now (adj .exit)) (now (leaf .exit)) (now (other .exit)) (now (lane .exit)) ⌝ }
     ensures { λ _. ⌜ (length (now (minus .exit)) ≡ nodeRoom) × (length (now (plus .exit)) ≡ nodeRoom) ⌝ }
-    ensures { λ r. ⌜ ((S : Sheet) (T : List Cell) → Laid S m n (now (adj .entry)) (now (q .entry)) (now (e .entry)) (now (allowed .entry)) T → Advanced r S m n p col (now (q .entry)) (now (e .entry)) (now (allowed .entry)) T (now (adj .exit)) (now (q .exit)) (now (e .exit)) (now (allowed .exit))) ⌝ }
+    ensures { λ r. ⌜
+        ((P : Problem) (T : List Cell)
+        → Laid P m n (now (adj .entry)) (now (q .entry)) (now (e .entry)) (now (allowed .entry)) T
+        → Advanced r P m n p col (now (q .entry)) (now (e .entry)) (now (allowed .entry)) T
+        (now (adj .exit)) (now (q .exit)) (now (e .exit)) (now (allowed .exit)))
+        ⌝ }
 {
     let count = m + n - 1;
     let mut row = p;
@@ -87,7 +92,11 @@ fn decide_lane(
     requires { ⌜ (length (now minus) ≡ nodeRoom) × (length (now plus) ≡ nodeRoom) ⌝ }
     ensures { λ _. ⌜ StruckOff m n (now (adj .exit)) (now (leaf .exit)) (now (other .exit)) (now (lane .exit)) ⌝ }
     ensures { λ _. ⌜ (length (now (minus .exit)) ≡ nodeRoom) × (length (now (plus .exit)) ≡ nodeRoom) ⌝ }
-    ensures { λ _. ⌜ Reaches (place n p col) (suc (place n p col)) m n (now (adj .entry)) (now (q .entry)) (now (e .entry)) (now (allowed .entry)) (now (adj .exit)) (now (q .exit)) (now (e .exit)) (now (allowed .exit)) ⌝ }
+    ensures { λ _. ⌜
+        Reaches (place n p col) (suc (place n p col)) m n
+        (now (adj .entry)) (now (q .entry)) (now (e .entry)) (now (allowed .entry))
+        (now (adj .exit)) (now (q .exit)) (now (e .exit)) (now (allowed .exit))
+        ⌝ }
 {
     while advance(
         adj,
@@ -117,7 +126,11 @@ pub fn settle_lanes(
     n: usize,
 )
     requires { ⌜ AtStage 0 m n (now adj) (now q) (now e) (now allowed) ⌝ }
-    ensures { λ _. ⌜ Reaches 0 (m * n) m n (now (adj .entry)) (now (q .entry)) (now (e .entry)) (now (allowed .entry)) (now (adj .exit)) (now (q .exit)) (now (e .exit)) (now (allowed .exit)) ⌝ }
+    ensures { λ _. ⌜
+        Reaches 0 (m * n) m n
+        (now (adj .entry)) (now (q .entry)) (now (e .entry)) (now (allowed .entry))
+        (now (adj .exit)) (now (q .exit)) (now (e .exit)) (now (allowed .exit))
+        ⌝ }
 {
     if is_decided(allowed, adj, m) {
         return;

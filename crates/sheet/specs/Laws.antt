@@ -2,8 +2,8 @@
 use Prim.Native.Nat.{ℕ, _*_, _≤_, _<_, _^_}
 use native.Mathlib.Omega.{arith}
 use native.Mathlib.Nat.{lt-of-le-of-lt, mul-le-mul}
-use Rattle.transport.specs.Limits.{maxSide}
+use Rattle.transport.specs.Limits.{maxSources, maxSinks}
 
-pub sides-product : (m n : ℕ) → m ≤ maxSide → n ≤ maxSide → m * n < 2 ^ 64
-unfolding maxSide
+pub sides-product : (m n : ℕ) → m ≤ maxSources → n ≤ maxSinks → m * n < 2 ^ 64
+unfolding maxSources maxSinks
 sides-product m n p q = lt-of-le-of-lt (mul-le-mul p q) (omega arith)

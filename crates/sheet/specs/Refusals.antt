@@ -1,4 +1,4 @@
--- What the sheet check refuses, case by case, and what an accepted sheet is known to be.
+-- What the sheet check refuses, case by case, and what a sheet within the limits is known to be.
 use mathlib.Core.Path.{_≡_}
 use mathlib.Core.Bool.{Bool, true, false}
 use mathlib.Core.Option.{none, some}
@@ -7,9 +7,9 @@ use native.Mathlib.Nat.{mul-le-mul}
 use lib.Dec.{eqb}
 use lib.ListN.{length}
 use Rattle.transport.specs.Lists.{all, within, total}
-use Rattle.transport.specs.Limits.{maxSide, maxAmount, maxCost}
-use Rattle.transport.specs.Sheet.{Sheet, sources, sinks, badSides, badLength, badAmount, badCost, unbalanced, numberTests, sheetTests, refusal}
-use Rattle.transport.specs.SheetLaws.{Checked}
+use Rattle.transport.specs.Limits.{maxSources, maxSinks, maxAmount, maxCost}
+use Rattle.transport.specs.Sheet.{Sheet, roasteries, cafes, badSides, badLength, badAmount, badCost, unbalanced, numberTests, sheetTests, refusal}
+use Rattle.transport.specs.Statements.{WithinLimits}
 
 module _ (S : Sheet) where
   abbrev supplies : Bool
@@ -44,41 +44,41 @@ module _ (S : Sheet) where
   unfolding refusal numberTests badAmount badCost unbalanced
   numbers-accepted s d c t = rw (s, d, c, t)
 
-  pub refused-sources : within 1 maxSide (length (S .supply)) ≡ false → refusal (sheetTests S) ≡ some 1
-  unfolding refusal sheetTests badSides sources
+  pub refused-sources : within 1 maxSources (length (S .supply)) ≡ false → refusal (sheetTests S) ≡ some 1
+  unfolding refusal sheetTests badSides roasteries
   refused-sources m = rw m
 
-  pub refused-sinks : within 1 maxSide (length (S .supply)) ≡ true → within 1 maxSide (length (S .demand)) ≡ false → refusal (sheetTests S) ≡ some 1
-  unfolding refusal sheetTests badSides sources sinks
+  pub refused-sinks : within 1 maxSources (length (S .supply)) ≡ true → within 1 maxSinks (length (S .demand)) ≡ false → refusal (sheetTests S) ≡ some 1
+  unfolding refusal sheetTests badSides roasteries cafes
   refused-sinks m n = rw (m, n)
 
-  module _ (m : within 1 maxSide (length (S .supply)) ≡ true) (n : within 1 maxSide (length (S .demand)) ≡ true) where
+  module _ (m : within 1 maxSources (length (S .supply)) ≡ true) (n : within 1 maxSinks (length (S .demand)) ≡ true) where
     pub refused-length : eqb (length (S .cost)) (length (S .supply) * length (S .demand)) ≡ false → refusal (sheetTests S) ≡ some 2
-    unfolding refusal sheetTests badSides badLength sources sinks
+    unfolding refusal sheetTests badSides badLength roasteries cafes
     refused-length l = rw (m, n, l)
 
     pub sheet-numbers : eqb (length (S .cost)) (length (S .supply) * length (S .demand)) ≡ true → refusal (sheetTests S) ≡ refusal (numberTests S)
-    unfolding refusal sheetTests badSides badLength sources sinks
+    unfolding refusal sheetTests badSides badLength roasteries cafes
     sheet-numbers l = rw (m, n, l)
 
--- ---- an accepted sheet, in numbers
+-- ---- a sheet within the limits, in numbers
 
-module _ (S : Sheet) (c : Checked S) where
-  pub sources-few : length (S .supply) ≤ maxSide
-  unfolding sources
-  sources-few = c .sourcesHigh
+module _ (S : Sheet) (c : WithinLimits S) where
+  pub sources-few : length (S .supply) ≤ maxSources
+  unfolding roasteries
+  sources-few = c .roasteriesHigh
 
   pub sinks-some : 1 ≤ length (S .demand)
-  unfolding sinks
-  sinks-some = c .sinksLow
+  unfolding cafes
+  sinks-some = c .cafesLow
 
-  pub sinks-few : length (S .demand) ≤ maxSide
-  unfolding sinks
-  sinks-few = c .sinksHigh
+  pub sinks-few : length (S .demand) ≤ maxSinks
+  unfolding cafes
+  sinks-few = c .cafesHigh
 
   pub costs-whole : length (S .cost) ≡ length (S .supply) * length (S .demand)
-  unfolding sources sinks
+  unfolding roasteries cafes
   costs-whole = c .costLength
 
-  pub costs-few : length (S .cost) ≤ maxSide * maxSide
+  pub costs-few : length (S .cost) ≤ maxSources * maxSinks
   costs-few = rw costs-whole (mul-le-mul sources-few sinks-few)

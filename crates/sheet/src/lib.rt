@@ -9,18 +9,19 @@ ghost use Rattle.transport.specs.Sheet.{refusal, numberTests, sheetTests};
 ghost use Rattle.sheet.specs.Check.{sheetOf, checkAnswer};
 use transport::MAX_AMOUNT;
 use transport::MAX_COST;
-use transport::MAX_SIDE;
+use transport::MAX_SINKS;
+use transport::MAX_SOURCES;
 
 pub enum SheetCheck {
     Accepted,
     Refused(u8),
 }
 
-// Whether a sheet may have so many sources, or so many sinks.
-fn side_fits(count: usize) -> bool
-    ensures { λ r. ⌜ r ≡ within 1 maxSide count ⌝ }
+// Whether a sheet may have so many sources, or so many sinks, if there may be no more than `most`.
+fn side_fits(count: usize, most: usize) -> bool
+    ensures { λ r. ⌜ r ≡ within 1 most count ⌝ }
 {
-    1 <= count && count <= MAX_SIDE
+    1 <= count && count <= most
 }
 
 // Whether every number is within `low` to `high`.
@@ -58,7 +59,9 @@ fn total_of(amounts: &[u64]) -> u64
 // Refusals 3, 4 and 5 of a sheet whose sides are within their limits. A total is taken once its parts are known to be.
 pub fn check_numbers(supply: &[u64], demand: &[u64], cost: &[u64]) -> SheetCheck
     requires { ⌜ (length (now supply) ≤ maxSide) × (length (now demand) ≤ maxSide) ⌝ }
-    ensures { λ r. ⌜ r ≡ checkAnswer (refusal (numberTests (sheetOf (now (supply .entry)) (now (demand .entry)) (now (cost .entry))))) ⌝ }
+    ensures { λ r.
+        let S = sheetOf (now (supply .entry)) (now (demand .entry)) (now (cost .entry)) in
+        ⌜ r ≡ checkAnswer (refusal (numberTests S)) ⌝ }
 {
     if !all_within(supply, 1, MAX_AMOUNT) {
         return SheetCheck::Refused(3);
@@ -77,14 +80,16 @@ pub fn check_numbers(supply: &[u64], demand: &[u64], cost: &[u64]) -> SheetCheck
 
 // The sheet check.
 pub fn check_sheet(supply: &[u64], demand: &[u64], cost: &[u64]) -> SheetCheck
-    ensures { λ r. ⌜ r ≡ checkAnswer (refusal (sheetTests (sheetOf (now (supply .entry)) (now (demand .entry)) (now (cost .entry))))) ⌝ }
+    ensures { λ r.
+        let S = sheetOf (now (supply .entry)) (now (demand .entry)) (now (cost .entry)) in
+        ⌜ r ≡ checkAnswer (refusal (sheetTests S)) ⌝ }
 {
     let m = supply.len();
     let n = demand.len();
-    if !side_fits(m) {
+    if !side_fits(m, MAX_SOURCES) {
         return SheetCheck::Refused(1);
     }
-    if !side_fits(n) {
+    if !side_fits(n, MAX_SINKS) {
         return SheetCheck::Refused(1);
     }
     if cost.len() != m * n {

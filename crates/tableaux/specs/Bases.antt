@@ -6,11 +6,11 @@ use mathlib.Core.List.{List, Memᴰ·cast}
 use Prim.Native.Nat.{ℕ, _+_, _-_, _≤_}
 use native.Mathlib.Omega.{arith}
 use lib.ListN.{length, getD}
-use Rattle.transport.specs.ListLaws.{member-at, member-place}
-use Rattle.transport.specs.Sheet.{Lane}
-use Rattle.transport.specs.SheetLaws.{lane}
+use Rattle.transport.specs.Laws.ListLaws.{member-at, member-place}
+use Rattle.transport.specs.Problem.{Lane}
+use Rattle.transport.specs.Laws.ProblemLaws.{lane}
 use Rattle.transport.specs.Tableau.{basisSize}
-use Rattle.transport.specs.Leaf.{spans}
+use Rattle.transport.specs.Belonging.{spans}
 use Rattle.transport.specs.Statements.{Joined}
 use Rattle.network.specs.Basis.{In, Basis}
 use Rattle.tableaux.specs.Lanes.{Has, Fits}
@@ -36,7 +36,7 @@ joined-on h w = record {
   cols = λ A B z closed. w .cols A B z (λ i j p q s. closed i j p q (h i j s));
 }
 
-pub joined-basis : {m n : ℕ} {B : List Lane} → 1 ≤ m → 1 ≤ n → Fits m n B → length B ≡ basisSize m n → Joined m n (Has B) → Basis m n (m + n - 2) (rowAt B) (colAt B)
+joined-basis : {m n : ℕ} {B : List Lane} → 1 ≤ m → 1 ≤ n → Fits m n B → length B ≡ basisSize m n → Joined m n (Has B) → Basis m n (m + n - 2) (rowAt B) (colAt B)
 unfolding basisSize
 joined-basis {m} {n} {B} p q h e w = record {
   size = omega arith;

@@ -14,18 +14,20 @@ use Rattle.integers.specs.Integer.{_≈_, nat, neg}
 use Rattle.integers.specs.Bridge.{toZ, z-eq}
 use Rattle.integers.specs.Sum.{sum, point}
 use Rattle.transport.specs.Lists.{all, at, below}
-use Rattle.transport.specs.ListLaws.{and-left, and-right, all-at, all-of, all-below, all-below-at, map-member, member-place}
-use Rattle.transport.specs.Sheet.{Sheet, sources, sinks, Lane, laneCost, place}
-use Rattle.transport.specs.SheetLaws.{Checked, lane}
-use Rattle.transport.specs.declared.Pair.{Pair}
-use Rattle.transport.specs.declared.Cell.{Cell}
+use Rattle.transport.specs.Laws.ListLaws.{and-left, and-right, all-at, all-of, all-below, all-below-at, map-member, member-place}
+use Rattle.transport.specs.Problem.{Problem, sources, sinks, Lane, laneCost, place}
+use Rattle.transport.specs.Laws.Sound.{Sound}
+use Rattle.transport.specs.Laws.ProblemLaws.{lane}
 use Rattle.transport.specs.Amount.{nothing, add, same, pairedSupply, pairedDemand}
-use Rattle.transport.specs.AmountLaws.{same-true, same-self}
-use Rattle.transport.specs.Tableau.{noCell, laneOf, basisOf, basisSize, onSheet, inOrder, aboveZero, rowTotal, columnTotal, balanced}
-use Rattle.transport.specs.Leaf.{strikes, spans, cellsBelong}
+use Rattle.transport.specs.Laws.AmountLaws.{same-true, same-self}
+use Rattle.transport.specs.Tableau.{noCell, laneOf, basisOf, basisSize}
+use Rattle.transport.specs.Belonging.{onSheet, inOrder, aboveZero, rowTotal, columnTotal, balanced, spans, cellsBelong}
+use Rattle.transport.specs.Leaf.{strikes}
 use Rattle.transport.specs.Potential.{potential}
 use Rattle.transport.specs.Round.{sign}
 use Rattle.transport.specs.Statements.{Basic, Belongs}
+use Rattle.transport.specs.declared.Pair.{Pair}
+use Rattle.transport.specs.declared.Cell.{Cell}
 use Rattle.network.specs.Flow.{On, Flow, Tight}
 use Rattle.network.specs.FlowLaws.{flow-on}
 use Rattle.network.specs.Basis.{In, Basis, distinct}
@@ -75,18 +77,18 @@ all-five a b c d e p q r s t = rw (p, q, r, s, t)
 -- ---- belonging
 
 -- The tests of belonging say what the paper says; that the cells join all, by `spans-iff`.
-pub belongs-iff : (S : Sheet) (T : List Cell) → 1 ≤ sources S → 1 ≤ sinks S → (cellsBelong S T ≡ true) ↔ Belongs S T
+pub belongs-iff : (P : Problem) (T : List Cell) → 1 ≤ sources P → 1 ≤ sinks P → (cellsBelong P T ≡ true) ↔ Belongs P T
 unfolding cellsBelong balanced onSheet aboveZero basisOf
-belongs-iff S T p q = (to, from)
+belongs-iff P T p q = (to, from)
   where
     m : ℕ
-    m = sources S
+    m = sources P
 
     n : ℕ
-    n = sinks S
+    n = sinks P
 
     sheet : Bool
-    sheet = all (onSheet S) T
+    sheet = all (onSheet P) T
 
     order : Bool
     order = inOrder n T
@@ -98,17 +100,17 @@ belongs-iff S T p q = (to, from)
     above = all aboveZero T
 
     rows : Bool
-    rows = all (λ i. same (rowTotal T i) (pairedSupply S i)) (below m)
+    rows = all (λ i. same (rowTotal T i) (pairedSupply P i)) (below m)
 
     columns : Bool
-    columns = all (λ j. same (columnTotal T j) (pairedDemand S j)) (below n)
+    columns = all (λ j. same (columnTotal T j) (pairedDemand P j)) (below n)
 
     inside : sheet ≡ true → Inside m n T
     inside e k l =
-        let c : ltb (rowOf T k) m && ltb (colOf T k) n ≡ true = all-at (onSheet S) T noCell k e l in
+        let c : ltb (rowOf T k) m && ltb (colOf T k) n ≡ true = all-at (onSheet P) T noCell k e l in
         (ltb-true (rowOf T k) m (and-left (ltb (rowOf T k) m) (ltb (colOf T k) n) c), ltb-true (colOf T k) n (and-right (ltb (rowOf T k) m) (ltb (colOf T k) n) c))
 
-    to : cellsBelong S T ≡ true → Belongs S T
+    to : cellsBelong P T ≡ true → Belongs P T
     to e =
         let (a, o, t, v, r) = five sheet order tree above (rows && columns) e in
         let (size, join) = spans-iff p (fits-inside m n T (inside a)) .0 t in
@@ -118,19 +120,19 @@ belongs-iff S T p q = (to, from)
           order = order-true n T o;
           joined = joined-on (λ i j w. has-basic T i j .0 w) join;
           above = λ k l. all-at aboveZero T noCell k v l;
-          rows = λ i l. same-true (rowTotal T i) (pairedSupply S i) (all-below-at (λ i. same (rowTotal T i) (pairedSupply S i)) m i (and-left rows columns r) l);
-          columns = λ j l. same-true (columnTotal T j) (pairedDemand S j) (all-below-at (λ j. same (columnTotal T j) (pairedDemand S j)) n j (and-right rows columns r) l);
+          rows = λ i l. same-true (rowTotal T i) (pairedSupply P i) (all-below-at (λ i. same (rowTotal T i) (pairedSupply P i)) m i (and-left rows columns r) l);
+          columns = λ j l. same-true (columnTotal T j) (pairedDemand P j) (all-below-at (λ j. same (columnTotal T j) (pairedDemand P j)) n j (and-right rows columns r) l);
         }
 
-    from : Belongs S T → cellsBelong S T ≡ true
+    from : Belongs P T → cellsBelong P T ≡ true
     from b = all-five sheet order tree above (rows && columns)
-        (all-of (onSheet S) T noCell (λ k l. rw (lt-ltb (rowOf T k) m (b .onSheet k l .0), lt-ltb (colOf T k) n (b .onSheet k l .1))))
+        (all-of (onSheet P) T noCell (λ k l. rw (lt-ltb (rowOf T k) m (b .onSheet k l .0), lt-ltb (colOf T k) n (b .onSheet k l .1))))
         (true-order n T (b .order))
         (spans-iff p (fits-inside m n T (b .onSheet)) .1 (length-map T laneOf ∙ b .count, joined-on (λ i j w. has-basic T i j .1 w) (b .joined)))
         (all-of aboveZero T noCell (b .above))
         (both rows columns
-        (all-below (λ i. same (rowTotal T i) (pairedSupply S i)) m (λ i l. rw (b .rows i l) (same-self (pairedSupply S i))))
-        (all-below (λ j. same (columnTotal T j) (pairedDemand S j)) n (λ j l. rw (b .columns j l) (same-self (pairedDemand S j)))))
+        (all-below (λ i. same (rowTotal T i) (pairedSupply P i)) m (λ i l. rw (b .rows i l) (same-self (pairedSupply P i))))
+        (all-below (λ j. same (columnTotal T j) (pairedDemand P j)) n (λ j l. rw (b .columns j l) (same-self (pairedDemand P j)))))
 
 -- ---- what it gives
 
@@ -141,15 +143,15 @@ basic-or (c ∷ cs) i j = by-cases (Dec·and (ℕ-discrete (c .row) i) (ℕ-disc
     (λ e. inl (record { index = 0; below = omega arith; row = e .0; column = e .1 }))
     (λ e. ⊎-elim (λ b. inl (basic-later c cs i j b)) (λ z. inr (amount-later c cs i j e ∙ z)) (basic-or cs i j))
 
-module _ {S : Sheet} {T : List Cell} (c : Checked S) (b : Belongs S T) where
-  pub inside-of : Inside (sources S) (sinks S) T
+module _ {P : Problem} {T : List Cell} (c : Sound P) (b : Belongs P T) where
+  pub inside-of : Inside (sources P) (sinks P) T
   inside-of = b .onSheet
 
-  on-cells : (i j : ℕ) → Basic T i j → In (rowOf T) (colOf T) (suc (sources S + sinks S - 2)) i j
+  on-cells : (i j : ℕ) → Basic T i j → In (rowOf T) (colOf T) (suc (sources P + sinks P - 2)) i j
   unfolding basisSize
-  on-cells i j = basic-in T (suc (sources S + sinks S - 2)) i j (omega (arith, b .count, c .sourcesLow, c .sinksLow)) .0
+  on-cells i j = basic-in T (suc (sources P + sinks P - 2)) i j (omega (arith, b .count, c .sourcesLow, c .sinksLow)) .0
 
-  pub basis-of : Basis (sources S) (sinks S) (sources S + sinks S - 2) (rowOf T) (colOf T)
+  pub basis-of : Basis (sources P) (sinks P) (sources P + sinks P - 2) (rowOf T) (colOf T)
   unfolding basisSize
   basis-of = record {
     size = omega (arith, c .sourcesLow, c .sinksLow);
@@ -164,48 +166,48 @@ module _ {S : Sheet} {T : List Cell} (c : Checked S) (b : Belongs S T) where
 
   -- What the amounts of a row, or of a column, add up to.
   module _ (part : Pair → ℤ) (part-zero : part nothing ≡ pos 0) (part-add : (a b : Pair) → part (add a b) ≡ part a +ℤ part b) where
-    row-of : (i : ℕ) → i < sources S → sum (sinks S) (λ j. toZ (part (amountAt T i j))) ≈ toZ (part (pairedSupply S i))
+    row-of : (i : ℕ) → i < sources P → sum (sinks P) (λ j. toZ (part (amountAt T i j))) ≈ toZ (part (pairedSupply P i))
     unfolding rowTotal
-    row-of i l = rw (← b .rows i l) (row-sum part part-zero part-add (sources S) (sinks S) T distinct-of inside-of i)
+    row-of i l = rw (← b .rows i l) (row-sum part part-zero part-add (sources P) (sinks P) T distinct-of inside-of i)
 
-    column-of : (j : ℕ) → j < sinks S → sum (sources S) (λ i. toZ (part (amountAt T i j))) ≈ toZ (part (pairedDemand S j))
+    column-of : (j : ℕ) → j < sinks P → sum (sources P) (λ i. toZ (part (amountAt T i j))) ≈ toZ (part (pairedDemand P j))
     unfolding columnTotal
-    column-of j l = rw (← b .columns j l) (column-sum part part-zero part-add (sources S) (sinks S) T distinct-of inside-of j)
+    column-of j l = rw (← b .columns j l) (column-sum part part-zero part-add (sources P) (sinks P) T distinct-of inside-of j)
 
-    on-basis : On (sources S) (sinks S) (In (rowOf T) (colOf T) (suc (sources S + sinks S - 2))) (λ i j. toZ (part (amountAt T i j)))
+    on-basis : On (sources P) (sinks P) (In (rowOf T) (colOf T) (suc (sources P + sinks P - 2))) (λ i j. toZ (part (amountAt T i j)))
     on-basis i j hi hj e = ⊎-elim (on-cells i j) (λ z. absurd (e (z-eq (ap part z ∙ part-zero)))) (basic-or T i j)
 
   -- The bags are the flow of the supplies and demands ..
-  pub bags-flow : Flow (sources S) (sinks S) (In (rowOf T) (colOf T) (suc (sources S + sinks S - 2))) (λ i j. toZ (amountAt T i j .q))
-      (λ i. nat (at (S .supply) i)) (λ j. nat (at (S .demand) j))
+  pub bags-flow : Flow (sources P) (sinks P) (In (rowOf T) (colOf T) (suc (sources P + sinks P - 2))) (λ i j. toZ (amountAt T i j .q))
+      (λ i. nat (at (P .supply) i)) (λ j. nat (at (P .demand) j))
   unfolding nothing add pairedSupply pairedDemand
   bags-flow = record { on = on-basis (λ a. a .q) refl (λ a b. refl); rows = row-of (λ a. a .q) refl (λ a b. refl); cols = column-of (λ a. a .q) refl (λ a b. refl) }
 
   -- .. and the marks that of one mark from each row to the last column.
-  pub marks-flow : Flow (sources S) (sinks S) (In (rowOf T) (colOf T) (suc (sources S + sinks S - 2))) (λ i j. toZ (amountAt T i j .e))
-      (λ i. nat 1) (point (sinks S - 1) (nat (sources S)))
+  pub marks-flow : Flow (sources P) (sinks P) (In (rowOf T) (colOf T) (suc (sources P + sinks P - 2))) (λ i j. toZ (amountAt T i j .e))
+      (λ i. nat 1) (point (sinks P - 1) (nat (sources P)))
   unfolding nothing add pairedSupply pairedDemand
   marks-flow = record {
     on = on-basis (λ a. a .e) refl (λ a b. refl);
     rows = row-of (λ a. a .e) refl (λ a b. refl);
-    cols = λ j l. omega (arith, column-of (λ a. a .e) refl (λ a b. refl) j l, demand-marks S j);
+    cols = λ j l. omega (arith, column-of (λ a. a .e) refl (λ a b. refl) j l, demand-marks P j);
   }
 
   -- The lanes of the cells are inside the sheet and span.
-  pub fits-of : Fits (sources S) (sinks S) (basisOf T)
-  fits-of = fits-inside (sources S) (sinks S) T inside-of
+  pub fits-of : Fits (sources P) (sinks P) (basisOf T)
+  fits-of = fits-inside (sources P) (sinks P) T inside-of
 
-  pub spans-of : spans (sources S) (sinks S) (basisOf T) ≡ true
+  pub spans-of : spans (sources P) (sinks P) (basisOf T) ≡ true
   unfolding basisOf
   spans-of = spans-iff (c .sourcesLow) fits-of .1 (length-map T laneOf ∙ b .count, joined-on (λ i j w. has-basic T i j .1 w) (b .joined))
 
   -- The signs of the loop that an entering lane closes are the flow of −1 at its row and −1 at its column.
-  pub signs-flow : (enter : Lane) → enter .row < sources S → enter .col < sinks S
-      → Flow (sources S) (sinks S) (In (rowOf T) (colOf T) (suc (sources S + sinks S - 2)))
-      (λ i j. toZ (sign (sources S) (strikes (sources S) (sinks S) (basisOf T)) enter (lane i j))) (point (enter .row) (neg (nat 1))) (point (enter .col) (neg (nat 1)))
+  pub signs-flow : (enter : Lane) → enter .row < sources P → enter .col < sinks P
+      → Flow (sources P) (sinks P) (In (rowOf T) (colOf T) (suc (sources P + sinks P - 2)))
+      (λ i j. toZ (sign (sources P) (strikes (sources P) (sinks P) (basisOf T)) enter (lane i j))) (point (enter .row) (neg (nat 1))) (point (enter .col) (neg (nat 1)))
   signs-flow enter hr hc = flow-on (λ i j hi hj w. on-cells i j (has-basic T i j .0 w)) (signs-of (c .sourcesLow) fits-of spans-of enter hr hc)
 
   -- The prices add up to the cost on every basic cell.
-  pub prices-tight : (i j : ℕ) → Basic T i j → Tight (λ i j. toZ (laneCost S (lane i j))) (λ i. toZ (potential S T i)) (λ j. toZ (potential S T (sources S + j))) i j
+  pub prices-tight : (i j : ℕ) → Basic T i j → Tight (λ i j. toZ (laneCost P (lane i j))) (λ i. toZ (potential P T i)) (λ j. toZ (potential P T (sources P + j))) i j
   unfolding potential
-  prices-tight i j w = potential-tight (c .sourcesLow) fits-of spans-of (laneCost S) (lane i j) (has-basic T i j .1 w)
+  prices-tight i j w = potential-tight (c .sourcesLow) fits-of spans-of (laneCost P) (lane i j) (has-basic T i j .1 w)

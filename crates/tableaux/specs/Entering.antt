@@ -10,15 +10,16 @@ use lib.Signed.{ltZ, nonNeg}
 use lib.ListN.{getD}
 use Rattle.integers.specs.Integer.{_≺_, _⊕_}
 use Rattle.integers.specs.Tests.{lt-yes, lt-no}
-use Rattle.transport.specs.ListLaws.{by-key, FirstLeast, firstLeast-is}
-use Rattle.transport.specs.AmountLaws.{ltZ-weak}
-use Rattle.transport.specs.Sheet.{Sheet, sources, sinks, Lane, lanes, place}
-use Rattle.transport.specs.SheetLaws.{lane, Checked, place-below, Placed, place-of, length-lanes, getD-lanes, all-lanes}
-use Rattle.transport.specs.declared.Cell.{Cell}
+use Rattle.transport.specs.Laws.ListLaws.{by-key, FirstLeast, firstLeast-is}
+use Rattle.transport.specs.Laws.AmountLaws.{ltZ-weak}
+use Rattle.transport.specs.Problem.{Problem, sources, sinks, Lane, lanes, place}
+use Rattle.transport.specs.Laws.ProblemLaws.{lane, place-below, Placed, place-of, length-lanes, getD-lanes, all-lanes}
+use Rattle.transport.specs.Laws.Sound.{Sound}
 use Rattle.transport.specs.Tableau.{laneOf, noCell}
 use Rattle.transport.specs.Potential.{reducedCost, isFinished}
 use Rattle.transport.specs.Round.{entering}
 use Rattle.transport.specs.Statements.{Basic, Belongs}
+use Rattle.transport.specs.declared.Cell.{Cell}
 use Rattle.tableaux.specs.PlanView.{costs}
 use Rattle.tableaux.specs.Belonging.{prices-tight}
 use Rattle.tableaux.specs.Least.{rowPotential, columnPotential, reduced-parts}
@@ -27,47 +28,47 @@ not-negative : (x y : ℤ) → ltZ x (pos 0) ≡ false → ltZ y x ≡ false →
 not-negative x (pos b) p q = refl
 not-negative x (negsuc b) p q = absurd (omega (arith, lt-no x (pos 0) p, lt-no (negsuc b) x q))
 
-module _ {S : Sheet} (ok : Checked S) (T : List Cell) where
+module _ {P : Problem} (ok : Sound P) (T : List Cell) where
   abbrev m : ℕ
-  m = sources S
+  m = sources P
 
   abbrev n : ℕ
-  n = sinks S
+  n = sinks P
 
   abbrev less : Lane → Lane → Bool
-  less k l = ltZ (reducedCost S T k) (reducedCost S T l)
+  less k l = ltZ (reducedCost P T k) (reducedCost P T l)
 
-  chosen : (k : ℕ) × FirstLeast less (laneOf noCell) (lanes m n) (entering S T) k
+  chosen : (k : ℕ) × FirstLeast less (laneOf noCell) (lanes m n) (entering P T) k
   unfolding entering
-  chosen = firstLeast-is less (by-key (reducedCost S T) ltZ-weak) (laneOf noCell) (lanes m n) (omega (arith, length-lanes m n, mul-le-mul-right n (ok .sourcesLow), ok .sinksLow))
+  chosen = firstLeast-is less (by-key (reducedCost P T) ltZ-weak) (laneOf noCell) (lanes m n) (omega (arith, length-lanes m n, mul-le-mul-right n (ok .sourcesLow), ok .sinksLow))
 
   -- It is on the sheet.
-  pub entering-inside : (entering S T .row < sources S) × (entering S T .col < sinks S)
+  pub entering-inside : (entering P T .row < sources P) × (entering P T .col < sinks P)
   entering-inside =
       let (k, f) = chosen in
       let w : Placed m n k = place-of m n k (omega (arith, f .inside, length-lanes m n)) in
-      let e : entering S T ≡ lane (w .row) (w .col) = sym (f .stands) ∙ ap (λ x. getD (lanes m n) x (laneOf noCell)) (sym (w .placed)) ∙ getD-lanes m n (w .row) (w .col) (laneOf noCell) (w .rowBelow) (w .colBelow) in
+      let e : entering P T ≡ lane (w .row) (w .col) = sym (f .stands) ∙ ap (λ x. getD (lanes m n) x (laneOf noCell)) (sym (w .placed)) ∙ getD-lanes m n (w .row) (w .col) (laneOf noCell) (w .rowBelow) (w .colBelow) in
       rw e (w .rowBelow, w .colBelow)
 
   -- No lane has a smaller reduced cost.
-  pub entering-least : (i j : ℕ) → i < sources S → j < sinks S → ltZ (reducedCost S T (lane i j)) (reducedCost S T (entering S T)) ≡ false
+  entering-least : (i j : ℕ) → i < sources P → j < sinks P → ltZ (reducedCost P T (lane i j)) (reducedCost P T (entering P T)) ≡ false
   entering-least i j hi hj =
-      ap (λ l. ltZ (reducedCost S T l) (reducedCost S T (entering S T))) (sym (getD-lanes m n i j (laneOf noCell) hi hj))
+      ap (λ l. ltZ (reducedCost P T l) (reducedCost P T (entering P T))) (sym (getD-lanes m n i j (laneOf noCell) hi hj))
       ∙ chosen .1 .least (place n i j) (omega (arith, place-below m n i j hi hj, length-lanes m n))
 
-  module _ (unfinished : isFinished S T ≡ false) where
+  module _ (unfinished : isFinished P T ≡ false) where
     -- If it were not negative, none would be.
-    pub entering-negative : ltZ (reducedCost S T (entering S T)) (pos 0) ≡ true
+    entering-negative : ltZ (reducedCost P T (entering P T)) (pos 0) ≡ true
     unfolding isFinished
-    entering-negative = go (ltZ (reducedCost S T (entering S T)) (pos 0)) refl
+    entering-negative = go (ltZ (reducedCost P T (entering P T)) (pos 0)) refl
       where
-        go : (b : Bool) → ltZ (reducedCost S T (entering S T)) (pos 0) ≡ b → ltZ (reducedCost S T (entering S T)) (pos 0) ≡ true
+        go : (b : Bool) → ltZ (reducedCost P T (entering P T)) (pos 0) ≡ b → ltZ (reducedCost P T (entering P T)) (pos 0) ≡ true
         go true p = p
-        go false p = absurd (true≢false (sym (all-lanes (λ l. nonNeg (reducedCost S T l)) m n (λ i j hi hj. not-negative (reducedCost S T (entering S T)) (reducedCost S T (lane i j)) p (entering-least i j hi hj))) ∙ unfinished))
+        go false p = absurd (true≢false (sym (all-lanes (λ l. nonNeg (reducedCost P T l)) m n (λ i j hi hj. not-negative (reducedCost P T (entering P T)) (reducedCost P T (lane i j)) p (entering-least i j hi hj))) ∙ unfinished))
 
-    pub entering-below : costs S (entering S T .row) (entering S T .col) ≺ rowPotential S T (entering S T .row) ⊕ columnPotential S T (entering S T .col)
-    entering-below = omega (arith, reduced-parts S T (entering S T .row) (entering S T .col), lt-yes (reducedCost S T (entering S T)) (pos 0) entering-negative)
+    pub entering-below : costs P (entering P T .row) (entering P T .col) ≺ rowPotential P T (entering P T .row) ⊕ columnPotential P T (entering P T .col)
+    entering-below = omega (arith, reduced-parts P T (entering P T .row) (entering P T .col), lt-yes (reducedCost P T (entering P T)) (pos 0) entering-negative)
 
     -- On basic lanes it is 0.
-    pub entering-new : Belongs S T → ¬ Basic T (entering S T .row) (entering S T .col)
-    entering-new w b = omega (arith, entering-below, prices-tight ok w (entering S T .row) (entering S T .col) b)
+    pub entering-new : Belongs P T → ¬ Basic T (entering P T .row) (entering P T .col)
+    entering-new w b = omega (arith, entering-below, prices-tight ok w (entering P T .row) (entering P T .col) b)

@@ -3,25 +3,25 @@ use mathlib.Core.Path.{_≡_, refl, ap, sym, _∙_}
 use mathlib.Core.Logic.{_≢_, _⊎_, ⊎-elim, by-cases}
 use mathlib.Core.Bool.{true}
 use mathlib.Core.List.{List, [], _∷_, List·Memᴰ, List·Memᴰ·head, List·Memᴰ·tail, List·Memᴰ·not-nil, List·Memᴰ·cases-cons}
-use Prim.Native.Nat.{ℕ, zero, suc, _+_, _-_, _≤_, _<_}
+use Prim.Native.Nat.{ℕ, suc, _+_, _-_, _≤_, _<_}
 use native.Mathlib.Omega.{arith}
 use native.Mathlib.Decide.{ℕ-discrete}
 use borrow.Author.Tests.{eq-eqb, ne-eqb}
-use lib.IntN.{ℤ, pos, negsuc, negℤ, _-ℤ_}
-use lib.ListN.{length}
-use Rattle.integers.specs.Integer.{Z, _≈_, _⊕_, _⊖_, _⊗_, neg, nat, Within}
+use lib.IntN.{ℤ, pos, negℤ, _-ℤ_}
+use Rattle.integers.specs.Integer.{Z, _≈_, _⊕_, _⊖_, _⊗_, neg, nat}
 use Rattle.integers.specs.Bridge.{toZ, z-add, z-neg, z-eq}
 use Rattle.integers.specs.Sum.{sum, point}
 use Rattle.integers.specs.SumLaws.{sum-zero, sum-cong, sum-add, sum-change, sum-swap, sum-point, point-at, point-off}
-use Rattle.transport.specs.Sheet.{Lane}
-use Rattle.transport.specs.SheetLaws.{lane}
+use Rattle.transport.specs.Problem.{Lane}
+use Rattle.transport.specs.Laws.ProblemLaws.{lane}
 use Rattle.transport.specs.Tableau.{basisSize}
-use Rattle.transport.specs.Leaf.{Strike, strikes, spans}
+use Rattle.transport.specs.Leaf.{Strike, strikes}
+use Rattle.transport.specs.Belonging.{spans}
 use Rattle.transport.specs.Round.{takeFrom, flow, sign}
-use Rattle.transport.specs.RoundLaws.{lane-dec, leftBy, flow-here, flow-later}
+use Rattle.transport.specs.Laws.RoundLaws.{lane-dec, leftBy, flow-here, flow-later}
 use Rattle.network.specs.Flow.{Flow}
 use Rattle.network.specs.FlowLaws.{flow-on}
-use Rattle.network.specs.Basis.{In, unit, flow-unique}
+use Rattle.network.specs.Basis.{In, flow-unique}
 use Rattle.tableaux.specs.Lanes.{Has, Fits, member-dec, on-lane, on-lane-at, on-lane-off, on-lane-row, on-lane-column}
 use Rattle.tableaux.specs.Leaves.{Ends, row-struck, column-struck, ends-differ}
 use Rattle.tableaux.specs.Striking.{Step, Peeled, bare, peel, IsLeaf, Struck, struck-of, lane-once, spans-iff}
@@ -230,19 +230,6 @@ module _ {m n : ℕ} {enter : Lane} (hr : enter .row < m) (hc : enter .col < n) 
     sum-point n (λ j. nat 1) (enter .col) (neg (nat 1)) hc,
   )))
 
--- A sign is 0, 1 or −1.
-pub data Signed (z : ℤ) : Type 0 where
-  off : z ≡ pos 0 → Signed z
-  plus : z ≡ pos 1 → Signed z
-  minus : z ≡ negsuc 0 → Signed z
-
-signed : (z : ℤ) → Within 1 (toZ z) → Signed z
-signed (pos zero) h = off refl
-signed (pos (suc zero)) h = plus refl
-signed (pos (suc (suc k))) h = absurd (omega arith)
-signed (negsuc zero) h = minus refl
-signed (negsuc (suc k)) h = absurd (omega arith)
-
 -- ---- the flow and the signs on lanes that span
 
 module _ {m n : ℕ} {B : List Lane} (p : 1 ≤ m) (h : Fits m n B) (s : spans m n B ≡ true) where
@@ -263,13 +250,3 @@ module _ {m n : ℕ} {B : List Lane} (p : 1 ≤ m) (h : Fits m n B) (s : spans m
     -- No other amounts on these lanes have the same margins.
     pub flow-only : {x y : ℕ → ℕ → Z} {a b : ℕ → Z} → Flow m n (Has B) x a b → Flow m n (Has B) y a b → (i j : ℕ) → i < m → j < n → x i j ≈ y i j
     flow-only f g = flow-unique (spans-basis p q h s) (on-basis f) (on-basis g)
-
-    -- Each sign is −1, 0 or 1, for the lanes are a basis.
-    pub sign-unit : (enter : Lane) → enter .row < m → enter .col < n → (l : Lane) → Signed (sign m (strikes m n B) enter l)
-    unfolding basisSize
-    sign-unit enter hr hc l = by-cases (member-dec l B) (λ d. here (has-in B (l .row) (l .col) .0 d)) (λ d. off (sign-off enter l d))
-      where
-        here : In (rowAt B) (colAt B) (length B) (l .row) (l .col) → Signed (sign m (strikes m n B) enter l)
-        here (k, d, a, b) =
-            let one = unit (spans-basis p q h s) hr hc (on-basis (signs-of enter hr hc)) k (omega (arith, spans-iff p h .0 s .0)) in
-            signed (sign m (strikes m n B) enter l) (rw (← a, ← b) one)

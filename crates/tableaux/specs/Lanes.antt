@@ -8,13 +8,13 @@ use native.Mathlib.Decide.{ℕ-discrete}
 use Rattle.integers.specs.Integer.{Z, _≈_, _⊗_, nat}
 use Rattle.integers.specs.Sum.{sum, point}
 use Rattle.integers.specs.SumLaws.{sum-cong, sum-point, point-at, point-off}
-use Rattle.transport.specs.ListLaws.{member-at, member-place, member-map, map-member}
-use Rattle.transport.specs.Sheet.{Lane}
-use Rattle.transport.specs.SheetLaws.{lane}
-use Rattle.transport.specs.declared.Cell.{Cell}
+use Rattle.transport.specs.Laws.ListLaws.{member-at, member-place, member-map, map-member}
+use Rattle.transport.specs.Problem.{Lane}
+use Rattle.transport.specs.Laws.ProblemLaws.{lane}
 use Rattle.transport.specs.Tableau.{noCell, laneOf, basisOf}
-use Rattle.transport.specs.RoundLaws.{lane-dec}
+use Rattle.transport.specs.Laws.RoundLaws.{lane-dec}
 use Rattle.transport.specs.Statements.{Basic}
+use Rattle.transport.specs.declared.Cell.{Cell}
 use Rattle.tableaux.specs.View.{point-one}
 
 -- ---- lanes of a list

@@ -6,28 +6,29 @@ use mathlib.Core.Path.{_≡_, ap, _∙_}
 use mathlib.Core.Logic.{_↔_, by-cases, Dec·and, ⊎-elim}
 use mathlib.Core.Bool.{true, false≢true}
 use mathlib.Core.List.{List, [], _∷_, map}
-use lib.IntN.{ℤ, pos, negsuc, natAbs}
-use lib.Signed.{nonNeg}
+use lib.IntN.{ℤ, pos, negsuc, natAbs, _*ℤ_}
+use lib.Signed.{nonNeg, _≤ℤ_}
 use lib.ListN.{length, getD, length-map}
 use Rattle.integers.specs.Integer.{Z, _≈_, _≼_, ≈-dec, _⊖_, _⊗_, nat}
 use Rattle.integers.specs.IntegerLaws.{⊗-cong}
-use Rattle.integers.specs.Bridge.{toZ, z-eq, eq-z, z-ev, !, _-'_}
+use Rattle.integers.specs.Bridge.{toZ, z-mul, z-eq, eq-z, le-z, z-ev, !, _-'_}
 use Rattle.network.specs.Flow.{On, Flow, Plan, cost, Feasible, Tight}
 use Rattle.network.specs.FlowLaws.{flow-on, flow-cong, plan-whole}
 use Rattle.network.specs.Duality.{least, least-tight}
 use Rattle.transport.specs.Lists.{at}
-use Rattle.transport.specs.ListLaws.{getD-map}
-use Rattle.transport.specs.Sheet.{Sheet, sources, sinks, Lane, lanes, place, laneCost}
-use Rattle.transport.specs.SheetLaws.{Checked, lane, length-lanes, getD-lanes, place-below, all-lanes-at}
-use Rattle.transport.specs.declared.Cell.{Cell}
+use Rattle.transport.specs.Laws.ListLaws.{getD-map}
+use Rattle.transport.specs.Problem.{Problem, sources, sinks, Lane, lanes, place, laneCost}
+use Rattle.transport.specs.Laws.Sound.{Sound}
+use Rattle.transport.specs.Laws.ProblemLaws.{lane, length-lanes, getD-lanes, place-below, all-lanes-at}
 use Rattle.transport.specs.Amount.{nothing, less}
 use Rattle.transport.specs.Tableau.{noCell}
 use Rattle.transport.specs.Potential.{potential, reducedCost, isFinished}
-use Rattle.transport.specs.Plan.{planCost}
-use Rattle.transport.specs.Statements.{Basic, Belongs, Meets}
+use Rattle.tableaux.specs.ProblemPlans.{flowCost, Fulfils}
+use Rattle.transport.specs.Statements.{Basic, Belongs}
+use Rattle.transport.specs.declared.Cell.{Cell}
 use Rattle.tableaux.specs.View.{amountAt, amount-here, amount-later}
 use Rattle.tableaux.specs.PairLaws.{bags, nothing-parts, less-true}
-use Rattle.tableaux.specs.PlanView.{carried, supplies, demands, costs, meets-plan, plan-meets, cost-planCost}
+use Rattle.tableaux.specs.PlanView.{carried, supplies, demands, costs, fulfils-plan, plan-fulfils, cost-flowCost}
 
 -- ---- the bags of a tableau, as a plan
 
@@ -36,18 +37,18 @@ unfoldable pub bagsOn : List Cell → Lane → ℕ
 bagsOn T l = natAbs (amountAt T (l .row) (l .col) .q)
 
 -- The bags of the tableau, in sheet order.
-unfoldable pub bagsOf : Sheet → List Cell → List ℕ
-bagsOf S T = map (bagsOn T) (lanes (sources S) (sinks S))
+unfoldable pub bagsOf : Problem → List Cell → List ℕ
+bagsOf P T = map (bagsOn T) (lanes (sources P) (sinks P))
 
-length-bagsOf : (S : Sheet) (T : List Cell) → length (bagsOf S T) ≡ sources S * sinks S
+length-bagsOf : (P : Problem) (T : List Cell) → length (bagsOf P T) ≡ sources P * sinks P
 unfolding bagsOf
-length-bagsOf S T = length-map (lanes (sources S) (sinks S)) (bagsOn T) ∙ length-lanes (sources S) (sinks S)
+length-bagsOf P T = length-map (lanes (sources P) (sinks P)) (bagsOn T) ∙ length-lanes (sources P) (sinks P)
 
-bagsOf-at : (S : Sheet) (T : List Cell) (i j : ℕ) → i < sources S → j < sinks S → at (bagsOf S T) (place (sinks S) i j) ≡ bagsOn T (lane i j)
+bagsOf-at : (P : Problem) (T : List Cell) (i j : ℕ) → i < sources P → j < sinks P → at (bagsOf P T) (place (sinks P) i j) ≡ bagsOn T (lane i j)
 unfolding bagsOf at
-bagsOf-at S T i j k l =
-    getD-map (bagsOn T) (lanes (sources S) (sinks S)) (place (sinks S) i j) (lane 0 0) 0 (omega (arith, length-lanes (sources S) (sinks S), place-below (sources S) (sinks S) i j k l))
-    ∙ ap (bagsOn T) (getD-lanes (sources S) (sinks S) i j (lane 0 0) k l)
+bagsOf-at P T i j k l =
+    getD-map (bagsOn T) (lanes (sources P) (sinks P)) (place (sinks P) i j) (lane 0 0) 0 (omega (arith, length-lanes (sources P) (sinks P), place-below (sources P) (sinks P) i j k l))
+    ∙ ap (bagsOn T) (getD-lanes (sources P) (sinks P) i j (lane 0 0) k l)
 
 nat-natAbs : (x : ℤ) → nat 0 ≼ toZ x → nat (natAbs x) ≈ toZ x
 nat-natAbs (pos n) h = omega arith
@@ -61,19 +62,19 @@ amount-nonneg (c ∷ cs) h i j = by-cases (Dec·and (ℕ-discrete (c .row) i) (�
     (λ e. rw (amount-here c cs i j (e .0) (e .1)) (⊎-elim (λ s. omega (arith, nothing-parts)) (λ s. omega (arith, nothing-parts)) (less-true nothing (c .amount) (h 0 (omega arith)))))
     (λ e. rw (amount-later c cs i j e) (amount-nonneg cs (λ k l. h (suc k) (omega arith)) i j))
 
-pub bags-carried : (S : Sheet) (T : List Cell) → Belongs S T → (i j : ℕ) → i < sources S → j < sinks S
-    → carried (sinks S) (bagsOf S T) i j ≈ bags (amountAt T i j)
+pub bags-carried : (P : Problem) (T : List Cell) → Belongs P T → (i j : ℕ) → i < sources P → j < sinks P
+    → carried (sinks P) (bagsOf P T) i j ≈ bags (amountAt T i j)
 unfolding bagsOn
-bags-carried S T belongs i j k l = rw (bagsOf-at S T i j k l) (nat-natAbs (amountAt T i j .q) (amount-nonneg T (belongs .above) i j))
+bags-carried P T belongs i j k l = rw (bagsOf-at P T i j k l) (nat-natAbs (amountAt T i j .q) (amount-nonneg T (belongs .above) i j))
 
-module _ (S : Sheet) (T : List Cell) (belongs : Belongs S T)
-    (flow : Flow (sources S) (sinks S) (Basic T) (λ i j. bags (amountAt T i j)) (supplies S) (demands S)) where
-  pub bagsOf-flow : Flow (sources S) (sinks S) (Basic T) (carried (sinks S) (bagsOf S T)) (supplies S) (demands S)
-  bagsOf-flow = flow-cong (bags-carried S T belongs) flow
+module _ (P : Problem) (T : List Cell) (belongs : Belongs P T)
+    (flow : Flow (sources P) (sinks P) (Basic T) (λ i j. bags (amountAt T i j)) (supplies P) (demands P)) where
+  bagsOf-flow : Flow (sources P) (sinks P) (Basic T) (carried (sinks P) (bagsOf P T)) (supplies P) (demands P)
+  bagsOf-flow = flow-cong (bags-carried P T belongs) flow
 
   -- The tableau's bags are a plan in whole bags that meets the sheet.
-  pub bags-meet : Meets S 1 (bagsOf S T)
-  bags-meet = plan-meets (length-bagsOf S T) (plan-whole bagsOf-flow (λ i j k l. omega arith))
+  pub bags-fulfil : Fulfils P 1 (bagsOf P T)
+  bags-fulfil = plan-fulfils (length-bagsOf P T) (plan-whole bagsOf-flow (λ i j k l. omega arith))
 
 -- ---- least cost
 
@@ -82,70 +83,76 @@ nonNeg-true (pos n) e = omega arith
 nonNeg-true (negsuc n) e = absurd (false≢true e)
 
 -- The potentials of rows and of columns.
-abbrev pub rowPotential : Sheet → List Cell → ℕ → Z
-rowPotential S T i = toZ (potential S T i)
+abbrev pub rowPotential : Problem → List Cell → ℕ → Z
+rowPotential P T i = toZ (potential P T i)
 
-abbrev pub columnPotential : Sheet → List Cell → ℕ → Z
-columnPotential S T j = toZ (potential S T (sources S + j))
+abbrev pub columnPotential : Problem → List Cell → ℕ → Z
+columnPotential P T j = toZ (potential P T (sources P + j))
 
-pub reduced-parts : (S : Sheet) (T : List Cell) (i j : ℕ) → toZ (reducedCost S T (lane i j)) ≈ costs S i j ⊖ rowPotential S T i ⊖ columnPotential S T j
+pub reduced-parts : (P : Problem) (T : List Cell) (i j : ℕ) → toZ (reducedCost P T (lane i j)) ≈ costs P i j ⊖ rowPotential P T i ⊖ columnPotential P T j
 unfolding reducedCost
-reduced-parts S T i j = z-ev (! (laneCost S (lane i j)) -' ! (potential S T i) -' ! (potential S T (sources S + j)))
+reduced-parts P T i j = z-ev (! (laneCost P (lane i j)) -' ! (potential P T i) -' ! (potential P T (sources P + j)))
 
 -- Where the tableau is finished, no reduced cost is negative.
-pub finished-feasible : (S : Sheet) (T : List Cell) → isFinished S T ≡ true → (i j : ℕ) → i < sources S → j < sinks S
-    → Feasible (costs S) (rowPotential S T) (columnPotential S T) i j
+pub finished-feasible : (P : Problem) (T : List Cell) → isFinished P T ≡ true → (i j : ℕ) → i < sources P → j < sinks P
+    → Feasible (costs P) (rowPotential P T) (columnPotential P T) i j
 unfolding isFinished
-finished-feasible S T done i j k l = omega (
+finished-feasible P T done i j k l = omega (
   arith,
-  reduced-parts S T i j,
-  nonNeg-true (reducedCost S T (lane i j)) (all-lanes-at (λ x. nonNeg (reducedCost S T x)) (sources S) (sinks S) i j done k l),
+  reduced-parts P T i j,
+  nonNeg-true (reducedCost P T (lane i j)) (all-lanes-at (λ x. nonNeg (reducedCost P T x)) (sources P) (sinks P) i j done k l),
 )
 
 -- The plan carries nothing on lanes whose reduced cost is not 0.
-abbrev pub OnTight : Sheet → List Cell → List ℕ → Type 0
-OnTight S T Q = (i j : ℕ) → i < sources S → j < sinks S → ¬ (reducedCost S T (lane i j) ≡ pos 0) → at Q (place (sinks S) i j) ≡ 0
+abbrev pub OnTight : Problem → List Cell → List ℕ → Type 0
+OnTight P T Q = (i j : ℕ) → i < sources P → j < sinks P → ¬ (reducedCost P T (lane i j) ≡ pos 0) → at Q (place (sinks P) i j) ≡ 0
 
-module _ (S : Sheet) (ok : Checked S) (T : List Cell) (belongs : Belongs S T)
-    (flow : Flow (sources S) (sinks S) (Basic T) (λ i j. bags (amountAt T i j)) (supplies S) (demands S))
-    (tight : (i j : ℕ) → Basic T i j → Tight (costs S) (rowPotential S T) (columnPotential S T) i j)
-    (done : isFinished S T ≡ true) where
-  ours : Flow (sources S) (sinks S) (Tight (costs S) (rowPotential S T) (columnPotential S T)) (carried (sinks S) (bagsOf S T)) (supplies S) (demands S)
-  ours = flow-on (λ i j k l b. tight i j b) (bagsOf-flow S T belongs flow)
+module _ (P : Problem) (ok : Sound P) (T : List Cell) (belongs : Belongs P T)
+    (flow : Flow (sources P) (sinks P) (Basic T) (λ i j. bags (amountAt T i j)) (supplies P) (demands P))
+    (tight : (i j : ℕ) → Basic T i j → Tight (costs P) (rowPotential P T) (columnPotential P T) i j)
+    (done : isFinished P T ≡ true) where
+  ours : Flow (sources P) (sinks P) (Tight (costs P) (rowPotential P T) (columnPotential P T)) (carried (sinks P) (bagsOf P T)) (supplies P) (demands P)
+  ours = flow-on (λ i j k l b. tight i j b) (bagsOf-flow P T belongs flow)
 
-  our-cost : cost (sources S) (sinks S) (costs S) (carried (sinks S) (bagsOf S T)) ≈ nat (planCost S (bagsOf S T))
-  our-cost = cost-planCost S (bagsOf S T) (ok .costLength)
+  our-cost : cost (sources P) (sinks P) (costs P) (carried (sinks P) (bagsOf P T)) ≈ toZ (flowCost P (bagsOf P T))
+  our-cost = cost-flowCost P (bagsOf P T)
 
-  module _ (k : ℕ) (Q : List ℕ) (meets : Meets S k Q) where
-    theirs : Plan (sources S) (sinks S) (Feasible (costs S) (rowPotential S T) (columnPotential S T)) k (carried (sinks S) Q) (supplies S) (demands S)
-    theirs = meets-plan (λ i j h l e. finished-feasible S T done i j h l) meets
+  module _ (k : ℕ) (Q : List ℕ) (meets : Fulfils P k Q) where
+    theirs : Plan (sources P) (sinks P) (Feasible (costs P) (rowPotential P T) (columnPotential P T)) k (carried (sinks P) Q) (supplies P) (demands P)
+    theirs = fulfils-plan (λ i j h l e. finished-feasible P T done i j h l) meets
 
-    times : nat k ⊗ cost (sources S) (sinks S) (costs S) (carried (sinks S) (bagsOf S T)) ≈ nat (k * planCost S (bagsOf S T))
-    times = omega (arith, ⊗-cong (nat k) (cost (sources S) (sinks S) (costs S) (carried (sinks S) (bagsOf S T))) (nat (planCost S (bagsOf S T))) our-cost)
+    times : nat k ⊗ cost (sources P) (sinks P) (costs P) (carried (sinks P) (bagsOf P T)) ≈ toZ (pos k *ℤ flowCost P (bagsOf P T))
+    times = omega (
+      arith,
+      ⊗-cong (nat k) (cost (sources P) (sinks P) (costs P) (carried (sinks P) (bagsOf P T))) (toZ (flowCost P (bagsOf P T))) our-cost,
+      z-mul (pos k) (flowCost P (bagsOf P T)),
+    )
 
     -- Optimality. The potentials' worth of the supplies and demands bounds the cost of every plan from below, for no reduced cost is negative; and the tableau's
     -- bags cost just that, for they are on basic cells, where the reduced cost is 0.
-    pub bags-least : k * planCost S (bagsOf S T) ≤ planCost S Q
-    bags-least = omega (arith, times, cost-planCost S Q (ok .costLength), least (costs S) (rowPotential S T) (columnPotential S T) ours theirs)
+    pub bags-least : (pos k *ℤ flowCost P (bagsOf P T)) ≤ℤ flowCost P Q
+    bags-least =
+        le-z (pos k *ℤ flowCost P (bagsOf P T)) (flowCost P Q)
+        (omega (arith, times, cost-flowCost P Q, least (costs P) (rowPotential P T) (columnPotential P T) ours theirs))
 
     -- A plan costs as little exactly if it is on lanes with reduced cost 0.
-    pub bags-least-exactly : (planCost S Q ≡ k * planCost S (bagsOf S T)) ↔ OnTight S T Q
+    pub bags-least-exactly : (flowCost P Q ≡ (pos k *ℤ flowCost P (bagsOf P T))) ↔ OnTight P T Q
     bags-least-exactly = (
-      (λ e i j h l r. by-cases (ℕ-discrete (at Q (place (sinks S) i j)) 0) (λ z. z) (λ z. absurd (r (eq-z (reducedCost S T (lane i j)) (pos 0) (omega (
+      (λ e i j h l r. by-cases (ℕ-discrete (at Q (place (sinks P) i j)) 0) (λ z. z) (λ z. absurd (r (eq-z (reducedCost P T (lane i j)) (pos 0) (omega (
         arith,
-        reduced-parts S T i j,
-        same-cost .0 (omega (arith, times, cost-planCost S Q (ok .costLength))) i j h l (omega arith),
+        reduced-parts P T i j,
+        same-cost .0 (omega (arith, times, cost-flowCost P Q, z-eq e)) i j h l (omega arith),
       )))))),
-      (λ t. omega (
+      (λ t. eq-z (flowCost P Q) (pos k *ℤ flowCost P (bagsOf P T)) (omega (
         arith,
         times,
-        cost-planCost S Q (ok .costLength),
-        same-cost .1 (λ i j h l e. by-cases (≈-dec (toZ (reducedCost S T (lane i j))) (nat 0))
-            (λ z. omega (arith, reduced-parts S T i j))
+        cost-flowCost P Q,
+        same-cost .1 (λ i j h l e. by-cases (≈-dec (toZ (reducedCost P T (lane i j))) (nat 0))
+            (λ z. omega (arith, reduced-parts P T i j))
             (λ z. absurd (e (omega (arith, t i j h l (λ r. z (z-eq r))))))),
-      )),
+      ))),
     )
       where
-        same-cost : (cost (sources S) (sinks S) (costs S) (carried (sinks S) Q) ≈ nat k ⊗ cost (sources S) (sinks S) (costs S) (carried (sinks S) (bagsOf S T)))
-            ↔ On (sources S) (sinks S) (Tight (costs S) (rowPotential S T) (columnPotential S T)) (carried (sinks S) Q)
-        same-cost = least-tight (costs S) (rowPotential S T) (columnPotential S T) ours theirs
+        same-cost : (cost (sources P) (sinks P) (costs P) (carried (sinks P) Q) ≈ nat k ⊗ cost (sources P) (sinks P) (costs P) (carried (sinks P) (bagsOf P T)))
+            ↔ On (sources P) (sinks P) (Tight (costs P) (rowPotential P T) (columnPotential P T)) (carried (sinks P) Q)
+        same-cost = least-tight (costs P) (rowPotential P T) (columnPotential P T) ours theirs

@@ -11,9 +11,9 @@ use borrow.Author.Tests.{eqb-true, eqb-false, eq-eqb, ne-eqb, not-true}
 use lib.Dec.{eqb}
 use lib.ListN.{length}
 use Rattle.transport.specs.Lists.{keep, sumTo}
-use Rattle.transport.specs.ListLaws.{keep-yes, keep-no, keep-member, member-keep, and-left, and-right, sumTo-cong, sumTo-none, sumTo-add, sumTo-le, sumTo-scale}
-use Rattle.transport.specs.Sheet.{Lane}
-use Rattle.transport.specs.SheetLaws.{lane}
+use Rattle.transport.specs.Laws.ListLaws.{keep-yes, keep-no, keep-member, member-keep, and-left, and-right, sumTo-cong, sumTo-none, sumTo-add, sumTo-le, sumTo-scale}
+use Rattle.transport.specs.Problem.{Lane}
+use Rattle.transport.specs.Laws.ProblemLaws.{lane}
 use Rattle.transport.specs.Leaf.{Strike, touches, strikeAt, onlyOne, firstLeaf}
 use Rattle.network.specs.Cut.{bit-le}
 use Rattle.tableaux.specs.Lanes.{Fits}
@@ -120,7 +120,7 @@ found m (k ∷ ks) B s e = go (at-node m k B) refl (found m ks B s)
     go (l ∷ h ∷ ls) q rest = later (rw q) rest
 
 -- .. and none found means that no node of the list has a single lane.
-pub missed : (m : ℕ) (nodes : List ℕ) (B : List Lane) → firstLeaf m nodes B ≡ none → (k : ℕ) → List·Memᴰ k nodes → length (at-node m k B) ≢ 1
+missed : (m : ℕ) (nodes : List ℕ) (B : List Lane) → firstLeaf m nodes B ≡ none → (k : ℕ) → List·Memᴰ k nodes → length (at-node m k B) ≢ 1
 unfolding firstLeaf onlyOne
 missed m [] B e k h = absurd (List·Memᴰ·not-nil h)
 missed m (j ∷ ks) B e k h = go (at-node m j B) refl (missed m ks B) (List·Memᴰ·cases-cons h)
@@ -138,7 +138,7 @@ missed m (j ∷ ks) B e k h = go (at-node m j B) refl (missed m ks B) (List·Mem
 
 -- ---- degrees: they add up to twice the lanes
 
-abbrev pub degree : ℕ → List Lane → ℕ → ℕ
+abbrev degree : ℕ → List Lane → ℕ → ℕ
 degree m B k = length (at-node m k B)
 
 touches-bits : (m k : ℕ) (l : Lane) → l .row < m → cond (touches m k l) 1 0 ≡ one-at (l .row) k + one-at (m + l .col) k

@@ -7,8 +7,10 @@ pub mod Bases
 pub mod Flows
 pub mod Potentials
 pub mod Belonging
+pub mod Prices
 pub mod Loop
 pub mod Starting
+pub mod ProblemPlans
 pub mod PlanView
 pub mod Least
 pub mod Entering

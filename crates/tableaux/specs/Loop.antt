@@ -1,63 +1,29 @@
 -- The loop that the entering lane closes with the basic lanes: there is one, and the signs alternate round it and are 0 off it.
 use mathlib.Core.Path.{_≡_, refl, ap, sym, _∙_}
 use mathlib.Core.Logic.{_≢_, _⊎_, inl, inr, ⊎-elim, by-cases}
-use mathlib.Core.Bool.{true}
 use mathlib.Core.List.{List, [], _∷_, _++_, List·Memᴰ, List·Memᴰ·head, List·Memᴰ·tail, List·Memᴰ·not-nil, List·Memᴰ·cases-cons, List·Memᴰ·append-cases, List·Memᴰ·eq-of-singleton, Memᴰ·cast}
-use Prim.Native.Nat.{ℕ, suc, _+_, _*_, _≤_, _<_}
+use Prim.Native.Nat.{ℕ, _+_, _<_}
 use native.Mathlib.Omega.{arith}
 use native.Mathlib.Decide.{ℕ-discrete}
 use lib.IntN.{ℤ, pos, negsuc}
-use lib.ListN.{length}
 use Rattle.integers.specs.Integer.{Z, _≈_, _⊕_, neg, nat}
 use Rattle.integers.specs.Bridge.{toZ, z-eq, eq-z}
 use Rattle.integers.specs.Sum.{sum, point}
 use Rattle.integers.specs.SumLaws.{sum-add}
-use Rattle.transport.specs.Sheet.{Sheet, sources, sinks, Lane}
-use Rattle.transport.specs.SheetLaws.{Checked, lane}
-use Rattle.transport.specs.declared.Cell.{Cell}
+use Rattle.transport.specs.Problem.{Problem, sources, sinks, Lane}
+use Rattle.transport.specs.Laws.Sound.{Sound}
+use Rattle.transport.specs.Laws.ProblemLaws.{lane}
 use Rattle.transport.specs.Tableau.{basisOf}
-use Rattle.transport.specs.Leaf.{Strike, strikes, spans}
-use Rattle.transport.specs.Round.{sign}
-use Rattle.transport.specs.Statements.{Basic, Belongs}
+use Rattle.transport.specs.Leaf.{Strike, strikes}
+use Rattle.transport.specs.Statements.{Basic, Belongs, Way, closes, goes, Apart, empty, fresh, Loop, Alternate, none, pair, basicSign, loopSign, OneLoop}
+use Rattle.transport.specs.Laws.RoundLaws.{lane-same, lane-other}
+use Rattle.transport.specs.declared.Cell.{Cell}
 use Rattle.network.specs.Flow.{Flow}
 use Rattle.tableaux.specs.Lanes.{Has, Fits, has-basic, member-dec, on-lane, on-lane-at, on-lane-off, on-lane-row, on-lane-column}
 use Rattle.tableaux.specs.Leaves.{Ends, row-struck, column-struck}
 use Rattle.tableaux.specs.Striking.{Peeled, bare, peel, Struck, struck-of, lane-once, Live, live-later, Hung, hung-later, hung-first, struck-live, struck-hung}
 use Rattle.tableaux.specs.Flows.{point-neg, signs-of, sign-off, flow-only}
 use Rattle.tableaux.specs.Belonging.{fits-of, spans-of}
-
--- ---- the loop, as the paper says it
-
--- The way round, from lane k on: a lane in its row, then a lane in that one's column, and so on, until a lane stands in the column of the entering lane.
-pub data Way (enter : Lane) : Lane → List Lane → Type 0 where
-  closes : {k l : Lane} → l .row ≡ k .row → l .col ≡ enter .col → Way enter k (l ∷ [])
-  goes : {k l p : Lane} {ls : List Lane} → l .row ≡ k .row → p .col ≡ l .col → Way enter p ls → Way enter k (l ∷ p ∷ ls)
-
--- No lane stands twice in the list.
-pub data Apart : List Lane → Type 0 where
-  empty : Apart []
-  fresh : {l : Lane} {ls : List Lane} → (List·Memᴰ l ls → ⊥) → Apart ls → Apart (l ∷ ls)
-
--- The entering lane and the others, all of them basic, are a loop: round from the entering lane back to it, and no lane twice.
-pub record Loop (B : List Lane) (enter : Lane) (others : List Lane) : Type 0 where
-  pub way : Way enter enter others
-  pub apart : Apart (enter ∷ others)
-  pub basic : (l : Lane) → List·Memᴰ l others → List·Memᴰ l B
-
--- Minus, plus, minus and so on.
-pub data Alternate (signOf : Lane → ℤ) : List Lane → Type 0 where
-  single : {l : Lane} → signOf l ≡ negsuc 0 → Alternate signOf (l ∷ [])
-  pair : {l p : Lane} {ls : List Lane} → signOf l ≡ negsuc 0 → signOf p ≡ pos 1 → Alternate signOf ls → Alternate signOf (l ∷ p ∷ ls)
-
--- With a plus at the entering lane, the signs alternate round the loop, and no other lane has one.
-pub record Signs (signOf : Lane → ℤ) (others : List Lane) : Type 0 where
-  pub alternate : Alternate signOf others
-  pub all : (l : Lane) → signOf l ≢ pos 0 → List·Memᴰ l others
-
--- A loop has an even number of lanes, four or more.
-way-odd : {enter k : Lane} {ls : List Lane} → Way enter k ls → (h : ℕ) × (suc (length ls) ≡ 2 * suc h)
-way-odd (closes a b) = (0, omega arith)
-way-odd (goes a b rest) = let (h, e) = way-odd rest in (suc h, omega arith)
 
 -- ---- there is a loop
 
@@ -197,12 +163,13 @@ turn-column {m} {n} h (goes {l} {p} {ls} a b rest) j = omega (
     same-column : point (l .col) (neg (nat 1)) j ≈ point (p .col) (neg (nat 1)) j
     same-column = rw b (omega arith)
 
--- Signs that agree with them alternate.
-turn-alternate : {signOf : Lane → ℤ} {enter k : Lane} {ls : List Lane} → Way enter k ls → Apart ls
-    → ((l : Lane) → List·Memᴰ l ls → turn ls (l .row) (l .col) ≈ toZ (signOf l)) → Alternate signOf ls
+-- Signs that are 1 where the way begins and agree with them on it alternate.
+turn-alternate : {signOf : Lane → ℤ} {enter k : Lane} {ls : List Lane} → Way enter k ls → Apart ls → signOf k ≡ pos 1
+    → ((l : Lane) → List·Memᴰ l ls → turn ls (l .row) (l .col) ≈ toZ (signOf l)) → Alternate signOf (k ∷ ls)
 unfolding turn
-turn-alternate {signOf} (closes {l} a b) s h = single (eq-z (signOf l) (negsuc 0) (omega (arith, h l (List·Memᴰ·head refl), on-lane-at l (neg (nat 1)))))
-turn-alternate {signOf} (goes {l} {p} {ls} a b rest) (fresh d (fresh e s)) h = pair
+turn-alternate {signOf} (closes {l} a b) s one h =
+    pair one (eq-z (signOf l) (negsuc 0) (omega (arith, h l (List·Memᴰ·head refl), on-lane-at l (neg (nat 1))))) none
+turn-alternate {signOf} (goes {l} {p} {ls} a b rest) (fresh d (fresh e s)) one h = pair one
     (eq-z (signOf l) (negsuc 0) (omega (
       arith,
       h l (List·Memᴰ·head refl),
@@ -210,6 +177,7 @@ turn-alternate {signOf} (goes {l} {p} {ls} a b rest) (fresh d (fresh e s)) h = p
       on-lane-off p (nat 1) (l .row) (l .col) (λ q. d (List·Memᴰ·head q)),
       turn-off ls (l .row) (l .col) (λ q. d (List·Memᴰ·tail q)),
     )))
+    (turn-alternate rest s
     (eq-z (signOf p) (pos 1) (omega (
       arith,
       h p (List·Memᴰ·tail (List·Memᴰ·head refl)),
@@ -217,7 +185,7 @@ turn-alternate {signOf} (goes {l} {p} {ls} a b rest) (fresh d (fresh e s)) h = p
       on-lane-at p (nat 1),
       turn-off ls (p .row) (p .col) e,
     )))
-    (turn-alternate rest s (λ x r. omega (
+    (λ x r. omega (
       arith,
       h x (List·Memᴰ·tail (List·Memᴰ·tail r)),
       on-lane-off l (neg (nat 1)) (x .row) (x .col) (λ q. d (List·Memᴰ·tail (Memᴰ·cast (sym q) r))),
@@ -225,67 +193,109 @@ turn-alternate {signOf} (goes {l} {p} {ls} a b rest) (fresh d (fresh e s)) h = p
     )))
 
 alternate-sign : {signOf : Lane → ℤ} {ls : List Lane} → Alternate signOf ls → (l : Lane) → List·Memᴰ l ls → signOf l ≢ pos 0
-alternate-sign {signOf} (single a) l h z = omega (arith, z-eq a, z-eq z, z-eq (ap signOf (List·Memᴰ·eq-of-singleton h)))
+alternate-sign none l h z = List·Memᴰ·not-nil h
 alternate-sign {signOf} (pair a b rest) l h z = ⊎-elim
     (λ e. omega (arith, z-eq a, z-eq z, z-eq (ap signOf e)))
     (λ k. ⊎-elim (λ e. omega (arith, z-eq b, z-eq z, z-eq (ap signOf e))) (λ r. alternate-sign rest l r z) (List·Memᴰ·cases-cons k))
     (List·Memᴰ·cases-cons h)
 
--- ---- the theorems
+-- ---- the theorem
 
-module _ {m n : ℕ} {B : List Lane} (p : 1 ≤ m) (q : 1 ≤ n) (h : Fits m n B) (s : spans m n B ≡ true) {enter : Lane} (hr : enter .row < m) (hc : enter .col < n) where
+module _ {P : Problem} {T : List Cell} (ok : Sound P) (w : Belongs P T) {enter : Lane} (hr : enter .row < sources P) (hc : enter .col < sinks P) where
+  abbrev m : ℕ
+  m = sources P
+
+  abbrev n : ℕ
+  n = sinks P
+
+  abbrev B : List Lane
+  B = basisOf T
+
+  fits : Fits m n B
+  fits = fits-of ok w
+
+  basic-lane : (l : Lane) → List·Memᴰ l B → Basic T (l .row) (l .col)
+  basic-lane l = has-basic T (l .row) (l .col) .0
+
+  lane-basic : (l : Lane) → Basic T (l .row) (l .col) → List·Memᴰ l B
+  lane-basic l = has-basic T (l .row) (l .col) .1
+
   -- With the basic lanes an entering lane that is not one of them closes a loop: there is a walk from its row to its column, and it leads back.
-  pub loop-exists : ¬ List·Memᴰ enter B → (others : List Lane) × Loop B enter others
+  loop-exists : ¬ Basic T (enter .row) (enter .col) → (others : List Lane) × Loop T enter others
   loop-exists new = (
     v .lanes,
     record {
-      way = walk-way enter hr (λ l k. h l (basic l k) .0) (v .walk);
-      apart = fresh (λ k. new (basic enter k)) (v .apart);
-      basic = basic;
+      way = walk-way enter hr (λ l k. fits l (used l k) .0) (v .walk);
+      apart = fresh (λ k. new (basic-lane enter (used enter k))) (v .apart);
+      basic = λ l k. basic-lane l (used l k);
     },
   )
     where
       st : Struck m n B (strikes m n B)
-      st = struck-of p h s
+      st = struck-of (ok .sourcesLow) fits (spans-of ok w)
 
       v : Walked m (strikes m n B) (enter .row) (m + enter .col)
-      v = walked (st .peels) (struck-hung st) (enter .row) (m + enter .col) (struck-live st (enter .row) (omega arith)) (struck-live st (m + enter .col) (omega arith))
+      v = walked (st .peels) (struck-hung st) (enter .row) (m + enter .col)
+          (struck-live st (enter .row) (omega arith)) (struck-live st (m + enter .col) (omega arith))
 
-      basic : (l : Lane) → List·Memᴰ l (v .lanes) → List·Memᴰ l B
-      basic l k = let (t, r, e) = v .used l k in rw e at (st .lanes t r)
+      used : (l : Lane) → List·Memᴰ l (v .lanes) → List·Memᴰ l B
+      used l k = let (t, r, e) = v .used l k in rw e at (st .lanes t r)
 
-  -- Round any loop the signs alternate, and they are 0 off it: −1 and 1 in turn on its lanes are a flow with the margins of the signs, and no other flow has these.
-  pub loop-signs : {others : List Lane} → Loop B enter others → Signs (sign m (strikes m n B) enter) others
-  loop-signs {others} w = record {
-    alternate = turn-alternate (w .way) (tail (w .apart)) (λ l k. agree l (w .basic l k));
-    all = λ l d. by-cases (member-dec l others) (λ k. k) (λ k. absurd (d (by-cases (member-dec l B)
-        (λ r. eq-z (sign m (strikes m n B) enter l) (pos 0) (omega (arith, agree l r, turn-off others (l .row) (l .col) k)))
-        (sign-off p h s enter l))));
-  }
+  -- The sign of a lane that does not enter is that of the basic cells.
+  sign-other : (l : Lane) → l ≢ enter → loopSign P T enter l ≡ basicSign P T enter l
+  unfolding loopSign
+  sign-other l d = rw (lane-other l enter d)
+
+  sign-enter : loopSign P T enter enter ≡ pos 1
+  unfolding loopSign
+  sign-enter = rw (lane-same enter)
+
+  -- On the lanes of any loop the signs are −1 and 1 in turn, and they are 0 off it: these are a flow with the margins of the signs, and no other flow has them.
+  loop-agree : {others : List Lane} → Loop T enter others → (l : Lane) → List·Memᴰ l B → turn others (l .row) (l .col) ≈ toZ (basicSign P T enter l)
+  loop-agree {others} v l k =
+      flow-only (ok .sourcesLow) fits (spans-of ok w) (ok .sinksLow) turns (signs-of (ok .sourcesLow) fits (spans-of ok w) enter hr hc)
+      (l .row) (l .col) (fits l k .0) (fits l k .1)
     where
-      tail : {l : Lane} {ls : List Lane} → Apart (l ∷ ls) → Apart ls
-      tail (fresh d rest) = rest
-
-      fits : Fits m n others
-      fits l k = h l (w .basic l k)
+      inside : Fits m n others
+      inside l k = fits l (lane-basic l (v .basic l k))
 
       turns : Flow m n (Has B) (turn others) (point (enter .row) (neg (nat 1))) (point (enter .col) (neg (nat 1)))
       turns = record {
-        on = λ i j hi hj e. by-cases (member-dec (lane i j) others) (w .basic (lane i j)) (λ d. absurd (e (turn-off others i j d)));
-        rows = λ i l. turn-row fits (w .way) i;
-        cols = λ j l. turn-column fits (w .way) j;
+        on = λ i j hi hj e. by-cases (member-dec (lane i j) others)
+            (λ k. lane-basic (lane i j) (v .basic (lane i j) k))
+            (λ d. absurd (e (turn-off others i j d)));
+        rows = λ i l. turn-row inside (v .way) i;
+        cols = λ j l. turn-column inside (v .way) j;
       }
 
-      agree : (l : Lane) → List·Memᴰ l B → turn others (l .row) (l .col) ≈ toZ (sign m (strikes m n B) enter l)
-      agree l k = flow-only p h s q turns (signs-of p h s enter hr hc) (l .row) (l .col) (h l k .0) (h l k .1)
+  loop-alternate : {others : List Lane} → Loop T enter others → Alternate (loopSign P T enter) (enter ∷ others)
+  loop-alternate {others} v = go (v .apart)
+    where
+      go : Apart (enter ∷ others) → Alternate (loopSign P T enter) (enter ∷ others)
+      go (fresh d rest) = turn-alternate (v .way) rest sign-enter
+          (λ l k. rw (sign-other l (λ e. d (Memᴰ·cast (sym e) k))) (loop-agree v l (lane-basic l (v .basic l k))))
+
+  loop-off : {others : List Lane} → Loop T enter others → (l : Lane) → ¬ List·Memᴰ l (enter ∷ others) → loopSign P T enter l ≡ pos 0
+  loop-off {others} v l d = sign-other l (λ e. d (List·Memᴰ·head e)) ∙ by-cases (member-dec l B)
+      (λ r. eq-z (basicSign P T enter l) (pos 0) (omega (arith, loop-agree v l r, turn-off others (l .row) (l .col) (λ k. d (List·Memᴰ·tail k)))))
+      (sign-off (ok .sourcesLow) fits (spans-of ok w) enter l)
 
   -- So there is one loop only: any two have the same lanes, those with a sign.
-  pub loop-one : {others others′ : List Lane} → Loop B enter others → Loop B enter others′ → (l : Lane) → List·Memᴰ l others → List·Memᴰ l others′
-  loop-one w v l k = loop-signs v .all l (alternate-sign (loop-signs w .alternate) l k)
+  loop-same : {others lanes : List Lane} → Loop T enter others → Loop T enter lanes → (l : Lane) → List·Memᴰ l lanes → List·Memᴰ l others
+  loop-same {others} {lanes} v x l k = go (x .apart)
+    where
+      go : Apart (enter ∷ lanes) → List·Memᴰ l others
+      go (fresh d rest) = by-cases (member-dec l others) (λ r. r) (λ r. absurd (alternate-sign (loop-alternate x) l (List·Memᴰ·tail k)
+          (loop-off v l (λ h. ⊎-elim (λ e. d (Memᴰ·cast (sym e) k)) r (List·Memᴰ·cases-cons h)))))
 
--- The sentence of the paper: with the basic cells of a tableau the entering lane closes one loop, and going round it, signs alternate.
-pub loop-of : {S : Sheet} {T : List Cell} {enter : Lane} → Checked S → Belongs S T → enter .row < sources S → enter .col < sinks S
-    → ¬ Basic T (enter .row) (enter .col) → (others : List Lane) × Loop (basisOf T) enter others × Signs (sign (sources S) (strikes (sources S) (sinks S) (basisOf T)) enter) others
-loop-of {S} {T} {enter} c b hr hc new =
-    let (others, w) = loop-exists (c .sourcesLow) (c .sinksLow) (fits-of c b) (spans-of c b) hr hc (λ h. new (has-basic T (enter .row) (enter .col) .0 h)) in
-    (others, w, loop-signs (c .sourcesLow) (c .sinksLow) (fits-of c b) (spans-of c b) hr hc w)
+  -- The sentence of the paper: with the basic cells of a tableau the entering lane closes one loop; going round it, signs alternate, plus at the entering lane.
+  pub one-loop : ¬ Basic T (enter .row) (enter .col) → OneLoop P T enter
+  one-loop new =
+      let (others, v) = loop-exists new in
+      record {
+        others = others;
+        loop = v;
+        one = λ lanes x l. (loop-same v x l, loop-same x v l);
+        alternate = loop-alternate v;
+        off = loop-off v;
+      }

@@ -10,12 +10,12 @@ use borrow.Author.Tests.{ltb-true, ltb-false}
 use lib.Dec.{ltb}
 use lib.ListN.{length, getD}
 use Rattle.transport.specs.Lists.{keep}
-use Rattle.transport.specs.ListLaws.{member-at, member-place, map-member, keep-member}
-use Rattle.transport.specs.Sheet.{place}
-use Rattle.transport.specs.declared.Cell.{Cell}
+use Rattle.transport.specs.Laws.ListLaws.{member-at, member-place, map-member, keep-member}
+use Rattle.transport.specs.Problem.{place}
 use Rattle.transport.specs.Tableau.{noCell}
 use Rattle.transport.specs.Round.{insert}
 use Rattle.transport.specs.Statements.{Basic}
+use Rattle.transport.specs.declared.Cell.{Cell}
 use Rattle.tableaux.specs.View.{rowOf, colOf, Distinct, amountAt, amount-at}
 
 -- ---- members and basic lanes
@@ -62,7 +62,7 @@ abbrev pub placeOf : ℕ → Cell → ℕ
 placeOf n c = place n (c .row) (c .col)
 
 -- Every cell of the list stands after place p.
-abbrev pub After : ℕ → ℕ → List Cell → Type 0
+abbrev After : ℕ → ℕ → List Cell → Type 0
 After n p T = (c : Cell) → List·Memᴰ c T → p < placeOf n c
 
 abbrev pub Ordered : ℕ → List Cell → Type 0

@@ -13,10 +13,10 @@ use Rattle.integers.specs.SumLaws.{point-at, point-off}
 use Rattle.integers.specs.Tests.{lt-yes, lt-no, yes-lt}
 use Rattle.network.specs.Pivot.{PairLess}
 use Rattle.transport.specs.Lists.{at}
-use Rattle.transport.specs.Sheet.{Sheet, sources, sinks}
-use Rattle.transport.specs.declared.Pair.{Pair}
+use Rattle.transport.specs.Problem.{Problem, sources, sinks}
 use Rattle.transport.specs.Amount.{nothing, add, subtract, less, pairedSupply, pairedDemand}
-use Rattle.transport.specs.AmountLaws.{less-q, less-e, less-no, Compared, fewer, equal, more, compared}
+use Rattle.transport.specs.Laws.AmountLaws.{less-q, less-e, less-no, Compared, fewer, equal, more, compared}
+use Rattle.transport.specs.declared.Pair.{Pair}
 
 -- ---- parts
 
@@ -70,7 +70,7 @@ subtract-nothing a b e =
 abbrev pub Less : Pair → Pair → Type 0
 Less a b = PairLess (bags a) (marks a) (bags b) (marks b)
 
-abbrev pub AtMost : Pair → Pair → Type 0
+abbrev AtMost : Pair → Pair → Type 0
 AtMost a b = (bags a ≺ bags b) ⊎ ((bags a ≈ bags b) × (marks a ≼ marks b))
 
 pub less-true : (a b : Pair) → less a b ≡ true → Less a b
@@ -93,6 +93,16 @@ pub true-less : (a b : Pair) → Less a b → less a b ≡ true
 true-less a b (inl s) = less-q a b (yes-lt (a .q) (b .q) s)
 true-less a b (inr s) = less-e a b (eq-z (a .q) (b .q) (s .0)) ∙ yes-lt (a .e) (b .e) (s .1)
 
+-- Of two different pairs one is smaller.
+pub less-tie : (a b : Pair) → less a b ≡ false → less b a ≡ false → a ≡ b
+less-tie a b p q = go (less-false a b p) (less-false b a q)
+  where
+    go : AtMost b a → AtMost a b → a ≡ b
+    go (inl s) (inl t) = absurd (omega arith)
+    go (inl s) (inr t) = absurd (omega arith)
+    go (inr s) (inl t) = absurd (omega arith)
+    go (inr s) (inr t) = pair-eq a b (omega arith) (omega arith)
+
 -- What is left of a greater pair is above (0, 0).
 pub subtract-above : (a b : Pair) → less a b ≡ true → less nothing (subtract b a) ≡ true
 subtract-above a b p =
@@ -104,25 +114,25 @@ subtract-above a b p =
 
 -- ---- paired supplies and demands
 
-pub pairedSupply-parts : (S : Sheet) (i : ℕ) → (bags (pairedSupply S i) ≈ nat (at (S .supply) i)) × (marks (pairedSupply S i) ≈ nat 1)
+pub pairedSupply-parts : (P : Problem) (i : ℕ) → (bags (pairedSupply P i) ≈ nat (at (P .supply) i)) × (marks (pairedSupply P i) ≈ nat 1)
 unfolding pairedSupply
-pairedSupply-parts S i = omega arith
+pairedSupply-parts P i = omega arith
 
-pub pairedDemand-bags : (S : Sheet) (j : ℕ) → bags (pairedDemand S j) ≈ nat (at (S .demand) j)
+pub pairedDemand-bags : (P : Problem) (j : ℕ) → bags (pairedDemand P j) ≈ nat (at (P .demand) j)
 unfolding pairedDemand
-pairedDemand-bags S j = omega arith
+pairedDemand-bags P j = omega arith
 
-pub pairedDemand-last : (S : Sheet) (j : ℕ) → suc j ≡ sinks S → marks (pairedDemand S j) ≈ nat (sources S)
+pub pairedDemand-last : (P : Problem) (j : ℕ) → suc j ≡ sinks P → marks (pairedDemand P j) ≈ nat (sources P)
 unfolding pairedDemand
-pairedDemand-last S j e = rw (eq-eqb j (sinks S - 1) (omega arith)) (omega arith)
+pairedDemand-last P j e = rw (eq-eqb j (sinks P - 1) (omega arith)) (omega arith)
 
-pub pairedDemand-early : (S : Sheet) (j : ℕ) → suc j < sinks S → marks (pairedDemand S j) ≈ nat 0
+pub pairedDemand-early : (P : Problem) (j : ℕ) → suc j < sinks P → marks (pairedDemand P j) ≈ nat 0
 unfolding pairedDemand
-pairedDemand-early S j l = rw (ne-eqb j (sinks S - 1) (omega arith)) (omega arith)
+pairedDemand-early P j l = rw (ne-eqb j (sinks P - 1) (omega arith)) (omega arith)
 
 -- All marks go to the last sink.
-pub demand-marks : (S : Sheet) (j : ℕ) → point (sinks S - 1) (nat (sources S)) j ≈ marks (pairedDemand S j)
+pub demand-marks : (P : Problem) (j : ℕ) → point (sinks P - 1) (nat (sources P)) j ≈ marks (pairedDemand P j)
 unfolding pairedDemand
-demand-marks S j = by-cases (ℕ-discrete j (sinks S - 1))
-    (λ e. rw (e, point-at (sinks S - 1) (nat (sources S)), eq-eqb (sinks S - 1) (sinks S - 1) refl) (omega arith))
-    (λ e. rw (point-off (sinks S - 1) (nat (sources S)) j e, ne-eqb j (sinks S - 1) e) (omega arith))
+demand-marks P j = by-cases (ℕ-discrete j (sinks P - 1))
+    (λ e. rw (e, point-at (sinks P - 1) (nat (sources P)), eq-eqb (sinks P - 1) (sinks P - 1) refl) (omega arith))
+    (λ e. rw (point-off (sinks P - 1) (nat (sources P)) j e, ne-eqb j (sinks P - 1) e) (omega arith))

@@ -10,19 +10,19 @@ use lib.IntN.{ℤ, pos}
 use lib.Signed.{ltZ}
 use lib.ListN.{length, getD, length-map}
 use Rattle.transport.specs.Lists.{keep}
-use Rattle.transport.specs.ListLaws.{member-at, member-place, member-keep, keep-member, member-map, map-member, keep-yes, keep-no, keep-all, all-of, by-key, FirstLeast, firstLeast-is}
-use Rattle.transport.specs.Sheet.{Lane, place}
-use Rattle.transport.specs.SheetLaws.{lane, place-injective}
-use Rattle.transport.specs.declared.Pair.{Pair}
+use Rattle.transport.specs.Laws.ListLaws.{member-at, member-place, member-keep, keep-member, member-map, map-member, keep-yes, keep-no, keep-all, all-of, by-key, FirstLeast, firstLeast-is}
+use Rattle.transport.specs.Problem.{Lane, place}
+use Rattle.transport.specs.Laws.ProblemLaws.{lane, place-injective}
 use Rattle.transport.specs.Amount.{nothing, less}
-use Rattle.transport.specs.AmountLaws.{less-weak}
-use Rattle.transport.specs.declared.Cell.{Cell}
+use Rattle.transport.specs.Laws.AmountLaws.{less-weak}
 use Rattle.transport.specs.Tableau.{noCell, laneOf, withAmount, basisOf, sameLane}
 use Rattle.transport.specs.Leaf.{strikes}
 use Rattle.transport.specs.Round.{sign, leaving, gain, shift, pivot}
 use Rattle.transport.specs.Statements.{Basic}
+use Rattle.transport.specs.Laws.RoundLaws.{lane-same, lane-other}
+use Rattle.transport.specs.declared.Pair.{Pair}
+use Rattle.transport.specs.declared.Cell.{Cell}
 use Rattle.tableaux.specs.View.{Distinct, Inside, amountAt, amount-none}
-use Rattle.transport.specs.RoundLaws.{lane-same, lane-other}
 use Rattle.tableaux.specs.Order.{CellAt, cell-at, basic-member, amount-member, placeOf, Ordered, ordered-distinct, ordered-keep, ordered-map, ordered-insert, insert-here, insert-keeps, insert-member, length-insert}
 
 -- ---- lanes
@@ -180,7 +180,7 @@ module _ {m n : ℕ} {T : List Cell} (o : Ordered n T) (h : Inside m n T) {e : L
           let (a, b) = place-injective n (c .row) (c .col) (e .row) (e .col) (inside-member h there .1) col same in
           new (rw (a, b) at (basic-member there))
 
-  pub pivot-distinct : Distinct (pivot m n T e)
+  pivot-distinct : Distinct (pivot m n T e)
   pivot-distinct = ordered-distinct n (pivot m n T e) pivot-ordered
 
   pub length-pivot : List·Memᴰ leaves T → length (pivot m n T e) ≡ length T

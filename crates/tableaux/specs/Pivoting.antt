@@ -1,7 +1,7 @@
 -- The pivot of a tableau that belongs to a sheet belongs to it: the abstract round, read off the lists.
 use mathlib.Core.Path.{_≡_, refl, ap, sym, _∙_, subst}
 use mathlib.Core.Logic.{inl, inr, Dec·and}
-use mathlib.Core.Bool.{true, false, true≢false}
+use mathlib.Core.Bool.{true, true≢false}
 use mathlib.Core.List.{List, List·Memᴰ}
 use Prim.Native.Nat.{ℕ, zero, suc, _+_, _*_, _-_, _<_}
 use native.Mathlib.Omega.{arith}
@@ -11,7 +11,7 @@ use lib.Signed.{ltZ}
 use lib.ListN.{length, getD}
 use Rattle.integers.specs.Integer.{Z, _≈_, _≼_, _≺_, _⊕_, _⊖_, _⊗_, neg, nat, Within}
 use Rattle.integers.specs.IntegerLaws.{⊗-cong}
-use Rattle.integers.specs.Bridge.{toZ, z-eq}
+use Rattle.integers.specs.Bridge.{toZ, z-eq, eq-z}
 use Rattle.integers.specs.Sum.{point}
 use Rattle.integers.specs.SumLaws.{sum₂-cong}
 use Rattle.integers.specs.Tests.{lt-yes, yes-lt}
@@ -21,17 +21,18 @@ use Rattle.network.specs.Basis.{In, in-cells, Replaces, unit}
 use Rattle.network.specs.Pivot.{loop, loop-at, loop-off, lowers, value, valued}
 use Rattle.network.specs.Round.{Tableau, Choice, after, some-minus, tableau-cong, value-above, round-cost, round, no-tie}
 use Rattle.transport.specs.Lists.{at}
-use Rattle.transport.specs.ListLaws.{member-at, member-place}
-use Rattle.transport.specs.Sheet.{Sheet, sources, sinks, Lane}
-use Rattle.transport.specs.SheetLaws.{Checked, lane}
-use Rattle.transport.specs.declared.Pair.{Pair}
-use Rattle.transport.specs.declared.Cell.{Cell}
+use Rattle.transport.specs.Laws.ListLaws.{member-at, member-place}
+use Rattle.transport.specs.Problem.{Problem, sources, sinks, Lane}
+use Rattle.transport.specs.Laws.Sound.{Sound}
+use Rattle.transport.specs.Laws.ProblemLaws.{lane}
 use Rattle.transport.specs.Amount.{nothing, less}
 use Rattle.transport.specs.Tableau.{noCell, laneOf, basisSize}
 use Rattle.transport.specs.Round.{gain, pivot}
-use Rattle.transport.specs.Statements.{Basic, Belongs}
+use Rattle.transport.specs.Statements.{Basic, Belongs, MinusCell, HoldsStep, OneStep}
+use Rattle.transport.specs.declared.Pair.{Pair}
+use Rattle.transport.specs.declared.Cell.{Cell}
 use Rattle.tableaux.specs.View.{rowOf, colOf, basic-in, Inside, amountAt, amount-at, amount-none}
-use Rattle.tableaux.specs.PairLaws.{bags, marks, nothing-parts, add-parts, subtract-parts, true-less}
+use Rattle.tableaux.specs.PairLaws.{bags, marks, nothing-parts, add-parts, subtract-parts, true-less, less-tie}
 use Rattle.tableaux.specs.PlanView.{supplies, demands}
 use Rattle.tableaux.specs.Belonging.{distinct-of, signs-flow}
 use Rattle.tableaux.specs.Order.{Ordered, ordered-by, basic-member, basic-dec, amount-member}
@@ -39,12 +40,12 @@ use Rattle.tableaux.specs.TableauView.{bagsAt, marksAt, Seen, cells-many
 use Rattle.tableaux.specs.PivotView.{Stands, stands-dec, Leaves, leaving-is, signs, leaver, step, pivot-basic, pivot-ordered, length-pivot, pivot-inside, amount-enters, amount-stays, amount-leaves, amount-elsewhere}
 
 -- The loop's signs as integers of the theory.
-abbrev pub signAt : ℕ → ℕ → List Cell → Lane → ℕ → ℕ → Z
+abbrev signAt : ℕ → ℕ → List Cell → Lane → ℕ → ℕ → Z
 signAt m n T e i j = toZ (signs m n T e (lane i j))
 
 -- The measure of rounds: the valued cost of the tableau.
-abbrev pub measure : Sheet → (ℕ → ℕ → Z) → List Cell → Z
-measure S c T = cost (sources S) (sinks S) c (valued (sources S) (bagsAt T) (marksAt T))
+abbrev pub measure : Problem → (ℕ → ℕ → Z) → List Cell → Z
+measure P c T = cost (sources P) (sinks P) c (valued (sources P) (bagsAt T) (marksAt T))
 
 measure-cong : (m n : ℕ) (c q e q₂ e₂ : ℕ → ℕ → Z) → ((i j : ℕ) → i < m → j < n → q i j ≈ q₂ i j) → ((i j : ℕ) → i < m → j < n → e i j ≈ e₂ i j)
     → cost m n c (valued m q e) ≈ cost m n c (valued m q₂ e₂)
@@ -56,11 +57,11 @@ measure-cong m n c q e q₂ e₂ h h′ = sum₂-cong m n (λ i j. valued m q e 
         omega (arith, ⊗-cong c (value m q e) (value m q₂ e₂) same)
 
 -- The value of the step.
-abbrev pub stepValue : ℕ → ℕ → List Cell → Lane → Z
+abbrev stepValue : ℕ → ℕ → List Cell → Lane → Z
 stepValue m n T e = value m (bags (step m n T e)) (marks (step m n T e))
 
 -- The pair y comes of x by the step θ, taken d times.
-abbrev pub Moves : Pair → Pair → Pair → Z → Type 0
+abbrev Moves : Pair → Pair → Pair → Z → Type 0
 Moves y x θ d = (bags y ≈ bags x ⊕ bags θ ⊗ d) × (marks y ≈ marks x ⊕ marks θ ⊗ d)
 
 -- The step, added or taken away, is the step times the sign.
@@ -84,28 +85,28 @@ leaves-moves θ d e = omega (arith, nothing-parts, ⊗-cong (bags θ) d (neg (na
 empty-moves : (θ : Pair) (d : Z) → d ≈ nat 0 → Moves nothing nothing θ d
 empty-moves θ d e = omega (arith, nothing-parts, ⊗-cong (bags θ) d (nat 0) e, ⊗-cong (marks θ) d (nat 0) e)
 
-module _ {S : Sheet} (ok : Checked S) {T : List Cell} (w : Belongs S T) {e : Lane} (row : e .row < sources S) (col : e .col < sinks S)
+module _ {P : Problem} (ok : Sound P) {T : List Cell} (w : Belongs P T) {e : Lane} (row : e .row < sources P) (col : e .col < sinks P)
     (new : ¬ Basic T (e .row) (e .col)) where
   -- m rows and n columns; the basic cells 0 to K; the signs; the leaving cell; the tableau after the pivot
   abbrev m : ℕ
-  m = sources S
+  m = sources P
 
   abbrev n : ℕ
-  n = sinks S
+  n = sinks P
 
   abbrev K : ℕ
-  K = sources S + sinks S - 2
+  K = sources P + sinks P - 2
 
   abbrev σ : ℕ → ℕ → Z
-  σ = signAt (sources S) (sinks S) T e
+  σ = signAt (sources P) (sinks P) T e
 
   abbrev out : Cell
-  out = leaver (sources S) (sinks S) T e
+  out = leaver (sources P) (sinks P) T e
 
   abbrev T′ : List Cell
-  T′ = pivot (sources S) (sinks S) T e
+  T′ = pivot (sources P) (sinks P) T e
 
-  t : Seen S T
+  t : Seen P T
   t = belongs-seen ok w
 
   f : Flow m n (In (rowOf T) (colOf T) (suc K)) σ (point (e .row) (neg (nat 1))) (point (e .col) (neg (nat 1)))
@@ -120,7 +121,7 @@ module _ {S : Sheet} (ok : Checked S) {T : List Cell} (w : Belongs S T) {e : Lan
   -- ---- the leaving cell
 
   -- There is a minus cell, so there is a smallest one.
-  pub pivot-leaves : Leaves (signs (sources S) (sinks S) T e) T (leaver (sources S) (sinks S) T e)
+  pub pivot-leaves : Leaves (signs (sources P) (sinks P) T e) T (leaver (sources P) (sinks P) T e)
   unfolding laneOf
   pivot-leaves =
       let (k, l, s) = some-minus row f in
@@ -136,7 +137,7 @@ module _ {S : Sheet} (ok : Checked S) {T : List Cell} (w : Belongs S T) {e : Lan
   at-out : amountAt T (rowOf T ℓ) (colOf T ℓ) ≡ out .amount
   at-out = amount-at T (distinct-of ok w) ℓ (indexed .1) ∙ ap (λ c. c .amount) (indexed .2)
 
-  pub step-positive : less nothing (step (sources S) (sinks S) T e) ≡ true
+  pub step-positive : less nothing (step (sources P) (sinks P) T e) ≡ true
   step-positive = ap (λ c. less nothing (c .amount)) (sym (indexed .2)) ∙ w .above ℓ (indexed .1)
 
   choice : Choice m n K (rowOf T) (colOf T) (bagsAt T) (marksAt T) (e .row) (e .col) σ ℓ
@@ -179,7 +180,7 @@ module _ {S : Sheet} (ok : Checked S) {T : List Cell} (w : Belongs S T) {e : Lan
   off-basis i j hi hj d = on-zero σ (f .on) i j hi hj (λ s. d (basic-in T (suc K) i j many .1 s))
 
   abbrev round-loop : ℕ → ℕ → Z
-  round-loop = loop (signAt (sources S) (sinks S) T e) (e .row) (e .col)
+  round-loop = loop (signAt (sources P) (sinks P) T e) (e .row) (e .col)
 
   out-basic : Basic T (out .row) (out .col)
   out-basic = basic-member (pivot-leaves .member)
@@ -199,8 +200,8 @@ module _ {S : Sheet} (ok : Checked S) {T : List Cell} (w : Belongs S T) {e : Lan
       )))
 
   -- Every amount changes by the step times the loop.
-  pub pivot-moves : (i j : ℕ) → i < sources S → j < sinks S
-      → Moves (amountAt (pivot (sources S) (sinks S) T e) i j) (amountAt T i j) (step (sources S) (sinks S) T e) (loop (signAt (sources S) (sinks S) T e) (e .row) (e .col) i j)
+  pivot-moves : (i j : ℕ) → i < sources P → j < sinks P
+      → Moves (amountAt (pivot (sources P) (sinks P) T e) i j) (amountAt T i j) (step (sources P) (sinks P) T e) (loop (signAt (sources P) (sinks P) T e) (e .row) (e .col) i j)
   pivot-moves i j hi hj = go (Dec·and (ℕ-discrete i (e .row)) (ℕ-discrete j (e .col))) (basic-dec T i j) (stands-dec out i j)
     where
       d : Z
@@ -219,10 +220,10 @@ module _ {S : Sheet} (ok : Checked S) {T : List Cell} (w : Belongs S T) {e : Lan
   hz : n - 1 < n
   hz = omega (arith, ok .sinksLow)
 
-  wanted : (j : ℕ) → j < n → nat 0 ≺ demands S j
+  wanted : (j : ℕ) → j < n → nat 0 ≺ demands P j
   wanted j l = omega (arith, ok .demandLow j l)
 
-  round-after : Tableau m n K (rowOf T′) (colOf T′) (after (rowOf T) (colOf T) ℓ σ (e .row) (e .col) (bagsAt T)) (after (rowOf T) (colOf T) ℓ σ (e .row) (e .col) (marksAt T)) (supplies S) (demands S) (n - 1)
+  round-after : Tableau m n K (rowOf T′) (colOf T′) (after (rowOf T) (colOf T) ℓ σ (e .row) (e .col) (bagsAt T)) (after (rowOf T) (colOf T) ℓ σ (e .row) (e .col) (marksAt T)) (supplies P) (demands P) (n - 1)
   round-after = round hz wanted t choice (λ k l. inside-after k (omega (arith, many-after)) .0) (λ k l. inside-after k (omega (arith, many-after)) .1) replaces
 
   bags-after : (i j : ℕ) → i < m → j < n → bagsAt T′ i j ≈ after (rowOf T) (colOf T) ℓ σ (e .row) (e .col) (bagsAt T) i j
@@ -231,17 +232,17 @@ module _ {S : Sheet} (ok : Checked S) {T : List Cell} (w : Belongs S T) {e : Lan
   marks-after : (i j : ℕ) → i < m → j < n → marksAt T′ i j ≈ after (rowOf T) (colOf T) ℓ σ (e .row) (e .col) (marksAt T) i j
   marks-after i j hi hj = rw at-out (pivot-moves i j hi hj .1)
 
-  pub pivot-seen : Seen S (pivot (sources S) (sinks S) T e)
+  pivot-seen : Seen P (pivot (sources P) (sinks P) T e)
   pivot-seen = tableau-cong bags-after marks-after round-after
 
   -- The pivot belongs to the sheet. Every amount changes by the step times the sign of its lane on the loop, so rows and columns add up as before; and a basis with
   -- the step, its smallest minus pair, moved round the loop is a tableau again (network's `round`).
-  pub pivot-belongs : Belongs S (pivot (sources S) (sinks S) T e)
+  pub pivot-belongs : Belongs P (pivot (sources P) (sinks P) T e)
   pivot-belongs = seen-belongs ok T′ length-after (pivot-ordered order (w .onSheet) col new) pivot-seen
 
   -- Two minus cells never tie for the step: another one with it would be left with (0, 0).
-  pub pivot-no-tie : {c : Cell} → List·Memᴰ c T → ltZ (signs (sources S) (sinks S) T e (laneOf c)) (pos 0) ≡ true → c .amount ≡ step (sources S) (sinks S) T e
-      → c ≡ leaver (sources S) (sinks S) T e
+  pub pivot-no-tie : {c : Cell} → List·Memᴰ c T → ltZ (signs (sources P) (sinks P) T e (laneOf c)) (pos 0) ≡ true → c .amount ≡ step (sources P) (sinks P) T e
+      → c ≡ leaver (sources P) (sinks P) T e
   unfolding laneOf
   pivot-no-tie {c} mem minus same = go (member-place noCell mem)
     where
@@ -256,17 +257,43 @@ module _ {S : Sheet} (ok : Checked S) {T : List Cell} (w : Belongs S T) {e : Lan
               k (omega (arith, many)) (subst (λ (x : Cell). toZ (signs m n T e (lane (x .row) (x .col))) ≺ nat 0) (sym s) (lt-yes (signs m n T e (laneOf c)) (pos 0) minus))
               (z-eq (ap (λ x. x .q) amounts)) (z-eq (ap (λ x. x .e) amounts))
 
+  minus-test : {c : Cell} → MinusCell P T e c → ltZ (signs (sources P) (sinks P) T e (laneOf c)) (pos 0) ≡ true
+  minus-test h = rw (h .minus)
+
+  -- The leaving cell has a minus, and none with a minus has a smaller pair ..
+  out-holds : HoldsStep P T e out
+  unfolding laneOf
+  out-holds = record {
+    cell = record {
+      basic = pivot-leaves .member;
+      minus = eq-z (signs m n T e (lane (out .row) (out .col))) (negsuc 0) (omega (
+        arith,
+        sign-unit (out .row) (out .col) out-basic,
+        lt-yes (signs m n T e (lane (out .row) (out .col))) (pos 0) (pivot-leaves .minus),
+      ));
+    };
+    smallest = λ d h. pivot-leaves .least d (h .basic) (minus-test h);
+  }
+
+  -- .. and it alone holds the step.
+  pub one-step : OneStep P T e
+  one-step = record { holds = out-holds; noTie = λ c d h k. is-out c h ∙ sym (is-out d k) }
+    where
+      is-out : (c : Cell) → HoldsStep P T e c → c ≡ out
+      is-out c h = pivot-no-tie (h .cell .basic) (minus-test (h .cell))
+          (less-tie (c .amount) (out .amount) (out-holds .smallest c (h .cell)) (h .smallest out (out-holds .cell)))
+
   -- ---- the valued cost
 
   at-step : valued m (bagsAt T) (marksAt T) (rowOf T ℓ) (colOf T ℓ) ≡ stepValue m n T e
   at-step = ap (λ x. value m (bags x) (marks x)) at-out
 
-  pub stepValue-positive : nat 1 ≼ stepValue (sources S) (sinks S) T e
+  stepValue-positive : nat 1 ≼ stepValue (sources P) (sinks P) T e
   stepValue-positive = let h : nat 0 ≺ stepValue m n T e = subst (λ (x : Z). nat 0 ≺ x) at-step (value-above hz t ℓ (omega (arith, many, indexed .1))) in omega arith
 
   -- The valued cost changes by the value of the step times the reduced cost of the entering lane.
-  pub pivot-measure : (c : ℕ → ℕ → Z) (u v : ℕ → Z) → ((i j : ℕ) → Basic T i j → Tight c u v i j)
-      → measure S c (pivot (sources S) (sinks S) T e) ≈ measure S c T ⊕ stepValue (sources S) (sinks S) T e ⊗ (c (e .row) (e .col) ⊖ u (e .row) ⊖ v (e .col))
+  pivot-measure : (c : ℕ → ℕ → Z) (u v : ℕ → Z) → ((i j : ℕ) → Basic T i j → Tight c u v i j)
+      → measure P c (pivot (sources P) (sinks P) T e) ≈ measure P c T ⊕ stepValue (sources P) (sinks P) T e ⊗ (c (e .row) (e .col) ⊖ u (e .row) ⊖ v (e .col))
   pivot-measure c u v tight = omega (arith, same, change)
     where
       q′ : ℕ → ℕ → Z
@@ -275,15 +302,15 @@ module _ {S : Sheet} (ok : Checked S) {T : List Cell} (w : Belongs S T) {e : Lan
       e′ : ℕ → ℕ → Z
       e′ = after (rowOf T) (colOf T) ℓ σ (e .row) (e .col) (marksAt T)
 
-      same : measure S c T′ ≈ cost m n c (valued m q′ e′)
+      same : measure P c T′ ≈ cost m n c (valued m q′ e′)
       same = measure-cong m n c (bagsAt T′) (marksAt T′) q′ e′ bags-after marks-after
 
-      change : cost m n c (valued m q′ e′) ≈ measure S c T ⊕ stepValue (sources S) (sinks S) T e ⊗ (c (e .row) (e .col) ⊖ u (e .row) ⊖ v (e .col))
-      change = subst (λ (x : Z). cost m n c (valued m q′ e′) ≈ measure S c T ⊕ x ⊗ (c (e .row) (e .col) ⊖ u (e .row) ⊖ v (e .col))) at-step
+      change : cost m n c (valued m q′ e′) ≈ measure P c T ⊕ stepValue (sources P) (sinks P) T e ⊗ (c (e .row) (e .col) ⊖ u (e .row) ⊖ v (e .col))
+      change = subst (λ (x : Z). cost m n c (valued m q′ e′) ≈ measure P c T ⊕ x ⊗ (c (e .row) (e .col) ⊖ u (e .row) ⊖ v (e .col))) at-step
           (round-cost hz wanted t choice c u v (λ k l. tight (rowOf T k) (colOf T k) (record { index = k; below = omega (arith, many); row = refl; column = refl })))
 
   -- So where that reduced cost is negative it falls by 1 or more, for the step's value is positive.
   pub pivot-falls : (c : ℕ → ℕ → Z) (u v : ℕ → Z) → ((i j : ℕ) → Basic T i j → Tight c u v i j) → c (e .row) (e .col) ≺ u (e .row) ⊕ v (e .col)
-      → measure S c (pivot (sources S) (sinks S) T e) ⊕ nat 1 ≼ measure S c T
-  pivot-falls c u v tight h = let l : measure S c T′ ≺ measure S c T =
-      lowers (measure S c T) (measure S c T′) (stepValue m n T e) (c (e .row) (e .col) ⊖ u (e .row) ⊖ v (e .col)) (pivot-measure c u v tight) (omega (arith, stepValue-positive)) (omega arith) in omega arith
+      → measure P c (pivot (sources P) (sinks P) T e) ⊕ nat 1 ≼ measure P c T
+  pivot-falls c u v tight h = let l : measure P c T′ ≺ measure P c T =
+      lowers (measure P c T) (measure P c T′) (stepValue m n T e) (c (e .row) (e .col) ⊖ u (e .row) ⊖ v (e .col)) (pivot-measure c u v tight) (omega (arith, stepValue-positive)) (omega arith) in omega arith

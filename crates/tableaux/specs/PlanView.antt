@@ -1,33 +1,32 @@
 -- A plan as amounts on rows and columns: the view in which the theory of networks speaks of plans and their cost.
 use Prim.Native.Nat.{ℕ, zero, suc, _*_}
 use native.Mathlib.Omega.{arith}
-use mathlib.Core.Path.{_≡_, ap}
+use mathlib.Core.Path.{_≡_}
 use mathlib.Core.List.{List}
+use lib.IntN.{ℤ, pos, _*ℤ_}
 use lib.ListN.{length}
 use Rattle.integers.specs.Integer.{Z, _≈_, _⊗_, nat}
-use Rattle.integers.specs.Bridge.{toZ}
-use Rattle.integers.specs.Sum.{sum, sum₂}
-use Rattle.integers.specs.SumLaws.{sum-cong, sum₂-cong}
+use Rattle.integers.specs.Bridge.{toZ, z-add, z-mul}
+use Rattle.integers.specs.Sum.{sum}
+use Rattle.integers.specs.SumLaws.{sum-cong, sum-runs}
 use Rattle.network.specs.Flow.{On, Plan, cost}
-use Rattle.transport.specs.Lists.{sumTo, at}
-use Rattle.transport.specs.ListLaws.{sumTo-runs}
-use Rattle.transport.specs.Sheet.{Sheet, sources, sinks, place, laneCost}
-use Rattle.transport.specs.SheetLaws.{lane}
-use Rattle.transport.specs.Plan.{planCost}
-use Rattle.transport.specs.Statements.{Meets}
+use Rattle.transport.specs.Lists.{sumTo, sumZ, at, atZ}
+use Rattle.transport.specs.Problem.{Problem, sources, sinks, place, laneCost}
+use Rattle.transport.specs.Laws.ProblemLaws.{lane}
+use Rattle.tableaux.specs.ProblemPlans.{flowCost, Fulfils}
 
 -- What the plan Q carries from row i to column j, among n columns.
 abbrev pub carried : ℕ → List ℕ → ℕ → ℕ → Z
 carried n Q i j = nat (at Q (place n i j))
 
-abbrev pub supplies : Sheet → ℕ → Z
-supplies S i = nat (at (S .supply) i)
+abbrev pub supplies : Problem → ℕ → Z
+supplies P i = nat (at (P .supply) i)
 
-abbrev pub demands : Sheet → ℕ → Z
-demands S j = nat (at (S .demand) j)
+abbrev pub demands : Problem → ℕ → Z
+demands P j = nat (at (P .demand) j)
 
-abbrev pub costs : Sheet → ℕ → ℕ → Z
-costs S i j = toZ (laneCost S (lane i j))
+abbrev pub costs : Problem → ℕ → ℕ → Z
+costs P i j = toZ (laneCost P (lane i j))
 
 -- ---- sums of naturals
 
@@ -36,46 +35,45 @@ unfolding sumTo
 sum-sumTo zero f = omega arith
 sum-sumTo (suc n) f = omega (arith, sum-sumTo n f)
 
-pub sum₂-sumTo : (m n : ℕ) (f : ℕ → ℕ → ℕ) → sum₂ m n (λ i j. nat (f i j)) ≈ nat (sumTo m (λ i. sumTo n (λ j. f i j)))
-sum₂-sumTo m n f = omega (
-  arith,
-  sum-cong m (λ i. sum n (λ j. nat (f i j))) (λ i. nat (sumTo n (λ j. f i j))) (λ i l. sum-sumTo n (f i)),
-  sum-sumTo m (λ i. sumTo n (λ j. f i j)),
-)
+-- ---- plans that fulfil the problem
 
--- ---- plans that meet the sheet
-
-pub meets-plan : {S : Sheet} {k : ℕ} {Q : List ℕ} {T : ℕ → ℕ → Type 0} → On (sources S) (sinks S) T (carried (sinks S) Q)
-    → Meets S k Q → Plan (sources S) (sinks S) T k (carried (sinks S) Q) (supplies S) (demands S)
-meets-plan {S} {k} {Q} on q = record {
+pub fulfils-plan : {P : Problem} {k : ℕ} {Q : List ℕ} {T : ℕ → ℕ → Type 0} → On (sources P) (sinks P) T (carried (sinks P) Q)
+    → Fulfils P k Q → Plan (sources P) (sinks P) T k (carried (sinks P) Q) (supplies P) (demands P)
+fulfils-plan {P} {k} {Q} on q = record {
   flow = record {
     on = on;
-    rows = λ i l. omega (arith, sum-sumTo (sinks S) (λ j. at Q (place (sinks S) i j)), q .rows i l);
-    cols = λ j l. omega (arith, sum-sumTo (sources S) (λ i. at Q (place (sinks S) i j)), q .columns j l);
+    rows = λ i l. omega (arith, sum-sumTo (sinks P) (λ j. at Q (place (sinks P) i j)), q .rows i l);
+    cols = λ j l. omega (arith, sum-sumTo (sources P) (λ i. at Q (place (sinks P) i j)), q .columns j l);
   };
   nonneg = λ i j k l. omega arith;
 }
 
-pub plan-meets : {S : Sheet} {k : ℕ} {Q : List ℕ} {T : ℕ → ℕ → Type 0} → length Q ≡ sources S * sinks S
-    → Plan (sources S) (sinks S) T k (carried (sinks S) Q) (supplies S) (demands S) → Meets S k Q
-plan-meets {S} {k} {Q} e p = record {
+pub plan-fulfils : {P : Problem} {k : ℕ} {Q : List ℕ} {T : ℕ → ℕ → Type 0} → length Q ≡ sources P * sinks P
+    → Plan (sources P) (sinks P) T k (carried (sinks P) Q) (supplies P) (demands P) → Fulfils P k Q
+plan-fulfils {P} {k} {Q} e p = record {
   quantities = e;
-  rows = λ i l. omega (arith, sum-sumTo (sinks S) (λ j. at Q (place (sinks S) i j)), p .flow .rows i l);
-  columns = λ j l. omega (arith, sum-sumTo (sources S) (λ i. at Q (place (sinks S) i j)), p .flow .cols j l);
+  rows = λ i l. omega (arith, sum-sumTo (sinks P) (λ j. at Q (place (sinks P) i j)), p .flow .rows i l);
+  columns = λ j l. omega (arith, sum-sumTo (sources P) (λ i. at Q (place (sinks P) i j)), p .flow .cols j l);
 }
 
 -- ---- their cost
 
-pub cost-planCost : (S : Sheet) (Q : List ℕ) → length (S .cost) ≡ sources S * sinks S
-    → cost (sources S) (sinks S) (costs S) (carried (sinks S) Q) ≈ nat (planCost S Q)
-unfolding planCost laneCost place
-cost-planCost S Q e = omega (
+sum-sumZ : (n : ℕ) (f : ℕ → ℤ) → toZ (sumZ n f) ≈ sum n (λ k. toZ (f k))
+unfolding sumZ
+sum-sumZ zero f = omega arith
+sum-sumZ (suc n) f = omega (arith, z-add (sumZ n f) (f n), sum-sumZ n f)
+
+pub cost-flowCost : (P : Problem) (Q : List ℕ) → cost (sources P) (sinks P) (costs P) (carried (sinks P) Q) ≈ toZ (flowCost P Q)
+unfolding flowCost laneCost place
+cost-flowCost P Q = omega (
   arith,
-  sum₂-cong (sources S) (sinks S) (λ i j. carried (sinks S) Q i j ⊗ costs S i j) (λ i j. nat (each (place (sinks S) i j))) (λ i j k l. omega arith),
-  sum₂-sumTo (sources S) (sinks S) (λ i j. each (place (sinks S) i j)),
-  sumTo-runs (sources S) (sinks S) each,
-  ap (λ (t : ℕ). sumTo t each) e,
+  sum-cong (sources P * sinks P) (λ l. toZ (term l)) each (λ l h. z-mul (pos (at Q l)) (atZ (P .cost) l)),
+  sum-runs (sources P) (sinks P) each,
+  sum-sumZ (sources P * sinks P) term,
 )
   where
-    each : ℕ → ℕ
-    each l = at Q l * at (S .cost) l
+    term : ℕ → ℤ
+    term l = pos (at Q l) *ℤ atZ (P .cost) l
+
+    each : ℕ → Z
+    each l = nat (at Q l) ⊗ toZ (atZ (P .cost) l)

@@ -8,18 +8,22 @@ use native.Mathlib.Omega.{arith}
 use native.Mathlib.Nat.{mul-le-mul-right}
 use native.Mathlib.Decide.{ℕ-discrete, decLt}
 use borrow.Author.Tests.{eq-eqb, ne-eqb}
-use lib.IntN.{ℤ, pos, negℤ, natAbs, _-ℤ_}
+use lib.IntN.{ℤ, pos, negsuc, negℤ, natAbs, _-ℤ_}
+use lib.Signed.{_≤ℤ_}
 use lib.ListN.{length}
 use Rattle.integers.specs.Integer.{_≈_, _⊕_}
-use Rattle.integers.specs.Bridge.{toZ, z-add, z-neg, z-eq, eq-z}
-use Rattle.transport.specs.Limits.{maxSide, maxCost, maxCells}
-use Rattle.transport.specs.Sheet.{Sheet, sources, sinks, Lane, place, laneCost}
-use Rattle.transport.specs.RangeLaws.{abs-diff}
-use Rattle.transport.specs.SheetLaws.{Checked, lane}
-use Rattle.transport.specs.declared.Cell.{Cell}
+use Rattle.integers.specs.Bridge.{toZ, z-add, z-neg, z-le, z-eq, eq-z}
+use Rattle.transport.specs.Limits.{maxSide, maxCost, costBelow, costAbove, maxCells}
+use Rattle.transport.specs.Lists.{atZ}
+use Rattle.transport.specs.Problem.{Problem, sources, sinks, Lane, place, laneCost}
+use Rattle.transport.specs.Laws.RangeLaws.{abs-diff}
+use Rattle.transport.specs.Laws.Sound.{Sound}
+use Rattle.transport.specs.Laws.ProblemLaws.{lane}
 use Rattle.transport.specs.Tableau.{basisSize, basisOf}
-use Rattle.transport.specs.Leaf.{Strike, strikes, spans}
+use Rattle.transport.specs.Leaf.{Strike, strikes}
+use Rattle.transport.specs.Belonging.{spans}
 use Rattle.transport.specs.Potential.{potentialBy, potential}
+use Rattle.transport.specs.declared.Cell.{Cell}
 use Rattle.network.specs.Joined.{potentials-unique}
 use Rattle.tableaux.specs.Lanes.{Fits}
 use Rattle.tableaux.specs.Leaves.{Ends, row-struck, column-struck, ends-differ}
@@ -70,7 +74,7 @@ module _ (cost : Lane → ℤ) where
       (λ e. rw (potential-later s ss k e) (omega (arith, potential-bound C ss (λ t q. h t (List·Memᴰ·tail q)) k)))
 
 -- In whatever order the lanes are struck off, the potentials are tight on each of them.
-pub struck-tight : {m n : ℕ} {B : List Lane} {ss : List Strike} → Struck m n B ss → (cost : Lane → ℤ) (l : Lane) → List·Memᴰ l B
+struck-tight : {m n : ℕ} {B : List Lane} {ss : List Strike} → Struck m n B ss → (cost : Lane → ℤ) (l : Lane) → List·Memᴰ l B
     → toZ (potentialBy cost ss (l .row)) ⊕ toZ (potentialBy cost ss (m + l .col)) ≈ toZ (cost l)
 struck-tight {m} {n} {B} {ss} w cost l q =
     let (s, r, c) = w .struck l q in
@@ -85,7 +89,7 @@ struck-tight {m} {n} {B} {ss} w cost l q =
     by-ends s (column-struck a b) t = omega (arith, z-eq (ap by a), z-eq (ap by b))
 
 module _ {m n : ℕ} {B : List Lane} (p : 1 ≤ m) (h : Fits m n B) (e : spans m n B ≡ true) (cost : Lane → ℤ) where
-  abbrev pub solution : ℕ → ℤ
+  abbrev solution : ℕ → ℤ
   solution = potentialBy cost (strikes m n B)
 
   pub potential-root : solution 0 ≡ pos 0
@@ -114,22 +118,32 @@ module _ {m n : ℕ} {B : List Lane} (p : 1 ≤ m) (h : Fits m n B) (e : spans m
   potential-any {ss} w = potential-only (potentialBy cost ss) (potential-off cost ss 0 (root-no-leaf (w .peels))) (struck-tight w cost)
 
   -- After m + n − 1 assignments none passes m + n − 1 times the greatest cost.
-  pub potential-size : (C : ℕ) → ((l : Lane) → List·Memᴰ l B → natAbs (cost l) ≤ C) → (k : ℕ) → natAbs (solution k) ≤ basisSize m n * C
+  potential-size : (C : ℕ) → ((l : Lane) → List·Memᴰ l B → natAbs (cost l) ≤ C) → (k : ℕ) → natAbs (solution k) ≤ basisSize m n * C
   unfolding basisSize
   potential-size C c k =
       let count : length (strikes m n B) ≡ m + n - 1 = omega (arith, struck-of p h e .size) in
       rw (← count) (potential-bound cost C (strikes m n B) (λ s q. c (s .lane) (struck-of p h e .lanes s q)) k)
 
+-- A cost of a problem, in size.
+size-of : (x : ℤ) → negℤ (pos costBelow) ≤ℤ x → x ≤ℤ pos costAbove → natAbs x ≤ costAbove
+unfolding costBelow
+size-of (pos n) low high = omega (arith, z-le high)
+size-of (negsuc n) low high = omega (arith, z-le low)
+
+pub cost-size : {P : Problem} → Sound P → (k : ℕ) → natAbs (atZ (P .cost) k) ≤ costAbove
+cost-size {P} ok k = size-of (atZ (P .cost) k) (ok .costLow k) (ok .costHigh k)
+
 -- No price of a tableau passes 63,000,000 in size.
-pub price-size : (S : Sheet) → Checked S → (T : List Cell) → Fits (sources S) (sinks S) (basisOf T) → spans (sources S) (sinks S) (basisOf T) ≡ true
-    → (k : ℕ) → natAbs (potential S T k) ≤ maxCells * maxCost
+pub price-size : (P : Problem) → Sound P → (T : List Cell) → Fits (sources P) (sinks P) (basisOf T) → spans (sources P) (sinks P) (basisOf T) ≡ true
+    → (k : ℕ) → natAbs (potential P T k) ≤ maxCells * costAbove
 unfolding potential laneCost maxCells basisSize
-price-size S c T h e k = omega (
+price-size P c T h e k = omega (
   arith,
-  potential-size (c .sourcesLow) h e (laneCost S) maxCost (λ l q. c .costHigh (place (sinks S) (l .row) (l .col))) k,
-  mul-le-mul-right {m = sources S + sinks S - 1} {n = 2 * maxSide - 1} maxCost (omega (arith, c .sourcesHigh, c .sinksHigh)),
+  potential-size (c .sourcesLow) h e (laneCost P) costAbove
+      (λ l q. cost-size c (place (sinks P) (l .row) (l .col))) k,
+  mul-le-mul-right {m = sources P + sinks P - 1} {n = 2 * maxSide - 1} costAbove (omega (arith, c .sourcesHigh, c .sinksHigh)),
 )
 
-pub price-limit : maxCells * maxCost ≡ 63_000_000
-unfolding maxCells maxSide maxCost
+pub price-limit : maxCells * costAbove ≡ 63_000_000
+unfolding maxCells maxSide costAbove maxCost
 price-limit = refl

@@ -11,11 +11,12 @@ use borrow.Author.Tests.{lt-ltb, le-ltb, eqb-true, eq-eqb}
 use lib.Dec.{eqb, ltb}
 use lib.ListN.{length}
 use Rattle.transport.specs.Lists.{table, sumTo}
-use Rattle.transport.specs.ListLaws.{member-at, member-place, getD-table, length-table, and-left, and-right, sumTo-none, sumTo-add, sumTo-le}
-use Rattle.transport.specs.Sheet.{Lane}
-use Rattle.transport.specs.SheetLaws.{lane}
+use Rattle.transport.specs.Laws.ListLaws.{member-at, member-place, getD-table, length-table, and-left, and-right, sumTo-none, sumTo-add, sumTo-le}
+use Rattle.transport.specs.Problem.{Lane}
+use Rattle.transport.specs.Laws.ProblemLaws.{lane}
 use Rattle.transport.specs.Tableau.{basisSize}
-use Rattle.transport.specs.Leaf.{Strike, touches, firstLeaf, strikeOff, strikes, spans}
+use Rattle.transport.specs.Leaf.{Strike, touches, firstLeaf, strikeOff, strikes}
+use Rattle.transport.specs.Belonging.{spans}
 use Rattle.transport.specs.Statements.{Joined, Closed}
 use Rattle.network.specs.Cut.{bit-le}
 use Rattle.tableaux.specs.Lanes.{Has, Fits}
@@ -52,7 +53,7 @@ linked-struck {m} {n} {left} {nodes} (suc most) {B} p others w q = go (firstLeaf
         rw (strike-some m nodes most B s e) (omega (arith, length-without f, rest s f (omega (arith, length-without f))))
 
 -- A strike's lane is one of the list, and its leaf one of the nodes.
-pub record StrikeOf (m : ℕ) (nodes : List ℕ) (B : List Lane) (t : Strike) : Type 0 where
+record StrikeOf (m : ℕ) (nodes : List ℕ) (B : List Lane) (t : Strike) : Type 0 where
   pub member : List·Memᴰ (t .lane) B
   pub ends : Ends m t
   pub listed : List·Memᴰ (t .leaf) nodes

@@ -11,13 +11,14 @@ use Rattle.network.specs.FlowLaws.{flow-on}
 use Rattle.network.specs.Marks.{marks-within}
 use Rattle.network.specs.Round.{Tableau, bags-nonneg}
 use Rattle.transport.specs.Lists.{at}
-use Rattle.transport.specs.ListLaws.{member-place}
-use Rattle.transport.specs.Sheet.{Sheet, sources, sinks}
-use Rattle.transport.specs.SheetLaws.{Checked}
-use Rattle.transport.specs.declared.Cell.{Cell}
+use Rattle.transport.specs.Laws.ListLaws.{member-place}
+use Rattle.transport.specs.Problem.{Problem, sources, sinks}
+use Rattle.transport.specs.Laws.Sound.{Sound}
 use Rattle.transport.specs.Amount.{nothing, add, pairedSupply, pairedDemand}
-use Rattle.transport.specs.Tableau.{noCell, basisSize, rowTotal, columnTotal}
+use Rattle.transport.specs.Tableau.{noCell, basisSize}
+use Rattle.transport.specs.Belonging.{rowTotal, columnTotal}
 use Rattle.transport.specs.Statements.{Basic, Belongs}
+use Rattle.transport.specs.declared.Cell.{Cell}
 use Rattle.tableaux.specs.View.{rowOf, colOf, basic-in, Distinct, Inside, amountAt, amount-at, row-sum, column-sum}
 use Rattle.tableaux.specs.PairLaws.{bags, marks, pair-eq, true-less, less-true, demand-marks}
 use Rattle.tableaux.specs.PlanView.{supplies, demands}
@@ -31,48 +32,48 @@ abbrev pub marksAt : List Cell → ℕ → ℕ → Z
 marksAt T i j = marks (amountAt T i j)
 
 -- The cells are a basis with their bags and marks, the bags of supplies and demands, and the marks to the last sink.
-abbrev pub Seen : Sheet → List Cell → Type 1
-Seen S T =
-    Tableau (sources S) (sinks S) (sources S + sinks S - 2) (rowOf T) (colOf T) (bagsAt T) (marksAt T)
-    (supplies S) (demands S) (sinks S - 1)
+abbrev pub Seen : Problem → List Cell → Type 1
+Seen P T =
+    Tableau (sources P) (sinks P) (sources P + sinks P - 2) (rowOf T) (colOf T) (bagsAt T) (marksAt T)
+    (supplies P) (demands P) (sinks P - 1)
 
-module _ {S : Sheet} (ok : Checked S) (T : List Cell) (size : length T ≡ basisSize (sources S) (sinks S)) where
-  pub cells-many : suc (sources S + sinks S - 2) ≡ length T
+module _ {P : Problem} (ok : Sound P) (T : List Cell) (size : length T ≡ basisSize (sources P) (sinks P)) where
+  pub cells-many : suc (sources P + sinks P - 2) ≡ length T
   unfolding basisSize
   cells-many = omega (arith, ok .sourcesLow, ok .sinksLow)
 
   -- Such cells, in sheet order, belong to the sheet.
-  pub seen-belongs : Ordered (sinks S) T → Seen S T → Belongs S T
+  pub seen-belongs : Ordered (sinks P) T → Seen P T → Belongs P T
   unfolding rowTotal columnTotal pairedSupply pairedDemand nothing add
   seen-belongs o t = record {
     count = size;
     onSheet = inside;
-    order = ordered-at (sinks S) T o;
+    order = ordered-at (sinks P) T o;
     joined = record {
-      rows = λ A B z h. t .basis .joined .rows A B z (λ i j k l w. h i j k l (basic-in T (suc (sources S + sinks S - 2)) i j cells-many .1 w));
-      cols = λ A B z h. t .basis .joined .cols A B z (λ i j k l w. h i j k l (basic-in T (suc (sources S + sinks S - 2)) i j cells-many .1 w));
+      rows = λ A B z h. t .basis .joined .rows A B z (λ i j k l w. h i j k l (basic-in T (suc (sources P + sinks P - 2)) i j cells-many .1 w));
+      cols = λ A B z h. t .basis .joined .cols A B z (λ i j k l w. h i j k l (basic-in T (suc (sources P + sinks P - 2)) i j cells-many .1 w));
     };
     above = λ k l. true-less nothing (getD T k noCell .amount) (rw (amount-at T distinct k l) at (t .above k (omega (arith, cells-many))));
     rows = λ i l.
-        pair-eq (rowTotal T i) (pairedSupply S i)
-        (omega (arith, row-sum (λ a. a .q) refl (λ a b. refl) (sources S) (sinks S) T distinct inside i, t .bags .rows i l))
-        (omega (arith, row-sum (λ a. a .e) refl (λ a b. refl) (sources S) (sinks S) T distinct inside i, t .marks .rows i l));
+        pair-eq (rowTotal T i) (pairedSupply P i)
+        (omega (arith, row-sum (λ a. a .q) refl (λ a b. refl) (sources P) (sinks P) T distinct inside i, t .bags .rows i l))
+        (omega (arith, row-sum (λ a. a .e) refl (λ a b. refl) (sources P) (sinks P) T distinct inside i, t .marks .rows i l));
     columns = λ j l.
-        pair-eq (columnTotal T j) (pairedDemand S j)
-        (omega (arith, column-sum (λ a. a .q) refl (λ a b. refl) (sources S) (sinks S) T distinct inside j, t .bags .cols j l))
-        (omega (arith, column-sum (λ a. a .e) refl (λ a b. refl) (sources S) (sinks S) T distinct inside j, t .marks .cols j l, demand-marks S j));
+        pair-eq (columnTotal T j) (pairedDemand P j)
+        (omega (arith, column-sum (λ a. a .q) refl (λ a b. refl) (sources P) (sinks P) T distinct inside j, t .bags .cols j l))
+        (omega (arith, column-sum (λ a. a .e) refl (λ a b. refl) (sources P) (sinks P) T distinct inside j, t .marks .cols j l, demand-marks P j));
   }
     where
       distinct : Distinct T
-      distinct = ordered-distinct (sinks S) T o
+      distinct = ordered-distinct (sinks P) T o
 
-      inside : Inside (sources S) (sinks S) T
+      inside : Inside (sources P) (sinks P) T
       inside k l = (t .basis .rows k (omega (arith, cells-many)), t .basis .cols k (omega (arith, cells-many)))
 
 -- What belongs to the sheet is such a tableau.
-pub belongs-seen : {S : Sheet} {T : List Cell} → Checked S → Belongs S T → Seen S T
+pub belongs-seen : {P : Problem} {T : List Cell} → Sound P → Belongs P T → Seen P T
 unfolding nothing
-belongs-seen {S} {T} ok w = record {
+belongs-seen {P} {T} ok w = record {
   basis = basis-of ok w;
   bags = bags-flow ok w;
   marks = marks-flow ok w;
@@ -82,32 +83,32 @@ belongs-seen {S} {T} ok w = record {
 }
 
 -- Its bags are a flow on its basic lanes.
-pub basic-flow : {S : Sheet} {T : List Cell} → Checked S → Belongs S T → Flow (sources S) (sinks S) (Basic T) (bagsAt T) (supplies S) (demands S)
-basic-flow {S} {T} ok w = flow-on (λ i j hi hj s. basic-in T (suc (sources S + sinks S - 2)) i j (cells-many ok T (w .count)) .1 s) (bags-flow ok w)
+pub basic-flow : {P : Problem} {T : List Cell} → Sound P → Belongs P T → Flow (sources P) (sinks P) (Basic T) (bagsAt T) (supplies P) (demands P)
+basic-flow {P} {T} ok w = flow-on (λ i j hi hj s. basic-in T (suc (sources P + sinks P - 2)) i j (cells-many ok T (w .count)) .1 s) (bags-flow ok w)
 
 -- ---- bounds
 
 -- A cell's marks are within −m and m, and its bags are no more than its row has and its column takes.
-pub record Bounded (S : Sheet) (c : Cell) : Type 0 where
-  pub few : Within (sources S) (marks (c .amount))
+pub record Bounded (P : Problem) (c : Cell) : Type 0 where
+  pub few : Within (sources P) (marks (c .amount))
   pub nonneg : nat 0 ≼ bags (c .amount)
-  pub supply : bags (c .amount) ≼ nat (at (S .supply) (c .row))
-  pub demand : bags (c .amount) ≼ nat (at (S .demand) (c .col))
+  pub supply : bags (c .amount) ≼ nat (at (P .supply) (c .row))
+  pub demand : bags (c .amount) ≼ nat (at (P .demand) (c .col))
 
-module _ {S : Sheet} (ok : Checked S) {T : List Cell} (w : Belongs S T) where
-  pub cell-bounded : {c : Cell} → List·Memᴰ c T → Bounded S c
+module _ {P : Problem} (ok : Sound P) {T : List Cell} (w : Belongs P T) where
+  pub cell-bounded : {c : Cell} → List·Memᴰ c T → Bounded P c
   cell-bounded {c} mem = go (member-place noCell mem)
     where
       m : ℕ
-      m = sources S
+      m = sources P
 
       n : ℕ
-      n = sinks S
+      n = sinks P
 
-      t : Seen S T
+      t : Seen P T
       t = belongs-seen ok w
 
-      go : (k : ℕ) × (k < length T) × (getD T k noCell ≡ c) → Bounded S c
+      go : (k : ℕ) × (k < length T) × (getD T k noCell ≡ c) → Bounded P c
       go (k, l, s) = rw (← s) (record {
         few = rw here at (marks-within (t .basis) (omega (arith, ok .sinksLow)) (t .marks) k (omega (arith, many)));
         nonneg = rw here at (bags-nonneg t i j hi hj);
@@ -127,14 +128,14 @@ module _ {S : Sheet} (ok : Checked S) {T : List Cell} (w : Belongs S T) where
           hj : j < n
           hj = w .onSheet k l .1
 
-          many : suc (sources S + sinks S - 2) ≡ length T
+          many : suc (sources P + sinks P - 2) ≡ length T
           many = cells-many ok T (w .count)
 
           here : amountAt T i j ≡ getD T k noCell .amount
           here = amount-at T (distinct-of ok w) k l
 
-          row : bagsAt T i j ≼ nat (at (S .supply) i)
+          row : bagsAt T i j ≼ nat (at (P .supply) i)
           row = omega (arith, sum-each n (bagsAt T i) (λ y hy. bags-nonneg t i y hi hy) j hj, t .bags .rows i hi)
 
-          column : bagsAt T i j ≼ nat (at (S .demand) j)
+          column : bagsAt T i j ≼ nat (at (P .demand) j)
           column = omega (arith, sum-each m (λ x. bagsAt T x j) (λ x hx. bags-nonneg t x j hx hj) i hi, t .bags .cols j hj)

@@ -16,11 +16,11 @@ use Rattle.integers.specs.Sum.{sum, point}
 use Rattle.integers.specs.SumLaws.{sum-add, sum-zero, sum-cong, sum-point, point-at, point-off}
 use Rattle.network.specs.Basis.{In}
 use Rattle.transport.specs.Lists.{keep}
-use Rattle.transport.specs.declared.Pair.{Pair}
-use Rattle.transport.specs.declared.Cell.{Cell}
 use Rattle.transport.specs.Amount.{nothing, add, addUp}
 use Rattle.transport.specs.Tableau.{noCell}
 use Rattle.transport.specs.Statements.{Basic}
+use Rattle.transport.specs.declared.Pair.{Pair}
+use Rattle.transport.specs.declared.Cell.{Cell}
 
 -- ---- rows and columns by index
 

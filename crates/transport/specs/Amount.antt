@@ -1,13 +1,13 @@
 -- Paired amounts (paper 01, "Paired amounts"): q bags and e marks, the small number of source 001.
 use mathlib.Core.Bool.{Bool, false, _&&_, _||_, cond}
 use mathlib.Core.List.{List, [], _∷_}
-use Prim.Native.Nat.{ℕ, _-_}
+use Prim.Native.Nat.{ℕ, _+_, _-_, _^_, _<_}
 use lib.Dec.{eqb}
-use lib.IntN.{ℤ, pos, negsuc, _+ℤ_, _-ℤ_}
+use lib.IntN.{ℤ, pos, negsuc, natAbs, _+ℤ_, _-ℤ_}
 use lib.Signed.{ltZ}
 pub use Rattle.transport.specs.declared.Pair.{Pair}
 use Rattle.transport.specs.Lists.{at}
-use Rattle.transport.specs.Sheet.{Sheet, sources, sinks}
+use Rattle.transport.specs.Problem.{Problem, sources, sinks}
 
 unfoldable pub eqZ : ℤ → ℤ → Bool
 eqZ (pos a) (pos b) = eqb a b
@@ -40,10 +40,15 @@ unfoldable pub addUp : List Pair → Pair
 addUp [] = nothing
 addUp (a ∷ more) = add a (addUp more)
 
+-- Not of the paper: both parts of the sum and of the difference of a and b are within 64 bits.
+pub record Fit (a b : Pair) : Type 0 where
+  pub q : natAbs (a .q) + natAbs (b .q) < 2 ^ 63
+  pub e : natAbs (a .e) + natAbs (b .e) < 2 ^ 63
+
 -- Each supply s becomes (s, 1).
-unfoldable pub pairedSupply : Sheet → ℕ → Pair
-pairedSupply S i = record { q = pos (at (S .supply) i); e = pos 1 }
+unfoldable pub pairedSupply : Problem → ℕ → Pair
+pairedSupply P i = record { q = pos (at (P .supply) i); e = pos 1 }
 
 -- Each demand d becomes (d, 0), but the last becomes (d, m).
-unfoldable pub pairedDemand : Sheet → ℕ → Pair
-pairedDemand S j = record { q = pos (at (S .demand) j); e = pos (cond (eqb j (sinks S - 1)) (sources S) 0) }
+unfoldable pub pairedDemand : Problem → ℕ → Pair
+pairedDemand P j = record { q = pos (at (P .demand) j); e = pos (cond (eqb j (sinks P - 1)) (sources P) 0) }

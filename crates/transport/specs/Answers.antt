@@ -4,7 +4,7 @@ use mathlib.Core.Bool.{true, false}
 use mathlib.Core.List.{List, []}
 use mathlib.Core.Option.{none, some}
 use Prim.Native.Nat.{ℕ, _*_}
-use lib.IntN.{ℤ, pos}
+use lib.IntN.{ℤ, pos, natAbs}
 use lib.ListN.{length, take}
 pub use Rattle.transport.specs.declared.StartAnswer.{StartAnswer}
 pub use Rattle.transport.specs.declared.StartOutcome.{StartOutcome}
@@ -25,7 +25,7 @@ pub use Rattle.transport.specs.declared.WriteAnswer.{WriteAnswer}
 use Rattle.transport.specs.declared.WriteAnswer.the-variants as WriteAnswer
 use Rattle.transport.specs.Lists.{padded}
 use Rattle.transport.specs.Limits.{maxSide}
-use Rattle.transport.specs.Sheet.{Sheet, sources, sinks}
+use Rattle.transport.specs.Sheet.{Sheet, roasteries, cafes}
 use Rattle.transport.specs.Tableau.{Cell, tableauOf, cellsOf, noTableau}
 use Rattle.transport.specs.Round.{Round, finished, moved, Run}
 use Rattle.transport.specs.Calls.{Answer, refused, given, refusedBy, Solution}
@@ -66,7 +66,7 @@ roundSays m n a = elim (a .outcome) [
 -- ---- run
 
 unfoldable pub runOutcome : Run → RunOutcome
-runOutcome r = elim (r .done) [
+runOutcome r = elim (r .finished) [
   | true ↦ RunOutcome.Finished (r .rounds)
   | false ↦ RunOutcome.Spent (r .rounds)
 ]
@@ -77,8 +77,8 @@ runAnswer (given r) = record { outcome = runOutcome r; tableau = tableauOf (r .t
 
 unfoldable pub runSays : RunAnswer → Answer Run
 runSays a = elim (a .outcome) [
-  | RunOutcome.Finished k ↦ given (record { done = true; tableau = cellsOf (a .tableau); rounds = k })
-  | RunOutcome.Spent k ↦ given (record { done = false; tableau = cellsOf (a .tableau); rounds = k })
+  | RunOutcome.Finished k ↦ given (record { finished = true; tableau = cellsOf (a .tableau); rounds = k })
+  | RunOutcome.Spent k ↦ given (record { finished = false; tableau = cellsOf (a .tableau); rounds = k })
   | RunOutcome.Refused k ↦ refusedBy k
 ]
 
@@ -94,13 +94,14 @@ settleSays lanes (SettleAnswer.Refused k) plan = refusedBy k
 
 -- ---- solve, for m sources and n sinks
 
+-- No plan of a sheet costs less than 0, so the size of its cost is the cost.
 unfoldable pub solveAnswer : Answer Solution → SolveAnswer
 solveAnswer (refused r) = SolveAnswer.Refused (r .number)
-solveAnswer (given a) = SolveAnswer.Solved (a .cost) (a .rounds)
+solveAnswer (given a) = SolveAnswer.Solved (natAbs (a .cost)) (a .rounds)
 
 unfoldable pub solveSays : ℕ → ℕ → SolveAnswer → List ℤ → List ℤ → List ℕ → Answer Solution
 solveSays m n (SolveAnswer.Solved cost rounds) u v plan =
-    given (record { cost = cost; rounds = rounds; u = take m u; v = take n v; plan = take (m * n) plan })
+    given (record { cost = pos cost; rounds = rounds; u = take m u; v = take n v; plan = take (m * n) plan })
 solveSays m n (SolveAnswer.Refused k) u v plan = refusedBy k
 
 -- ---- read sheet
@@ -110,7 +111,7 @@ readAnswer (refused r) = elim (r .position) [
   | none ↦ ReadAnswer.Refused (r .number)
   | some p ↦ ReadAnswer.NotSheetText p
 ]
-readAnswer (given S) = ReadAnswer.Sheet (sources S) (sinks S)
+readAnswer (given S) = ReadAnswer.Sheet (roasteries S) (cafes S)
 
 unfoldable pub readSays : ReadAnswer → List ℕ → List ℕ → List ℕ → Answer Sheet
 readSays (ReadAnswer.Sheet m n) supply demand cost =

@@ -2,17 +2,15 @@
 use mathlib.Core.Bool.{Bool, not, _||_}
 use mathlib.Core.List.{List, [], _∷_, _++_}
 use mathlib.Core.Option.{Option, none, some}
-use Prim.Native.Nat.{ℕ, _+_, _*_}
+use Prim.Native.Nat.{ℕ, _*_}
 use lib.Dec.{ltb}
 use lib.IntN.{ℤ}
 use lib.ListN.{length, drop}
-use Rattle.transport.specs.Lists.{total}
-use Rattle.transport.specs.Limits.{maxCost}
-use Rattle.transport.specs.Sheet.{Sheet, sources, sinks, sheetTests, refusal}
+use Rattle.transport.specs.Sheet.{Sheet, roasteries, cafes, problemOf, sheetTests, refusal}
 use Rattle.transport.specs.Tableau.{Cell, Tableau, cellsOf, start}
-use Rattle.transport.specs.Leaf.{belongs}
+use Rattle.transport.specs.Belonging.{belongs}
 use Rattle.transport.specs.Potential.{sourcePrices, sinkPrices, isFinished}
-use Rattle.transport.specs.Round.{Round, round, Run, run}
+use Rattle.transport.specs.Round.{Round, round, Run, run, roundBound}
 use Rattle.transport.specs.Plan.{planCost, settled}
 
 -- A refusal gives its number, and 9 also a place.
@@ -40,62 +38,63 @@ unfoldable pub lentAfter : {A B : Type 0} → (A → List B) → Answer A → Li
 lentAfter part (refused r) old = old
 lentAfter part (given x) old = part x ++ drop (length (part x)) old
 
--- 6: the tableau doesn't belong to the sheet.
+-- 6: the tableau doesn't belong to the sheet, that is, to its problem.
 unfoldable pub tableauTests : Sheet → Tableau → List (Bool × ℕ)
-tableauTests S t = sheetTests S ++ ((not (belongs S t), 6) ∷ [])
+tableauTests S t = sheetTests S ++ ((not (belongs (problemOf S) t), 6) ∷ [])
 
 -- 8: a lent list, or the output, is too short.
 unfoldable pub tooShort : ℕ → ℕ → Bool
 tooShort room needed = ltb room needed
 
 unfoldable pub startCall : Sheet → Answer (List Cell)
-startCall S = unless (sheetTests S) (start S)
+startCall S = unless (sheetTests S) (start (problemOf S))
 
 unfoldable pub roundCall : Sheet → Tableau → Answer Round
-roundCall S t = unless (tableauTests S t) (round S (cellsOf t))
+roundCall S t = unless (tableauTests S t) (round (problemOf S) (cellsOf t))
 
 unfoldable pub runCall : Sheet → Tableau → ℕ → Answer Run
-runCall S t allowance = unless (tableauTests S t) (run S allowance (cellsOf t))
+runCall S t allowance = unless (tableauTests S t) (run (problemOf S) allowance (cellsOf t))
 
 -- 7: the tableau is not finished. `room` is the length of the lent list.
 unfoldable pub settleCall : Sheet → Tableau → ℕ → Answer (List ℕ)
 settleCall S t room =
     unless
     (tableauTests S t
-    ++ ((not (isFinished S (cellsOf t)), 7)
-    ∷ (tooShort room (sources S * sinks S), 8)
+    ++ ((not (isFinished (problemOf S) (cellsOf t)), 7)
+    ∷ (tooShort room (roasteries S * cafes S), 8)
     ∷ []))
     (settled S)
 
--- More rounds than any run from the start makes on an accepted sheet. (That they always finish within it is a theorem.)
-unfoldable pub roundBound : Sheet → ℕ
-roundBound S = maxCost * ((2 * sources S + 1) * total (S .supply) + sources S)
-
--- The cost of the settled plan, the rounds from the start to the first finished tableau, its prices and its settled plan.
+-- The cost of the settled plan, the rounds to the first finished tableau, its prices and its settled plan.
 pub record Solution : Type 0 where
-  pub cost : ℕ
+  pub cost : ℤ
   pub rounds : ℕ
   pub u : List ℤ
   pub v : List ℤ
   pub plan : List ℕ
 
-unfoldable pub solution : Sheet → Solution
-solution S =
-    let r = run S (roundBound S) (start S) in
+-- From a tableau on ..
+unfoldable pub solutionFrom : Sheet → List Cell → Solution
+solutionFrom S T =
+    let r = run (problemOf S) (roundBound (problemOf S)) T in
     let x = settled S in
     record {
       cost = planCost S x;
       rounds = r .rounds;
-      u = sourcePrices S (r .tableau);
-      v = sinkPrices S (r .tableau);
+      u = sourcePrices (problemOf S) (r .tableau);
+      v = sinkPrices (problemOf S) (r .tableau);
       plan = x;
     }
+
+-- .. and from the start.
+unfoldable pub solution : Sheet → Solution
+solution S = solutionFrom S (start (problemOf S))
 
 -- The rooms are the lengths of the lent lists for u, v and the plan.
 unfoldable pub solveCall : Sheet → ℕ → ℕ → ℕ → Answer Solution
 solveCall S uRoom vRoom planRoom =
     unless
     (sheetTests S
-    ++ ((tooShort uRoom (sources S) || tooShort vRoom (sinks S) || tooShort planRoom (sources S * sinks S), 8)
+    ++ ((tooShort uRoom (roasteries S) || tooShort vRoom (cafes S) || tooShort planRoom (roasteries S * cafes S), 8)
     ∷ []))
     (solution S)

@@ -1,14 +1,14 @@
--- Striking leaves (002: a row or column with a single basic cell, and again after striking it off), and belonging (paper 01, "Tableau and start").
+-- Striking leaves (paper 01, "Tableau and start"; 002): a row or column with a single basic cell, and again after striking it off.
 -- The cells of a tableau are links between nodes: row i is node i, column j is node m + j.
-use mathlib.Core.Bool.{Bool, not, _&&_, _||_, cond}
+use mathlib.Core.Bool.{Bool, not, _||_, cond}
 use mathlib.Core.List.{List, [], _∷_}
 use mathlib.Core.Option.{Option, none, some}
 use Prim.Native.Nat.{ℕ, zero, suc, _+_}
 use lib.Dec.{eqb}
 use lib.ListN.{length}
-use Rattle.transport.specs.Lists.{all, keep, table}
-use Rattle.transport.specs.Sheet.{Sheet, sources, sinks, Lane}
-use Rattle.transport.specs.Tableau.{Cell, Tableau, cellsOf, basisOf, basisSize, onSheet, inOrder, aboveZero, balanced}
+use Rattle.transport.specs.Lists.{keep, table}
+use Rattle.transport.specs.Problem.{Lane}
+use Rattle.transport.specs.Tableau.{basisSize}
 
 -- The lane links node k.
 unfoldable pub touches : ℕ → ℕ → Lane → Bool
@@ -47,20 +47,3 @@ strikeOff m nodes (suc most) B = elim (firstLeaf m nodes B) [
 -- Every node but source 1, the root, can be a leaf.
 unfoldable pub strikes : ℕ → ℕ → List Lane → List Strike
 strikes m n B = strikeOff m (table (basisSize m n) suc) (length B) B
-
--- The lanes join all nodes without a loop: m + n − 1 of them, and all are struck off. (That this is so exactly if they are joined is a theorem.)
-unfoldable pub spans : ℕ → ℕ → List Lane → Bool
-spans m n B = eqb (length B) (basisSize m n) && eqb (length (strikes m n B)) (basisSize m n)
-
--- The cells belong to the sheet.
-unfoldable pub cellsBelong : Sheet → List Cell → Bool
-cellsBelong S T =
-    all (onSheet S) T
-    && inOrder (sinks S) T
-    && spans (sources S) (sinks S) (basisOf T)
-    && all aboveZero T
-    && balanced S T
-
--- The tableau that a caller hands over belongs to the sheet. Its count is tested first: it may say more cells than the array has.
-unfoldable pub belongs : Sheet → Tableau → Bool
-belongs S t = eqb (t .count) (basisSize (sources S) (sinks S)) && cellsBelong S (cellsOf t)

@@ -1,9 +1,11 @@
 pub mod Lists
 pub mod Limits
+pub mod Problem
 pub mod Sheet
 pub mod Amount
 pub mod Tableau
 pub mod Leaf
+pub mod Belonging
 pub mod Potential
 pub mod Round
 pub mod Plan
@@ -13,11 +15,5 @@ pub mod SheetText
 pub mod PlanText
 pub mod Answers
 pub mod Statements
-pub mod Open
 pub mod Samples
-pub mod ListLaws
-pub mod AmountLaws
-pub mod RangeLaws
-pub mod RoundLaws
-pub mod SheetLaws
-pub mod CallLaws
+pub mod Laws

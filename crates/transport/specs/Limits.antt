@@ -1,7 +1,15 @@
 -- The limits, each number once. (The code has them again as constants: where the two differed, some function could not be proved.)
 use Prim.Native.Nat.{ℕ, _*_, _-_}
 
--- Sources and sinks: 1 to 32 of each.
+-- Roasteries: 1 to 32 ..
+unfoldable pub maxSources : ℕ
+maxSources = 32
+
+-- .. and cafés: 1 to 32.
+unfoldable pub maxSinks : ℕ
+maxSinks = 32
+
+-- Not a limit of the paper but the room for a side of a problem, in answers and in the arrays of the code: neither limit is above it.
 unfoldable pub maxSide : ℕ
 maxSide = 32
 
@@ -9,9 +17,20 @@ maxSide = 32
 unfoldable pub maxAmount : ℕ
 maxAmount = 1_000_000
 
+-- The most bags of a sheet, all roasteries together.
+unfoldable pub maxBags : ℕ
+maxBags = maxSide * maxAmount
+
 -- A cost: 0 to 1,000,000 cents a bag.
 unfoldable pub maxCost : ℕ
 maxCost = 1_000_000
+
+-- What a lane of a balanced problem may cost: from −costBelow to costAbove. The costs of a sheet are such.
+unfoldable pub costBelow : ℕ
+costBelow = 0
+
+unfoldable pub costAbove : ℕ
+costAbove = maxCost
 
 -- The most basic cells of a tableau within the limits: the length of a tableau's array.
 unfoldable pub maxCells : ℕ

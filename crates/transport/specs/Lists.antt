@@ -3,6 +3,7 @@ use mathlib.Core.Bool.{Bool, true, _&&_, cond}
 use mathlib.Core.List.{List, [], _∷_, _++_}
 use Prim.Native.Nat.{ℕ, zero, suc, _+_, _-_}
 use lib.Dec.{leb}
+use lib.IntN.{ℤ, pos, _+ℤ_}
 use lib.ListN.{length, getD, replicate}
 
 module _ {A : Type 0} where
@@ -48,9 +49,18 @@ unfoldable pub sumTo : ℕ → (ℕ → ℕ) → ℕ
 sumTo zero f = 0
 sumTo (suc n) f = sumTo n f + f n
 
--- The number at place k, counted from 0.
+-- The same for whole numbers.
+unfoldable pub sumZ : ℕ → (ℕ → ℤ) → ℤ
+sumZ zero f = pos 0
+sumZ (suc n) f = sumZ n f +ℤ f n
+
+-- The number at place k, counted from 0 ..
 unfoldable pub at : List ℕ → ℕ → ℕ
 at xs k = getD xs k 0
+
+-- .. and the whole number.
+unfoldable pub atZ : List ℤ → ℕ → ℤ
+atZ xs k = getD xs k (pos 0)
 
 unfoldable pub total : List ℕ → ℕ
 total xs = sumTo (length xs) (at xs)

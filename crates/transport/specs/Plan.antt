@@ -1,15 +1,16 @@
 -- Plans in whole bags, their cost, and the settled plan (paper 01, "The sheet" and "Settling"). A plan is the list of its quantities in sheet order.
 use mathlib.Core.Bool.{cond}
 use mathlib.Core.List.{List, [], _∷_, _++_, map, flatMap, zipWith}
-use Prim.Native.Nat.{ℕ, _+_, _*_, _-_, min}
-use lib.Dec.{eqb, ltb}
-use lib.ListN.{length}
-use Rattle.transport.specs.Lists.{all, firstLeast, downTo, sumTo, at, total}
-use Rattle.transport.specs.Sheet.{Sheet}
+use Prim.Native.Nat.{ℕ, _*_, _-_, min}
+use lib.Dec.{eqb}
+use lib.IntN.{ℤ, pos, _*ℤ_}
+use lib.Signed.{ltZ}
+use Rattle.transport.specs.Lists.{all, firstLeast, downTo, sumZ, at, total}
+use Rattle.transport.specs.Sheet.{Sheet, roasteries, cafes}
 
 -- The sum of quantity times cost.
-unfoldable pub planCost : Sheet → List ℕ → ℕ
-planCost S x = sumTo (length (S .cost)) (λ l. at x l * at (S .cost) l)
+unfoldable pub planCost : Sheet → List ℕ → ℤ
+planCost S x = sumZ (roasteries S * cafes S) (λ l. pos (at x l) *ℤ pos (at (S .cost) l))
 
 -- All ways to send `left` over lanes to sinks that still want ds, more on an earlier lane first: a lane takes at most what its sink wants, and at least what the
 -- later sinks have no room for.
@@ -28,4 +29,4 @@ plans S = plansFor (S .supply) (S .demand)
 
 -- Of all plans of least cost, the one that carries more on the first lane where it differs from any other.
 unfoldable pub settled : Sheet → List ℕ
-settled S = firstLeast (λ x y. ltb (planCost S x) (planCost S y)) [] (plans S)
+settled S = firstLeast (λ x y. ltZ (planCost S x) (planCost S y)) [] (plans S)

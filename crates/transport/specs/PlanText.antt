@@ -8,12 +8,13 @@ use lib.IntN.{ℤ}
 use lib.ListN.{length, take}
 use Rattle.transport.specs.Lists.{keep, at}
 use Rattle.transport.specs.Limits.{maxText}
-use Rattle.transport.specs.Sheet.{Sheet, sources, sinks, Lane, lanes, place, sheetTests, numberTests}
+use Rattle.transport.specs.Problem.{Lane, lanes, place}
+use Rattle.transport.specs.Sheet.{Sheet, roasteries, cafes, sheetTests, numberTests}
 use Rattle.transport.specs.Calls.{Refusal, Answer, refused, given, unless, tooShort, solution}
 use Rattle.transport.specs.Text.{bytes, wholeDigits, headLine, numberLine, rowLine}
 use Rattle.transport.specs.SheetText.{readWith}
 
--- A price on its line.
+-- A price or a cost on its line.
 unfoldable pub wholeLine : ℤ → List ℕ
 wholeLine z = wholeDigits z ++ bytes "\n"
 
@@ -33,12 +34,12 @@ laneLine n plan l = rowLine (suc (l .row) ∷ suc (l .col) ∷ carried n plan l 
 unfoldable pub planText : Sheet → List ℕ
 planText S =
     let a = solution S in
-    let ls = used (sources S) (sinks S) (a .plan) in
-    headLine "total" 1 ++ numberLine (a .cost)
+    let ls = used (roasteries S) (cafes S) (a .plan) in
+    headLine "total" 1 ++ wholeLine (a .cost)
     ++ headLine "rounds" 1 ++ numberLine (a .rounds)
-    ++ headLine "roasteries" (sources S) ++ flatMap wholeLine (a .u)
-    ++ headLine "cafes" (sinks S) ++ flatMap wholeLine (a .v)
-    ++ headLine "lanes" (length ls) ++ flatMap (laneLine (sinks S) (a .plan)) ls
+    ++ headLine "roasteries" (roasteries S) ++ flatMap wholeLine (a .u)
+    ++ headLine "cafes" (cafes S) ++ flatMap wholeLine (a .v)
+    ++ headLine "lanes" (length ls) ++ flatMap (laneLine (cafes S) (a .plan)) ls
 
 -- Write plan solves, writes the plan text and gives its length, refusing as write sheet does. `room` is the length of the output.
 unfoldable pub writePlanCall : Sheet → ℕ → Answer (List ℕ)

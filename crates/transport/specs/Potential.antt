@@ -6,7 +6,7 @@ use lib.Dec.{eqb}
 use lib.IntN.{ℤ, pos, _-ℤ_}
 use lib.Signed.{nonNeg}
 use Rattle.transport.specs.Lists.{all, table}
-use Rattle.transport.specs.Sheet.{Sheet, sources, sinks, Lane, lanes, laneCost}
+use Rattle.transport.specs.Problem.{Problem, sources, sinks, Lane, lanes, laneCost}
 use Rattle.transport.specs.Tableau.{Cell, basisOf}
 use Rattle.transport.specs.Leaf.{Strike, strikes}
 
@@ -18,20 +18,20 @@ potentialBy cost (s ∷ ss) k = elim (eqb k (s .leaf)) [
   | false ↦ potentialBy cost ss k
 ]
 
-unfoldable pub potential : Sheet → List Cell → ℕ → ℤ
-potential S T = potentialBy (laneCost S) (strikes (sources S) (sinks S) (basisOf T))
+unfoldable pub potential : Problem → List Cell → ℕ → ℤ
+potential P T = potentialBy (laneCost P) (strikes (sources P) (sinks P) (basisOf T))
 
 -- The prices u of the sources and v of the sinks.
-unfoldable pub sourcePrices : Sheet → List Cell → List ℤ
-sourcePrices S T = table (sources S) (potential S T)
+unfoldable pub sourcePrices : Problem → List Cell → List ℤ
+sourcePrices P T = table (sources P) (potential P T)
 
-unfoldable pub sinkPrices : Sheet → List Cell → List ℤ
-sinkPrices S T = table (sinks S) (λ j. potential S T (sources S + j))
+unfoldable pub sinkPrices : Problem → List Cell → List ℤ
+sinkPrices P T = table (sinks P) (λ j. potential P T (sources P + j))
 
 -- cost − u − v
-unfoldable pub reducedCost : Sheet → List Cell → Lane → ℤ
-reducedCost S T l = laneCost S l -ℤ potential S T (l .row) -ℤ potential S T (sources S + l .col)
+unfoldable pub reducedCost : Problem → List Cell → Lane → ℤ
+reducedCost P T l = laneCost P l -ℤ potential P T (l .row) -ℤ potential P T (sources P + l .col)
 
 -- Finished when no reduced cost is negative.
-unfoldable pub isFinished : Sheet → List Cell → Bool
-isFinished S T = all (λ l. nonNeg (reducedCost S T l)) (lanes (sources S) (sinks S))
+unfoldable pub isFinished : Problem → List Cell → Bool
+isFinished P T = all (λ l. nonNeg (reducedCost P T l)) (lanes (sources P) (sinks P))

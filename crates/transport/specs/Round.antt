@@ -1,21 +1,22 @@
 -- Rounds (paper 01, "Prices and rounds", second paragraph): the entering lane, the loop's signs, the step, the pivot; and runs of rounds.
 use mathlib.Core.Bool.{Bool, true, false, not, cond}
 use mathlib.Core.List.{List, [], _∷_, map}
-use Prim.Native.Nat.{ℕ, zero, suc, _+_}
+use Prim.Native.Nat.{ℕ, zero, suc, _+_, _*_}
 use lib.Dec.{eqb, ltb}
 use lib.IntN.{ℤ, pos, negsuc, _-ℤ_}
 use lib.Signed.{ltZ}
-use Rattle.transport.specs.Lists.{keep, firstLeast}
-use Rattle.transport.specs.Sheet.{Sheet, sources, sinks, Lane, lanes, place}
+use Rattle.transport.specs.Lists.{keep, firstLeast, total}
+use Rattle.transport.specs.Limits.{costBelow, costAbove}
+use Rattle.transport.specs.Problem.{Problem, sources, sinks, Lane, lanes, place}
 use Rattle.transport.specs.Amount.{Pair, add, subtract, less}
 use Rattle.transport.specs.Tableau.{Cell, laneOf, withAmount, basisOf, sameLane, noCell}
 use Rattle.transport.specs.Leaf.{Strike, strikes}
 use Rattle.transport.specs.Potential.{sourcePrices, sinkPrices, reducedCost, isFinished}
 
 -- The entering lane has the least reduced cost, the first in sheet order among equals.
-unfoldable pub entering : Sheet → List Cell → Lane
-entering S T =
-    firstLeast (λ k l. ltZ (reducedCost S T k) (reducedCost S T l)) (laneOf noCell) (lanes (sources S) (sinks S))
+unfoldable pub entering : Problem → List Cell → Lane
+entering P T =
+    firstLeast (λ k l. ltZ (reducedCost P T k) (reducedCost P T l)) (laneOf noCell) (lanes (sources P) (sinks P))
 
 -- ---- the loop's signs
 
@@ -73,31 +74,35 @@ pivot m n T enter =
 
 -- ---- the round
 
-unfoldable pub next : Sheet → List Cell → List Cell
-next S T = pivot (sources S) (sinks S) T (entering S T)
+unfoldable pub next : Problem → List Cell → List Cell
+next P T = pivot (sources P) (sinks P) T (entering P T)
 
 -- A round gives the next tableau, or `finished` with the prices u and v.
 pub data Round : Type 0 where
   finished : List ℤ → List ℤ → Round
   moved : List Cell → Round
 
-unfoldable pub round : Sheet → List Cell → Round
-round S T = elim (isFinished S T) [
-  | true ↦ finished (sourcePrices S T) (sinkPrices S T)
-  | false ↦ moved (next S T)
+unfoldable pub round : Problem → List Cell → Round
+round P T = elim (isFinished P T) [
+  | true ↦ finished (sourcePrices P T) (sinkPrices P T)
+  | false ↦ moved (next P T)
 ]
 
 -- A run of rounds: whether it finished within its allowance (else it is spent), the last tableau and the rounds made.
 pub record Run : Type 0 where
-  pub done : Bool
+  pub finished : Bool
   pub tableau : List Cell
   pub rounds : ℕ
 
-unfoldable pub run : Sheet → ℕ → List Cell → Run
-run S zero T = record { done = isFinished S T; tableau = T; rounds = 0 }
-run S (suc allowance) T = elim (isFinished S T) [
-  | true ↦ record { done = true; tableau = T; rounds = 0 }
+unfoldable pub run : Problem → ℕ → List Cell → Run
+run P zero T = record { finished = isFinished P T; tableau = T; rounds = 0 }
+run P (suc allowance) T = elim (isFinished P T) [
+  | true ↦ record { finished = true; tableau = T; rounds = 0 }
   | false ↦
-      let r = run S allowance (next S T) in
-      record { done = r .done; tableau = r .tableau; rounds = suc (r .rounds) }
+      let r = run P allowance (next P T) in
+      record { finished = r .finished; tableau = r .tableau; rounds = suc (r .rounds) }
 ]
+
+-- More rounds than any run makes: what all amounts are worth, times the range of costs. (That every run finishes within it is a theorem.)
+unfoldable pub roundBound : Problem → ℕ
+roundBound P = (costBelow + costAbove) * ((2 * sources P + 1) * total (P .supply) + sources P)

@@ -1,11 +1,13 @@
 -- The paper's samples P1 to P9, its text samples and its worked text, as one theorem over the definitions; and a sample for each trap that these leave open.
+mod Open
 use mathlib.Core.Path.{_≡_, refl}
 use mathlib.Core.Bool.{true, false}
 use mathlib.Core.List.{List, [], _∷_}
 use mathlib.Core.Option.{some}
 use Prim.Native.Nat.{ℕ, _-_}
 use lib.IntN.{ℤ, pos, negsuc}
-use Rattle.transport.specs.Sheet.{Sheet, Lane}
+use Rattle.transport.specs.Problem.{Problem, Lane}
+use Rattle.transport.specs.Sheet.{Sheet, problemOf}
 use Rattle.transport.specs.Tableau.{Cell, tableauOf, start}
 use Rattle.transport.specs.Potential.{reducedCost}
 use Rattle.transport.specs.Round.{finished, moved, entering, next}
@@ -13,7 +15,7 @@ use Rattle.transport.specs.Calls.{refused, given, refusedBy, startCall, 
 use Rattle.transport.specs.Text.{bytes}
 use Rattle.transport.specs.SheetText.{readSheetCall, writeSheetCall}
 use Rattle.transport.specs.PlanText.{writePlanCall, printed}
-use Rattle.transport.specs.Open.{opened}
+use Rattle.transport.specs.Samples.Open.{opened}
 
 -- ---- a list of samples: what the definitions give, and what the paper says
 
@@ -51,6 +53,9 @@ sheet3 = record { supply = 5 ∷ 5 ∷ []; demand = 5 ∷ 5 ∷ []; cost = 1 ∷
 abbrev sheet4 : Sheet
 sheet4 = record { supply = 1 ∷ 3 ∷ []; demand = 2 ∷ 1 ∷ 1 ∷ []; cost = 9 ∷ 0 ∷ 0 ∷ 0 ∷ 0 ∷ 0 ∷ [] }
 
+abbrev problem4 : Problem
+problem4 = problemOf sheet4
+
 abbrev tableau5 : List Cell
 tableau5 = cell 1 3 (pos 1) (pos 1) ∷ cell 2 1 (pos 2) (pos 0) ∷ cell 2 2 (pos 1) (pos 0) ∷ cell 2 3 (pos 0) (pos 1) ∷ []
 
@@ -65,26 +70,26 @@ abbrev samples : List Sample
 samples =
     -- P1
     (startCall sheet1 is given start1)
-    ∷ (entering sheet1 start1 is lane 1 2)
-    ∷ (reducedCost sheet1 start1 (lane 1 2) is negsuc 6)
+    ∷ (entering (problemOf sheet1) start1 is lane 1 2)
+    ∷ (reducedCost (problemOf sheet1) start1 (lane 1 2) is negsuc 6)
     ∷ (roundCall sheet1 (tableauOf start1) is given (moved next1))
-    ∷ (solveCall sheet1 2 2 4 is given (record { cost = 14; rounds = 1; u = pos 0 ∷ negsuc 1 ∷ []; v = pos 4 ∷ pos 1 ∷ []; plan = 1 ∷ 2 ∷ 4 ∷ 0 ∷ [] }))
+    ∷ (solveCall sheet1 2 2 4 is given (record { cost = pos 14; rounds = 1; u = pos 0 ∷ negsuc 1 ∷ []; v = pos 4 ∷ pos 1 ∷ []; plan = 1 ∷ 2 ∷ 4 ∷ 0 ∷ [] }))
     -- P2
-    ∷ (runCall sheet1 (tableauOf start1) 0 is given (record { done = false; tableau = start1; rounds = 0 }))
-    ∷ (runCall sheet1 (tableauOf start1) 1 is given (record { done = true; tableau = next1; rounds = 1 }))
+    ∷ (runCall sheet1 (tableauOf start1) 0 is given (record { finished = false; tableau = start1; rounds = 0 }))
+    ∷ (runCall sheet1 (tableauOf start1) 1 is given (record { finished = true; tableau = next1; rounds = 1 }))
     -- P3
     ∷ (startCall sheet3 is given (cell 1 1 (pos 5) (pos 0) ∷ cell 1 2 (pos 0) (pos 1) ∷ cell 2 2 (pos 5) (pos 1) ∷ []))
-    ∷ (solveCall sheet3 2 2 4 is given (record { cost = 10; rounds = 0; u = pos 0 ∷ pos 0 ∷ []; v = pos 1 ∷ pos 1 ∷ []; plan = 5 ∷ 0 ∷ 0 ∷ 5 ∷ [] }))
+    ∷ (solveCall sheet3 2 2 4 is given (record { cost = pos 10; rounds = 0; u = pos 0 ∷ pos 0 ∷ []; v = pos 1 ∷ pos 1 ∷ []; plan = 5 ∷ 0 ∷ 0 ∷ 5 ∷ [] }))
     -- P4: the lane that enters second, (1,3), holds the step (0, 1) afterwards
-    ∷ (next sheet4 (next sheet4 (start sheet4)) is (cell 1 2 (pos 1) (pos 0) ∷ cell 1 3 (pos 0) (pos 1) ∷ cell 2 1 (pos 2) (pos 0) ∷ cell 2 3 (pos 1) (pos 1) ∷ []))
-    ∷ (solveCall sheet4 2 3 6 is given (record { cost = 0; rounds = 2; u = pos 0 ∷ pos 0 ∷ []; v = pos 0 ∷ pos 0 ∷ pos 0 ∷ []; plan = 0 ∷ 1 ∷ 0 ∷ 2 ∷ 0 ∷ 1 ∷ [] }))
+    ∷ (next problem4 (next problem4 (start problem4)) is (cell 1 2 (pos 1) (pos 0) ∷ cell 1 3 (pos 0) (pos 1) ∷ cell 2 1 (pos 2) (pos 0) ∷ cell 2 3 (pos 1) (pos 1) ∷ []))
+    ∷ (solveCall sheet4 2 3 6 is given (record { cost = pos 0; rounds = 2; u = pos 0 ∷ pos 0 ∷ []; v = pos 0 ∷ pos 0 ∷ pos 0 ∷ []; plan = 0 ∷ 1 ∷ 0 ∷ 2 ∷ 0 ∷ 1 ∷ [] }))
     -- P5
     ∷ (roundCall sheet4 (tableauOf tableau5) is given (finished (pos 0 ∷ pos 0 ∷ []) (pos 0 ∷ pos 0 ∷ pos 0 ∷ [])))
     ∷ (settleCall sheet4 (tableauOf tableau5) 6 is given (0 ∷ 1 ∷ 0 ∷ 2 ∷ 0 ∷ 1 ∷ []))
     -- P6
-    ∷ (solveCall (oneLane 1 1 0) 1 1 1 is given (record { cost = 0; rounds = 0; u = pos 0 ∷ []; v = pos 0 ∷ []; plan = 1 ∷ [] }))
+    ∷ (solveCall (oneLane 1 1 0) 1 1 1 is given (record { cost = pos 0; rounds = 0; u = pos 0 ∷ []; v = pos 0 ∷ []; plan = 1 ∷ [] }))
     -- P7
-    ∷ (solveCall (oneLane 1_000_000 1_000_000 1_000_000) 1 1 1 is given (record { cost = 1_000_000_000_000; rounds = 0; u = pos 0 ∷ []; v = pos 1_000_000 ∷ []; plan = 1_000_000 ∷ [] }))
+    ∷ (solveCall (oneLane 1_000_000 1_000_000 1_000_000) 1 1 1 is given (record { cost = pos 1_000_000_000_000; rounds = 0; u = pos 0 ∷ []; v = pos 1_000_000 ∷ []; plan = 1_000_000 ∷ [] }))
     ∷ (solveCall (oneLane 1_000_000 1_000_000 1_000_001) 1 1 1 is refusedBy 4)
     -- P8
     ∷ (solveCall (oneLane 3 2 0) 1 1 1 is refusedBy 5)
@@ -105,7 +110,7 @@ samples =
     ∷ (solveCall sheet1 2 2 3 is refusedBy 8)
     ∷ (writePlanCall sheet1 70 is refusedBy 8)
     -- traps: the least reduced cost enters, and not the first negative one; a count beyond the array does not belong
-    ∷ (entering sheet10 (start sheet10) is lane 1 3)
+    ∷ (entering (problemOf sheet10) (start (problemOf sheet10)) is lane 1 3)
     ∷ (roundCall sheet1 (record { cells = tableauOf start1 .cells; count = 64 }) is refusedBy 6)
     ∷ []
 

@@ -6,10 +6,10 @@ use Prim.Native.Nat.{ℕ, zero, suc, _+_, _*_, _-_}
 use lib.Dec.{eqb}
 use lib.ListN.{length, take, drop}
 use Rattle.transport.specs.Lists.{within}
-use Rattle.transport.specs.Limits.{maxSide, maxDigits}
-use Rattle.transport.specs.Sheet.{Sheet, sources, sinks, sheetTests, numberTests}
+use Rattle.transport.specs.Limits.{maxSources, maxSinks, maxDigits}
+use Rattle.transport.specs.Sheet.{Sheet, roasteries, cafes, sheetTests, numberTests}
 use Rattle.transport.specs.Calls.{Answer, refused, unless, tooShort}
-use Rattle.transport.specs.Text.{bytes, Digit, Space, LineEnd, Letter, Other, kindOf, headLine, numberLine, rowLine}
+use Rattle.transport.specs.Text.{bytes, byte, Digit, Space, LineEnd, Letter, Other, kindOf, headLine, numberLine, rowLine}
 
 -- ---- writing
 
@@ -21,12 +21,12 @@ rowsOf (suc k) n xs = take n xs ∷ rowsOf k n (drop n xs)
 -- `supply m` and m lines of one number; `demand n` and n lines of one number; `cost m` and m lines of n numbers.
 unfoldable pub sheetText : Sheet → List ℕ
 sheetText S =
-    headLine "supply" (sources S)
+    headLine "supply" (roasteries S)
     ++ flatMap numberLine (S .supply)
-    ++ headLine "demand" (sinks S)
+    ++ headLine "demand" (cafes S)
     ++ flatMap numberLine (S .demand)
-    ++ headLine "cost" (sources S)
-    ++ flatMap rowLine (rowsOf (sources S) (sinks S) (S .cost))
+    ++ headLine "cost" (roasteries S)
+    ++ flatMap rowLine (rowsOf (roasteries S) (cafes S) (S .cost))
 
 -- The text, whose length is the call's answer. `room` is the length of the output.
 unfoldable pub writeSheetCall : Sheet → ℕ → Answer (List ℕ)
@@ -96,7 +96,7 @@ isDigit b = elim (kindOf b) [
 ]
 
 unfoldable pub digitValue : ℕ → ℕ
-digitValue b = b - 48
+digitValue b = b - byte "0"
 
 -- At most k digits more of a number that begins with x, as long as the number passes the test.
 unfoldable pub moreDigits : (ℕ → Bool) → ℕ → ℕ → Reader ℕ
@@ -113,11 +113,11 @@ number = do
   b ← byteThat isDigit
   moreDigits (λ x. true) (cond (eqb (digitValue b) 0) 0 (maxDigits - 1)) (digitValue b)
 
--- m or n: 1 to 32, of one or two digits.
-unfoldable pub side : Reader ℕ
-side = do
-  b ← byteThat (λ b. isDigit b && within 1 maxSide (digitValue b))
-  moreDigits (within 1 maxSide) 1 (digitValue b)
+-- m or n: from 1 to its limit, of one or two digits.
+unfoldable pub side : ℕ → Reader ℕ
+side most = do
+  b ← byteThat (λ b. isDigit b && within 1 most (digitValue b))
+  moreDigits (within 1 most) 1 (digitValue b)
 
 -- One number, and LF.
 unfoldable pub line : Reader ℕ → Reader ℕ
@@ -144,10 +144,10 @@ row (suc (suc n)) = do
 unfoldable pub sheetReader : Reader Sheet
 sheetReader = do
   word (bytes "supply ")
-  m ← line side
+  m ← line (side maxSources)
   supply ← times m (line number)
   word (bytes "demand ")
-  n ← line side
+  n ← line (side maxSinks)
   demand ← times n (line number)
   word (headLine "cost" m)
   rows ← times m (row n)
@@ -165,7 +165,7 @@ readWith tests text = elim (sheetReader text) [
 unfoldable pub readTests : ℕ → ℕ → ℕ → Sheet → List (Bool × ℕ)
 readTests supplyRoom demandRoom costRoom S =
     numberTests S
-    ++ ((tooShort supplyRoom (sources S) || tooShort demandRoom (sinks S) || tooShort costRoom (sources S * sinks S), 8)
+    ++ ((tooShort supplyRoom (roasteries S) || tooShort demandRoom (cafes S) || tooShort costRoom (roasteries S * cafes S), 8)
     ∷ [])
 
 unfoldable pub readSheetCall : List ℕ → ℕ → ℕ → ℕ → Answer Sheet

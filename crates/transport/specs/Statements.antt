@@ -1,47 +1,78 @@
--- What the demands say, in their own words and without the algorithm: the types that the theorems and contracts inhabit.
+-- What the paper and the demands say, in their own words: the types that the theorems and contracts inhabit. Of the algorithm they cite no more than what a
+-- sentence speaks of, as the signs, the cell that leaves and the next tableau.
+--
+-- In the paper's order, with the theorem that proves each (CRATE/MODULE.NAME, all in specs/). Problems are those of accepted sheets (Laws.Sound), tableaux are
+-- any that belong, and an entering lane is any that is not basic, as the definition's is (tableaux/Entering.entering-inside, entering-new).
+--   WithinLimits, Balanced   exactly the sheets that pass the sheet check: transport/Laws.SheetLaws.accepted, passes
+--   Meets                    exactly the plans that the definition lists: plans/Plans.plans-sound, plans-complete
+--   Belongs                  exactly the cells that the test lets pass: tableaux/Belonging.belongs-iff
+--                            the start, and the next tableau: tableaux/Starting.start-belongs, tableaux/Ending.next-belongs
+--   OnlyPrices               the definition's potentials, and the prices that calls give: tableaux/Prices.only-prices, listed-prices
+--   OneLoop                  the definition's signs: tableaux/Loop.one-loop
+--   OneStep                  the definition's leaving cell: tableaux/Pivoting.one-step
+--   FirstFinished            there is one, from the start on: tableaux/Ending.start-ends
+--   Best                     the definition's solution: demands/Demand3.solution-best
+--   RunOf                    the definition's run: tableaux/Running.run-of
+--   FromFirstFinished        the definition's solution: demands/Demand3.solution-finished
+--   Bought                   stands in the contract of solve; by demands/Bought.bought
+--   SheetTextOf              exactly the texts that the definition reads: grammar/Place.reader-iff
+--   Place                    the place that read sheet gives with 9: grammar/Place.place
+--   Undo                     write sheet and read sheet: grammar/SheetCalls.undo
 use mathlib.Core.Path.{_≡_}
 use mathlib.Core.Logic.{_↔_}
-use mathlib.Core.Bool.{Bool, true, false}
-use mathlib.Core.List.{List, map}
-use mathlib.Core.Option.{none}
-use Prim.Native.Nat.{ℕ, suc, _*_, _^_, _≤_, _<_}
-use lib.IntN.{ℤ}
+use mathlib.Core.Bool.{Bool, true, false, cond}
+use mathlib.Core.List.{List, [], _∷_, map, List·Memᴰ}
+use Prim.Native.Nat.{ℕ, zero, suc, _*_, _^_, _≤_, _<_}
+use lib.IntN.{ℤ, pos, negsuc, _+ℤ_, _*ℤ_}
+use lib.Signed.{_≤ℤ_}
 use lib.ListN.{length, take, drop, getD}
 use Rattle.transport.specs.declared.SolveAnswer.{SolveAnswer}
 use Rattle.transport.specs.declared.SolveAnswer.the-variants as SolveAnswer
 use Rattle.transport.specs.Lists.{sumTo, at, total, within}
-use Rattle.transport.specs.Limits.{maxSide, maxDigits}
-use Rattle.transport.specs.Sheet.{Sheet, sources, sinks, place, sheetTests, refusal, badSides, badLength, badAmount, badCost}
+use Rattle.transport.specs.Limits.{maxSources, maxSinks, maxAmount, maxCost, maxDigits}
+use Rattle.transport.specs.Problem.{Problem, sources, sinks, Lane, place, laneCost}
+use Rattle.transport.specs.Sheet.{Sheet, roasteries, cafes}
 use Rattle.transport.specs.Amount.{less, nothing, pairedSupply, pairedDemand}
-use Rattle.transport.specs.Tableau.{Cell, noCell, basisSize, rowTotal, columnTotal}
+use Rattle.transport.specs.Tableau.{Cell, noCell, basisSize, laneOf, basisOf, sameLane, start}
+use Rattle.transport.specs.Leaf.{strikes}
+use Rattle.transport.specs.Belonging.{rowTotal, columnTotal}
+use Rattle.transport.specs.Potential.{sourcePrices, sinkPrices, isFinished}
+use Rattle.transport.specs.Round.{sign, leaving, next, Run}
 use Rattle.transport.specs.Plan.{planCost}
-use Rattle.transport.specs.Calls.{Answer, given}
+use Rattle.transport.specs.Calls.{Answer, given, Solution}
 use Rattle.transport.specs.SheetText.{sheetText}
 
 -- ---- sheets
 
--- The sheet passes the sheet check.
-pub record Accepted (S : Sheet) : Type 0 where
-  pub accepted : refusal (sheetTests S) ≡ none
-
--- The sheet is within the limits: all that the sheet check asks but equal totals.
+-- The sheet is within the limits: all numbers of roasteries, cafés, supplies, demands and costs are, and there is a cost for each lane.
 pub record WithinLimits (S : Sheet) : Type 0 where
-  pub sides : badSides S .0 ≡ false
-  pub lengths : badLength S .0 ≡ false
-  pub amounts : badAmount S .0 ≡ false
-  pub costs : badCost S .0 ≡ false
+  pub roasteriesLow : 1 ≤ roasteries S
+  pub roasteriesHigh : roasteries S ≤ maxSources
+  pub cafesLow : 1 ≤ cafes S
+  pub cafesHigh : cafes S ≤ maxSinks
+  pub costLength : length (S .cost) ≡ roasteries S * cafes S
+  pub supplyLow : (i : ℕ) → i < roasteries S → 1 ≤ at (S .supply) i
+  pub supplyHigh : (i : ℕ) → at (S .supply) i ≤ maxAmount
+  pub demandLow : (j : ℕ) → j < cafes S → 1 ≤ at (S .demand) j
+  pub demandHigh : (j : ℕ) → at (S .demand) j ≤ maxAmount
+  pub costHigh : (l : ℕ) → at (S .cost) l ≤ maxCost
 
 -- The sheet is balanced: total supply is total demand.
 abbrev pub Balanced : Sheet → Type 0
 Balanced S = total (S .supply) ≡ total (S .demand)
 
+-- The sheet passes the sheet check.
+pub record Accepted (S : Sheet) : Type 0 where
+  pub limits : WithinLimits S
+  pub balance : Balanced S
+
 -- ---- plans (01, "The sheet")
 
 -- A plan in k-ths of a bag meets the sheet: each lane has a whole number of them, and each source's and each sink's add up to k times its supply or demand.
 pub record Meets (S : Sheet) (k : ℕ) (Q : List ℕ) : Type 0 where
-  pub quantities : length Q ≡ sources S * sinks S
-  pub rows : (i : ℕ) → i < sources S → sumTo (sinks S) (λ j. at Q (place (sinks S) i j)) ≡ k * at (S .supply) i
-  pub columns : (j : ℕ) → j < sinks S → sumTo (sources S) (λ i. at Q (place (sinks S) i j)) ≡ k * at (S .demand) j
+  pub quantities : length Q ≡ roasteries S * cafes S
+  pub rows : (i : ℕ) → i < roasteries S → sumTo (cafes S) (λ j. at Q (place (cafes S) i j)) ≡ k * at (S .supply) i
+  pub columns : (j : ℕ) → j < cafes S → sumTo (roasteries S) (λ i. at Q (place (cafes S) i j)) ≡ k * at (S .demand) j
 
 -- A plan in whole bags, taken k times to be compared with one in k-ths.
 unfoldable pub scaled : ℕ → List ℕ → List ℕ
@@ -52,39 +83,6 @@ pub record FirstDifference (P Q : List ℕ) (l : ℕ) : Type 0 where
   pub lane : l < length P
   pub differ : at P l ≡ at Q l → ⊥
   pub before : (h : ℕ) → h < l → at P h ≡ at Q h
-
--- Demand 3: the plan, in whole bags, meets the sheet; the cost shown is its cost; any plan Q in k-ths costs no less; and at equal cost this plan carries more on
--- the first lane where they differ.
-pub record Best (S : Sheet) (plan : List ℕ) (cost : ℕ) : Type 0 where
-  pub meets : Meets S 1 plan
-  pub shown : cost ≡ planCost S plan
-  pub least : (k : ℕ) (Q : List ℕ) → 1 ≤ k → Meets S k Q → k * cost ≤ planCost S Q
-  pub first : (k : ℕ) (Q : List ℕ) → 1 ≤ k → Meets S k Q → planCost S Q ≡ k * cost
-      → (l : ℕ) → FirstDifference (scaled k plan) Q l → at Q l < at (scaled k plan) l
-
--- ---- solve (01, "Calls and their refusals")
-
--- The lists lent to solve are long enough for m and n prices and m × n quantities.
-pub record LongEnough (S : Sheet) (uRoom vRoom planRoom : ℕ) : Type 0 where
-  pub u : sources S ≤ uRoom
-  pub v : sinks S ≤ vRoom
-  pub plan : sources S * sinks S ≤ planRoom
-
--- What is bought of each call of solve: r is its answer; the lent lists hold u, v and plan before it, and uAfter, vAfter and planAfter after it.
-pub record Bought (S : Sheet) (r : SolveAnswer) (u v : List ℤ) (plan : List ℕ) (uAfter vAfter : List ℤ) (planAfter : List ℕ) : Type 0 where
-  -- Demand 3: for every balanced sheet within the limits, with lists long enough, solve gives a plan, and it is best at the cost shown.
-  pub solved : WithinLimits S → LongEnough S (length u) (length v) (length plan) → Balanced S
-      → (cost : ℕ) × (rounds : ℕ) × (r ≡ SolveAnswer.Solved cost rounds) × Best S (take (sources S * sinks S) planAfter) cost
-  -- Demand 3: of sheets within the limits, with lists long enough, solve refuses exactly the unbalanced ones, each by 5.
-  pub refuses : WithinLimits S → LongEnough S (length u) (length v) (length plan)
-      → (k : ℕ) → (r ≡ SolveAnswer.Refused k) ↔ (k ≡ 5) × ¬ Balanced S
-  -- Demand 1: a refusal alters no byte of lent memory.
-  pub unchanged : (k : ℕ) → r ≡ SolveAnswer.Refused k → (uAfter ≡ u) × (vAfter ≡ v) × (planAfter ≡ plan)
-  -- Paper 01: on success a lent list changes only in the places that the result fills.
-  pub rest : (cost rounds : ℕ) → r ≡ SolveAnswer.Solved cost rounds
-      → (drop (sources S) uAfter ≡ drop (sources S) u)
-      × (drop (sinks S) vAfter ≡ drop (sinks S) v)
-      × (drop (sources S * sinks S) planAfter ≡ drop (sources S * sinks S) plan)
 
 -- ---- belonging (01, "Tableau and start")
 
@@ -104,23 +102,160 @@ pub record Basic (cells : List Cell) (i j : ℕ) : Type 0 where
   pub row : getD cells index noCell .row ≡ i
   pub column : getD cells index noCell .col ≡ j
 
--- The tableau belongs to the sheet, in the paper's own words. With m + n − 1 cells, to join all is to join all without a loop.
-pub record Belongs (S : Sheet) (cells : List Cell) : Type 1 where
-  pub count : length cells ≡ basisSize (sources S) (sinks S)
-  pub onSheet : (k : ℕ) → k < length cells → (getD cells k noCell .row < sources S) × (getD cells k noCell .col < sinks S)
+-- The tableau belongs to the problem, in the paper's own words. With m + n − 1 cells, to join all is to join all without a loop.
+pub record Belongs (P : Problem) (cells : List Cell) : Type 1 where
+  pub count : length cells ≡ basisSize (sources P) (sinks P)
+  pub onSheet : (k : ℕ) → k < length cells → (getD cells k noCell .row < sources P) × (getD cells k noCell .col < sinks P)
   pub order : (k : ℕ) → suc k < length cells
-      → place (sinks S) (getD cells k noCell .row) (getD cells k noCell .col) < place (sinks S) (getD cells (suc k) noCell .row) (getD cells (suc k) noCell .col)
-  pub joined : Joined (sources S) (sinks S) (Basic cells)
+      → place (sinks P) (getD cells k noCell .row) (getD cells k noCell .col)
+      < place (sinks P) (getD cells (suc k) noCell .row) (getD cells (suc k) noCell .col)
+  pub joined : Joined (sources P) (sinks P) (Basic cells)
   pub above : (k : ℕ) → k < length cells → less nothing (getD cells k noCell .amount) ≡ true
-  pub rows : (i : ℕ) → i < sources S → rowTotal cells i ≡ pairedSupply S i
-  pub columns : (j : ℕ) → j < sinks S → columnTotal cells j ≡ pairedDemand S j
+  pub rows : (i : ℕ) → i < sources P → rowTotal cells i ≡ pairedSupply P i
+  pub columns : (j : ℕ) → j < sinks P → columnTotal cells j ≡ pairedDemand P j
+
+-- ---- prices (01, "Prices and rounds")
+
+-- "Prices are whole numbers u for roasteries and v for cafés, with u of roastery 1 = 0 and u + v = cost on every basic cell."
+pub record PricesOf (P : Problem) (cells : List Cell) (u v : ℕ → ℤ) : Type 0 where
+  pub root : u 0 ≡ pos 0
+  pub tight : (i j : ℕ) → Basic cells i j → u i +ℤ v j ≡ laneCost P (record { row = i; col = j })
+
+-- u and v are prices of the tableau, and the only ones.
+pub record OnlyPrices (P : Problem) (cells : List Cell) (u v : ℕ → ℤ) : Type 0 where
+  pub are : PricesOf P cells u v
+  pub only : (x y : ℕ → ℤ) → PricesOf P cells x y → ((i : ℕ) → i < sources P → x i ≡ u i) × ((j : ℕ) → j < sinks P → y j ≡ v j)
+
+-- ---- the loop (01, "Prices and rounds")
+
+-- "With the basic cells it closes one loop; going round it, signs alternate, plus at the entering lane."
+
+-- The way round, from lane k on: a lane in its row, then a lane in that one's column, and so on, until a lane stands in the column of the entering lane.
+pub data Way (enter : Lane) : Lane → List Lane → Type 0 where
+  closes : {k l : Lane} → l .row ≡ k .row → l .col ≡ enter .col → Way enter k (l ∷ [])
+  goes : {k l p : Lane} {ls : List Lane} → l .row ≡ k .row → p .col ≡ l .col → Way enter p ls → Way enter k (l ∷ p ∷ ls)
+
+-- No lane stands twice in the list.
+pub data Apart : List Lane → Type 0 where
+  empty : Apart []
+  fresh : {l : Lane} {ls : List Lane} → (List·Memᴰ l ls → ⊥) → Apart ls → Apart (l ∷ ls)
+
+-- The entering lane and the others, all of them basic, are a loop: round from the entering lane back to it, and no lane twice.
+pub record Loop (cells : List Cell) (enter : Lane) (others : List Lane) : Type 0 where
+  pub way : Way enter enter others
+  pub apart : Apart (enter ∷ others)
+  pub basic : (l : Lane) → List·Memᴰ l others → Basic cells (l .row) (l .col)
+
+-- Plus, minus, plus, minus and so on.
+pub data Alternate (signOf : Lane → ℤ) : List Lane → Type 0 where
+  none : Alternate signOf []
+  pair : {l p : Lane} {ls : List Lane} → signOf l ≡ pos 1 → signOf p ≡ negsuc 0 → Alternate signOf ls → Alternate signOf (l ∷ p ∷ ls)
+
+-- The signs that the definition gives to the basic cells ..
+abbrev pub basicSign : Problem → List Cell → Lane → Lane → ℤ
+basicSign P cells enter = sign (sources P) (strikes (sources P) (sinks P) (basisOf cells)) enter
+
+-- .. with the plus at the entering lane.
+unfoldable pub loopSign : Problem → List Cell → Lane → Lane → ℤ
+loopSign P cells enter l = cond (sameLane l enter) (pos 1) (basicSign P cells enter l)
+
+-- The entering lane closes one loop, round which the signs alternate, and no lane off it has a sign.
+pub record OneLoop (P : Problem) (cells : List Cell) (enter : Lane) : Type 0 where
+  pub others : List Lane
+  pub loop : Loop cells enter others
+  pub one : (lanes : List Lane) → Loop cells enter lanes → (l : Lane) → List·Memᴰ l lanes ↔ List·Memᴰ l others
+  pub alternate : Alternate (loopSign P cells enter) (enter ∷ others)
+  pub off : (l : Lane) → ¬ List·Memᴰ l (enter ∷ others) → loopSign P cells enter l ≡ pos 0
+
+-- ---- the step (01, "Prices and rounds")
+
+-- "The step is the smallest pair on a minus cell; two minus cells never tie for it."
+
+-- A basic cell with a minus.
+pub record MinusCell (P : Problem) (cells : List Cell) (enter : Lane) (c : Cell) : Type 0 where
+  pub basic : List·Memᴰ c cells
+  pub minus : basicSign P cells enter (laneOf c) ≡ negsuc 0
+
+-- A minus cell that holds the step: on none is the pair smaller.
+pub record HoldsStep (P : Problem) (cells : List Cell) (enter : Lane) (c : Cell) : Type 0 where
+  pub cell : MinusCell P cells enter c
+  pub smallest : (d : Cell) → MinusCell P cells enter d → less (d .amount) (c .amount) ≡ false
+
+-- The cell that leaves holds the step, and no other does.
+pub record OneStep (P : Problem) (cells : List Cell) (enter : Lane) : Type 0 where
+  pub holds : HoldsStep P cells enter (leaving (basicSign P cells enter) cells)
+  pub noTie : (c d : Cell) → HoldsStep P cells enter c → HoldsStep P cells enter d → c ≡ d
+
+-- ---- rounds (01, "Prices and rounds" and "Calls and their refusals")
+
+-- The tableau after k rounds.
+unfoldable pub after : Problem → ℕ → List Cell → List Cell
+after P zero cells = cells
+after P (suc k) cells = after P k (next P cells)
+
+-- "The rounds .. to the first finished tableau" are k.
+pub record FirstFinished (P : Problem) (cells : List Cell) (k : ℕ) : Type 0 where
+  pub finished : isFinished P (after P k cells) ≡ true
+  pub before : (h : ℕ) → h < k → isFinished P (after P h cells) ≡ false
+
+-- ---- the best plan (01, "Settling"; demand 3)
+
+-- Demand 3: the plan, in whole bags, meets the sheet; the cost shown is its cost; any plan Q in k-ths costs no less; and at equal cost this plan carries more
+-- on the first lane where they differ.
+pub record Best (S : Sheet) (plan : List ℕ) (cost : ℤ) : Type 0 where
+  pub meets : Meets S 1 plan
+  pub shown : cost ≡ planCost S plan
+  pub least : (k : ℕ) (Q : List ℕ) → 1 ≤ k → Meets S k Q → (pos k *ℤ cost) ≤ℤ planCost S Q
+  pub first : (k : ℕ) (Q : List ℕ) → 1 ≤ k → Meets S k Q → planCost S Q ≡ (pos k *ℤ cost)
+      → (l : ℕ) → FirstDifference (scaled k plan) Q l → at Q l < at (scaled k plan) l
+
+-- ---- run and solve (01, "Calls and their refusals")
+
+-- None of the tableaux after 0 to k rounds is finished.
+abbrev pub Unfinished : Problem → List Cell → ℕ → Type 0
+Unfinished P cells k = (h : ℕ) → h ≤ k → isFinished P (after P h cells) ≡ false
+
+-- Run: "'finished' with the tableau and the number of rounds made, if it finishes within that many; else 'spent', with the tableau after exactly that many
+-- rounds."
+pub record RunOf (P : Problem) (allowance : ℕ) (cells : List Cell) (r : Run) : Type 0 where
+  pub done : (k : ℕ) → k ≤ allowance → FirstFinished P cells k → r ≡ record { finished = true; tableau = after P k cells; rounds = k }
+  pub spent : Unfinished P cells allowance → r ≡ record { finished = false; tableau = after P allowance cells; rounds = allowance }
+
+-- Solve: "the rounds from the start to the first finished tableau, its m and n prices". The tableau belongs to the problem.
+pub record FromFirstFinished (P : Problem) (s : Solution) : Type 1 where
+  pub reached : FirstFinished P (start P) (s .rounds)
+  pub belongs : Belongs P (after P (s .rounds) (start P))
+  pub u : s .u ≡ sourcePrices P (after P (s .rounds) (start P))
+  pub v : s .v ≡ sinkPrices P (after P (s .rounds) (start P))
+
+-- The lists lent to solve are long enough for m and n prices and m × n quantities.
+pub record LongEnough (S : Sheet) (uRoom vRoom planRoom : ℕ) : Type 0 where
+  pub u : roasteries S ≤ uRoom
+  pub v : cafes S ≤ vRoom
+  pub plan : roasteries S * cafes S ≤ planRoom
+
+-- What is bought of each call of solve: r is its answer; the lent lists hold u, v and plan before it, and uAfter, vAfter and planAfter after it.
+pub record Bought (S : Sheet) (r : SolveAnswer) (u v : List ℤ) (plan : List ℕ) (uAfter vAfter : List ℤ) (planAfter : List ℕ) : Type 0 where
+  -- Demand 3: for every balanced sheet within the limits, with lists long enough, solve gives a plan, and it is best at the cost shown.
+  pub solved : WithinLimits S → LongEnough S (length u) (length v) (length plan) → Balanced S
+      → (cost : ℕ) × (rounds : ℕ) × (r ≡ SolveAnswer.Solved cost rounds) × Best S (take (roasteries S * cafes S) planAfter) (pos cost)
+  -- Demand 3: of sheets within the limits, with lists long enough, solve refuses exactly the unbalanced ones, each by 5.
+  pub refuses : WithinLimits S → LongEnough S (length u) (length v) (length plan)
+      → (k : ℕ) → (r ≡ SolveAnswer.Refused k) ↔ (k ≡ 5) × ¬ Balanced S
+  -- Demand 1: a refusal alters no byte of lent memory.
+  pub unchanged : (k : ℕ) → r ≡ SolveAnswer.Refused k → (uAfter ≡ u) × (vAfter ≡ v) × (planAfter ≡ plan)
+  -- Paper 01: on success a lent list changes only in the places that the result fills.
+  pub rest : (cost rounds : ℕ) → r ≡ SolveAnswer.Solved cost rounds
+      → (drop (roasteries S) uAfter ≡ drop (roasteries S) u)
+      × (drop (cafes S) vAfter ≡ drop (cafes S) v)
+      × (drop (roasteries S * cafes S) planAfter ≡ drop (roasteries S * cafes S) plan)
 
 -- ---- texts (01, "Texts")
 
 -- A sheet that has a text: m and n are 1 to 32, there is a cost for each lane, and no number has more than seven digits.
 pub record HasText (S : Sheet) : Type 0 where
-  pub sides : (within 1 maxSide (sources S) ≡ true) × (within 1 maxSide (sinks S) ≡ true)
-  pub lengths : length (S .cost) ≡ sources S * sinks S
+  pub sides : (within 1 maxSources (roasteries S) ≡ true) × (within 1 maxSinks (cafes S) ≡ true)
+  pub lengths : length (S .cost) ≡ roasteries S * cafes S
   pub numbers : (k : ℕ) → (at (S .supply) k < 10 ^ maxDigits) × (at (S .demand) k < 10 ^ maxDigits) × (at (S .cost) k < 10 ^ maxDigits)
 
 -- The text is a sheet text, that of S.

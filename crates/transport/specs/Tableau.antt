@@ -2,14 +2,14 @@
 use mathlib.Core.Bool.{Bool, true, false, _&&_}
 use mathlib.Core.List.{List, [], _∷_, map}
 use Prim.Native.Nat.{ℕ, zero, suc, _+_, _-_}
-use lib.Dec.{eqb, ltb}
+use lib.Dec.{eqb}
 use lib.ListN.{length, take}
 pub use Rattle.transport.specs.declared.Cell.{Cell}
 pub use Rattle.transport.specs.declared.Tableau.{Tableau}
-use Rattle.transport.specs.Lists.{all, keep, below, padded}
+use Rattle.transport.specs.Lists.{padded}
 use Rattle.transport.specs.Limits.{maxCells}
-use Rattle.transport.specs.Sheet.{Sheet, sources, sinks, Lane, place}
-use Rattle.transport.specs.Amount.{Pair, nothing, subtract, less, same, smaller, addUp, pairedSupply, pairedDemand}
+use Rattle.transport.specs.Problem.{Problem, sources, sinks, Lane}
+use Rattle.transport.specs.Amount.{Pair, nothing, subtract, same, smaller, pairedSupply, pairedDemand}
 
 -- m + n − 1, the basic cells of a tableau.
 unfoldable pub basisSize : ℕ → ℕ → ℕ
@@ -48,43 +48,15 @@ noTableau = tableauOf []
 
 -- `left` cells more from row i and column j on, whose remaining pairs are s and d: the cell takes the smaller of the two, which is taken from both;
 -- if the row is then empty, on to the next row, else to the next column.
-unfoldable pub corner : Sheet → ℕ → ℕ → ℕ → Pair → Pair → List Cell
-corner S zero i j s d = []
-corner S (suc left) i j s d =
+unfoldable pub corner : Problem → ℕ → ℕ → ℕ → Pair → Pair → List Cell
+corner P zero i j s d = []
+corner P (suc left) i j s d =
     let x = smaller s d in
     record { row = i; col = j; amount = x }
     ∷ (elim (same (subtract s x) nothing) [
-      | true ↦ corner S left (suc i) j (pairedSupply S (suc i)) (subtract d x)
-      | false ↦ corner S left i (suc j) (subtract s x) (pairedDemand S (suc j))
+      | true ↦ corner P left (suc i) j (pairedSupply P (suc i)) (subtract d x)
+      | false ↦ corner P left i (suc j) (subtract s x) (pairedDemand P (suc j))
     ])
 
-unfoldable pub start : Sheet → List Cell
-start S = corner S (basisSize (sources S) (sinks S)) 0 0 (pairedSupply S 0) (pairedDemand S 0)
-
--- ---- the tests of belonging that look at cells one by one, and at sums
-
-unfoldable pub onSheet : Sheet → Cell → Bool
-onSheet S c = ltb (c .row) (sources S) && ltb (c .col) (sinks S)
-
--- Distinct cells in sheet order: each stands at a later place than the one before it.
-unfoldable pub inOrder : ℕ → List Cell → Bool
-inOrder n [] = true
-inOrder n (c ∷ []) = true
-inOrder n (c ∷ d ∷ cs) = ltb (place n (c .row) (c .col)) (place n (d .row) (d .col)) && inOrder n (d ∷ cs)
-
--- The pair is above (0, 0).
-unfoldable pub aboveZero : Cell → Bool
-aboveZero c = less nothing (c .amount)
-
--- What the cells of row i, and those of column j, add up to.
-unfoldable pub rowTotal : List Cell → ℕ → Pair
-rowTotal T i = addUp (map (λ c. c .amount) (keep (λ c. eqb (c .row) i) T))
-
-unfoldable pub columnTotal : List Cell → ℕ → Pair
-columnTotal T j = addUp (map (λ c. c .amount) (keep (λ c. eqb (c .col) j) T))
-
--- Rows and columns add up to the paired supplies and demands.
-unfoldable pub balanced : Sheet → List Cell → Bool
-balanced S T =
-    all (λ i. same (rowTotal T i) (pairedSupply S i)) (below (sources S))
-    && all (λ j. same (columnTotal T j) (pairedDemand S j)) (below (sinks S))
+unfoldable pub start : Problem → List Cell
+start P = corner P (basisSize (sources P) (sinks P)) 0 0 (pairedSupply P 0) (pairedDemand P 0)

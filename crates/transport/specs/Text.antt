@@ -15,21 +15,26 @@ unfoldable pub bytes : String → List ℕ
 bytes ε = []
 bytes (c ◃ s) = code c ∷ bytes s
 
+-- The byte of a word of one character.
+abbrev pub byte : String → ℕ
+byte ε = 0
+byte (c ◃ s) = code c
+
 -- Each byte is a digit, a space, a line end (LF), a small letter or none of these.
 unfoldable pub kindOf : ℕ → ByteKind
 kindOf b =
-    cond (within 48 57 b) Digit
-    (cond (eqb b 32) Space
-    (cond (eqb b 10) LineEnd
-    (cond (within 97 122 b) Letter
+    cond (within (byte "0") (byte "9") b) Digit
+    (cond (eqb b (byte " ")) Space
+    (cond (eqb b (byte "\n")) LineEnd
+    (cond (within (byte "a") (byte "z") b) Letter
     Other)))
 
 -- The digits of n, with at most `most` of them.
 unfoldable pub digitsUpTo : ℕ → ℕ → List ℕ
 digitsUpTo zero n = []
 digitsUpTo (suc most) n = elim (ltb n 10) [
-  | true ↦ (48 + n) ∷ []
-  | false ↦ digitsUpTo most (n / 10) ++ ((48 + n % 10) ∷ [])
+  | true ↦ (byte "0" + n) ∷ []
+  | false ↦ digitsUpTo most (n / 10) ++ ((byte "0" + n % 10) ∷ [])
 ]
 
 -- Numbers are decimal, with no leading 0 except 0 itself, and as many digits as they need.

@@ -1,13 +1,17 @@
 // The types that every crate of the panel shares, and, in specs/, the definitions that every contract cites.
 ghost use mathlib.Core.Path.{_≡_};
-ghost use Rattle.transport.specs.Amount.{add, subtract, less};
-ghost use Rattle.transport.specs.RangeLaws.{Fit};
+ghost use Rattle.transport.specs.Amount.{add, subtract, less, Fit};
 
 // The most sources, and the most sinks, that a sheet may have.
+pub const MAX_SOURCES: usize = 32;
+
+pub const MAX_SINKS: usize = 32;
+
+// The room for one side, in answers and in arrays: neither limit is above it.
 pub const MAX_SIDE: usize = 32;
 
 // The most lanes of a sheet.
-pub const MAX_LANES: usize = MAX_SIDE * MAX_SIDE;
+pub const MAX_LANES: usize = MAX_SOURCES * MAX_SINKS;
 
 // The most basic cells that a tableau may have: one fewer than the nodes of the largest sheet.
 pub const MAX_CELLS: usize = 2 * MAX_SIDE - 1;

@@ -9,12 +9,12 @@ use lib.ListN.{length}
 use Rattle.transport.specs.Tableau.{cellsOf, basisSize}
 use Rattle.board.specs.Cells.{cellRoom, long, length-cells}
 use Rattle.board.specs.CellTests.{cellsFit}
-use Rattle.belonging.specs.Spread.{Sides, checked-sides, Laid, fit-inside, fit-distinct, other-count, other-cells, belongs-whole}
+use Rattle.belonging.specs.Spread.{Sides, sound-sides, Laid, fit-inside, fit-distinct, other-count, other-cells, belongs-whole}
 use Rattle.belonging.proofs.load.Statement.{statement}
 use Rattle.belonging.proofs.load.Tie as tie
 
 sides : (c : tie.Start) → Sides (length (c .args .supply .now)) (length (c .args .demand .now))
-sides c = checked-sides (c .pre .1)
+sides c = sound-sides (c .pre .1)
 
 add-if1 : tie.Need-add-if1
 add-if1 c = search needs

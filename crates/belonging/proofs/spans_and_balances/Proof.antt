@@ -1,29 +1,29 @@
 -- `belonging::spans_and_balances` meets its contract: lanes that are not all struck off do not span (`laid-apart`); with a tree (`laid-tree`) the two flows decide
 -- (`balanced-is`).
-use Prim.Native.Nat.{ℕ}
 use native.Mathlib.Omega.{arith}
 use mathlib.Core.Path.{_≡_, refl, sym, _∙_}
 use mathlib.Core.Bool.{_&&_}
 use mathlib.Core.List.{List}
 use borrow.Author.Needs.{needs}
 use borrow.Author.Tests.{not-true, not-false}
+use lib.IntN.{ℤ}
 use lib.ListN.{length}
 use Rattle.transport.specs.declared.Cell.{Cell}
-use Rattle.transport.specs.Tableau.{basisOf, basisSize, balanced}
-use Rattle.transport.specs.Leaf.{spans}
-use Rattle.sheet.specs.Check.{sheetOf}
+use Rattle.transport.specs.Tableau.{basisOf, basisSize}
+use Rattle.transport.specs.Belonging.{balanced, spans}
+use Rattle.transport.specs.Laws.ProblemLaws.{problem}
 use Rattle.basis.specs.Layout as layout
 use Rattle.basis.specs.Layout.{strikesOf, Distinct}
 use Rattle.basis.specs.SignLaws.{weightsOf}
 use Rattle.elimination.specs.Strikes.{strikes-room, strikes-distinct}
 use Rattle.belonging.specs.Carried.{carries}
 use Rattle.belonging.specs.Balance.{Tree}
-use Rattle.belonging.specs.Spread.{Sides, checked-sides, checked-modest, Laid, laid-links, laid-masks, laid-apart, laid-tree, balanced-is}
+use Rattle.belonging.specs.Spread.{Sides, sound-sides, sound-modest, Laid, laid-links, laid-masks, laid-apart, laid-tree, balanced-is}
 use Rattle.belonging.proofs.spans_and_balances.Statement.{statement}
 use Rattle.belonging.proofs.spans_and_balances.Tie as tie
 
 sides : (c : tie.After-lane) → let a = c .before .before .before .before .before .args in Sides (length (a .supply .now)) (length (a .demand .now))
-sides c = checked-sides (c .before .before .before .before .before .pre .0 .1)
+sides c = sound-sides (c .before .before .before .before .before .pre .0 .1)
 
 strike-requires : tie.Need-strike-requires
 strike-requires c κs = let (T, h) = c .before .before .before .before .before .pre .1 in (laid-links (sides c) h, (h .held .adjLong, refl, refl, refl))
@@ -41,7 +41,7 @@ returns c cost T h =
     rw (laid-apart (sides v) h _ _ _ _ (c .before .strike .ensures .1 (basisOf T) (laid-masks (sides v) h)) (c .if1 .taken))
 
 weigh-bags-requires : tie.Need-weigh-bags-requires
-weigh-bags-requires c κs = checked-modest (c .before .before .before .before .before .before .before .before .pre .0 .1)
+weigh-bags-requires c κs = sound-modest (c .before .before .before .before .before .before .before .before .pre .0 .1)
 
 weigh-marks-requires : tie.Need-weigh-marks-requires
 weigh-marks-requires c κs = let s = sides (c .before .before .before .before .before) in (s .rowsHigh, s .colsLow, s .colsHigh)
@@ -71,12 +71,12 @@ flows-match-requires : tie.Need-flows-match-requires
 flows-match-requires c κs = let (room, distinct) = strikes (c .before .before .before .before .before .before .before .before) in (room, (distinct, c .before .before .before .before .before .before .weigh-bags .ensures .light))
 
 -- What is left to find: whether both flows are carried.
-flows : (c : tie.After-lane2) (cost : List ℕ) (T : List Cell)
+flows : (c : tie.After-lane2) (cost : List ℤ) (T : List Cell)
     → let a = c .before .before .before .before .before .before .before .before .before .before .before .before .before .before .before .args in
     let s = c .before .before .before .before .before .before .before .before .before .strike in
     let ss = strikesOf (s .last .1 .0) (s .last .1 .1 .0) (s .last .1 .1 .1 .0) (s .result) in
     Laid (length (a .supply .now)) (length (a .demand .now)) T (a .adj .now) (a .q .now) (a .e .now)
-    → spans (length (a .supply .now)) (length (a .demand .now)) (basisOf T) && balanced (sheetOf (a .supply .now) (a .demand .now) cost) T
+    → spans (length (a .supply .now)) (length (a .demand .now)) (basisOf T) && balanced (problem (a .supply .now) (a .demand .now) cost) T
     ≡ carries (weightsOf (c .before .before .before .before .before .before .weigh-bags .last .1 .1 .0)) ss (a .q .now) (s .last .1 .1 .1 .0) (s .result)
     && carries (weightsOf (c .before .before .before .before .weigh-marks .last .1 .1 .0)) ss (a .e .now) (s .last .1 .1 .1 .0) (s .result)
 flows c cost T h =

@@ -55,10 +55,10 @@ use Rattle.transport.proofs.Cell as T
 use Rattle.transport.proofs.Cell.Laws as T′
 use Rattle.transport.proofs.Tableau as S
 use Rattle.transport.proofs.Tableau.Laws as S′
-use Rattle.simplex.proofs.tableau.empty_tableau as empty
-use Rattle.simplex.proofs.tableau.empty_tableau.Symbol as empty-def
-use Rattle.simplex.proofs.tableau.empty_tableau.Symbol.{name as #empty-tableau}
-use Rattle.simplex.proofs.tableau.empty_tableau.Met as empty-thm
+use Rattle.dealing.proofs.tableau.empty_tableau as empty
+use Rattle.dealing.proofs.tableau.empty_tableau.Symbol as empty-def
+use Rattle.dealing.proofs.tableau.empty_tableau.Symbol.{name as #empty-tableau}
+use Rattle.dealing.proofs.tableau.empty_tableau.Met as empty-thm
 use Rattle.cells.proofs.add_cell as add-cell
 use Rattle.cells.proofs.add_cell.Symbol as add-cell-def
 use Rattle.cells.proofs.add_cell.Symbol.{name as #add-cell}
@@ -306,5 +306,5 @@ lent-tableau-spec 𝓤 H 𝓜 𝓖 𝓡 =
     entered 𝓤 H (tripleOf 𝓤 H (𝓖 .A) lent-tableau.signature (lent-tableau.spec 𝓤 H (𝓖 .A) (𝓜 .mem) (𝓡 .run)))
     (tables 𝓤 H 𝓜 𝓡 code.env .C) (tables 𝓤 H 𝓜 𝓡 code.env .Λ) #lent-tableau code.function (code.unfolded 𝓤 H 𝓜 𝓡)
     (meets 𝓤 H (𝓖 .A) (givenOf 𝓤 H 𝓜 𝓖) (𝓜 .mem) (𝓡 .run) (tablesOf 𝓤 H 𝓜 (tables 𝓤 H 𝓜 𝓡 code.env))
-    (cited 𝓤 H (Empty 𝓤 H (𝓖 .A) (𝓜 .mem) (𝓡 .run)) 𝓜 𝓡 code.env #empty-tableau empty-def.routine code.calls-simplex·tableau·empty-tableau (empty-thm.met 𝓤 H 𝓜 𝓖 𝓡))
+    (cited 𝓤 H (Empty 𝓤 H (𝓖 .A) (𝓜 .mem) (𝓡 .run)) 𝓜 𝓡 code.env #empty-tableau empty-def.routine code.calls-dealing·tableau·empty-tableau (empty-thm.met 𝓤 H 𝓜 𝓖 𝓡))
     (cited 𝓤 H (AddCell 𝓤 H (𝓖 .A) (𝓜 .mem) (𝓡 .run)) 𝓜 𝓡 code.env #add-cell add-cell-def.routine code.calls-cells·add-cell (add-cell-thm.met 𝓤 H 𝓜 𝓖 𝓡)))

@@ -2,8 +2,8 @@
 use mathlib.Core.Path.{sym, ap, _∙_}
 use lib.ListN.{length}
 use Rattle.transport.specs.Sheet.{Sheet}
-use Rattle.sheet.specs.Check.{sheetOf}
 use Rattle.transport.specs.Calls.{solveCall}
+use Rattle.sheet.specs.Check.{sheetOf}
 use Rattle.exports.specs.Crossing.{solvedAs, solved-is}
 use borrow.Author.Needs.{needs}
 use Rattle.exports.proofs.panel_solve.Statement.{statement}
@@ -35,7 +35,7 @@ returns c =
     let t = c .before .before .before .before .before .before .before .before .before .before .before .before .before .before .before in
     let e = c .before .before .before .before .before .before .before .solve .ensures in
     let a = solveCall (sheetAt t) (length (t .args .u .now)) (length (t .args .v .now)) (length (t .args .plan .now)) in
-    (ap solvedAs (sym (c .before .answer .given .1) ∙ e .0) ∙ solved-is a, e .1 .0, e .1 .1 .0, e .1 .1 .1 .0)
+    (ap solvedAs (sym (c .before .answer .given .1) ∙ e .0) ∙ solved-is a, e .1, e .2, e .3)
 
 same-length-4 : tie.Need-same-length-4
 same-length-4 c = search needs
@@ -51,7 +51,7 @@ returns-2 c =
     let t = c .before .before .before .before .before .before .before .before .before .before .before .before .before .before .before in
     let e = c .before .before .before .before .before .before .before .solve .ensures in
     let a = solveCall (sheetAt t) (length (t .args .u .now)) (length (t .args .v .now)) (length (t .args .plan .now)) in
-    (ap solvedAs (sym (c .before .answer2 .given .1) ∙ e .0) ∙ solved-is a, e .1 .0, e .1 .1 .0, e .1 .1 .1 .0)
+    (ap solvedAs (sym (c .before .answer2 .given .1) ∙ e .0) ∙ solved-is a, e .1, e .2, e .3)
 
 pub panel-solve-spec : {M : Type 1} → statement M
 panel-solve-spec =

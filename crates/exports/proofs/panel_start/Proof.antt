@@ -3,8 +3,8 @@ use mathlib.Core.Path.{sym, ap, _∙_}
 use Rattle.transport.specs.declared.StartAnswer.{StartAnswer}
 use Rattle.transport.specs.declared.StartOutcome.{StartOutcome}
 use Rattle.transport.specs.Sheet.{Sheet}
-use Rattle.sheet.specs.Check.{sheetOf}
 use Rattle.transport.specs.Calls.{startCall}
+use Rattle.sheet.specs.Check.{sheetOf}
 use Rattle.exports.specs.Crossing.{started, started-is}
 use borrow.Author.Needs.{needs}
 use Rattle.exports.proofs.panel_start.Statement.{statement}

@@ -3,8 +3,8 @@ use mathlib.Core.Path.{sym, ap, _∙_}
 use Rattle.transport.specs.declared.RoundAnswer.{RoundAnswer}
 use Rattle.transport.specs.declared.RoundOutcome.{RoundOutcome}
 use Rattle.transport.specs.Sheet.{Sheet}
-use Rattle.sheet.specs.Check.{sheetOf}
 use Rattle.transport.specs.Calls.{roundCall}
+use Rattle.sheet.specs.Check.{sheetOf}
 use Rattle.exports.specs.Crossing.{rounded, rounded-is}
 use borrow.Author.Needs.{needs}
 use Rattle.exports.proofs.round_from.Statement.{statement}

@@ -3,8 +3,8 @@ use mathlib.Core.Path.{sym, ap, _∙_}
 use Rattle.transport.specs.declared.RunAnswer.{RunAnswer}
 use Rattle.transport.specs.declared.RunOutcome.{RunOutcome}
 use Rattle.transport.specs.Sheet.{Sheet}
-use Rattle.sheet.specs.Check.{sheetOf}
 use Rattle.transport.specs.Calls.{runCall}
+use Rattle.sheet.specs.Check.{sheetOf}
 use Rattle.exports.specs.Crossing.{ran, ran-is}
 use borrow.Author.Needs.{needs}
 use Rattle.exports.proofs.run_from.Statement.{statement}

@@ -2,8 +2,8 @@
 use mathlib.Core.Path.{sym, ap, _∙_}
 use lib.ListN.{length}
 use Rattle.transport.specs.Sheet.{Sheet}
-use Rattle.sheet.specs.Check.{sheetOf}
 use Rattle.transport.specs.Calls.{settleCall}
+use Rattle.sheet.specs.Check.{sheetOf}
 use Rattle.exports.specs.Crossing.{settledAs, settled-is}
 use borrow.Author.Needs.{needs}
 use Rattle.exports.proofs.settle_from.Statement.{statement}

@@ -9,8 +9,8 @@ use native.Mathlib.Numerals.{add-one}
 use lib.ListN.{length, drop, getD, drop-of-length-le}
 use lib.Seq.{drop-cons}
 use Rattle.transport.specs.Lists.{all, within}
-use Rattle.transport.specs.ListLaws.{all-nil, all-yes, all-no}
-use Rattle.transport.specs.SheetLaws.{true-within, within-low, within-high}
+use Rattle.transport.specs.Laws.ListLaws.{all-nil, all-yes, all-no}
+use Rattle.transport.specs.Laws.SheetLaws.{true-within, within-low, within-high}
 use Rattle.sheet.proofs.all_within.Statement.{statement}
 use Rattle.sheet.proofs.all_within.Tie as tie
 

@@ -6,8 +6,8 @@ use native.Mathlib.Omega.{arith}
 use lib.ListN.{length, getD}
 use Rattle.transport.specs.Lists.{sumTo, at, total}
 use Rattle.transport.specs.Limits.{maxSide, maxAmount}
-use Rattle.transport.specs.ListLaws.{sumTo-zero, sumTo-one}
-use Rattle.transport.specs.SheetLaws.{all-within-high}
+use Rattle.transport.specs.Laws.ListLaws.{sumTo-zero, sumTo-one}
+use Rattle.transport.specs.Laws.SheetLaws.{all-within-high}
 use Rattle.sheet.proofs.total_of.Statement.{statement}
 use Rattle.sheet.proofs.total_of.Tie as tie
 

@@ -6,8 +6,8 @@ use borrow.Author.Needs.{needs}
 use lib.ListN.{length, getD, getD-replicate, length-set}
 use lib.IntN.{pos, natAbs}
 use mir.Syntax.{w32}
-use Rattle.transport.specs.Limits.{maxCost}
-use Rattle.transport.specs.RangeLaws.{diff-in, diff-back}
+use Rattle.transport.specs.Limits.{maxCost, costAbove}
+use Rattle.transport.specs.Laws.RangeLaws.{diff-in, diff-back}
 use Rattle.basis.specs.Layout.{nodeRoom, strikesFrom-nil}
 use Rattle.basis.specs.PotentialLaws.{Priced, potentialBy-nil, priced-step, priced-room}
 use Rattle.basis.proofs.potential.potentials.Statement.{statement}
@@ -71,13 +71,13 @@ room : (c : tie.After-price3 Inv-loop μ-loop)
     → let a = c .before .before .before .before .before .before .before .before .args in
     let i = c .before .before .before .before .before .before .loop in
     natAbs (getD (a .cost .now) (getD (a .lane .now) (i .k - 1) 0) (pos 0)) + natAbs (getD (i .price) (getD (a .other .now) (i .k - 1) 0) (pos 0)) < 2 ^ 31
-unfolding maxCost
+unfolding costAbove maxCost
 room c =
     let s = c .before .before .before .before .before .before .before .before in
     let a = s .args in
     let i = c .before .before .before .before .before .before .loop in
     let e : i .k ≡ suc (i .k - 1) = omega arith in
-    omega (arith, priced-room (a .cost .now) (a .leaf .now) (a .other .now) (a .lane .now) (a .count) (i .price) (i .k - 1) maxCost (s .pre .0) (s .pre .1) (omega arith) (rw e at (i .inv .2)))
+    omega (arith, priced-room (a .cost .now) (a .leaf .now) (a .other .now) (a .lane .now) (a .count) (i .price) (i .k - 1) costAbove (s .pre .0) (s .pre .1) (omega arith) (rw e at (i .inv .2)))
 
 sub-price : tie.Need-sub-price Inv-loop μ-loop
 sub-price c = search (needs, diff-in, room c)

@@ -11,8 +11,8 @@ use lib.Signed.{ltZ}
 use mir.Syntax.{w32}
 use mir.Val.{toZ, ofZ}
 use mir.Facts.{toZ-ofZ}
-use Rattle.transport.specs.Limits.{maxCost}
-use Rattle.transport.specs.RangeLaws.{sum-fits}
+use Rattle.transport.specs.Limits.{maxCost, costAbove}
+use Rattle.transport.specs.Laws.RangeLaws.{sum-fits}
 use Rattle.basis.specs.ScanLaws.{rowLeast, lowest, lowestPlace, lowest-zero, lowest-one, lowestPlace-zero, lowestPlace-one, scanned-row, scanned-room, scanned-yes, scanned-no}
 use Rattle.basis.proofs.scan.entering.Statement.{statement}
 use Rattle.basis.proofs.scan.entering.Tie as tie
@@ -79,7 +79,7 @@ price-is : (c : tie.After-place-in-row-arg Inv-loop μ-loop)
 price-is c = search needs
 
 add-place-in-row : tie.Need-add-place-in-row Inv-loop μ-loop
-unfolding maxCost
+unfolding costAbove maxCost
 add-place-in-row c =
     let s = c .before .before .before .before in
     let i = c .before .before .before .loop in

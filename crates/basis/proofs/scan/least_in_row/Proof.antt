@@ -11,8 +11,8 @@ use lib.Signed.{ltZ}
 use mir.Syntax.{w32}
 use mir.Val.{toZ, ofZ}
 use mir.Facts.{toZ-ofZ}
-use Rattle.transport.specs.Limits.{maxCost}
-use Rattle.transport.specs.RangeLaws.{diff-fits, diff-in, diff-back}
+use Rattle.transport.specs.Limits.{maxCost, costAbove}
+use Rattle.transport.specs.Laws.RangeLaws.{diff-fits, diff-in, diff-back}
 use Rattle.basis.specs.Layout.{stride}
 use Rattle.basis.specs.ScanLaws.{far, slackAt, lowest, lowest-zero, lowest-one, slack-room, row-room}
 use Rattle.basis.proofs.scan.least_in_row.Statement.{statement}
@@ -25,6 +25,7 @@ abbrev μ-loop : tie.MeasureT-loop
 μ-loop cost price m i best₀ j₀ best j = stride - j
 
 loop-holds : tie.Need-loop-holds Inv-loop μ-loop
+unfolding costAbove maxCost
 loop-holds c = (omega arith, sym (lowest-zero (pos far) (slackAt (c .args .cost .now) (c .args .price .now) (c .args .m) (c .args .i))))
 
 mul-slack : tie.Need-mul-slack Inv-loop μ-loop
@@ -52,7 +53,7 @@ room : (c : tie.After-slack2 Inv-loop μ-loop)
     → let a = c .before .before .before .before .args in
     let j = c .before .before .before .loop .j in
     natAbs (getD (a .cost .now) (a .i * stride + j) (pos 0)) + natAbs (getD (a .price .now) (a .m + j) (pos 0)) < 2 ^ 31
-unfolding maxCost
+unfolding costAbove maxCost
 room c =
     let s = c .before .before .before .before in
     omega (arith, slack-room (s .args .cost .now) (s .args .price .now) (s .args .m) (s .pre .0) (s .args .i) (s .pre .1) (c .before .before .before .loop .j) (omega arith))
@@ -101,7 +102,7 @@ price-is : (c : tie.After-result Inv-loop μ-loop)
 price-is c = search needs
 
 sub-result : tie.Need-sub-result Inv-loop μ-loop
-unfolding maxCost
+unfolding costAbove maxCost
 sub-result c =
     let a = c .before .before .before .args in
     rw (best-is c, price-is c) (diff-fits w32 (lowest (pos far) (slackAt (a .cost .now) (a .price .now) (a .m) (a .i)) stride) (getD (a .price .now) (a .i) (pos 0)) (omega (arith, row-room (a .cost .now) (a .price .now) (a .m) (c .before .before .before .pre .0) (a .i) (c .before .before .before .pre .1))))

@@ -9,8 +9,8 @@ use lib.IntN.{pos, natAbs, _-ℤ_}
 use mir.Syntax.{w32}
 use mir.Val.{toZ, ofZ}
 use mir.Facts.{toZ-ofZ}
-use Rattle.transport.specs.Limits.{maxCost}
-use Rattle.transport.specs.RangeLaws.{diff-in, diff-back}
+use Rattle.transport.specs.Limits.{maxCost, costAbove}
+use Rattle.transport.specs.Laws.RangeLaws.{diff-in, diff-back}
 use Rattle.basis.specs.Layout.{stride}
 use Rattle.basis.specs.ScanLaws.{slackAt, slack-room}
 use Rattle.basis.proofs.scan.place_in_row.Statement.{statement}
@@ -50,7 +50,7 @@ room : (c : tie.After-if13 Inv-loop μ-loop)
     → let a = c .before .before .before .before .args in
     let j = c .before .before .before .loop .j in
     natAbs (getD (a .cost .now) (a .i * stride + j) (pos 0)) + natAbs (getD (a .price .now) (a .m + j) (pos 0)) < 2 ^ 31
-unfolding maxCost
+unfolding costAbove maxCost
 room c =
     let s = c .before .before .before .before in
     omega (arith, slack-room (s .args .cost .now) (s .args .price .now) (s .args .m) (s .pre .0) (s .args .i) (s .pre .1) (c .before .before .before .loop .j) (omega arith))

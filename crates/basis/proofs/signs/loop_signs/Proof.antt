@@ -9,7 +9,7 @@ use mathlib.Core.Logic.{⊎-elim}
 use lib.IntN.{pos, natAbs}
 use lib.Signed.{ltZ}
 use mir.Syntax.{w32}
-use Rattle.transport.specs.RangeLaws.{mag-abs, back, diff-in, diff-back}
+use Rattle.transport.specs.Laws.RangeLaws.{mag-abs, back, diff-in, diff-back}
 use Rattle.basis.specs.Layout.{nodeRoom, getD-all}
 use Rattle.basis.specs.SignLaws.{enterWeight, Needed, LoopLanes, counted-yes, counted-no, needed-starts, needed-step, needed-room, lanes-start, lanes-step}
 use Rattle.basis.proofs.signs.loop_signs.Statement.{statement}

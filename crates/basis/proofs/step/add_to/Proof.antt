@@ -7,7 +7,7 @@ use lib.ListN.{take, getD}
 use lib.IntN.{pos, natAbs, _+ℤ_}
 use mir.Syntax.{w64}
 use mir.Val.{toZ, ofZ}
-use Rattle.transport.specs.RangeLaws.{sum-in, sum-back}
+use Rattle.transport.specs.Laws.RangeLaws.{sum-in, sum-back}
 use Rattle.basis.specs.StepLaws.{Changed, changed-none, changed-still, changed-more}
 use Rattle.basis.proofs.step.add_to.Statement.{statement}
 use Rattle.basis.proofs.step.add_to.Tie as tie

@@ -9,8 +9,8 @@ use lib.IntN.{pos}
 use mir.Syntax.{w64}
 use mir.Val.{toZ, ofZ}
 use Rattle.transport.specs.Lists.{firstLeast}
+use Rattle.transport.specs.Laws.ListLaws.{firstLeast-start, firstLeast-one}
 use Rattle.basis.specs.Layout.{laneRoom}
-use Rattle.transport.specs.ListLaws.{firstLeast-start, firstLeast-one}
 use Rattle.basis.specs.StepLaws.{lessAt}
 use Rattle.basis.proofs.step.least_lane.Statement.{statement}
 use Rattle.basis.proofs.step.least_lane.Tie as tie

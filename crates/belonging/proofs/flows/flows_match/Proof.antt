@@ -5,7 +5,7 @@ use lib.IntN.{pos, natAbs}
 use lib.ListN.{getD, set}
 use mir.Syntax.{w64}
 use mir.Val.{ofZ}
-use Rattle.transport.specs.RangeLaws.{diff-in, diff-back}
+use Rattle.transport.specs.Laws.RangeLaws.{diff-in, diff-back}
 use native.Mathlib.Omega.{arith}
 use borrow.Author.Needs.{needs}
 use Rattle.basis.specs.SignLaws.{weightsOf, flow-now, needed-room}

@@ -6,7 +6,7 @@ use lib.ListN.{length}
 use mir.Syntax.{w64}
 use mir.Facts.{toZ-pos}
 use Rattle.transport.specs.Lists.{at}
-use Rattle.transport.specs.Limits.{maxAmount}
+use Rattle.transport.specs.Limits.{maxAmount, maxBags, maxSide}
 use Rattle.belonging.specs.Weighing.{Put, put-none, put-more}
 use Rattle.belonging.proofs.weights.put_from.Statement.{statement}
 use Rattle.belonging.proofs.weights.put_from.Tie as tie
@@ -27,7 +27,7 @@ shared-slice-read-weight : tie.Need-shared-slice-read-weight Inv-loop μ-loop
 shared-slice-read-weight c = omega arith
 
 cast-weight : tie.Need-cast-weight Inv-loop μ-loop
-unfolding at maxAmount
+unfolding at maxBags maxSide maxAmount
 cast-weight c = omega (arith, c .before .before .before .pre .0 .high (c .before .before .loop .k))
 
 add-t10 : tie.Need-add-t10 Inv-loop μ-loop

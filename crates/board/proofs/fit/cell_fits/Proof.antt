@@ -3,8 +3,8 @@ use Prim.Native.Nat.{_+_, _*_}
 use native.Mathlib.Omega.{arith}
 use borrow.Author.Tests.{lt-ltb, le-ltb, le-leb, lt-leb}
 use Rattle.transport.specs.Amount.{nothing}
-use Rattle.transport.specs.Sheet.{place}
-use Rattle.transport.specs.Tableau.{aboveZero}
+use Rattle.transport.specs.Problem.{place}
+use Rattle.transport.specs.Belonging.{aboveZero}
 use Rattle.board.specs.CellTests.{fitsAt, row-small}
 use borrow.Author.Needs.{needs}
 use Rattle.board.proofs.fit.cell_fits.Statement.{statement}

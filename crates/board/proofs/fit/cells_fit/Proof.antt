@@ -10,7 +10,7 @@ use borrow.Author.Needs.{needs}
 use borrow.Author.Tests.{not-true, not-false}
 use lib.ListN.{length, drop, getD, drop-of-length-le}
 use Rattle.transport.specs.Amount.{nothing}
-use Rattle.transport.specs.Sheet.{place}
+use Rattle.transport.specs.Problem.{place}
 use Rattle.transport.specs.Tableau.{noCell, cellsOf}
 use Rattle.basis.specs.Layout.{stride, laneRoom}
 use Rattle.board.specs.Cells.{cellRoom, long, length-cells, cells-from}

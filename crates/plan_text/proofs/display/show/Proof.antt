@@ -6,14 +6,14 @@ use native.Mathlib.Omega.{arith}
 use native.Mathlib.Nat.{mul-le-mul}
 use lib.ListN.{length, take, drop, length-drop}
 use lib.Seq.{length-take-le}
-use Rattle.transport.specs.Limits.{maxSide, maxText}
+use Rattle.transport.specs.Limits.{maxSources, maxSinks, maxText}
 use Rattle.transport.specs.Text.{bytes}
 use Rattle.transport.specs.SheetText.{stuck, sheetReader}
 use Rattle.transport.specs.PlanText.{printed}
 use Rattle.sheet.specs.Check.{sheetOf}
 use Rattle.sections.specs.Front.{front}
 use Rattle.sections.specs.Lines.{ended}
-use Rattle.text.specs.SheetAnswer.{SheetIn, sheet-in, supply-length, demand-length, cost-length}
+use Rattle.sheet_reader.specs.SheetAnswer.{SheetIn, sheet-in, supply-length, demand-length, cost-length}
 use Rattle.plan_text.specs.Shown.{sheetShown, take-min, shown-is, printed-place, printed-sheet, read-numbers}
 use borrow.Author.Needs.{needs}
 use Rattle.plan_text.proofs.display.show.Statement.{statement}
@@ -35,7 +35,7 @@ slice-aggregate-read-sections-4 : tie.Need-slice-aggregate-read-sections-4
 slice-aggregate-read-sections-4 c = search needs
 
 read-sections-requires : tie.Need-read-sections-requires
-unfolding maxSide
+unfolding maxSources maxSinks
 read-sections-requires c κs = omega arith
 
 enum-known-answer : tie.Need-enum-known-answer
@@ -48,7 +48,7 @@ text-read c = (rw (c .bytes-read .ensures)) ∙ take-min (c .before .before .bef
 -- A sheet that was read.
 module _ (c : tie.After-answer) where
   the-sheet : SheetIn (take (c .before .before .before .before .before .before .before .before .before .before .bytes-read .result) (c .before .before .before .before .before .before .before .before .before .before .before .before .before .args .input .now)) (c .before .before .before .before .before .read-sections .last .1 .0) (c .before .before .before .before .before .read-sections .last .1 .1 .0) (c .before .before .before .before .before .read-sections .last .1 .1 .1 .0) (c .answer .given .0 .0) (c .answer .given .0 .1 .0)
-  unfolding maxSide
+  unfolding maxSources maxSinks
   the-sheet = sheet-in (c .before .before .before .before .before .read-sections .ensures .0) (c .before .before .before .before .before .read-sections .ensures .1) (c .answer .given .1) (omega arith) (omega arith) (omega arith)
 
   the-plan : printed (c .before .before .before .before .before .before .before .before .before .before .before .before .before .args .input .now) ≡ sheetShown (sheetOf (take (c .answer .given .0 .0) (c .before .before .before .before .before .read-sections .last .1 .0)) (take (c .answer .given .0 .1 .0) (c .before .before .before .before .before .read-sections .last .1 .1 .0)) (take (c .answer .given .0 .0 * c .answer .given .0 .1 .0) (c .before .before .before .before .before .read-sections .last .1 .1 .1 .0)))
@@ -73,11 +73,11 @@ the-place c =
 -- The next needs hold of any front of these lists that is no longer than a sheet's, so that a program that shows the plan of another sheet is refused by the contract.
 module _ (c : tie.After-answer) where
   m-few : c .answer .given .0 .0 ≤ 32
-  unfolding maxSide
+  unfolding maxSources maxSinks
   m-few = the-sheet c .m-few
 
   n-few : c .answer .given .0 .1 .0 ≤ 32
-  unfolding maxSide
+  unfolding maxSources maxSinks
   n-few = the-sheet c .n-few
 
 mul-lanes : tie.Need-mul-lanes

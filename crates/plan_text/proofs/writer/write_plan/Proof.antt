@@ -6,9 +6,10 @@ use native.Mathlib.Omega.{arith}
 use native.Mathlib.Nat.{mul-le-mul}
 use lib.ListN.{length, take}
 use lib.Seq.{length-take-le}
-use Rattle.transport.specs.Limits.{maxSide}
-use Rattle.transport.specs.Sheet.{Sheet, sources, sinks}
-use Rattle.transport.specs.SheetLaws.{Checked, checked}
+use Rattle.transport.specs.Limits.{maxSources, maxSinks, maxSide}
+use Rattle.transport.specs.Sheet.{Sheet, roasteries, cafes}
+use Rattle.transport.specs.Laws.SheetLaws.{accepted}
+use Rattle.transport.specs.Statements.{Accepted}
 use Rattle.transport.specs.PlanText.{planText, writePlanCall}
 use Rattle.sheet.specs.Check.{sheetOf}
 use Rattle.sections.specs.Front.{front, front-take}
@@ -53,22 +54,22 @@ module _ (c : tie.After-answer2) where
   unfolding maxSide
   plan-found =
       let e = c .before .before .before .before .before .solve .ensures in
-      found _ _ _ (sym (c .answer2 .given .1) ∙ e .0) (e .1 .0) (e .1 .1 .0) (e .1 .1 .1 .0)
+      found _ _ _ (sym (c .answer2 .given .1) ∙ e .0) (e .1) (e .2) (e .3)
 
-  ok : Checked (sheetAt (c .before .before .before .before .before .before .before .before .before .before .before .before .before))
-  ok = checked (sheetAt (c .before .before .before .before .before .before .before .before .before .before .before .before .before)) (plan-found .accepted)
+  ok : Accepted (sheetAt (c .before .before .before .before .before .before .before .before .before .before .before .before .before))
+  ok = accepted (sheetAt (c .before .before .before .before .before .before .before .before .before .before .before .before .before)) (plan-found .passes)
 
   m-few : length (c .before .before .before .before .before .before .before .before .before .before .before .before .before .args .supply .now) ≤ 32
-  unfolding sources maxSide
-  m-few = ok .sourcesHigh
+  unfolding roasteries maxSources
+  m-few = ok .limits .roasteriesHigh
 
   n-few : length (c .before .before .before .before .before .before .before .before .before .before .before .before .before .args .demand .now) ≤ 32
-  unfolding sinks maxSide
-  n-few = ok .sinksHigh
+  unfolding cafes maxSinks
+  n-few = ok .limits .cafesHigh
 
   n-some : 1 ≤ length (c .before .before .before .before .before .before .before .before .before .before .before .before .before .args .demand .now)
-  unfolding sinks
-  n-some = ok .sinksLow
+  unfolding cafes
+  n-some = ok .limits .cafesLow
 
 -- The next needs hold whatever two sides the count of lanes is made of, so that a program that leaves out lanes is refused by the contract.
 mul-lanes : tie.Need-mul-lanes
@@ -122,7 +123,7 @@ module _ (c : tie.After-used-lanes) where
       (take (length (c .before .before .before .before .before .before .before .before .before .before .before .before .before .before .before .before .before .args .supply .now)) (c .before .before .before .before .before .before .before .before .before .solve .last .1 .1 .1 .0))
       (take (length (c .before .before .before .before .before .before .before .before .before .before .before .before .before .before .before .before .before .args .demand .now)) (c .before .before .before .before .before .before .before .before .before .solve .last .1 .1 .1 .1 .0))
       (take (c .used-lanes .result) (c .used-lanes .last .1 .1 .0))
-  unfolding sources sinks
+  unfolding roasteries cafes
   the-text old count holds =
       let list : take (c .used-lanes .result) (c .used-lanes .last .1 .1 .0) ≡ numbers = rw holds (front-take numbers old (c .used-lanes .result) count) in
       found-sections (plan-found (c .before .before .before .before)) ∙ (rw (list, count))
@@ -144,7 +145,7 @@ returns c =
     let t = c .before .before .before .before .before .before .before .before .before .before .before .before .before .before .before .before .before .before .before .before .before .before .before in
     let u = c .before .before .before .before .before .before in
     let l = u .used-lanes in
-    wrote-short (sheetAt t) (planText (sheetAt t)) (t .args .out .now) (plan-found (u .before .before .before .before) .accepted) (omega (arith, c .before .plan-sections-len .ensures, ap length (the-text u _ (l .ensures .0) (l .ensures .1))))
+    wrote-short (sheetAt t) (planText (sheetAt t)) (t .args .out .now) (plan-found (u .before .before .before .before) .passes) (omega (arith, c .before .plan-sections-len .ensures, ap length (the-text u _ (l .ensures .0) (l .ensures .1))))
 
 array-share-prefix-u-2 : tie.Need-array-share-prefix-u-2
 array-share-prefix-u-2 c = array-share-prefix-u (c .before .before .before .before .before)
@@ -184,7 +185,7 @@ returns-3 c =
     let w = c .before .before .write-plan-sections in
     let text = the-text u _ (u .used-lanes .ensures .0) (u .used-lanes .ensures .1) in
     rw (w .ensures .0, w .ensures .1, ← text)
-    (wrote-given (sheetAt t) (planText (sheetAt t)) (t .args .out .now) (plan-found (u .before .before .before .before) .accepted) (omega (arith, c .before .before .before .before .before .before .before .before .plan-sections-len .ensures, ap length text, c .before .before .before .before .before .before .before .if1 .left)))
+    (wrote-given (sheetAt t) (planText (sheetAt t)) (t .args .out .now) (plan-found (u .before .before .before .before) .passes) (omega (arith, c .before .before .before .before .before .before .before .before .plan-sections-len .ensures, ap length text, c .before .before .before .before .before .before .before .if1 .left)))
 
 pub write-plan-spec : {M : Type 1} → statement M
 write-plan-spec =

@@ -7,9 +7,9 @@ use lib.ListN.{length}
 use mir.Syntax.{w32}
 use mir.Facts.{toZ-pos}
 use Rattle.transport.specs.Lists.{at}
-use Rattle.transport.specs.Limits.{maxCost}
-use Rattle.transport.specs.Sheet.{place}
-use Rattle.transport.specs.SheetLaws.{place-below}
+use Rattle.transport.specs.Limits.{maxCost, costAbove}
+use Rattle.transport.specs.Problem.{place}
+use Rattle.transport.specs.Laws.ProblemLaws.{place-below}
 use Rattle.basis.specs.Layout.{stride, laneRoom}
 use Rattle.rounds.specs.Costs.{Part, part-none, part-one, part-row, part-all}
 use Rattle.rounds.proofs.costs.spread_costs.Statement.{statement}
@@ -28,6 +28,7 @@ abbrev μ-loop : tie.MeasureT-loop
 μ-loop cost m n out₀ i₀ out i = m - i
 
 loop-holds : tie.Need-loop-holds Inv-loop2 μ-loop2 Inv-loop μ-loop
+unfolding costAbove maxCost
 loop-holds c = (omega arith, part-none (c .before .args .cost .now) (c .before .args .n))
 
 loop2-holds : tie.Need-loop2-holds Inv-loop2 μ-loop2 Inv-loop μ-loop

@@ -1,9 +1,9 @@
 -- `rounds::pricing::price` meets its contract: the basis spans, so it is struck off whole, and the rest follows from the strikes.
 use mathlib.Core.Path.{_≡_}
 use mathlib.Core.List.{List}
-use Rattle.transport.specs.Sheet.{Sheet}
-use Rattle.transport.specs.declared.Cell.{Cell}
+use Rattle.transport.specs.Problem.{Problem}
 use Rattle.transport.specs.Tableau.{basisOf, basisSize}
+use Rattle.transport.specs.declared.Cell.{Cell}
 use Rattle.tableaux.specs.Striking.{Struck}
 use Rattle.basis.specs.Layout.{strikesOf}
 use Rattle.elimination.specs.Strikes.{strikes-room}
@@ -17,12 +17,12 @@ strike-requires c κs =
     let h = s .pre .0 .2 in
     (laid-links h, (h .long, s .pre .1 .0, s .pre .1 .1, s .pre .1 .2))
 
-struck : (c : tie.After-strike) (S : Sheet) (T : List Cell)
+struck : (c : tie.After-strike) (P : Problem) (T : List Cell)
     → let a = c .before .before .before .before .args in
     let l = c .strike .last in
-    Laid S T (a .adj .now) (a .cost .now) (a .m) (a .n)
+    Laid P T (a .adj .now) (a .cost .now) (a .m) (a .n)
     → (c .strike .result ≡ basisSize (a .m) (a .n)) × Struck (a .m) (a .n) (basisOf T) (strikesOf (l .1 .0) (l .1 .1 .0) (l .1 .1 .1 .0) (c .strike .result))
-struck c S T h = c .strike .ensures .1 (basisOf T) (laid-masks h) .complete (laid-spans h)
+struck c P T h = c .strike .ensures .1 (basisOf T) (laid-masks h) .complete (laid-spans h)
 
 potentials-requires : tie.Need-potentials-requires
 potentials-requires c κs =
@@ -46,8 +46,8 @@ returns c =
     let a = c .before .before .before .before .before .before .before in
     let l = a .strike .last in (
       a .strike .ensures .0,
-      λ S T h.
-          let (all, w) = struck a S T h in
+      λ P T h.
+          let (all, w) = struck a P T h in
           laid-priced h (l .1 .0) (l .1 .1 .0) (l .1 .1 .1 .0) (a .strike .result) w (c .before .before .potentials .ensures .1) (c .entering .ensures) all,
     )
 

@@ -8,9 +8,9 @@ use mathlib.Core.Bool.{false}
 use mathlib.Core.List.{List}
 use borrow.Author.Tests.{not-true, not-false}
 use lib.ListN.{length}
-use Rattle.transport.specs.Sheet.{Sheet}
+use Rattle.transport.specs.Problem.{Problem}
+use Rattle.transport.specs.Round.{roundBound}
 use Rattle.transport.specs.declared.Cell.{Cell}
-use Rattle.transport.specs.Calls.{roundBound}
 use Rattle.tableaux.specs.Ending.{roundBound-fits}
 use Rattle.basis.specs.Layout.{nodeRoom}
 use Rattle.rounds.specs.Boards.{Board, board-ends, boardValue, board-falls, Going, going-start, going-next, going-left, ran-done}
@@ -21,21 +21,21 @@ abbrev Inv-loop : tie.InvT-loop
 Inv-loop adj₀ q₀ e₀ cost price₀ m n leaf₀ other₀ lane₀ minus₀ plus₀ made₀ adj q e price leaf other lane minus plus made =
     ((length leaf ≡ nodeRoom) × (length other ≡ nodeRoom) × (length lane ≡ nodeRoom))
     × ((length minus ≡ nodeRoom) × (length plus ≡ nodeRoom))
-    × ((S : Sheet) (T : List Cell) → Board S T adj₀ q₀ e₀ cost m n → Going S T (roundBound S) adj q e cost m n (roundBound S - made) made)
+    × ((P : Problem) (T : List Cell) → Board P T adj₀ q₀ e₀ cost m n → Going P T (roundBound P) adj q e cost m n (roundBound P - made) made)
 
 abbrev μ-loop : tie.MeasureT-loop
 μ-loop adj₀ q₀ e₀ cost price₀ m n leaf₀ other₀ lane₀ minus₀ plus₀ made₀ adj q e price leaf other lane minus plus made =
     boardValue q e cost m n
 
 loop-holds : tie.Need-loop-holds Inv-loop μ-loop
-loop-holds c = ((refl, refl, refl), (refl, refl), λ S T b. rw (sub-zero (roundBound S)) (going-start b))
+loop-holds c = ((refl, refl, refl), (refl, refl), λ P T b. rw (sub-zero (roundBound P)) (going-start b))
 
 advance-requires : tie.Need-advance-requires Inv-loop μ-loop
 advance-requires c κs =
     let l = c .before .before .before .before .before .before .before .before .before .loop in
-    let (S, T, b) = c .before .before .before .before .before .before .before .before .before .before .pre in
-    let g = l .inv .2 S T b in
-    ((S, g .here, g .board), (l .inv .0, l .inv .1))
+    let (P, T, b) = c .before .before .before .before .before .before .before .before .before .before .pre in
+    let g = l .inv .2 P T b in
+    ((P, g .here, g .board), (l .inv .0, l .inv .1))
 
 -- Where the loop goes on, the round has found its tableau not finished.
 goes : (c : tie.Then1 Inv-loop μ-loop) → c .before .advance .result ≡ false
@@ -43,16 +43,16 @@ goes c = not-true _ (c .if1 .taken)
 
 add-made : tie.Need-add-made Inv-loop μ-loop
 add-made c =
-    let (S, T, b) = c .before .before .before .before .before .before .before .before .before .before .before .before .pre in
-    let g = c .before .before .before .before .before .before .before .before .before .before .before .loop .inv .2 S T b in
-    let r = c .before .advance .ensures .1 .1 S (g .here) (g .board) in
-    omega (arith, going-left g (board-ends b) (r .done ∙ goes c), roundBound-fits (b .checked))
+    let (P, T, b) = c .before .before .before .before .before .before .before .before .before .before .before .before .pre in
+    let g = c .before .before .before .before .before .before .before .before .before .before .before .loop .inv .2 P T b in
+    let r = c .before .advance .ensures .1 .1 P (g .here) (g .board) in
+    omega (arith, going-left g (board-ends b) (r .done ∙ goes c), roundBound-fits (b .sound))
 
 loop-less : tie.Need-loop-less Inv-loop μ-loop
 loop-less c =
-    let (S, T, b) = c .before .before .before .before .before .before .before .before .before .before .before .before .pre in
-    let g = c .before .before .before .before .before .before .before .before .before .before .before .loop .inv .2 S T b in
-    let r = c .before .advance .ensures .1 .1 S (g .here) (g .board) in
+    let (P, T, b) = c .before .before .before .before .before .before .before .before .before .before .before .before .pre in
+    let g = c .before .before .before .before .before .before .before .before .before .before .before .loop .inv .2 P T b in
+    let r = c .before .advance .ensures .1 .1 P (g .here) (g .board) in
     board-falls (g .board) (r .done ∙ goes c) (r .moves (goes c))
 
 loop-again : tie.Need-loop-again Inv-loop μ-loop
@@ -61,17 +61,17 @@ loop-again c =
     let a = c .before .advance in (
       a .ensures .0,
       a .ensures .1 .0,
-      λ S T b.
-          let g = l .inv .2 S T b in
-          let r = a .ensures .1 .1 S (g .here) (g .board) in
+      λ P T b.
+          let g = l .inv .2 P T b in
+          let r = a .ensures .1 .1 P (g .here) (g .board) in
           let f = r .done ∙ goes c in
-          going-next g (roundBound S - (l .made + 1)) (omega (arith, going-left g (board-ends b) f)) f (r .moves (goes c)),
+          going-next g (roundBound P - (l .made + 1)) (omega (arith, going-left g (board-ends b) f)) f (r .moves (goes c)),
     )
 
 returns : tie.Need-returns Inv-loop μ-loop
-returns c = λ S T b.
-    let g = c .before .before .before .before .before .before .before .before .before .before .before .loop .inv .2 S T b in
-    let r = c .before .advance .ensures .1 .1 S (g .here) (g .board) in
+returns c = λ P T b.
+    let g = c .before .before .before .before .before .before .before .before .before .before .before .loop .inv .2 P T b in
+    let r = c .before .advance .ensures .1 .1 P (g .here) (g .board) in
     let done = not-false _ (c .if1 .left) in
     ran-done g _ (r .stays done) (r .prices) refl (r .done ∙ done)
 

@@ -6,7 +6,7 @@ use mathlib.Core.List.{List}
 use borrow.Author.Needs.{needs}
 use lib.Signed.{mag}
 use lib.ListN.{length}
-use Rattle.transport.specs.Sheet.{Sheet}
+use Rattle.transport.specs.Problem.{Problem}
 use Rattle.transport.specs.declared.Cell.{Cell}
 use Rattle.basis.specs.Layout.{nodeRoom}
 use Rattle.rounds.specs.Pricing.{sign-is}
@@ -19,25 +19,25 @@ Inv-loop adj₀ q₀ e₀ cost price₀ m n allowance leaf₀ other₀ lane₀ m
     (left + made ≡ allowance)
     × ((length leaf ≡ nodeRoom) × (length other ≡ nodeRoom) × (length lane ≡ nodeRoom))
     × ((length minus ≡ nodeRoom) × (length plus ≡ nodeRoom))
-    × ((S : Sheet) (T : List Cell) → Board S T adj₀ q₀ e₀ cost m n → Going S T allowance adj q e cost m n left made)
+    × ((P : Problem) (T : List Cell) → Board P T adj₀ q₀ e₀ cost m n → Going P T allowance adj q e cost m n left made)
 
 abbrev μ-loop : tie.MeasureT-loop
 μ-loop adj₀ q₀ e₀ cost price₀ m n allowance leaf₀ other₀ lane₀ minus₀ plus₀ left₀ made₀ adj q e price leaf other lane minus plus left made = left
 
 loop-holds : tie.Need-loop-holds Inv-loop μ-loop
-loop-holds c = (omega arith, (refl, refl, refl), (refl, refl), λ S T b. going-start b)
+loop-holds c = (omega arith, (refl, refl, refl), (refl, refl), λ P T b. going-start b)
 
 advance-requires : tie.Need-advance-requires Inv-loop μ-loop
 advance-requires c κs =
     let l = c .before .before .before .before .before .before .before .before .before .before .loop in
-    let (S, T, b) = c .before .before .before .before .before .before .before .before .before .before .before .pre in
-    let g = l .inv .3 S T b in
-    ((S, g .here, g .board), (l .inv .1, l .inv .2))
+    let (P, T, b) = c .before .before .before .before .before .before .before .before .before .before .before .pre in
+    let g = l .inv .3 P T b in
+    ((P, g .here, g .board), (l .inv .1, l .inv .2))
 
 returns : tie.Need-returns Inv-loop μ-loop
-returns c = λ S T b.
-    let g = c .before .before .before .before .before .before .before .before .before .before .before .before .loop .inv .3 S T b in
-    let a = c .before .advance .ensures .1 .1 S (g .here) (g .board) in
+returns c = λ P T b.
+    let g = c .before .before .before .before .before .before .before .before .before .before .before .before .loop .inv .3 P T b in
+    let a = c .before .advance .ensures .1 .1 P (g .here) (g .board) in
     ran-done g _ (a .stays (c .if1 .taken)) (a .prices) refl (a .done ∙ c .if1 .taken)
 
 sub-left : tie.Need-sub-left Inv-loop μ-loop
@@ -56,25 +56,25 @@ loop-again c =
       omega arith,
       a .ensures .0,
       a .ensures .1 .0,
-      λ S T b.
-          let g = l .inv .3 S T b in
-          let r = a .ensures .1 .1 S (g .here) (g .board) in
+      λ P T b.
+          let g = l .inv .3 P T b in
+          let r = a .ensures .1 .1 P (g .here) (g .board) in
           going-next g (l .left - 1) (omega arith) (r .done ∙ c .if1 .left) (r .moves (c .if1 .left)),
     )
 
 price-requires : tie.Need-price-requires Inv-loop μ-loop
 price-requires c κs =
     let l = c .before .before .before .before .before .before .loop in
-    let (S, T, b) = c .before .before .before .before .before .before .before .pre in
-    let g = l .inv .3 S T b in
-    ((S, g .here, board-laid (g .board)), l .inv .1)
+    let (P, T, b) = c .before .before .before .before .before .before .before .pre in
+    let g = l .inv .3 P T b in
+    ((P, g .here, board-laid (g .board)), l .inv .1)
 
 returns-2 : tie.Need-returns-2 Inv-loop μ-loop
-returns-2 c = λ S T b.
+returns-2 c = λ P T b.
     let l = c .before .before .before .before .before .before .before .before .before .loop in
     let p = c .before .before .price in
-    let g = l .inv .3 S T b in
-    let r = p .ensures .1 S (g .here) (board-laid (g .board)) in
+    let g = l .inv .3 P T b in
+    let r = p .ensures .1 P (g .here) (board-laid (g .board)) in
     let fits : mag (p .result .reduced) < 2 ^ 31 = search needs in
     ran-out g _ (g .board) (r .prices) (omega arith) (r .done ∙ sym (sign-is (p .result .reduced) fits))
 

@@ -5,7 +5,7 @@ use mathlib.Core.List.{List, _++_}
 use Prim.Native.Nat.{ℕ, _≤_, _+_, _-_}
 use native.Mathlib.Omega.{arith}
 use borrow.Rule.Slice.PartMut.{midOf}
-use lib.ListN.{length, take, drop, getD, length-drop, length-take}
+use lib.ListN.{length, take, drop, getD, length-drop}
 use lib.Seq.{take-all}
 use Rattle.sections.specs.Front.{front, front-nil, length-front, FirstWritten, second-room, both-length, both-written, piece-room, take-piece, drop-piece, piece-next}
 use Rattle.sections.specs.Lines.{linesFrom, leftAfter, ending, ended, left-pos, lines-next, lines-end}

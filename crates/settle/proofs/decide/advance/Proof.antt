@@ -5,9 +5,9 @@ use mathlib.Core.Logic.{⊎-elim}
 use mathlib.Core.List.{List}
 use Prim.Native.Nat.{_+_, _-_}
 use native.Mathlib.Omega.{arith}
-use Rattle.transport.specs.Sheet.{Sheet}
+use Rattle.transport.specs.Problem.{Problem}
 use Rattle.transport.specs.declared.Cell.{Cell}
-use Rattle.demands.specs.Phases.{Improving}
+use Rattle.optimality.specs.Phases.{Improving}
 use Rattle.phase.specs.declared.lanes.Found.{Found}
 use Rattle.phase.specs.Lanes.{Finds}
 use Rattle.phase.specs.PhaseLaws.{allows}
@@ -63,12 +63,12 @@ returns c =
     let none = subst (λ (r : Found). Finds (s .args .allowed .now) (cut .result .rows) (cut .result .cols) (s .args .m) r) (c .before .before .enum-told .given .1) (c .before .before .before .before .improving .ensures) in
     let on = sym (c .before .before .before .before .before .before .before .before .before .before .before .has-bit .ensures) ∙ c .before .before .before .before .before .before .before .before .before .before .if1 .taken in
     let (hp, hc, allowed) = s .pre .1 .1 .0 in
-    (s .pre .1 .0, (s .pre .1 .1 .1, λ S T l. none-over l hp hc (s .pre .1 .0) (cut .ensures) on allowed none (c .keep .ensures)))
+    (s .pre .1 .0, (s .pre .1 .1 .1, λ P T l. none-over l hp hc (s .pre .1 .0) (cut .ensures) on allowed none (c .keep .ensures)))
 
 -- Whichever way the lane was found, it improves.
-improves : (c : tie.Joined1) → let a = c .before .before .before .args in (S : Sheet) (T : List Cell) → Laid S (a .m) (a .n) (a .adj .now) (a .q .now) (a .e .now) (a .allowed .now) T
-    → Improving S (allows (a .allowed .now)) (a .p) (a .col) T (c .if1 .row) (c .if1 .to)
-improves c S T l =
+improves : (c : tie.Joined1) → let a = c .before .before .before .args in (P : Problem) (T : List Cell) → Laid P (a .m) (a .n) (a .adj .now) (a .q .now) (a .e .now) (a .allowed .now) T
+    → Improving P (allows (a .allowed .now)) (a .p) (a .col) T (c .if1 .row) (c .if1 .to)
+improves c P T l =
     let s = c .before .before .before in
     let (hp, hc, allowed) = s .pre .1 .1 .0 in
     ⊎-elim
@@ -79,37 +79,37 @@ improves c S T l =
     (c .if1 .came)
 
 -- So it may enter.
-ready : (c : tie.Joined1) → let a = c .before .before .before .args in (S : Sheet) (T : List Cell) → Laid S (a .m) (a .n) (a .adj .now) (a .q .now) (a .e .now) (a .allowed .now) T
-    → Ready S T (a .adj .now) (a .q .now) (a .e .now) (a .leaf .now) (a .other .now) (a .lane .now) (a .m + a .n - 1) (a .m) (c .if1 .row) (c .if1 .to)
-ready c S T l = let s = c .before .before .before in laid-ready l (s .pre .1 .0) (s .pre .1 .1 .0 .0) (s .pre .1 .1 .0 .1) (improves c S T l)
+ready : (c : tie.Joined1) → let a = c .before .before .before .args in (P : Problem) (T : List Cell) → Laid P (a .m) (a .n) (a .adj .now) (a .q .now) (a .e .now) (a .allowed .now) T
+    → Ready P T (a .adj .now) (a .q .now) (a .e .now) (a .leaf .now) (a .other .now) (a .lane .now) (a .m + a .n - 1) (a .m) (c .if1 .row) (c .if1 .to)
+ready c P T l = let s = c .before .before .before in laid-ready l (s .pre .1 .0) (s .pre .1 .1 .0 .0) (s .pre .1 .1 .0 .1) (improves c P T l)
 
 pivot-requires : tie.Need-pivot-requires
 pivot-requires c κs =
     let s = c .before .before .before .before .before .before .before .before .before .before .before in
-    let (S, T, l) = s .pre .0 in
-    ((S, T, ready (c .before .before .before .before .before .before .before .before) S T l), s .pre .1 .1 .1)
+    let (P, T, l) = s .pre .0 in
+    ((P, T, ready (c .before .before .before .before .before .before .before .before) P T l), s .pre .1 .1 .1)
 
 -- Then a step is made.
-moves : (c : tie.After-pivot) → let a = c .before .before .before .before .before .before .before .before .before .before .before .before .args in let r = c .pivot .last in (S : Sheet) (T : List Cell) → Laid S (a .m) (a .n) (a .adj .now) (a .q .now) (a .e .now) (a .allowed .now) T
-    → Advanced true S (a .m) (a .n) (a .p) (a .col) (a .q .now) (a .e .now) (a .allowed .now) T (r .0) (r .1 .0) (r .1 .1 .0) (a .allowed .now)
-moves c S T l =
+moves : (c : tie.After-pivot) → let a = c .before .before .before .before .before .before .before .before .before .before .before .before .args in let r = c .pivot .last in (P : Problem) (T : List Cell) → Laid P (a .m) (a .n) (a .adj .now) (a .q .now) (a .e .now) (a .allowed .now) T
+    → Advanced true P (a .m) (a .n) (a .p) (a .col) (a .q .now) (a .e .now) (a .allowed .now) T (r .0) (r .1 .0) (r .1 .1 .0) (a .allowed .now)
+moves c P T l =
     let s = c .before .before .before .before .before .before .before .before .before .before .before .before in
     let j = c .before .before .before .before .before .before .before .before .before in
-    lane-moves l (s .pre .1 .1 .0 .0) (s .pre .1 .1 .0 .1) (improves j S T l) (rw (l .cols) (c .pivot .ensures .0 S T (ready j S T l)))
+    lane-moves l (s .pre .1 .1 .0 .0) (s .pre .1 .1 .0 .1) (improves j P T l) (rw (l .cols) (c .pivot .ensures .0 P T (ready j P T l)))
 
 strike-requires : tie.Need-strike-requires
 strike-requires c κs =
     let s = c .before .before .before .before .before .before .before .before .before .before .before .before .before .before .before .before in
-    let (S, T, l) = s .pre .0 in
-    let l′ = moves (c .before .before .before .before) S T l .yes refl .laid in
+    let (P, T, l) = s .pre .0 in
+    let l′ = moves (c .before .before .before .before) P T l .yes refl .laid in
     let long = s .pre .1 .0 .long in
     (laid-links l′, (l′ .held .adjLong, long .0, long .1, long .2))
 
 returns-2 : tie.Need-returns-2
 returns-2 c =
-    let (S, T, l) = c .before .before .before .before .before .before .before .before .before .before .before .before .before .before .before .before .before .pre .0 in
+    let (P, T, l) = c .before .before .before .before .before .before .before .before .before .before .before .before .before .before .before .before .before .pre .0 in
     let f = moves (c .before .before .before .before .before) in
-    (laid-strikes (f S T l .yes refl .laid) (c .strike .ensures .0) (c .strike .ensures .1), (c .before .before .before .before .before .pivot .ensures .1, f))
+    (laid-strikes (f P T l .yes refl .laid) (c .strike .ensures .0) (c .strike .ensures .1), (c .before .before .before .before .before .pivot .ensures .1, f))
 
 pub advance-spec : {M : Type 1} → statement M
 advance-spec =

@@ -28,17 +28,17 @@ advance-requires c κs =
     let s = c .before .before .before .before .before .before .before .before .before .before in
     let i = c .before .before .before .before .before .before .before .before .before .loop in
     let v = s .pre .0 in
-    let (T, l) = i .inv .0 .laid (v .sheet) (v .tableau) (v .stage .laid) in
+    let (T, l) = i .inv .0 .laid (v .problem) (v .tableau) (v .stage .laid) in
     let (hp, hc, allowed) = s .pre .1 .1 .0 in
-    ((v .sheet, T, l), (i .inv .1, ((hp, hc, rw (i .inv .0 .same) allowed), i .inv .2)))
+    ((v .problem, T, l), (i .inv .1, ((hp, hc, rw (i .inv .0 .same) allowed), i .inv .2)))
 
 -- What the step made of the tableau that the arrays hold.
 moved : (c : tie.Then1 Inv-loop μ-loop) → let s = c .before .before .before .before .before .before .before .before .before .before .before .before in let i = c .before .before .before .before .before .before .before .before .before .before .before .loop in let r = c .before .advance .last in
-    Moved (s .pre .0 .sheet) (s .args .m) (s .args .n) (s .args .p) (s .args .col) (i .q) (i .e) (i .allowed) (r .0) (r .1 .0) (r .1 .1 .0) (r .1 .1 .1 .0)
+    Moved (s .pre .0 .problem) (s .args .m) (s .args .n) (s .args .p) (s .args .col) (i .q) (i .e) (i .allowed) (r .0) (r .1 .0) (r .1 .1 .0) (r .1 .1 .1 .0)
 moved c =
     let v = c .before .before .before .before .before .before .before .before .before .before .before .before .pre .0 in
-    let (T, l) = c .before .before .before .before .before .before .before .before .before .before .before .loop .inv .0 .laid (v .sheet) (v .tableau) (v .stage .laid) in
-    c .before .advance .ensures .1 .1 (v .sheet) T l .yes (c .if1 .taken)
+    let (T, l) = c .before .before .before .before .before .before .before .before .before .before .before .loop .inv .0 .laid (v .problem) (v .tableau) (v .stage .laid) in
+    c .before .advance .ensures .1 .1 (v .problem) T l .yes (c .if1 .taken)
 
 loop-less : tie.Need-loop-less Inv-loop μ-loop
 loop-less c = moved c .less

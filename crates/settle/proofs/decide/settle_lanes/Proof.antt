@@ -4,8 +4,8 @@ use native.Mathlib.Omega.{arith}
 use mathlib.Core.Path.{_≡_, refl, sym, _∙_}
 use mathlib.Core.Logic.{⊎-elim}
 use lib.ListN.{length}
-use Rattle.transport.specs.Sheet.{place}
-use Rattle.transport.specs.SheetLaws.{place-below}
+use Rattle.transport.specs.Problem.{place}
+use Rattle.transport.specs.Laws.ProblemLaws.{place-below}
 use Rattle.basis.specs.Layout.{stride, nodeRoom}
 use Rattle.settle.specs.Laid.{StruckOff, laid-sides, laid-links, laid-strikes}
 use Rattle.settle.specs.Reach.{AtStage, Reaches, reaches-none, at-on, reaches-on, reaches-rest, reaches-skip, place-first, place-next, place-row, place-end}

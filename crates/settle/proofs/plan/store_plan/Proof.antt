@@ -9,8 +9,8 @@ use lib.Signed.{mag}
 use lib.ListN.{length, getD}
 use mir.Syntax.{w64}
 use mir.Val.{toZ, ofZ}
-use Rattle.transport.specs.Sheet.{place}
-use Rattle.transport.specs.SheetLaws.{place-below}
+use Rattle.transport.specs.Problem.{place}
+use Rattle.transport.specs.Laws.ProblemLaws.{place-below}
 use Rattle.basis.specs.Layout.{stride, laneRoom}
 use Rattle.settle.specs.Plan.{bagsIn, bagsIn-place, Written, written-none, written-one, written-again, written-on}
 use Rattle.settle.proofs.plan.store_plan.Statement.{statement}

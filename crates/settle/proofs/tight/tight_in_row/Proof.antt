@@ -9,8 +9,8 @@ use lib.ListN.{getD}
 use mir.Syntax.{w32}
 use mir.Val.{toZ, ofZ}
 use mir.Facts.{toZ-ofZ}
-use Rattle.transport.specs.Limits.{maxCost}
-use Rattle.transport.specs.RangeLaws.{diff-in, diff-back}
+use Rattle.transport.specs.Limits.{maxCost, costAbove}
+use Rattle.transport.specs.Laws.RangeLaws.{diff-in, diff-back}
 use Rattle.basis.specs.Layout.{stride}
 use Rattle.basis.specs.ScanLaws.{slackAt}
 use Rattle.settle.specs.Tight.{TightRow, tight-none, tight-in, tight-out}
@@ -57,7 +57,7 @@ room : (c : tie.After-if13 Inv-loop μ-loop)
     → let a = c .before .before .before .before .before .args in
     let j = c .before .before .before .loop .j in
     natAbs (getD (a .cost .now) (a .i * stride + j) (pos 0)) + natAbs (getD (a .price .now) (a .m + j) (pos 0)) < 2 ^ 31
-unfolding maxCost
+unfolding costAbove maxCost
 room c =
     let s = c .before .before .before .before .before in
     omega (arith, s .pre .0 .costs (s .args .i) (c .before .before .before .loop .j) (omega arith) (omega arith), s .pre .0 .prices (s .args .m + c .before .before .before .loop .j) (omega arith))

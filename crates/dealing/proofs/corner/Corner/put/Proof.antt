@@ -1,0 +1,13 @@
+-- The cell's amount is what `smaller` gives.
+use borrow.Author.Needs.{needs}
+use Rattle.dealing.proofs.corner.Corner.put.Statement.{statement}
+use Rattle.dealing.proofs.corner.Corner.put.Tie as tie
+
+smaller-requires : tie.Need-smaller-requires
+smaller-requires c κs = search needs
+
+returns : tie.Need-returns
+returns c = rw (c .smaller .ensures)
+
+pub put-spec : {M : Type 1} → statement M
+put-spec = tie.close (tie.spec smaller-requires returns)

@@ -1,0 +1,47 @@
+-- The numbers are in range, so their bits are the numbers; the test is that of the last column.
+use native.Mathlib.Omega.{arith}
+use Prim.Native.Nat.{_-_}
+use borrow.Author.Tests.{eq-eqb, ne-eqb}
+use lib.ListN.{length}
+use mir.Syntax.{w64}
+use mir.Facts.{toZ-pos}
+use Rattle.transport.specs.Lists.{at}
+use Rattle.transport.specs.Limits.{maxAmount, maxBags, maxSide}
+use Rattle.transport.specs.Problem.{sources, sinks}
+use Rattle.transport.specs.Amount.{pairedDemand}
+use borrow.Author.Needs.{needs}
+use Rattle.dealing.proofs.corner.paired_demand.Statement.{statement}
+use Rattle.dealing.proofs.corner.paired_demand.Tie as tie
+
+mul-q : tie.Need-mul-q
+mul-q c = search needs
+
+shared-slice-read-q : tie.Need-shared-slice-read-q
+shared-slice-read-q c = search needs
+
+cast-q : tie.Need-cast-q
+unfolding at maxBags maxSide maxAmount
+cast-q c = omega arith
+
+add-if1 : tie.Need-add-if1
+add-if1 c = search needs
+
+cast-t10 : tie.Need-cast-t10
+unfolding maxBags maxSide maxAmount
+cast-t10 c = omega arith
+
+returns : tie.Need-returns
+unfolding pairedDemand at sources sinks
+returns c S e f =
+    let a = c .before .before .args in
+    rw (e, f, eq-eqb (a .j) (length (a .demand .now) - 1) (omega arith), toZ-pos w64 (cast-q (c .before) .sfits), toZ-pos w64 (cast-t10 c .sfits))
+
+returns-2 : tie.Need-returns-2
+unfolding pairedDemand at sinks
+returns-2 c S e f =
+    let a = c .before .before .args in
+    rw (e, ne-eqb (a .j) (length (a .demand .now) - 1) (λ l. c .if1 .left (omega arith)), toZ-pos w64 (cast-q (c .before) .sfits))
+
+pub paired-demand-spec : {M : Type 1} → statement M
+paired-demand-spec =
+    tie.close (tie.spec mul-q shared-slice-read-q cast-q add-if1 cast-t10 returns returns-2)

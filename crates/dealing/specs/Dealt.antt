@@ -1,0 +1,94 @@
+-- A tableau of a sound problem, dealt out over the arrays: the board of its rounds, the prices, and the answers of the calls.
+use Prim.Native.Nat.{ℕ, _+_, _*_, _<_, _≤_}
+use native.Mathlib.Omega.{arith}
+use mathlib.Core.Path.{_≡_, refl, sym, ap, _∙_}
+use mathlib.Core.Bool.{true}
+use mathlib.Core.List.{List, map}
+use lib.Dec.{eqb}
+use lib.IntN.{ℤ, pos, natAbs}
+use lib.ListN.{length, getD, length-map, List·getD-map}
+use Rattle.transport.specs.declared.Cell.{Cell}
+use Rattle.transport.specs.declared.Tableau.{Tableau}
+use Rattle.transport.specs.Lists.{at, atZ, table}
+use Rattle.transport.specs.Laws.ListLaws.{and-right, table-cong}
+use Rattle.transport.specs.Limits.{maxCost, costAbove}
+use Rattle.transport.specs.Problem.{Problem, sources, sinks}
+use Rattle.transport.specs.Sheet.{Sheet, problemOf}
+use Rattle.transport.specs.Laws.Sound.{Sound, sound}
+use Rattle.transport.specs.Statements.{Accepted}
+use Rattle.transport.specs.Tableau.{cellsOf, basisSize}
+use Rattle.transport.specs.Belonging.{cellsBelong, belongs}
+use Rattle.transport.specs.Potential.{potential, sourcePrices, sinkPrices}
+use Rattle.transport.specs.Answers.{prices}
+use Rattle.integers.specs.Bridge.{z-eq, z-le}
+use Rattle.tableaux.specs.Belonging.{belongs-iff, fits-of, spans-of}
+use Rattle.tableaux.specs.Potentials.{price-size, price-limit}
+use Rattle.basis.specs.Layout.{stride, stride-is, maxPotential}
+use Rattle.board.specs.Held.{Held}
+use Rattle.rounds.specs.Costs.{Spread, spread-costed}
+use Rattle.rounds.specs.Boards.{Board}
+
+-- The problem P, of m sources and n sinks and with these costs, is sound, and the arrays hold its tableau T.
+pub record Dealt (P : Problem) (T : List Cell) (cost adj : List ℕ) (q e : List ℤ) (m n : ℕ) : Type 0 where
+  pub sound : Sound P
+  pub rows : m ≡ sources P
+  pub columns : n ≡ sinks P
+  pub costs : P .cost ≡ map pos cost
+  pub belongs : cellsBelong P T ≡ true
+  pub held : Held m n T adj q e
+
+module _ {P : Problem} {T : List Cell} {cost adj : List ℕ} {q e : List ℤ} {m n : ℕ} (d : Dealt P T cost adj q e m n) where
+  pub dealt-costs : (m ≤ stride) × (n ≤ stride) × (length cost ≡ m * n) × ((k : ℕ) → at cost k ≤ maxCost)
+  unfolding costAbove at atZ
+  dealt-costs = (
+    omega (arith, d .rows, stride-is, d .sound .sourcesHigh),
+    omega (arith, d .columns, stride-is, d .sound .sinksHigh),
+    sym (length-map cost pos) ∙ ap length (sym (d .costs)) ∙ d .sound .costLength ∙ rw (d .rows, d .columns),
+    λ k. omega (arith, z-le (d .sound .costHigh k), z-eq (ap (λ (c : List ℤ). atZ c k) (d .costs)), z-eq (List·getD-map pos cost k 0)),
+  )
+
+  pub dealt-board : {out : List ℤ} → Spread cost m n out → Board P T adj q e out m n
+  unfolding sources sinks
+  dealt-board {out} s = record {
+    sound = d .sound;
+    rows = d .rows;
+    columns = d .columns;
+    belongs = d .belongs;
+    costs = spread-costed P cost out (d .costs) (rw (← d .rows, ← d .columns) s);
+    held = d .held;
+  }
+
+-- A tableau that was loaded, of an accepted sheet.
+pub dealt-loaded : (S : Sheet) (t : Tableau) {adj : List ℕ} {q e : List ℤ} → Accepted S → belongs (problemOf S) t ≡ true
+    → Held (length (S .supply)) (length (S .demand)) (cellsOf t) adj q e
+    → Dealt (problemOf S) (cellsOf t) (S .cost) adj q e (length (S .supply)) (length (S .demand))
+unfolding problemOf sources sinks belongs
+dealt-loaded S t ok w h =
+    let P = problemOf S in
+    record {
+      sound = sound ok;
+      rows = refl;
+      columns = refl;
+      costs = refl;
+      belongs = and-right (eqb (t .count) (basisSize (sources P) (sinks P))) (cellsBelong P (cellsOf t)) w;
+      held = h;
+    }
+
+-- ---- prices
+
+module _ {P : Problem} {T : List Cell} {adj : List ℕ} {q e cost : List ℤ} {m n : ℕ} (b : Board P T adj q e cost m n) (price : List ℤ)
+    (p : (k : ℕ) → k < m + n → getD price k (pos 0) ≡ potential P T k) where
+  pub prices-small : (k : ℕ) → k < m + n → natAbs (getD price k (pos 0)) ≤ maxPotential
+  unfolding costAbove maxCost
+  prices-small k l =
+      let w = belongs-iff P T (b .sound .sourcesLow) (b .sound .sinksLow) .0 (b .belongs) in
+      rw (p k l) (omega (arith, price-limit, price-size P (b .sound) T (fits-of (b .sound) w) (spans-of (b .sound) w) k))
+
+  pub source-prices : table m (λ k. getD price (0 + k) (pos 0)) ≡ sourcePrices P T
+  unfolding sourcePrices
+  source-prices =
+      table-cong m (λ k. getD price (0 + k) (pos 0)) (potential P T) (λ k l. let z : 0 + k ≡ k = omega arith in rw z (p k (omega arith))) ∙ rw (b .rows)
+
+  pub sink-prices : table n (λ k. getD price (m + k) (pos 0)) ≡ sinkPrices P T
+  unfolding sinkPrices
+  sink-prices = table-cong n (λ k. getD price (m + k) (pos 0)) (λ k. potential P T (m + k)) (λ k l. p (m + k) (omega arith)) ∙ rw (b .rows, b .columns)

@@ -1,0 +1,40 @@
+-- A tableau's array that is filled cell by cell.
+use Prim.Native.Nat.{ℕ, zero, suc, _+_, _-_, _<_}
+use native.Mathlib.Omega.{arith}
+use native.Mathlib.Nat.{zero-sub, sub-zero, suc-sub-suc}
+use mathlib.Core.Path.{_≡_}
+use mathlib.Core.List.{List, _++_}
+use lib.ListN.{length, drop, getD, set, replicate, length-replicate}
+use Rattle.transport.specs.Lists.{table, padded}
+use Rattle.transport.specs.Laws.ListLaws.{table-zero, length-table, table-getD, fill-one}
+use Rattle.transport.specs.Limits.{maxCells}
+use Rattle.transport.specs.Tableau.{noCell, tableauOf, noTableau}
+use Rattle.transport.specs.declared.Cell.{Cell}
+
+drop-replicate : {A : Type 0} (k n : ℕ) (x : A) → drop k (replicate n x) ≡ replicate (n - k) x
+drop-replicate zero n x = rw sub-zero
+drop-replicate (suc k) zero x = rw zero-sub
+drop-replicate (suc k) (suc n) x = rw suc-sub-suc (drop-replicate k n x)
+
+-- The array that holds the first k cells of T.
+unfoldable pub filled : List Cell → ℕ → List Cell
+filled T k = table k (λ i. getD T i noCell) ++ drop k (replicate maxCells noCell)
+
+module _ (T : List Cell) where
+  pub filled-none : noTableau .cells ≡ filled T 0
+  unfolding filled noTableau tableauOf padded
+  filled-none = rw (table-zero, sub-zero)
+
+  pub filled-one : (k : ℕ) (c : Cell) → k < maxCells → getD T k noCell ≡ c → set (filled T k) k c ≡ filled T (k + 1)
+  unfolding filled
+  filled-one k c l e = rw (← e) (fill-one (λ i. getD T i noCell) (replicate maxCells noCell) k noCell (omega (arith, length-replicate maxCells noCell)))
+
+  -- All of T is in it.
+  pub filled-all : (xs : List Cell) (n : ℕ) → n ≡ length T → xs ≡ filled T n → record { cells = xs; count = n } ≡ tableauOf T
+  unfolding filled tableauOf padded
+  filled-all xs n e f = rw (f, e, table-getD T noCell, drop-replicate (length T) maxCells noCell)
+
+-- An array of one number, of which the first n are written.
+pub padded-fill : {A : Type 0} (f : ℕ → A) (n size : ℕ) (d : A) → table n f ++ drop n (replicate size d) ≡ padded size d (table n f)
+unfolding padded
+padded-fill f n size d = rw (drop-replicate n size d, length-table f n)

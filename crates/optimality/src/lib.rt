@@ -1,0 +1,1 @@
+// Theory alone: the plans of a finished tableau, and settling over tableaux.

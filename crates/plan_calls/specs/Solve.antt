@@ -1,0 +1,136 @@
+-- Solve, case by case: its refusals in their order, and the solution that it gives.
+use mathlib.Core.Path.{_≡_, refl, sym, ap, _∙_}
+use mathlib.Core.Bool.{Bool, true, false, _||_}
+use mathlib.Core.Option.{none, some}
+use mathlib.Core.List.{List, _++_}
+use Prim.Native.Nat.{ℕ, _+_, _*_, _-_, _≤_, _<_}
+use native.Mathlib.Omega.{arith}
+use lib.IntN.{ℤ, pos, natAbs}
+use lib.ListN.{length, drop, getD}
+use Rattle.transport.specs.declared.SolveAnswer.{SolveAnswer}
+use Rattle.transport.specs.declared.SolveAnswer.the-variants.{Solved, Refused}
+use Rattle.transport.specs.Lists.{at, sumTo, table}
+use Rattle.transport.specs.Laws.ListLaws.{length-table}
+use Rattle.transport.specs.Problem.{sources, sinks}
+use Rattle.transport.specs.Sheet.{Sheet, roasteries, cafes, problemOf, sheetTests, refusal}
+use Rattle.transport.specs.Calls.{solutionFrom, Answer, given, refusedBy, lentAfter, tooShort, Solution, solution, solveCall}
+use Rattle.transport.specs.Statements.{Accepted, Bought}
+use Rattle.transport.specs.Tableau.{start}
+use Rattle.transport.specs.Potential.{sourcePrices, sinkPrices}
+use Rattle.transport.specs.Round.{run, roundBound}
+use Rattle.transport.specs.Plan.{settled}
+use Rattle.transport.specs.Laws.CallLaws.{unless-before, unless-last, unless-none, rooms-iff}
+use Rattle.transport.specs.Answers.{solveAnswer}
+use Rattle.tableaux.specs.Ending.{start-finished}
+use Rattle.demands.specs.Bought.{bought}
+use Rattle.demands.specs.Demand3.{settled-length}
+use Rattle.rounds.specs.Boards.{Ran}
+use Rattle.dealing.specs.Dealt.{source-prices, sink-prices}
+use Rattle.plan_calls.specs.Cost.{Summable, settled-summable, settled-cost}
+use Rattle.plan_calls.specs.Finished.{Finished}
+
+-- ---- the call
+
+module _ (S : Sheet) (uRoom vRoom planRoom : ℕ) where
+  abbrev short : Bool
+  short = tooShort uRoom (roasteries S) || tooShort vRoom (cafes S) || tooShort planRoom (roasteries S * cafes S)
+
+  pub solve-early : (k : ℕ) → refusal (sheetTests S) ≡ some k → solveCall S uRoom vRoom planRoom ≡ refusedBy k
+  unfolding solveCall
+  solve-early k e = unless-before (sheetTests S) short 8 (solution S) k e
+
+  -- The places that the lists lack.
+  abbrev lacks : ℕ
+  lacks = (roasteries S - uRoom) + (cafes S - vRoom) + (roasteries S * cafes S - planRoom)
+
+  pub solve-short : refusal (sheetTests S) ≡ none → 0 < lacks → solveCall S uRoom vRoom planRoom ≡ refusedBy 8
+  unfolding solveCall
+  solve-short e p = unless-last (sheetTests S) short 8 (solution S) e (go short refl)
+    where
+      go : (b : Bool) → short ≡ b → short ≡ true
+      go true h = h
+      go false h = let r = rooms-iff uRoom (roasteries S) vRoom (cafes S) planRoom (roasteries S * cafes S) .0 h in absurd (omega arith)
+
+  pub solve-given : refusal (sheetTests S) ≡ none → (roasteries S ≤ uRoom) × (cafes S ≤ vRoom) × (roasteries S * cafes S ≤ planRoom) → solveCall S uRoom vRoom planRoom ≡ given (solution S)
+  unfolding solveCall
+  solve-given e h = unless-none (sheetTests S) short 8 (solution S) e (rooms-iff uRoom (roasteries S) vRoom (cafes S) planRoom (roasteries S * cafes S) .1 h)
+
+-- ---- what is told of it
+
+-- The answer r says what a call gives, and each lent list, as it was and as it is, holds its part.
+pub record Told (a : Answer Solution) (r : SolveAnswer) (u u′ v v′ : List ℤ) (plan plan′ : List ℕ) : Type 0 where
+  pub answer : r ≡ solveAnswer a
+  pub uHeld : u′ ≡ lentAfter (λ s. s .u) a u
+  pub vHeld : v′ ≡ lentAfter (λ s. s .v) a v
+  pub planHeld : plan′ ≡ lentAfter (λ s. s .plan) a plan
+
+pub told-refused : {a : Answer Solution} {k : ℕ} {u v : List ℤ} {plan : List ℕ} → a ≡ refusedBy k → Told a (Refused k) u u v v plan plan
+unfolding solveAnswer refusedBy lentAfter
+told-refused e = rw e (record { answer = refl; uHeld = refl; vHeld = refl; planHeld = refl })
+
+pub told-by : {a b : Answer Solution} {r : SolveAnswer} {u u′ v v′ : List ℤ} {plan plan′ : List ℕ} → a ≡ b → Told b r u u′ v v′ plan plan′ → Told a r u u′ v v′ plan plan′
+told-by e t = rw e t
+
+-- All that solve ensures.
+pub told-all : {S : Sheet} {r : SolveAnswer} {u u′ v v′ : List ℤ} {plan plan′ : List ℕ} → let a = solveCall S (length u) (length v) (length plan) in
+    Told a r u u′ v v′ plan plan′
+    → (r ≡ solveAnswer a)
+    × (u′ ≡ lentAfter (λ s. s .u) a u)
+    × (v′ ≡ lentAfter (λ s. s .v) a v)
+    × (plan′ ≡ lentAfter (λ s. s .plan) a plan)
+    × Bought S r u v plan u′ v′ plan′
+told-all {S} {r} {u} {u′} {v} {v′} {plan} {plan′} t =
+    (t .answer, t .uHeld, t .vHeld, t .planHeld, bought S r u v plan u′ v′ plan′ (t .answer) (t .uHeld) (t .vHeld) (t .planHeld))
+
+-- ---- what is written before the cost is told
+
+-- The rounds are those of the solution, and each lent list, as it was and as it is, holds its part of it.
+pub record Written (S : Sheet) (made : ℕ) (u u′ v v′ : List ℤ) (plan plan′ : List ℕ) : Type 0 where
+  pub rounds : made ≡ solution S .rounds
+  pub uHeld : u′ ≡ lentAfter (λ s. s .u) (given (solution S)) u
+  pub vHeld : v′ ≡ lentAfter (λ s. s .v) (given (solution S)) v
+  pub planHeld : plan′ ≡ lentAfter (λ s. s .plan) (given (solution S)) plan
+
+module _ {S : Sheet} {made : ℕ} {u u′ v v′ : List ℤ} {plan plan′ : List ℕ} (w : Written S made u u′ v v′ plan plan′) where
+  written-plan : plan′ ≡ settled S ++ drop (length (settled S)) plan
+  unfolding lentAfter solution solutionFrom
+  written-plan = w .planHeld
+
+  pub written-summable : Accepted S → Summable plan′ (S .cost)
+  written-summable ok = settled-summable ok (drop (length (settled S)) plan) written-plan refl
+
+  -- The cost is that of the plan that was written.
+  pub told-written : {total : ℕ} → Accepted S → total ≡ sumTo (length (S .cost)) (λ l. at plan′ l * at (S .cost) l)
+      → Told (given (solution S)) (Solved total made) u u′ v v′ plan plan′
+  unfolding solveAnswer solution solutionFrom
+  told-written ok t = record {
+    answer = rw (t, w .rounds, ap natAbs (settled-cost ok (drop (length (settled S)) plan) written-plan refl));
+    uHeld = w .uHeld;
+    vHeld = w .vHeld;
+    planHeld = w .planHeld;
+  }
+
+-- The rounds have come from the start to the finished tableau.
+module _ (S : Sheet) {adj : List ℕ} {q e cost price : List ℤ} {m n made : ℕ} (r : Ran (problemOf S) (start (problemOf S)) (roundBound (problemOf S)) adj q e cost price m n true made) where
+  pub ran-finished : Finished (problemOf S) (run (problemOf S) (roundBound (problemOf S)) (start (problemOf S)) .tableau) adj q e cost price m n
+  ran-finished = record { board = r .board; done = start-finished (r .board .sound); prices = r .prices }
+
+  module _ {u u′ v v′ : List ℤ} {plan plan′ : List ℕ}
+      (uIs : u′ ≡ table m (λ k. getD price (0 + k) (pos 0)) ++ drop m u)
+      (vIs : v′ ≡ table n (λ k. getD price (m + k) (pos 0)) ++ drop n v)
+      (planIs : plan′ ≡ settled S ++ drop (m * n) plan) where
+    pub written-given : Written S made u u′ v v′ plan plan′
+    unfolding lentAfter solution solutionFrom problemOf sources sinks roasteries cafes
+    written-given =
+        let P = problemOf S in
+        let rows = source-prices (r .board) price (r .prices) in
+        let columns = sink-prices (r .board) price (r .prices) in
+        let uLong : length (sourcePrices P (run P (roundBound P) (start P) .tableau)) ≡ m = ap length (sym rows) ∙ length-table _ m in
+        let vLong : length (sinkPrices P (run P (roundBound P) (start P) .tableau)) ≡ n = ap length (sym columns) ∙ length-table _ n in
+        let planLong : length (settled S) ≡ m * n = settled-length S (r .board .sound) ∙ rw (r .board .rows, r .board .columns) in
+        record {
+          rounds = sym (r .rounds);
+          uHeld = uIs ∙ rw (rows, uLong);
+          vHeld = vIs ∙ rw (columns, vLong);
+          planHeld = planIs ∙ rw planLong;
+        }

@@ -1,0 +1,43 @@
+// The settled plan from the board of a finished tableau.
+use basis::LANES;
+use basis::NODES;
+use basis::Price;
+use settle::decide::settle_lanes;
+use settle::plan::store_plan;
+use settle::tight::tight_lanes;
+use transport::MAX_SIDE;
+ghost use mathlib.Core.Path.{_≡_};
+ghost use mathlib.Core.List.{List, _++_};
+ghost use Prim.Native.Nat.{_*_, _≤_};
+ghost use lib.ListN.{length, drop};
+ghost use Rattle.transport.specs.Problem.{Problem};
+ghost use Rattle.transport.specs.Sheet.{Sheet, problemOf};
+ghost use Rattle.transport.specs.Plan.{settled};
+ghost use Rattle.transport.specs.declared.Cell.{Cell};
+ghost use Rattle.plan_calls.specs.Finished.{Finished};
+
+// Settles the board of a finished tableau: the settled plan stands in the first m × n places of the list, and the rest of it is as it was.
+// The arrays are used up.
+pub(crate) fn settle_board(
+    adj: &mut [u64; NODES],
+    q: &mut [i64; LANES],
+    e: &mut [i64; LANES],
+    cost: &[Price; LANES],
+    price: &[Price; NODES],
+    plan: &mut [u64],
+    m: usize,
+    n: usize,
+)
+    requires { ⌜ ((P : Problem) × (T : List Cell) × Finished P T (now adj) (now q) (now e) (now cost) (now price) m n) ⌝ }
+    requires { ⌜ m * n ≤ length (now plan) ⌝ }
+    ensures { λ _. ⌜
+        ((S : Sheet) (T : List Cell)
+        → Finished (problemOf S) T (now (adj .entry)) (now (q .entry)) (now (e .entry)) (now (cost .entry)) (now (price .entry)) m n
+        → now (plan .exit) ≡ settled S ++ drop (m * n) (now (plan .entry)))
+        ⌝ }
+{
+    let mut allowed = [0u64; MAX_SIDE];
+    tight_lanes(cost, price, &mut allowed, m, n);
+    settle_lanes(adj, q, e, &mut allowed, m, n);
+    store_plan(q, plan, m, n);
+}

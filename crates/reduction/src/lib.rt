@@ -1,0 +1,1 @@
+// Theory alone: what the problem behind a sheet says of the sheet.

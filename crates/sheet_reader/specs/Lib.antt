@@ -1,0 +1,5 @@
+pub mod Reading
+pub mod LinesRead
+pub mod SheetRead
+pub mod SheetAnswer
+pub mod ReadCall

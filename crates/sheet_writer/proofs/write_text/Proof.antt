@@ -1,0 +1,85 @@
+-- The supplies, and then the other sections in what is left of the output.
+use mathlib.Core.Path.{_≡_}
+use mathlib.Core.List.{List, _++_}
+use Prim.Native.Nat.{ℕ, _≤_}
+use native.Mathlib.Omega.{arith}
+use lib.ListN.{length}
+use Rattle.transport.specs.Text.{bytes}
+use Rattle.transport.specs.Sheet.{Sheet}
+use Rattle.transport.specs.SheetText.{sheetText}
+use Rattle.sheet.specs.Check.{sheetOf}
+use Rattle.sheet.specs.Refusals.{sinks-some, costs-whole}
+use Rattle.sections.specs.Front.{FirstWritten, first-room, second-start, second-room, both-length, both-written}
+use Rattle.sheet_writer.specs.SheetSections.{supplySection, demandSection, costSection, sheet-sections}
+use borrow.Author.Needs.{needs}
+use Rattle.sheet_writer.proofs.write_text.Statement.{statement}
+use Rattle.sheet_writer.proofs.write_text.Tie as tie
+
+module _ (t : tie.Start) where
+  abbrev sheetAt : Sheet
+  sheetAt = sheetOf (t .args .supply .now) (t .args .demand .now) (t .args .cost .now)
+
+  abbrev others : List ℕ
+  others = demandSection (t .args .demand .now) ++ costSection (length (t .args .supply .now)) (length (t .args .demand .now)) (t .args .cost .now)
+
+  sections : sheetText sheetAt ≡ supplySection (t .args .supply .now) ++ others
+  sections = sheet-sections sheetAt (sinks-some sheetAt (t .pre .0 .limits)) (costs-whole sheetAt (t .pre .0 .limits))
+
+  room : length (supplySection (t .args .supply .now) ++ others) ≤ length (t .args .out .now)
+  room = rw sections at (t .pre .1)
+
+slice-aggregate-write-section : tie.Need-slice-aggregate-write-section
+slice-aggregate-write-section c = search needs
+
+write-section-requires : tie.Need-write-section-requires
+unfolding bytes
+write-section-requires c κs =
+    let t = c .before .before .before .before .before .before in
+    (omega arith, first-room (supplySection (t .args .supply .now)) (others t) (t .args .out .now) (room t))
+
+begun : (c : tie.After-write-section) → let t = c .before .before .before .before .before .before .before in
+    FirstWritten (supplySection (t .args .supply .now)) (others t) (t .args .out .now) (c .write-section .last .1 .1 .1 .1 .0) (c .write-section .result)
+unfolding bytes
+begun c = record { room = room (c .before .before .before .before .before .before .before); ends = c .write-section .ensures .0; holds = c .write-section .ensures .1 }
+
+sub-write-after-supply : tie.Need-sub-write-after-supply
+sub-write-after-supply c = second-start (begun (c .before .before))
+
+part-write-after-supply-start : tie.Need-part-write-after-supply-start
+part-write-after-supply-start c = second-start (begun (c .before .before))
+
+part-write-after-supply-end : tie.Need-part-write-after-supply-end
+part-write-after-supply-end c = search needs
+
+write-after-supply-requires : tie.Need-write-after-supply-requires
+write-after-supply-requires c κs =
+    let t = c .before .before .before .before .before .before .before .before .before .before in
+    (sinks-some (sheetAt t) (t .pre .0 .limits), second-room (begun (c .before .before .before)))
+
+add-result : tie.Need-add-result
+add-result c =
+    let b = begun (c .before .before .before .before .before .before) in
+    omega (arith, b .room, both-length b _ (c .before .before .write-after-supply .ensures .0))
+
+same-length : tie.Need-same-length
+same-length c = search needs
+
+returns : tie.Need-returns
+returns c =
+    let b = begun (c .before .before .before .before .before .before) in
+    let w = c .before .before .write-after-supply in
+    rw (sections (c .before .before .before .before .before .before .before .before .before .before .before .before .before)) (both-length b _ (w .ensures .0), both-written b _ (w .ensures .1))
+
+pub write-text-spec : {M : Type 1} → statement M
+write-text-spec =
+    tie.close
+    (tie.spec
+    slice-aggregate-write-section
+    write-section-requires
+    sub-write-after-supply
+    part-write-after-supply-start
+    part-write-after-supply-end
+    write-after-supply-requires
+    add-result
+    same-length
+    returns)

@@ -1,4 +1,0 @@
-pub mod Corner
-pub mod Dealt
-pub mod Filling
-pub mod Start

@@ -1,0 +1,165 @@
+-- `tableau_calls::round::round` meets its contract: each way out is a case of the call.
+use native.Mathlib.Omega.{arith}
+use mathlib.Core.Path.{_≡_, sym, ap, _∙_}
+use mathlib.Core.Bool.{true}
+use mathlib.Core.List.{map}
+use mathlib.Core.Option.{none}
+use borrow.Author.Needs.{needs}
+use borrow.Author.Tests.{not-true, not-false}
+use lib.IntN.{pos}
+use lib.ListN.{length}
+use Rattle.transport.specs.Lists.{padded}
+use Rattle.transport.specs.Limits.{maxSide}
+use Rattle.transport.specs.Laws.Sound.{accepted-sound}
+use Rattle.transport.specs.Sheet.{Sheet, problemOf, refusal, sheetTests}
+use Rattle.transport.specs.Laws.SheetLaws.{accepted}
+use Rattle.transport.specs.Tableau.{cellsOf}
+use Rattle.transport.specs.Belonging.{belongs}
+use Rattle.transport.specs.Answers.{prices, noPrices, roundAnswer}
+use Rattle.sheet.specs.Check.{sheetOf, accepted-none, refused-some}
+use Rattle.dealing.specs.Dealt.{Dealt, dealt-costs, dealt-loaded}
+use Rattle.tableau_calls.specs.CallCases.{round-early, round-astray, round-given, round-finished, round-moved}
+use Rattle.tableau_calls.proofs.round.round.Statement.{statement}
+use Rattle.tableau_calls.proofs.round.round.Tie as tie
+
+abbrev sheetAt : (c : tie.Start) → Sheet
+sheetAt c = sheetOf (c .args .supply .now) (c .args .demand .now) (c .args .cost .now)
+
+check-sheet-requires : tie.Need-check-sheet-requires
+check-sheet-requires c κs = tt
+
+enum-known-check : tie.Need-enum-known-check
+enum-known-check c = search needs
+
+refused-round-requires : tie.Need-refused-round-requires
+refused-round-requires c κs = tt
+
+returns : tie.Need-returns
+returns c =
+    let s = c .before .before .before .before .before .before .before .before in
+    c .refused-round .ensures
+    ∙ ap roundAnswer (sym (round-early (sheetAt s) (s .args .t) _ (refused-some _ _ (sym (c .before .before .before .before .check-sheet .ensures) ∙ c .before .before .check .given .1))))
+
+enum-told : tie.Need-enum-told
+enum-told c = search needs
+
+passed : (c : tie.After-enum-told) → refusal (sheetTests (sheetAt (c .before .before .before .before .before .before))) ≡ none
+passed c = accepted-none _ (sym (c .before .before .check-sheet .ensures) ∙ c .enum-told .given .1)
+
+load-requires : tie.Need-load-requires
+unfolding problemOf
+load-requires c κs = let s = c .before .before .before .before .before .before .before .before .before in (map pos (s .args .cost .now), accepted-sound (sheetAt s) (passed (c .before .before .before)))
+
+refused-round-requires-2 : tie.Need-refused-round-requires-2
+refused-round-requires-2 c κs = tt
+
+returns-2 : tie.Need-returns-2
+unfolding problemOf
+returns-2 c =
+    let a = c .before .before in
+    let s = a .before .before .before .before .before .before .before .before .before .before in
+    c .refused-round2 .ensures
+    ∙ ap roundAnswer (sym (round-astray (sheetAt s) (s .args .t) (passed (a .before .before .before .before)) (sym (a .load .ensures .0 (map pos (s .args .cost .now))) ∙ not-true _ (c .before .if1 .taken))))
+
+-- ---- the tableau belongs to the sheet
+
+abbrev toldBefore : tie.Else1 → tie.After-enum-told
+toldBefore c = c .before .before .before .before .before
+
+abbrev startBefore : tie.Else1 → tie.Start
+startBefore c = toldBefore c .before .before .before .before .before .before
+
+within : (c : tie.Else1) → belongs (problemOf (sheetAt (startBefore c))) (startBefore c .args .t) ≡ true
+unfolding problemOf
+within c = sym (c .before .load .ensures .0 (map pos (startBefore c .args .cost .now))) ∙ not-false _ (c .if1 .left)
+
+dealt : (c : tie.Else1)
+    → let s = startBefore c in
+    let l = c .before .load .last .1 .1 .1 in
+    Dealt (problemOf (sheetAt s)) (cellsOf (s .args .t)) (s .args .cost .now) (l .0) (l .1 .0) (l .1 .1 .0) (length (s .args .supply .now)) (length (s .args .demand .now))
+unfolding problemOf
+dealt c =
+    let s = startBefore c in
+    dealt-loaded (sheetAt s) (s .args .t) (accepted (sheetAt s) (passed (toldBefore c))) (within c) (c .before .load .ensures .1 (not-false _ (c .if1 .left)))
+
+round-on-requires : tie.Need-round-on-requires
+round-on-requires c κs =
+    let b = c .before .before .before .before in
+    let s = startBefore b in
+    (problemOf (sheetAt s), cellsOf (s .args .t), dealt b)
+
+-- ---- the answer is made of what the round gives; what its parts ask for holds of a finished tableau and of one that is not
+
+empty-tableau-requires : tie.Need-empty-tableau-requires
+empty-tableau-requires c κs = tt
+
+side-prices-requires : tie.Need-side-prices-requires
+side-prices-requires c κs =
+    let a = c .before .before .before in
+    let b = a .before .before .before .before .before in
+    let s = startBefore b in
+    (omega arith, dealt-costs (dealt b) .0, λ k l. a .round-on .ensures (problemOf (sheetAt s)) (cellsOf (s .args .t)) (dealt b) .small k (omega arith))
+
+side-prices-requires-2 : tie.Need-side-prices-requires-2
+side-prices-requires-2 c κs =
+    let a = c .before .before .before .before .before in
+    let b = a .before .before .before .before .before in
+    let s = startBefore b in
+    (dealt-costs (dealt b) .0, dealt-costs (dealt b) .1, a .round-on .ensures (problemOf (sheetAt s)) (cellsOf (s .args .t)) (dealt b) .small)
+
+returns-3 : tie.Need-returns-3
+returns-3 c =
+    let a = c .before .before .before .before .before .before in
+    let b = a .before .before .before .before .before in
+    let s = startBefore b in
+    let S = sheetAt s in
+    let t = s .args .t in
+    let r = a .round-on .ensures (problemOf S) (cellsOf t) (dealt b) in
+    rw (
+      round-given S t (passed (toldBefore b)) (within b),
+      c .before .before .before .before .empty-tableau .ensures,
+      c .before .before .side-prices .ensures,
+      c .side-prices2 .ensures,
+      r .rowPrices,
+      r .columnPrices,
+    )
+    (round-finished (problemOf S) (cellsOf t) (r .done ∙ c .before .before .before .before .before .if2 .taken))
+
+gather-requires : tie.Need-gather-requires
+gather-requires c κs =
+    let a = c .before .before .before .before in
+    let b = a .before .before .before .before .before in
+    let s = startBefore b in
+    a .round-on .ensures (problemOf (sheetAt s)) (cellsOf (s .args .t)) (dealt b) .masks
+
+returns-4 : tie.Need-returns-4
+unfolding noPrices prices padded maxSide
+returns-4 c =
+    let a = c .before .before .before .before .before in
+    let b = a .before .before .before .before .before in
+    let s = startBefore b in
+    let S = sheetAt s in
+    let t = s .args .t in
+    let r = a .round-on .ensures (problemOf S) (cellsOf t) (dealt b) in
+    let f = c .before .before .before .before .if2 .left in
+    rw (round-given S t (passed (toldBefore b)) (within b), c .gather .ensures, r .moved f) (round-moved (problemOf S) (cellsOf t) (r .done ∙ f))
+
+pub round-spec : {M : Type 1} → statement M
+round-spec =
+    tie.close
+    (tie.spec
+    check-sheet-requires
+    enum-known-check
+    refused-round-requires
+    returns
+    enum-told
+    load-requires
+    refused-round-requires-2
+    returns-2
+    round-on-requires
+    empty-tableau-requires
+    side-prices-requires
+    side-prices-requires-2
+    returns-3
+    gather-requires
+    returns-4)

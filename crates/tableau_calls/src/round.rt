@@ -1,0 +1,106 @@
+// Round: the next tableau of a sheet, or the prices of a finished one.
+use basis::LANES;
+use basis::NODES;
+use basis::Price;
+use board::gather;
+use dealing::prices::write_prices;
+use dealing::tableau;
+use rounds::costs;
+use sheet::SheetCheck;
+use transport::MAX_SIDE;
+use transport::RoundAnswer;
+use transport::RoundOutcome;
+use transport::Tableau;
+ghost use mathlib.Core.Path.{_≡_};
+ghost use mathlib.Core.List.{List};
+ghost use Prim.Native.Nat.{ℕ, _+_, _<_, _≤_};
+ghost use lib.IntN.{pos, natAbs};
+ghost use lib.ListN.{getD};
+ghost use Rattle.transport.specs.Lists.{table};
+ghost use Rattle.transport.specs.Problem.{Problem};
+ghost use Rattle.transport.specs.Calls.{refusedBy, roundCall};
+ghost use Rattle.transport.specs.Answers.{prices, roundAnswer};
+ghost use Rattle.transport.specs.declared.Cell.{Cell};
+ghost use Rattle.basis.specs.Layout.{stride, maxPotential};
+ghost use Rattle.sheet.specs.Check.{sheetOf};
+ghost use Rattle.dealing.specs.Dealt.{Dealt};
+ghost use Rattle.tableau_calls.specs.CallCases.{Rounded};
+
+// The prices of one side, from the node `from` on, as an answer holds them.
+fn side_prices(price: &[Price; NODES], from: usize, count: usize) -> [i64; MAX_SIDE]
+    requires { ⌜ (from ≤ stride) × (count ≤ stride) × ((k : ℕ) → k < from + count → natAbs (getD (now price) k (pos 0)) ≤ maxPotential) ⌝ }
+    ensures { λ r. ⌜ r ≡ prices (table count (λ k. getD (now (price .entry)) (from + k) (pos 0))) ⌝ }
+{
+    let mut out = [0i64; MAX_SIDE];
+    write_prices(price, from, count, &mut out);
+    out
+}
+
+fn refused_round(number: u8) -> RoundAnswer
+    ensures { λ r. ⌜ r ≡ roundAnswer (refusedBy number) ⌝ }
+{
+    RoundAnswer {
+        outcome: RoundOutcome::Refused(number),
+        tableau: tableau::empty_tableau(),
+        u: [0; MAX_SIDE],
+        v: [0; MAX_SIDE],
+    }
+}
+
+// The round on a tableau that belongs to its sheet, of m sources and n sinks: whether it is finished, and its prices. If it is not, the arrays hold the next.
+fn round_on(
+    cost: &[u64],
+    m: usize,
+    n: usize,
+    adj: &mut [u64; NODES],
+    q: &mut [i64; LANES],
+    e: &mut [i64; LANES],
+    price: &mut [Price; NODES],
+) -> bool
+    requires { ⌜ ((P : Problem) × (T : List Cell) × Dealt P T (now cost) (now adj) (now q) (now e) m n) ⌝ }
+    ensures { λ r. ⌜
+        ((P : Problem) (T : List Cell) → Dealt P T (now (cost .entry)) (now (adj .entry)) (now (q .entry)) (now (e .entry)) m n
+        → Rounded P T (now (adj .exit)) (now (q .exit)) (now (e .exit)) (now (price .exit)) m n r)
+        ⌝ }
+{
+    let mut lane_cost: [Price; LANES] = [0; LANES];
+    costs::spread_costs(cost, m, n, &mut lane_cost);
+    rounds::run::make_round(adj, q, e, &lane_cost, price, m, n)
+}
+
+// Round gives the next tableau, or `finished` with the prices. Sheet check, then 6 if the tableau doesn't belong to the sheet.
+pub fn round(supply: &[u64], demand: &[u64], cost: &[u64], t: Tableau) -> RoundAnswer
+    ensures { λ r.
+        let S = sheetOf (now (supply .entry)) (now (demand .entry)) (now (cost .entry)) in
+        ⌜ r ≡ roundAnswer (roundCall S t) ⌝ }
+{
+    let check = sheet::check_sheet(supply, demand, cost);
+    if let SheetCheck::Refused(number) = check {
+        return refused_round(number);
+    }
+    let m = supply.len();
+    let n = demand.len();
+    let mut adj = [0u64; NODES];
+    let mut q = [0i64; LANES];
+    let mut e = [0i64; LANES];
+    let mut price: [Price; NODES] = [0; NODES];
+    if !belonging::load(supply, demand, t, &mut adj, &mut q, &mut e) {
+        return refused_round(6);
+    }
+    let finished = round_on(cost, m, n, &mut adj, &mut q, &mut e, &mut price);
+    if finished {
+        return RoundAnswer {
+            outcome: RoundOutcome::Finished,
+            tableau: tableau::empty_tableau(),
+            u: side_prices(&price, 0, m),
+            v: side_prices(&price, m, n),
+        };
+    }
+    let next = gather::gather(&adj, &q, &e, m);
+    RoundAnswer {
+        outcome: RoundOutcome::Moved,
+        tableau: next,
+        u: [0; MAX_SIDE],
+        v: [0; MAX_SIDE],
+    }
+}

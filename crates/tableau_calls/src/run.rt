@@ -1,0 +1,88 @@
+// Run: rounds within an allowance.
+use basis::LANES;
+use basis::NODES;
+use basis::Price;
+use board::gather;
+use dealing::tableau;
+use rounds::costs;
+use rounds::run::Made;
+use sheet::SheetCheck;
+use transport::RunAnswer;
+use transport::RunOutcome;
+use transport::Tableau;
+ghost use mathlib.Core.Path.{_≡_};
+ghost use mathlib.Core.List.{List};
+ghost use Rattle.transport.specs.Problem.{Problem};
+ghost use Rattle.transport.specs.Round.{run};
+ghost use Rattle.transport.specs.Calls.{refusedBy, runCall};
+ghost use Rattle.transport.specs.Answers.{runAnswer};
+ghost use Rattle.transport.specs.declared.Cell.{Cell};
+ghost use Rattle.sheet.specs.Check.{sheetOf};
+ghost use Rattle.dealing.specs.Dealt.{Dealt};
+ghost use Rattle.tableau_calls.specs.CallCases.{Ended};
+
+fn refused_run(number: u8) -> RunAnswer
+    ensures { λ r. ⌜ r ≡ runAnswer (refusedBy number) ⌝ }
+{
+    RunAnswer {
+        outcome: RunOutcome::Refused(number),
+        tableau: tableau::empty_tableau(),
+    }
+}
+
+// The run on a tableau that belongs to its sheet, of m sources and n sinks: how it ended. The arrays then hold its last tableau.
+fn run_on(
+    cost: &[u64],
+    m: usize,
+    n: usize,
+    adj: &mut [u64; NODES],
+    q: &mut [i64; LANES],
+    e: &mut [i64; LANES],
+    allowance: u64,
+) -> Made
+    requires { ⌜ ((P : Problem) × (T : List Cell) × Dealt P T (now cost) (now adj) (now q) (now e) m n) ⌝ }
+    ensures { λ r. ⌜
+        ((P : Problem) (T : List Cell) → Dealt P T (now (cost .entry)) (now (adj .entry)) (now (q .entry)) (now (e .entry)) m n
+        → Ended (run P allowance T) (now (adj .exit)) (now (q .exit)) (now (e .exit)) m (r .finished) (r .made))
+        ⌝ }
+{
+    let mut lane_cost: [Price; LANES] = [0; LANES];
+    let mut price: [Price; NODES] = [0; NODES];
+    costs::spread_costs(cost, m, n, &mut lane_cost);
+    rounds::run::rounds(adj, q, e, &lane_cost, &mut price, m, n, allowance)
+}
+
+// Run makes rounds: `finished` with the tableau and the number of rounds, if it finishes within the allowance; else `spent`, after exactly that many.
+// Refusals as for a round.
+pub fn run(supply: &[u64], demand: &[u64], cost: &[u64], t: Tableau, allowance: u32) -> RunAnswer
+    ensures { λ r.
+        let S = sheetOf (now (supply .entry)) (now (demand .entry)) (now (cost .entry)) in
+        ⌜ r ≡ runAnswer (runCall S t allowance) ⌝ }
+{
+    let check = sheet::check_sheet(supply, demand, cost);
+    if let SheetCheck::Refused(number) = check {
+        return refused_run(number);
+    }
+    let m = supply.len();
+    let n = demand.len();
+    let mut adj = [0u64; NODES];
+    let mut q = [0i64; LANES];
+    let mut e = [0i64; LANES];
+    if !belonging::load(supply, demand, t, &mut adj, &mut q, &mut e) {
+        return refused_run(6);
+    }
+    let within = allowance as u64;
+    let end = run_on(cost, m, n, &mut adj, &mut q, &mut e, within);
+    let made = end.made;
+    let last = gather::gather(&adj, &q, &e, m);
+    if end.finished {
+        return RunAnswer {
+            outcome: RunOutcome::Finished(made),
+            tableau: last,
+        };
+    }
+    RunAnswer {
+        outcome: RunOutcome::Spent(made),
+        tableau: last,
+    }
+}

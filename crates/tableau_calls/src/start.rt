@@ -1,0 +1,29 @@
+// Start: the first tableau of a sheet.
+ghost use mathlib.Core.Path.{_≡_};
+ghost use Rattle.transport.specs.Calls.{startCall};
+ghost use Rattle.transport.specs.Answers.{startAnswer};
+ghost use Rattle.sheet.specs.Check.{sheetOf};
+use dealing::corner::first_tableau;
+use dealing::tableau::empty_tableau;
+use sheet::SheetCheck;
+use transport::StartAnswer;
+use transport::StartOutcome;
+
+// Start gives the first tableau. Sheet check only.
+pub fn start(supply: &[u64], demand: &[u64], cost: &[u64]) -> StartAnswer
+    ensures { λ r.
+        let S = sheetOf (now (supply .entry)) (now (demand .entry)) (now (cost .entry)) in
+        ⌜ r ≡ startAnswer (startCall S) ⌝ }
+{
+    let check = sheet::check_sheet(supply, demand, cost);
+    if let SheetCheck::Refused(number) = check {
+        return StartAnswer {
+            outcome: StartOutcome::Refused(number),
+            tableau: empty_tableau(),
+        };
+    }
+    StartAnswer {
+        outcome: StartOutcome::Started,
+        tableau: first_tableau(supply, demand),
+    }
+}

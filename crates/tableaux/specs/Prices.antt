@@ -1,0 +1,68 @@
+-- The prices of a tableau that belongs, in the paper's words: they are prices, and the only ones.
+use mathlib.Core.Path.{_≡_, sym, _∙_}
+use mathlib.Core.List.{List}
+use Prim.Native.Nat.{ℕ, _+_, _<_}
+use native.Mathlib.Omega.{arith}
+use lib.IntN.{ℤ, pos}
+use Rattle.integers.specs.Integer.{_≈_, _⊕_}
+use Rattle.integers.specs.Bridge.{toZ, z-add, z-eq, eq-z}
+use Rattle.transport.specs.Lists.{atZ}
+use Rattle.transport.specs.Problem.{Problem, sources, sinks, laneCost}
+use Rattle.transport.specs.Potential.{potential, sourcePrices, sinkPrices}
+use Rattle.transport.specs.Statements.{Basic, Belongs, PricesOf, OnlyPrices}
+use Rattle.transport.specs.Laws.ListLaws.{getD-table}
+use Rattle.transport.specs.Laws.Sound.{Sound}
+use Rattle.transport.specs.Laws.ProblemLaws.{lane}
+use Rattle.transport.specs.declared.Cell.{Cell}
+use Rattle.network.specs.Joined.{potentials-unique}
+use Rattle.tableaux.specs.Belonging.{fits-of, spans-of, prices-tight}
+use Rattle.tableaux.specs.Potentials.{potential-root}
+
+module _ {P : Problem} {T : List Cell} (ok : Sound P) (w : Belongs P T) where
+  -- Any two prices of the tableau are the same: its cells join all nodes.
+  same-prices : {u v x y : ℕ → ℤ} → PricesOf P T u v → PricesOf P T x y → ((i : ℕ) → i < sources P → x i ≡ u i) × ((j : ℕ) → j < sinks P → y j ≡ v j)
+  same-prices {u} {v} {x} {y} a b = (
+    (λ i l. eq-z (x i) (u i) (both .0 i l)),
+    (λ j l. eq-z (y j) (v j) (both .1 j l)),
+  )
+    where
+      sums : {u v : ℕ → ℤ} → PricesOf P T u v → (i j : ℕ) → Basic T i j → toZ (u i) ⊕ toZ (v j) ≈ toZ (laneCost P (lane i j))
+      sums {u} {v} p i j s = omega (arith, z-eq (p .tight i j s), z-add (u i) (v j))
+
+      both : ((i : ℕ) → i < sources P → toZ (x i) ≈ toZ (u i)) × ((j : ℕ) → j < sinks P → toZ (y j) ≈ toZ (v j))
+      both = potentials-unique (w .joined) (λ i j. toZ (laneCost P (lane i j))) (λ i. toZ (x i)) (λ j. toZ (y j)) (λ i. toZ (u i)) (λ j. toZ (v j))
+          (λ i j hi hj s. sums b i j s)
+          (λ i j hi hj s. sums a i j s)
+          (z-eq (b .root ∙ sym (a .root)))
+
+  -- The potentials of the nodes are the prices ..
+  pub only-prices : OnlyPrices P T (potential P T) (λ j. potential P T (sources P + j))
+  unfolding potential
+  only-prices = record { are = own; only = λ x y b. same-prices own b }
+    where
+      own : PricesOf P T (potential P T) (λ j. potential P T (sources P + j))
+      own = record {
+        root = potential-root (ok .sourcesLow) (fits-of ok w) (spans-of ok w) (laneCost P);
+        tight = λ i j s. eq-z _ _ (omega (arith, prices-tight ok w i j s, z-add (potential P T i) (potential P T (sources P + j))));
+      }
+
+  -- .. and so are the lists that a round and solve give.
+  source-price : (i : ℕ) → i < sources P → atZ (sourcePrices P T) i ≡ potential P T i
+  unfolding atZ sourcePrices
+  source-price i l = getD-table (potential P T) (sources P) i (pos 0) l
+
+  sink-price : (j : ℕ) → j < sinks P → atZ (sinkPrices P T) j ≡ potential P T (sources P + j)
+  unfolding atZ sinkPrices
+  sink-price j l = getD-table (λ j. potential P T (sources P + j)) (sinks P) j (pos 0) l
+
+  pub listed-prices : OnlyPrices P T (atZ (sourcePrices P T)) (atZ (sinkPrices P T))
+  listed-prices = record { are = own; only = λ x y b. same-prices own b }
+    where
+      basic-inside : {i j : ℕ} → Basic T i j → (i < sources P) × (j < sinks P)
+      basic-inside b = rw (← b .row, ← b .column) (w .onSheet (b .index) (b .below))
+
+      own : PricesOf P T (atZ (sourcePrices P T)) (atZ (sinkPrices P T))
+      own = record {
+        root = source-price 0 (ok .sourcesLow) ∙ only-prices .are .root;
+        tight = λ i j s. let (l, h) = basic-inside s in rw (source-price i l, sink-price j h) (only-prices .are .tight i j s);
+      }

@@ -1,6 +1,0 @@
-pub mod SheetSections
-pub mod Reading
-pub mod LinesRead
-pub mod SheetRead
-pub mod SheetAnswer
-pub mod ReadCall

@@ -1,0 +1,10 @@
+-- Laws of the definitions: theorems, which need not be read to know what is promised.
+pub mod ListLaws
+pub mod AmountLaws
+pub mod RangeLaws
+pub mod ProblemLaws
+pub mod RoundLaws
+pub mod SheetLaws
+pub mod Sound
+pub mod CallLaws
+pub mod PlanLaws

@@ -1,0 +1,151 @@
+-- The laws of paired amounts: what the tests of whole numbers and of pairs say, and that pairs are strictly ordered.
+use Prim.Native.Nat.{ℕ, suc, _+_, _<_, _≤_}
+use native.Mathlib.Omega.{arith}
+use mathlib.Core.Path.{_≡_, refl, sym, ap, _∙_}
+use mathlib.Core.Bool.{Bool, true, false, _&&_, _||_, true≢false, false≢true}
+use lib.IntN.{ℤ, pos, negsuc}
+use lib.Signed.{ltZ}
+use borrow.Author.Tests.{ltb-true, ltb-false, lt-ltb, le-ltb, eqb-true, eq-eqb}
+use Rattle.transport.specs.Laws.ListLaws.{and-left, and-right, StrictWeak}
+use Rattle.transport.specs.Amount.{Pair, eqZ, less, same}
+
+-- ---- whole numbers
+
+-- A whole number is `up` less `down`.
+abbrev up : ℤ → ℕ
+up (pos a) = a
+up (negsuc a) = 0
+
+abbrev down : ℤ → ℕ
+down (pos a) = 0
+down (negsuc a) = suc a
+
+ltZ-lt : (x y : ℤ) → ltZ x y ≡ true → up x + down y < up y + down x
+ltZ-lt (pos a) (pos b) e = omega (arith, ltb-true a b e)
+ltZ-lt (pos a) (negsuc b) e = absurd (false≢true e)
+ltZ-lt (negsuc a) (pos b) e = omega arith
+ltZ-lt (negsuc a) (negsuc b) e = omega (arith, ltb-true b a e)
+
+ltZ-ge : (x y : ℤ) → ltZ x y ≡ false → up y + down x ≤ up x + down y
+ltZ-ge (pos a) (pos b) e = omega (arith, ltb-false a b e)
+ltZ-ge (pos a) (negsuc b) e = omega arith
+ltZ-ge (negsuc a) (pos b) e = absurd (true≢false e)
+ltZ-ge (negsuc a) (negsuc b) e = omega (arith, ltb-false b a e)
+
+lt-ltZ : (x y : ℤ) → up x + down y < up y + down x → ltZ x y ≡ true
+lt-ltZ (pos a) (pos b) l = lt-ltb a b (omega arith)
+lt-ltZ (pos a) (negsuc b) l = absurd (omega arith)
+lt-ltZ (negsuc a) (pos b) l = refl
+lt-ltZ (negsuc a) (negsuc b) l = lt-ltb b a (omega arith)
+
+ge-ltZ : (x y : ℤ) → up y + down x ≤ up x + down y → ltZ x y ≡ false
+ge-ltZ (pos a) (pos b) l = le-ltb a b (omega arith)
+ge-ltZ (pos a) (negsuc b) l = refl
+ge-ltZ (negsuc a) (pos b) l = absurd (omega arith)
+ge-ltZ (negsuc a) (negsuc b) l = le-ltb b a (omega arith)
+
+pub ltZ-weak : StrictWeak ltZ
+ltZ-weak =
+    record {
+      irreflexive = λ x. ge-ltZ x x (omega arith);
+      transitive = λ x y z p q. lt-ltZ x z (omega (arith, ltZ-lt x y p, ltZ-lt y z q));
+      negative = λ x y z p q. ge-ltZ x z (omega (arith, ltZ-ge x y p, ltZ-ge y z q));
+    }
+
+pub eqZ-true : (x y : ℤ) → eqZ x y ≡ true → x ≡ y
+unfolding eqZ
+eqZ-true (pos a) (pos b) e = ap pos (eqb-true a b e)
+eqZ-true (pos a) (negsuc b) e = absurd (false≢true e)
+eqZ-true (negsuc a) (pos b) e = absurd (false≢true e)
+eqZ-true (negsuc a) (negsuc b) e = ap negsuc (eqb-true a b e)
+
+pub eqZ-same : (x : ℤ) → eqZ x x ≡ true
+unfolding eqZ
+eqZ-same (pos a) = eq-eqb a a refl
+eqZ-same (negsuc a) = eq-eqb a a refl
+
+-- Of two whole numbers, neither less than the other, both are the same.
+pub ltZ-tie : (x y : ℤ) → ltZ x y ≡ false → ltZ y x ≡ false → x ≡ y
+ltZ-tie (pos a) (pos b) p q = ap pos (omega (arith, ltb-false a b p, ltb-false b a q))
+ltZ-tie (pos a) (negsuc b) p q = absurd (true≢false q)
+ltZ-tie (negsuc a) (pos b) p q = absurd (true≢false p)
+ltZ-tie (negsuc a) (negsuc b) p q = ap negsuc (omega (arith, ltb-false a b q, ltb-false b a p))
+
+-- ---- less: by q first, then by e
+
+tied : (x y : ℤ) (r : Bool) → x ≡ y → ltZ x y || (eqZ x y && r) ≡ r
+tied x y r p = rw (p, ltZ-weak .irreflexive y, eqZ-same y)
+
+over : (x y : ℤ) (r : Bool) → ltZ y x ≡ true → ltZ x y || (eqZ x y && r) ≡ false
+over x y r p = rw (ge-ltZ x y (omega (arith, ltZ-lt y x p)), apart (eqZ x y) refl)
+  where
+    apart : (b : Bool) → eqZ x y ≡ b → eqZ x y ≡ false
+    apart true s = absurd (true≢false (sym p ∙ rw (eqZ-true x y s) (ltZ-weak .irreflexive y)))
+    apart false s = s
+
+pub less-q : (a b : Pair) → ltZ (a .q) (b .q) ≡ true → less a b ≡ true
+unfolding less
+less-q a b p = rw p
+
+pub less-e : (a b : Pair) → a .q ≡ b .q → less a b ≡ ltZ (a .e) (b .e)
+unfolding less
+less-e a b p = tied (a .q) (b .q) (ltZ (a .e) (b .e)) p
+
+pub less-no : (a b : Pair) → ltZ (b .q) (a .q) ≡ true → less a b ≡ false
+unfolding less
+less-no a b p = over (a .q) (b .q) (ltZ (a .e) (b .e)) p
+
+-- How the bags of two pairs compare.
+pub data Compared (x y : ℤ) : Type 0 where
+  fewer : ltZ x y ≡ true → Compared x y
+  equal : x ≡ y → Compared x y
+  more : ltZ y x ≡ true → Compared x y
+
+pub compared : (x y : ℤ) → Compared x y
+compared x y = go (ltZ x y) refl (ltZ y x) refl
+  where
+    go : (s : Bool) → ltZ x y ≡ s → (t : Bool) → ltZ y x ≡ t → Compared x y
+    go true p t r = fewer p
+    go false p true r = more r
+    go false p false r = equal (ltZ-tie x y p r)
+
+pub less-weak : StrictWeak less
+less-weak =
+    record {
+      irreflexive = λ x. less-e x x refl ∙ ltZ-weak .irreflexive (x .e);
+      transitive = λ x y z. transitive x y z (compared (x .q) (y .q)) (compared (y .q) (z .q));
+      negative = λ x y z. negative x y z (compared (x .q) (y .q)) (compared (y .q) (z .q));
+    }
+  where
+    transitive : (x y z : Pair) → Compared (x .q) (y .q) → Compared (y .q) (z .q) → less x y ≡ true → less y z ≡ true → less x z ≡ true
+    transitive x y z (fewer s) (fewer t) p r = less-q x z (ltZ-weak .transitive (x .q) (y .q) (z .q) s t)
+    transitive x y z (fewer s) (equal t) p r = less-q x z (cc)
+    transitive x y z (equal s) (fewer t) p r = less-q x z (cc)
+    transitive x y z (equal s) (equal t) p r =
+        less-e x z (s ∙ t) ∙ ltZ-weak .transitive (x .e) (y .e) (z .e) (sym (less-e x y s) ∙ p) (sym (less-e y z t) ∙ r)
+    transitive x y z (fewer s) (more t) p r = absurd (true≢false (sym r ∙ less-no y z t))
+    transitive x y z (equal s) (more t) p r = absurd (true≢false (sym r ∙ less-no y z t))
+    transitive x y z (more s) t p r = absurd (true≢false (sym p ∙ less-no x y s))
+
+    negative : (x y z : Pair) → Compared (x .q) (y .q) → Compared (y .q) (z .q) → less x y ≡ false → less y z ≡ false → less x z ≡ false
+    negative x y z (more s) (more t) p r = less-no x z (ltZ-weak .transitive (z .q) (y .q) (x .q) t s)
+    negative x y z (more s) (equal t) p r = less-no x z (cc)
+    negative x y z (equal s) (more t) p r = less-no x z (cc)
+    negative x y z (equal s) (equal t) p r =
+        less-e x z (s ∙ t) ∙ ltZ-weak .negative (x .e) (y .e) (z .e) (sym (less-e x y s) ∙ p) (sym (less-e y z t) ∙ r)
+    negative x y z (more s) (fewer t) p r = absurd (true≢false (sym (less-q y z t) ∙ r))
+    negative x y z (equal s) (fewer t) p r = absurd (true≢false (sym (less-q y z t) ∙ r))
+    negative x y z (fewer s) t p r = absurd (true≢false (sym (less-q x y s) ∙ p))
+
+-- ---- same
+
+pub same-true : (a b : Pair) → same a b ≡ true → a ≡ b
+unfolding same
+same-true a b p =
+    let s : a .q ≡ b .q = eqZ-true (a .q) (b .q) (and-left (eqZ (a .q) (b .q)) (eqZ (a .e) (b .e)) p) in
+    let t : a .e ≡ b .e = eqZ-true (a .e) (b .e) (and-right (eqZ (a .q) (b .q)) (eqZ (a .e) (b .e)) p) in
+    λ i. record { q = s i; e = t i }
+
+pub same-self : (a : Pair) → same a a ≡ true
+unfolding same
+same-self a = rw (eqZ-same (a .q), eqZ-same (a .e))

@@ -1,0 +1,87 @@
+-- The range of signed numbers: bounds by absolute value, which `omega` reads, and what the code's tests and sums on bits say of the numbers.
+use Prim.Native.Nat.{ℕ, zero, suc, _+_, _-_, _<_, _≤_, _^_}
+use native.Mathlib.Omega.{arith}
+use mathlib.Core.Path.{_≡_, refl, _∙_}
+use mathlib.Core.Bool.{Bool, true, false, cond}
+use lib.Dec.{ltb}
+use lib.IntN.{ℤ, pos, negsuc, natAbs, negℤ, subℕ, _+ℤ_, _-ℤ_}
+use lib.Signed.{ltZ, mag}
+use borrow.Author.Tests.{ltb-true}
+use mir.Syntax.{Width}
+use mir.Val.{SFits, hbits, toZ, ofZ}
+use mir.Facts.{toZ-ofZ}
+use Rattle.transport.specs.Amount.{Pair}
+
+-- ---- absolute values
+
+abs-cond : (a b : ℕ) (t : Bool) → ltb a b ≡ t → natAbs (cond t (negsuc (b - suc a)) (pos (a - b))) ≤ a + b
+abs-cond a b true e = omega (arith, ltb-true a b e)
+abs-cond a b false e = omega arith
+
+abs-sub : (a b : ℕ) → natAbs (subℕ a b) ≤ a + b
+abs-sub a b = abs-cond a b (ltb a b) refl
+
+pub abs-neg : (a : ℤ) → natAbs (negℤ a) ≡ natAbs a
+abs-neg (pos zero) = refl
+abs-neg (pos (suc n)) = refl
+abs-neg (negsuc n) = refl
+
+pub abs-add : (a b : ℤ) → natAbs (a +ℤ b) ≤ natAbs a + natAbs b
+abs-add (pos a) (pos b) = omega arith
+abs-add (pos a) (negsuc b) = abs-sub a (suc b)
+abs-add (negsuc a) (pos b) = omega (arith, abs-sub b (suc a))
+abs-add (negsuc a) (negsuc b) = omega arith
+
+pub abs-diff : (a b : ℤ) → natAbs (a -ℤ b) ≤ natAbs a + natAbs b
+abs-diff a b = omega (arith, abs-add a (negℤ b), abs-neg b)
+
+pub mag-abs : (a : ℤ) → mag a ≤ natAbs a
+mag-abs (pos n) = omega arith
+mag-abs (negsuc n) = omega arith
+
+-- ---- a signed width
+
+module _ (w : Width) where
+  pub abs-fits : (a : ℤ) → natAbs a < 2 ^ hbits w → SFits w a
+  abs-fits a p = record { sfits = omega (arith, mag-abs a) }
+
+  pub sum-fits : (a b : ℤ) → natAbs a + natAbs b < 2 ^ hbits w → SFits w (a +ℤ b)
+  sum-fits a b p = abs-fits (a +ℤ b) (omega (arith, abs-add a b))
+
+  pub diff-fits : (a b : ℤ) → natAbs a + natAbs b < 2 ^ hbits w → SFits w (a -ℤ b)
+  diff-fits a b p = abs-fits (a -ℤ b) (omega (arith, abs-diff a b))
+
+  -- The number of the bits of a number in range.
+  pub back : (a : ℤ) → mag a < 2 ^ hbits w → toZ w (ofZ w a) ≡ a
+  back a p = toZ-ofZ {w = w} (record { sfits = p })
+
+  -- What a test of two numbers in range says of them.
+  pub lt-test : (a b : ℤ) (t : Bool) → mag a < 2 ^ hbits w → mag b < 2 ^ hbits w → ltZ (toZ w (ofZ w a)) (toZ w (ofZ w b)) ≡ t → ltZ a b ≡ t
+  lt-test a b t p q e = rw (back a p, back b q) at e
+
+-- Two numbers read from memory, and their sum or difference written: in range, and the number itself.
+module _ (w : Width) (a b : ℤ) (p : natAbs a + natAbs b < 2 ^ hbits w) where
+  left : toZ w (ofZ w a) ≡ a
+  left = toZ-ofZ {w = w} (abs-fits w a (omega arith))
+
+  right : toZ w (ofZ w b) ≡ b
+  right = toZ-ofZ {w = w} (abs-fits w b (omega arith))
+
+  pub sum-in : SFits w (toZ w (ofZ w a) +ℤ toZ w (ofZ w b))
+  sum-in = rw (left, right) (sum-fits w a b p)
+
+  pub sum-back : toZ w (ofZ w (toZ w (ofZ w a) +ℤ toZ w (ofZ w b))) ≡ a +ℤ b
+  sum-back = toZ-ofZ {w = w} sum-in ∙ rw (left, right)
+
+  pub diff-in : SFits w (toZ w (ofZ w a) -ℤ toZ w (ofZ w b))
+  diff-in = rw (left, right) (diff-fits w a b p)
+
+  pub diff-back : toZ w (ofZ w (toZ w (ofZ w a) -ℤ toZ w (ofZ w b))) ≡ a -ℤ b
+  diff-back = toZ-ofZ {w = w} diff-in ∙ rw (left, right)
+
+-- ---- pairs
+
+-- Both parts are at most `most` away from 0.
+pub record Within (most : ℕ) (a : Pair) : Type 0 where
+  pub q : natAbs (a .q) ≤ most
+  pub e : natAbs (a .e) ≤ most
