@@ -82,7 +82,10 @@ strikesFrom leaf other lane count k = drop k (strikesOf leaf other lane count)
 pub strikesFrom-cons : (leaf other lane : List ℕ) (count k : ℕ) → k < count
     → strikesFrom leaf other lane count k ≡ strikeOf leaf other lane k ∷ strikesFrom leaf other lane count (suc k)
 strikesFrom-cons leaf other lane count k p =
-    rw (drop-cons (strikesOf leaf other lane count) k (strikeOf leaf other lane k) (omega (arith, length-strikes leaf other lane count)), getD-strikes leaf other lane count k (strikeOf leaf other lane k) p)
+    rw (
+      drop-cons (strikesOf leaf other lane count) k (strikeOf leaf other lane k) (omega (arith, length-strikes leaf other lane count)),
+      getD-strikes leaf other lane count k (strikeOf leaf other lane k) p,
+    )
 
 pub strikesFrom-nil : (leaf other lane : List ℕ) (count : ℕ) → strikesFrom leaf other lane count count ≡ []
 strikesFrom-nil leaf other lane count =

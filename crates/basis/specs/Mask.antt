@@ -40,7 +40,8 @@ pub bit-pow-above : (j k : ℕ) → j < k → bit (1 * 2 ^ j) k ≡ 0
 bit-pow-above j k p = rw (one-mul, div-eq-of-lt (pow-lt p))
 
 pub bit-xor : (a b k : ℕ) → bit (bitXor a b) k ≡ differ (bit a k) (bit b k)
-bit-xor a b k = rw (xor-shr a b k, xor-step (a / 2 ^ k) (b / 2 ^ k)) (bottom (bitXor (a / 2 ^ k / 2) (b / 2 ^ k / 2)) (differ-lt (a / 2 ^ k % 2) (b / 2 ^ k % 2) (omega arith) (omega arith)))
+bit-xor a b k = rw (xor-shr a b k, xor-step (a / 2 ^ k) (b / 2 ^ k))
+    (bottom (bitXor (a / 2 ^ k / 2) (b / 2 ^ k / 2)) (differ-lt (a / 2 ^ k % 2) (b / 2 ^ k % 2) (omega arith) (omega arith)))
   where
     bottom : (q : ℕ) {r : ℕ} → r < 2 → (q * 2 + r) % 2 ≡ r
     bottom q h = omega arith

@@ -13,7 +13,8 @@ use Rattle.transport.specs.Problem.{Lane}
 use Rattle.transport.specs.Leaf.{Strike}
 use Rattle.transport.specs.Potential.{potentialBy}
 use Rattle.transport.specs.Laws.RangeLaws.{abs-diff}
-use Rattle.basis.specs.Layout.{nodeRoom, costOf, costOf-at, strikeOf, strikesOf, strikesFrom, strikesFrom-cons, length-strikes, getD-strikes, getD-set, Struck}
+use Rattle.basis.specs.Layout.{nodeRoom, costOf, costOf-at, strikeOf, strikesOf, strikesFrom, strikesFrom-cons, length-strikes, getD-strikes, getD-set}
+use Rattle.basis.specs.Layout.{Struck}
 
 module _ (cost : Lane → ℤ) where
   pub potentialBy-nil : (k : ℕ) → potentialBy cost [] k ≡ pos 0
@@ -68,7 +69,8 @@ module _ (cost : List ℤ) (leaf other lane : List ℕ) (count : ℕ) (price : L
     -- No potential passes the greatest cost times the strikes that are left ..
     pub priced-abs : (j : ℕ) → natAbs (potentialBy (costOf cost) (strikesFrom leaf other lane count k) j) ≤ (count - k) * most
     priced-abs j =
-        let e : length (strikesFrom leaf other lane count k) ≡ count - k = length-drop k (strikesOf leaf other lane count) ∙ ap (λ (n : ℕ). n - k) (length-strikes leaf other lane count) in
+        let e : length (strikesFrom leaf other lane count k) ≡ count - k = length-drop k (strikesOf leaf other lane count)
+        ∙ ap (λ (n : ℕ). n - k) (length-strikes leaf other lane count) in
         rw e at (potentialBy-abs (costOf cost) most (strikeOf leaf other lane 0) (strikesFrom leaf other lane count k) (λ i p. each i (omega arith)) j)
       where
         each : (i : ℕ) → i < count - k → natAbs (costOf cost (getD (strikesFrom leaf other lane count k) i (strikeOf leaf other lane 0) .lane)) ≤ most

@@ -79,7 +79,8 @@ module _ (b : ℤ) (f : ℕ → ℤ) where
         record {
           inside = omega arith;
           least = λ k p. ⊎-elim (λ s. rw s (no-lt (f n) (f n) (omega arith)))
-              (λ q. no-lt (f k) (f n) (omega (arith, lt-no (f k) (lowest b f n) (le k q), lt-yes (f n) (lowest b f n) h))) (eq-or-lt-of-le {n = k} {m = n} (omega arith));
+              (λ q. no-lt (f k) (f n) (omega (arith, lt-no (f k) (lowest b f n) (le k q), lt-yes (f n) (lowest b f n) h)))
+              (eq-or-lt-of-le {n = k} {m = n} (omega arith));
           first = λ k p. yes-lt (f n) (f k) (omega (arith, lt-no (f k) (lowest b f n) (le k p), lt-yes (f n) (lowest b f n) h));
         },
       )
@@ -151,7 +152,8 @@ module _ (cost price : List ℤ) (m : ℕ) (w : InRange cost price m) (i : ℕ) 
   -- The row's least is below `far`.
   pub row-near : ltZ (lowest (pos far) (slackAt cost price m i) stride) (pos far) ≡ true
   unfolding costAbove maxCost
-  row-near = lowest-below (pos far) (slackAt cost price m i) stride 0 (omega arith) (near (slackAt cost price m i 0) far (omega (arith, slack-abs 0 (omega arith))))
+  row-near = lowest-below (pos far) (slackAt cost price m i) stride 0 (omega arith)
+      (near (slackAt cost price m i 0) far (omega (arith, slack-abs 0 (omega arith))))
 
   pub row-place : FirstLow (slackAt cost price m i) stride (lowestPlace (pos far) (slackAt cost price m i) stride)
   row-place = lowest-at (pos far) (slackAt cost price m i) stride row-near .1
@@ -224,7 +226,8 @@ module _ (cost price : List ℤ) (m : ℕ) (w : InRange cost price m) where
 
       col-in : col < stride
       col-in = ⊎-elim
-          (λ (s : col ≡ stride). absurd (none (lowestPlace (pos far) (slackAt cost price m row) stride) (omega (arith, row-place cost price m w row scan-row .inside)) (row-is cost price m w row scan-row)))
+          (λ (s : col ≡ stride). absurd (none (lowestPlace (pos far) (slackAt cost price m row) stride)
+          (omega (arith, row-place cost price m w row scan-row .inside)) (row-is cost price m w row scan-row)))
           (λ l. l)
           (eq-or-lt-of-le {n = col} {m = stride} inside)
 
@@ -293,7 +296,8 @@ module _ (cost price : List ℤ) (m : ℕ) (w : InRange cost price m) (best : �
         is : best ≡ rowLeast cost price m row
         is = e ∙ sym (lowest-at (pos 0) (rowLeast cost price m) m (rw e at h) .0) ∙ rw s
 
-    pub scanned-yes : (slack : ℤ) (col : ℕ) → slack ≡ best +ℤ getD price row (pos 0) → col ≤ stride → ((j : ℕ) → j < col → slackAt cost price m row j ≡ slack → ⊥)
+    pub scanned-yes : (slack : ℤ) (col : ℕ) → slack ≡ best +ℤ getD price row (pos 0) → col ≤ stride
+        → ((j : ℕ) → j < col → slackAt cost price m row j ≡ slack → ⊥)
         → (col < stride → slackAt cost price m row col ≡ slack) → Scanned cost price m row col best
     scanned-yes slack col t p n y =
         let r : slack ≡ lowest (pos far) (slackAt cost price m (lowestPlace (pos 0) (rowLeast cost price m) m)) stride =

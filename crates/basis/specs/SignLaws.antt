@@ -113,7 +113,8 @@ need-enters need row node z p q n =
     let e : getD (set need row (negsuc 0)) node (pos 0) ≡ pos 0 = getD-set-other need row node (negsuc 0) (pos 0) n ∙ z node in
     ap (λ (x : ℤ). weightsOf (set (set need row (negsuc 0)) node (x -ℤ pos 1))) (sym e)
     ∙ need-take (set need row (negsuc 0)) node (pos 1) (lt-length-set need row (negsuc 0) q)
-    ∙ ap (λ (w : ℕ → ℤ). takeFrom w node (pos 1)) (ap weightsOf (sym first) ∙ need-take need row (pos 1) p ∙ ap (λ (w : ℕ → ℤ). takeFrom w row (pos 1)) (λ i j. z j i))
+    ∙ ap (λ (w : ℕ → ℤ). takeFrom w node (pos 1)) (ap weightsOf (sym first) ∙ need-take need row (pos 1) p
+    ∙ ap (λ (w : ℕ → ℤ). takeFrom w row (pos 1)) (λ i j. z j i))
 
 -- .. and what a strike leaves.
 need-left : (need : List ℤ) (s : Strike) → s .leaf < length need → s .other < length need
@@ -157,7 +158,8 @@ pub record Needed (start : ℕ → ℤ) (most : ℕ) (leaf other lane : List ℕ
   pub needLong : length need ≡ nodeRoom
   pub small : size (weightsOf need) ≤ most
   pub same : (i : ℕ) → k ≤ i → i < count
-      → flow start (strikesOf leaf other lane count) (laneAt (getD lane i 0)) ≡ flow (weightsOf need) (strikesFrom leaf other lane count k) (laneAt (getD lane i 0))
+      → flow start (strikesOf leaf other lane count) (laneAt (getD lane i 0))
+      ≡ flow (weightsOf need) (strikesFrom leaf other lane count k) (laneAt (getD lane i 0))
 
 size-none : size (λ k. pos 0) ≡ 0
 unfolding size
@@ -173,7 +175,8 @@ size-enters row node p q =
 
 -- .. and stand in an array of zeros.
 pub needed-starts : (leaf other lane : List ℕ) (count row sink : ℕ) (zeros : List ℤ) → ((j : ℕ) → getD zeros j (pos 0) ≡ pos 0)
-    → length zeros ≡ nodeRoom → row < sink → sink < nodeRoom → Needed (enterWeight row sink) 2 leaf other lane count (set (set zeros row (negsuc 0)) sink (negsuc 0)) 0
+    → length zeros ≡ nodeRoom → row < sink → sink < nodeRoom
+    → Needed (enterWeight row sink) 2 leaf other lane count (set (set zeros row (negsuc 0)) sink (negsuc 0)) 0
 needed-starts leaf other lane count row sink zeros z l p q =
     let enters = need-enters zeros row sink z (omega arith) (omega arith) (λ e. omega arith) in
     record {
@@ -249,7 +252,8 @@ module _ {start : ℕ → ℤ} {most : ℕ} {leaf other lane : List ℕ} {count 
 pub lanes-step : {leaf other lane minus plus : List ℕ} {count row sink a b k : ℕ} {need : List ℤ} → Struck leaf other lane count → k < count
     → Needed (enterWeight row sink) 2 leaf other lane count need k → LoopLanes leaf other lane count row sink minus plus a b k
     → let y = getD need (getD leaf k 0) (pos 0) in
-    LoopLanes leaf other lane count row sink (set minus a (getD lane k 0)) (set plus b (getD lane k 0)) (cond (ltZ y (pos 0)) (a + 1) a) (cond (ltZ (pos 0) y) (b + 1) b) (k + 1)
+    LoopLanes leaf other lane count row sink (set minus a (getD lane k 0)) (set plus b (getD lane k 0)) (cond (ltZ y (pos 0)) (a + 1) a)
+    (cond (ltZ (pos 0) y) (b + 1) b) (k + 1)
 lanes-step {leaf} {lane = lane} {minus} {plus} {a = a} {b} {k} {need} w p h g =
     let y = getD need (getD leaf k 0) (pos 0) in
     record {
@@ -257,6 +261,8 @@ lanes-step {leaf} {lane = lane} {minus} {plus} {a = a} {b} {k} {need} w p h g =
       fewPlus = cond-le (ltZ (pos 0) y) b k (g .fewPlus);
       minusLong = simp length-set (g .minusLong);
       plusLong = simp length-set (g .plusLong);
-      minusIs = keep-store _ lane minus 0 k a (ltZ y (pos 0)) (omega (arith, w .few, w .laneLong)) (omega (arith, w .few)) (g .minusIs) (ap (λ (z : ℤ). ltZ z (pos 0)) (flow-now w p h));
-      plusIs = keep-store _ lane plus 0 k b (ltZ (pos 0) y) (omega (arith, w .few, w .laneLong)) (omega (arith, w .few)) (g .plusIs) (ap (λ (z : ℤ). ltZ (pos 0) z) (flow-now w p h));
+      minusIs = keep-store _ lane minus 0 k a (ltZ y (pos 0)) (omega (arith, w .few, w .laneLong)) (omega (arith, w .few)) (g .minusIs)
+          (ap (λ (z : ℤ). ltZ z (pos 0)) (flow-now w p h));
+      plusIs = keep-store _ lane plus 0 k b (ltZ (pos 0) y) (omega (arith, w .few, w .laneLong)) (omega (arith, w .few)) (g .plusIs)
+          (ap (λ (z : ℤ). ltZ (pos 0) z) (flow-now w p h));
     }

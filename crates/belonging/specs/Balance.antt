@@ -1,5 +1,5 @@
--- The rows and columns of a tableau add up exactly if its cells carry the flow of the paired supplies and demands: a part of the amounts, bags or marks, has the
--- margins of the flow if the two are the same on every lane, and no other amounts on these lanes have them.
+-- The rows and columns of a tableau add up exactly if its cells carry the flow of the paired supplies and demands: a part of the amounts, bags or marks, has
+-- the margins of the flow if the two are the same on every lane, and no other amounts on these lanes have them.
 use Prim.Native.Nat.{ℕ, zero, suc, _+_, _-_, _<_, _≤_}
 use native.Mathlib.Omega.{arith}
 use mathlib.Core.Path.{_≡_, refl, sym, ap, _∙_}
@@ -135,8 +135,10 @@ marks-even m (suc n) p =
     rw (eq-eqb n (suc n - 1) (omega arith))
     (omega (arith, sum-ones m, sumTo-cong n (markOf m (suc n)) (λ k. 0) (λ k l. rw (ne-eqb k (suc n - 1) (omega arith))), sumTo-none n))
 
-module _ (P : Problem) {T : List Cell} {ss : List Strike} (t : Tree (sources P) (sinks P) T ss) (totals : total (P .supply) ≡ total (P .demand)) {bags marks : List ℤ}
-    (b : Weights (sources P) (sinks P) (at (P .supply)) (at (P .demand)) bags) (e : Weights (sources P) (sinks P) (λ i. 1) (markOf (sources P) (sinks P)) marks) where
+module _ (P : Problem) {T : List Cell} {ss : List Strike} (t : Tree (sources P) (sinks P) T ss) (totals : total (P .supply) ≡ total (P .demand))
+    {bags marks : List ℤ}
+    (b : Weights (sources P) (sinks P) (at (P .supply)) (at (P .demand)) bags)
+    (e : Weights (sources P) (sinks P) (λ i. 1) (markOf (sources P) (sinks P)) marks) where
   abbrev Both : Type 0
   Both = Carry T ss (λ a. a .q) (weightsOf bags) × Carry T ss (λ a. a .e) (weightsOf marks)
 

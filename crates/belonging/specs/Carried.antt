@@ -39,7 +39,8 @@ module _ (weight : ℕ → ℤ) (ss : List Strike) (amount : List ℤ) (lane : L
   pub carries-true : (count : ℕ) → ((k : ℕ) → k < count → CarriedAt k) → carries weight ss amount lane count ≡ true
   unfolding carries
   carries-true count h =
-      all-below (λ k. eqZ (getD amount (getD lane k 0) (pos 0)) (flow weight ss (laneAt (getD lane k 0)))) count (λ k l. rw (h k l) (eqZ-same (flow weight ss (laneAt (getD lane k 0)))))
+      all-below (λ k. eqZ (getD amount (getD lane k 0) (pos 0)) (flow weight ss (laneAt (getD lane k 0)))) count
+      (λ k l. rw (h k l) (eqZ-same (flow weight ss (laneAt (getD lane k 0)))))
 
   pub carries-at : (count : ℕ) → carries weight ss amount lane count ≡ true → (k : ℕ) → k < count → CarriedAt k
   unfolding carries
@@ -68,7 +69,8 @@ pub record Passed (start : ℕ → ℤ) (leaf other lane : List ℕ) (count : �
   pub needed : Needed start lightSize leaf other lane count weight k
   pub done : (i : ℕ) → i < k → CarriedAt start (strikesOf leaf other lane count) amount lane i
 
-pub passed-none : (leaf other lane : List ℕ) (count : ℕ) (amount weight : List ℤ) → Light weight → Passed (weightsOf weight) leaf other lane count amount weight 0
+pub passed-none : (leaf other lane : List ℕ) (count : ℕ) (amount weight : List ℤ) → Light weight
+    → Passed (weightsOf weight) leaf other lane count amount weight 0
 passed-none leaf other lane count amount weight l =
     record { needed = record { within = omega arith; needLong = l .long; small = l .small; same = λ i p q. refl }; done = λ i p. absurd (omega arith) }
 

@@ -90,7 +90,8 @@ module _ {m n : ℕ} {T : List Cell} {adj : List ℕ} {q e : List ℤ} (sides : 
 
 -- ---- the amounts in their array
 
-module _ {m n : ℕ} {T : List Cell} (leaf other lanes : List ℕ) (count : ℕ) (t : Tree m n T (strikesOf leaf other lanes count)) (part : Pair → ℤ) (amount : List ℤ)
+module _ {m n : ℕ} {T : List Cell} (leaf other lanes : List ℕ) (count : ℕ) (t : Tree m n T (strikesOf leaf other lanes count)) (part : Pair → ℤ)
+    (amount : List ℤ)
     (lies : (i j : ℕ) → i < m → j < n → getD amount (i * stride + j) (pos 0) ≡ part (amountAt T i j)) (w : ℕ → ℤ) where
   pub carries-iff : (carries w (strikesOf leaf other lanes count) amount lanes count ≡ true) ↔ Carry T (strikesOf leaf other lanes count) part w
   unfolding strikesOf
@@ -120,9 +121,11 @@ module _ {m n : ℕ} {T : List Cell} (leaf other lanes : List ℕ) (count : ℕ)
 
 -- ---- balanced, by the two flows
 
-module _ (supply demand : List ℕ) (cost : List ℤ) {T : List Cell} {adj : List ℕ} {q e : List ℤ} (h : Held (length supply) (length demand) T adj q e) (leaf other lanes : List ℕ) (count : ℕ)
+module _ (supply demand : List ℕ) (cost : List ℤ) {T : List Cell} {adj : List ℕ} {q e : List ℤ} (h : Held (length supply) (length demand) T adj q e)
+    (leaf other lanes : List ℕ) (count : ℕ)
     (t : Tree (length supply) (length demand) T (strikesOf leaf other lanes count)) (totals : total supply ≡ total demand) {bags marks : List ℤ}
-    (b : Weights (length supply) (length demand) (at supply) (at demand) bags) (k : Weights (length supply) (length demand) (λ i. 1) (markOf (length supply) (length demand)) marks) where
+    (b : Weights (length supply) (length demand) (at supply) (at demand) bags)
+    (k : Weights (length supply) (length demand) (λ i. 1) (markOf (length supply) (length demand)) marks) where
   pub balanced-is : balanced (problem supply demand cost) T
       ≡ carries (weightsOf bags) (strikesOf leaf other lanes count) q lanes count && carries (weightsOf marks) (strikesOf leaf other lanes count) e lanes count
   unfolding sources sinks
@@ -139,7 +142,8 @@ module _ (supply demand : List ℕ) (cost : List ℤ) {T : List Cell} {adj : Lis
       second : Bool
       second = carries (weightsOf marks) (strikesOf leaf other lanes count) e lanes count
 
-      both : (balanced P T ≡ true) ↔ (Carry T (strikesOf leaf other lanes count) (λ a. a .q) (weightsOf bags) × Carry T (strikesOf leaf other lanes count) (λ a. a .e) (weightsOf marks))
+      both : (balanced P T ≡ true) ↔ (Carry T (strikesOf leaf other lanes count) (λ a. a .q) (weightsOf bags)
+          × Carry T (strikesOf leaf other lanes count) (λ a. a .e) (weightsOf marks))
       both = balanced-iff P t totals b k
 
       bagsAre : (first ≡ true) ↔ Carry T (strikesOf leaf other lanes count) (λ a. a .q) (weightsOf bags)
@@ -175,7 +179,8 @@ module _ (supply demand : List ℕ) (cost : List ℤ) (t : Tableau) where
 
   belongs-is : belongs P t ≡ eqb (t .count) size && (fits && whole)
   unfolding belongs cellsBelong cellsFit onBoard onSheet sources sinks
-  belongs-is = ap (λ (b : Bool). eqb (t .count) size && b) (regroup (all (onSheet P) (cellsOf t)) (inOrder (length demand) (cellsOf t)) (spans (length supply) (length demand) (basisOf (cellsOf t))) (all aboveZero (cellsOf t)) (balanced P (cellsOf t)))
+  belongs-is = ap (λ (b : Bool). eqb (t .count) size && b) (regroup (all (onSheet P) (cellsOf t)) (inOrder (length demand) (cellsOf t))
+      (spans (length supply) (length demand) (basisOf (cellsOf t))) (all aboveZero (cellsOf t)) (balanced P (cellsOf t)))
 
   pub other-count : (t .count ≡ size → ⊥) → belongs P t ≡ false
   other-count d = belongs-is ∙ rw (ne-eqb (t .count) size d)
@@ -195,10 +200,14 @@ module _ (m n : ℕ) (T : List Cell) (f : cellsFit m n T ≡ true) where
   pub fit-inside : Inside m n T
   unfolding cellsFit onBoard
   fit-inside k l =
-      let c : ltb (rowOf T k) m && ltb (colOf T k) n ≡ true = all-at (onBoard m n) T noCell k (and-left (all (onBoard m n) T) (inOrder n T && all aboveZero T) f) l in
-      (ltb-true (rowOf T k) m (and-left (ltb (rowOf T k) m) (ltb (colOf T k) n) c), ltb-true (colOf T k) n (and-right (ltb (rowOf T k) m) (ltb (colOf T k) n) c))
+      let c : ltb (rowOf T k) m && ltb (colOf T k) n ≡ true =
+      all-at (onBoard m n) T noCell k (and-left (all (onBoard m n) T) (inOrder n T && all aboveZero T) f) l in (
+        ltb-true (rowOf T k) m (and-left (ltb (rowOf T k) m) (ltb (colOf T k) n) c),
+        ltb-true (colOf T k) n (and-right (ltb (rowOf T k) m) (ltb (colOf T k) n) c),
+      )
 
   pub fit-distinct : Distinct T
   unfolding cellsFit
   fit-distinct =
-      ordered-distinct n T (ordered-by n T (order-true n T (and-left (inOrder n T) (all aboveZero T) (and-right (all (onBoard m n) T) (inOrder n T && all aboveZero T) f))))
+      ordered-distinct n T (ordered-by n T
+      (order-true n T (and-left (inOrder n T) (all aboveZero T) (and-right (all (onBoard m n) T) (inOrder n T && all aboveZero T) f))))

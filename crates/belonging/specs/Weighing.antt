@@ -93,7 +93,8 @@ marked-more {weight} {k} p h = record {
 }
 
 -- All m marks go to the last column.
-pub marks-put : {weight : List ℤ} (m n : ℕ) → m ≤ stride → 1 ≤ n → n ≤ stride → Marked weight m → Weights m n (λ i. 1) (markOf m n) (set weight (m + n - 1) (pos m))
+pub marks-put : {weight : List ℤ} (m n : ℕ) → m ≤ stride → 1 ≤ n → n ≤ stride → Marked weight m
+    → Weights m n (λ i. 1) (markOf m n) (set weight (m + n - 1) (pos m))
 unfolding maxBags maxSide maxAmount
 marks-put {weight} m n p q r h = record {
   light = light-of (set weight (m + n - 1) (pos m)) (length-set weight _ _ ∙ h .long) small;

@@ -39,7 +39,13 @@ isBasic-true [] i j e = absurd (false≢true e)
 isBasic-true (c ∷ cs) i j e = go (or-cases (eqb (c .row) i && eqb (c .col) j) (isBasic cs i j) e) (isBasic-true cs i j)
   where
     go : (eqb (c .row) i && eqb (c .col) j ≡ true) ⊎ (isBasic cs i j ≡ true) → (isBasic cs i j ≡ true → Basic cs i j) → Basic (c ∷ cs) i j
-    go (inl h) rest = record { index = 0; below = omega arith; row = eqb-true _ _ (and-left _ (eqb (c .col) j) h); column = eqb-true _ _ (and-right (eqb (c .row) i) _ h) }
+    go (inl h) rest = record {
+      index = 0;
+      below = omega arith;
+      row = eqb-true _ _ (and-left _ (eqb (c .col) j) h);
+      column =
+          eqb-true _ _ (and-right (eqb (c .row) i) _ h);
+    }
     go (inr h) rest = basic-later c cs i j (rest h)
 
 basic-at : (T : List Cell) (k i j : ℕ) → k < length T → rowOf T k ≡ i → colOf T k ≡ j → isBasic T i j ≡ true
@@ -173,8 +179,10 @@ held-more {m} {n} {T} {adj} {q} {e} c h mLow nLow p r =
       eLong = length-set e _ _ ∙ h .eLong;
       rows = λ i j l. linked-row m (c .row) (c .col) adj p i j (omega (arith, h .adjLong)) l ∙ rw (h .rows i j l);
       columns = λ i j l. linked-column m (c .row) (c .col) adj p i j (omega (arith, h .adjLong)) ∙ rw (h .columns i j l);
-      bags = λ i j l s. on-lane q (c .row) (c .col) i j (c .amount .q) (h .qLong) (omega arith) r (omega arith) ∙ (rw (h .bags i j l s)) ∙ part (λ a. a .q) (eqb (c .row) i && eqb (c .col) j) (amountAt T i j);
-      marks = λ i j l s. on-lane e (c .row) (c .col) i j (c .amount .e) (h .eLong) (omega arith) r (omega arith) ∙ (rw (h .marks i j l s)) ∙ part (λ a. a .e) (eqb (c .row) i && eqb (c .col) j) (amountAt T i j);
+      bags = λ i j l s. on-lane q (c .row) (c .col) i j (c .amount .q) (h .qLong) (omega arith) r (omega arith) ∙ (rw (h .bags i j l s))
+          ∙ part (λ a. a .q) (eqb (c .row) i && eqb (c .col) j) (amountAt T i j);
+      marks = λ i j l s. on-lane e (c .row) (c .col) i j (c .amount .e) (h .eLong) (omega arith) r (omega arith) ∙ (rw (h .marks i j l s))
+          ∙ part (λ a. a .e) (eqb (c .row) i && eqb (c .col) j) (amountAt T i j);
     }
   where
     part : (f : Pair → ℤ) (t : Bool) (a : Pair) → cond t (f (c .amount)) (f a) ≡ f (cond t (c .amount) a)

@@ -11,7 +11,9 @@ use lib.IntN.{ℤ, pos}
 use lib.ListN.{length, take, drop, getD, set, replicate, length-append, length-map, length-replicate}
 use lib.Seq.{getD-take}
 use Rattle.transport.specs.Lists.{keep, table, below, padded}
-use Rattle.transport.specs.Laws.ListLaws.{table-zero, table-split, table-first, table-cong, table-getD, fill-one, member-at, keep-member, map-table, keep-append, keep-yes, keep-no, keep-none, keep-map, keep-cong, table-member, length-table, getD-table, map-member, member-map}
+use Rattle.transport.specs.Laws.ListLaws.{table-zero, table-split, table-first, table-cong, table-getD, fill-one, member-at, keep-member, map-table}
+use Rattle.transport.specs.Laws.ListLaws.{keep-append, keep-yes, keep-no, keep-none, keep-map, keep-cong, table-member, length-table, getD-table, map-member}
+use Rattle.transport.specs.Laws.ListLaws.{member-map}
 use Rattle.transport.specs.Problem.{place}
 use Rattle.transport.specs.Limits.{maxCells}
 use Rattle.transport.specs.Tableau.{noCell, tableauOf}
@@ -53,7 +55,8 @@ bitsOf-first x j p here before =
     rw e
     (keep-from (has x) j (63 - j) out
     ∙ keep-yes (has x) j rest (rw here)
-    ∙ ap (λ xs. j ∷ xs) (keep-cong (has x) (has (cut x j)) rest later ∙ sym (keep-no (has (cut x j)) j rest (rw (cut-here x j))) ∙ sym (keep-from (has (cut x j)) j (63 - j) out′)))
+    ∙ ap (λ xs. j ∷ xs) (keep-cong (has x) (has (cut x j)) rest later ∙ sym (keep-no (has (cut x j)) j rest (rw (cut-here x j)))
+    ∙ sym (keep-from (has (cut x j)) j (63 - j) out′)))
   where
     later : (y : ℕ) → List·Memᴰ y (table (63 - j) (λ k. j + suc k)) → has x y ≡ has (cut x j) y
     later y m = let (k, l, e) = table-member (63 - j) (λ k. j + suc k) m in rw (cut-there x j y (λ s. omega arith))
@@ -67,8 +70,10 @@ unfolding bitsOf below
 narrow-bits x h =
     let none : keep (has x) (table stride (λ k. stride + k)) ≡ [] =
     keep-none (has x) (table stride (λ k. stride + k)) 0
-    (λ k l. let r : k < stride = omega (arith, length-table (λ k. stride + k) stride) in ap (has x) (getD-table (λ k. stride + k) stride k 0 r) ∙ h (stride + k) (omega arith) (omega arith)) in
-    ap (keep (has x)) (table-split (λ k. k) stride stride) ∙ keep-append (has x) (table stride (λ k. k)) (table stride (λ k. stride + k)) ∙ (rw none) ∙ append-nil _
+    (λ k l. let r : k < stride = omega (arith, length-table (λ k. stride + k) stride) in
+    ap (has x) (getD-table (λ k. stride + k) stride k 0 r) ∙ h (stride + k) (omega arith) (omega arith)) in
+    ap (keep (has x)) (table-split (λ k. k) stride stride) ∙ keep-append (has x) (table stride (λ k. k)) (table stride (λ k. stride + k)) ∙ (rw none)
+    ∙ append-nil _
 
 -- ---- the lanes in the mask x of a row that begins at the lane `first`
 
@@ -104,7 +109,12 @@ lanesOf-split adj m k =
 pub lanesOf-part : (adj : List ℕ) (k m : ℕ) → k ≤ m → length (lanesOf adj k) ≤ length (lanesOf adj m)
 lanesOf-part adj k m p =
     let e : k + (m - k) ≡ m = omega arith in
-    omega (arith, ap (λ (t : ℕ). length (lanesOf adj t)) e, ap length (lanesOf-split adj k (m - k)), length-append (lanesOf adj k) (keep (laneIn adj) (table ((m - k) * stride) (λ l. k * stride + l))))
+    omega (
+      arith,
+      ap (λ (t : ℕ). length (lanesOf adj t)) e,
+      ap length (lanesOf-split adj k (m - k)),
+      length-append (lanesOf adj k) (keep (laneIn adj) (table ((m - k) * stride) (λ l. k * stride + l))),
+    )
 
 -- One row more.
 pub lanesOf-row : (adj : List ℕ) (i : ℕ) → Narrow (getD adj i 0) → lanesOf adj (i + 1) ≡ lanesOf adj i ++ rowLanes (i * stride) (getD adj i 0)
@@ -114,7 +124,8 @@ lanesOf-row adj i h =
     ∙ ap (λ xs. lanesOf adj i ++ xs)
     (ap (keep (laneIn adj)) (sym (map-table (λ j. i * stride + j) stride (λ k. k)))
     ∙ keep-map (laneIn adj) (λ j. i * stride + j) (table stride (λ k. k))
-    ∙ ap (map (λ j. i * stride + j)) (keep-cong (λ j. laneIn adj (i * stride + j)) (has (getD adj i 0)) (table stride (λ k. k)) in-row ∙ sym (narrow-bits (getD adj i 0) h)))
+    ∙ ap (map (λ j. i * stride + j)) (keep-cong (λ j. laneIn adj (i * stride + j)) (has (getD adj i 0)) (table stride (λ k. k)) in-row
+    ∙ sym (narrow-bits (getD adj i 0) h)))
   where
     in-row : (y : ℕ) → List·Memᴰ y (table stride (λ k. k)) → laneIn adj (i * stride + y) ≡ has (getD adj i 0) y
     in-row y m =
@@ -171,7 +182,8 @@ pub lane-in : {adj : List ℕ} {m count : ℕ} {lanes : List ℕ} → RowMasks a
 unfolding lanesOf below
 lane-in {adj} {m} {count} {lanes} w h k p =
     let e : getD lanes k 0 ≡ getD (lanesOf adj m) k 0 = sym (getD-take count lanes k 0 p) ∙ ap (λ xs. getD xs k 0) (h .listed) in
-    let (l, q, f) = table-member (m * stride) (λ i. i) (keep-member (laneIn adj) (below (m * stride)) (member-at (lanesOf adj m) 0 k (omega (arith, h .many))) .0) in
+    let (l, q, f) = table-member (m * stride) (λ i. i)
+    (keep-member (laneIn adj) (below (m * stride)) (member-at (lanesOf adj m) 0 k (omega (arith, h .many))) .0) in
     omega (arith, w .side)
 
 -- The first k cells of the tableau are those on the first k lanes of the list, and it will have `count` of them.
@@ -192,7 +204,8 @@ module _ (lanes : List ℕ) (q e : List ℤ) (count : ℕ) where
       record {
         within = omega arith;
         many = h .many;
-        filled = rw (v, w, h .filled) (fill-one (λ i. cellOn q e (getD lanes i 0)) (replicate cellRoom noCell) k noCell (omega (arith, length-replicate cellRoom noCell)));
+        filled = rw (v, w, h .filled) (fill-one (λ i. cellOn q e (getD lanes i 0)) (replicate cellRoom noCell) k noCell
+            (omega (arith, length-replicate cellRoom noCell)));
       }
 
   pub filled-all : (adj : List ℕ) (m : ℕ) (t : Tableau) → Lanes adj m lanes count → count ≤ cellRoom → Filled lanes q e count count t
@@ -247,7 +260,8 @@ keep-sorted test (suc d) p xs s h =
         → ((ys : List ℕ) → Sorted ys → Members test d (suc p) ys → keep test (table d (λ k. suc p + k)) ≡ ys) → keep test (p ∷ table d (λ k. suc p + k)) ≡ xs
     go true e [] s h rest = absurd (List·Memᴰ·not-nil (h .every p (omega arith) (omega arith) e))
     go true e (x ∷ xs) (after, s) h rest =
-        let first : p ≡ x = ⊎-elim (λ q. q) (λ m. absurd (omega (arith, after p m, h .low x (List·Memᴰ·head refl)))) (List·Memᴰ·cases-cons (h .every p (omega arith) (omega arith) e)) in
+        let first : p ≡ x = ⊎-elim (λ q. q) (λ m. absurd (omega (arith, after p m, h .low x (List·Memᴰ·head refl))))
+        (List·Memᴰ·cases-cons (h .every p (omega arith) (omega arith) e)) in
         keep-yes test p (table d (λ k. suc p + k)) e
         ∙ rw (
           rest xs s (record {

@@ -1,18 +1,13 @@
--- A tableau that is lent as a list of cells, and how it is put together cell by cell.
+-- How the tableau that a lent list of cells is (`Tableau.lentTableau`) is put together cell by cell.
 use Prim.Native.Nat.{ℕ, zero, suc, _+_, _-_, _^_}
 use mathlib.Core.Bool.{cond}
 use mathlib.Core.List.{List}
 use lib.Dec.{ltb}
-use lib.ListN.{length, take, getD, set}
-use Rattle.transport.specs.Lists.{padded}
+use lib.ListN.{getD, set}
 use Rattle.transport.specs.Limits.{maxCells}
 use Rattle.transport.specs.Tableau.{noCell, noTableau}
 use Rattle.transport.specs.declared.Cell.{Cell}
 use Rattle.transport.specs.declared.Tableau.{Tableau}
-
--- The tableau that a list of cells is: all are counted, and as many as the array has room for are in it.
-unfoldable pub lentTableau : List Cell → Tableau
-lentTableau T = record { cells = padded maxCells noCell (take maxCells T); count = length T }
 
 -- The greatest count that a tableau can hold.
 unfoldable pub maxCount : ℕ

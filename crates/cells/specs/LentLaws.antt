@@ -14,11 +14,11 @@ use Rattle.transport.specs.Lists.{all, padded}
 use Rattle.transport.specs.Limits.{maxCells}
 use Rattle.transport.specs.Problem.{Problem, sources, sinks}
 use Rattle.transport.specs.Laws.Sound.{Sound}
-use Rattle.transport.specs.Tableau.{noCell, laneOf, basisOf, basisSize, cellsOf, tableauOf, noTableau}
+use Rattle.transport.specs.Tableau.{noCell, laneOf, basisOf, basisSize, cellsOf, tableauOf, noTableau, lentTableau}
 use Rattle.transport.specs.Belonging.{onSheet, inOrder, aboveZero, balanced, spans, cellsBelong, belongs}
 use Rattle.transport.specs.declared.Cell.{Cell}
 use Rattle.transport.specs.declared.Tableau.{Tableau}
-use Rattle.cells.specs.Lent.{lentTableau, maxCount, addCell, added}
+use Rattle.cells.specs.Lent.{maxCount, addCell, added}
 
 pub added-none : (T : List Cell) → added T 0 ≡ noTableau
 unfolding added
@@ -53,7 +53,13 @@ add-lent : (T : List Cell) (c : Cell) → length T < maxCount → addCell (lentT
 unfolding addCell lentTableau
 add-lent T c l =
     by-cases (decLt (length T) maxCells)
-    (λ p. rw (lt-ltb (length T) maxCells p, take-all maxCells T (omega arith), take-all maxCells (T ++ (c ∷ [])) (omega (arith, length-one T c)), set-padded maxCells noCell T c p, length-one T c))
+    (λ p. rw (
+      lt-ltb (length T) maxCells p,
+      take-all maxCells T (omega arith),
+      take-all maxCells (T ++ (c ∷ [])) (omega (arith, length-one T c)),
+      set-padded maxCells noCell T c p,
+      length-one T c,
+    ))
     (λ p. rw (le-ltb (length T) maxCells (omega arith), lt-ltb (length T) maxCount l, take-append-le maxCells T (c ∷ []) (omega arith), length-one T c))
 
 -- ---- all cells
@@ -94,7 +100,8 @@ module _ (P : Problem) (T : List Cell) where
   unfolding belongs lentTableau
   few-belong l = rw (cells-back T l) (go (eqb (length T) (basisSize (sources P) (sinks P))) refl)
     where
-      go : (b : Bool) → eqb (length T) (basisSize (sources P) (sinks P)) ≡ b → eqb (length T) (basisSize (sources P) (sinks P)) && cellsBelong P T ≡ cellsBelong P T
+      go : (b : Bool) → eqb (length T) (basisSize (sources P) (sinks P)) ≡ b → eqb (length T) (basisSize (sources P) (sinks P)) && cellsBelong P T
+          ≡ cellsBelong P T
       go true e = ap (λ (b : Bool). b && cellsBelong P T) e
       go false e = ap (λ (b : Bool). b && cellsBelong P T) e ∙ sym (other-count e)
 

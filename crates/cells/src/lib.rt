@@ -5,7 +5,8 @@ use transport::Cell;
 use transport::MAX_CELLS;
 use transport::Tableau;
 ghost use mathlib.Core.Path.{_≡_};
-ghost use Rattle.cells.specs.Lent.{lentTableau, addCell};
+ghost use Rattle.transport.specs.Tableau.{lentTableau};
+ghost use Rattle.cells.specs.Lent.{addCell};
 
 // The greatest count that a tableau can hold.
 const MAX_COUNT: usize = 18_446_744_073_709_551_615;

@@ -142,8 +142,8 @@ corner-next P left p = go (less (p .demand) (p .supply)) refl
 
 -- ---- where the rule stands
 
--- The rule stands at p: the cells of the start from number row + col on are those that it puts from p on. Each step so far added at most maxBags to the sizes of
--- the two pairs.
+-- The rule stands at p: the cells of the start from number row + col on are those that it puts from p on. Each step so far added at most maxBags to the sizes
+-- of the two pairs.
 pub record Standing (P : Problem) (p : Corner) : Type 0 where
   pub left : ℕ
   pub state : State P left (p .row) (p .col) (p .supply) (p .demand)

@@ -32,7 +32,8 @@ module _ {A B : Type 0} (part : A → List B) (x : A) (n : ℕ) (e : length (par
 -- ---- the fields, for any answer of the paper
 
 gives-best : (S : Sheet) (a : Answer Solution) (plan : List ℕ) → Solved S a
-    → (cost : ℕ) × (rounds : ℕ) × (solveAnswer a ≡ SolveAnswer.Solved cost rounds) × Best S (take (roasteries S * cafes S) (lentAfter (λ s. s .plan) a plan)) (pos cost)
+    → (cost : ℕ) × (rounds : ℕ) × (solveAnswer a ≡ SolveAnswer.Solved cost rounds)
+    × Best S (take (roasteries S * cafes S) (lentAfter (λ s. s .plan) a plan)) (pos cost)
 unfolding solveAnswer
 gives-best S a plan h =
     let s = h .found in
@@ -65,8 +66,11 @@ leaves-rest : (S : Sheet) (a : Answer Solution) (u v : List ℤ) (plan : List �
 unfolding solveAnswer
 leaves-rest S (refused r) u v plan h cost rounds e = absurd (solved≢refused (sym e))
 leaves-rest S (given s) u v plan h cost rounds e =
-    let f = h s refl in
-    (lent-beyond (λ s. s .u) s (roasteries S) (f .u) u, lent-beyond (λ s. s .v) s (cafes S) (f .v) v, lent-beyond (λ s. s .plan) s (roasteries S * cafes S) (f .plan) plan)
+    let f = h s refl in (
+      lent-beyond (λ s. s .u) s (roasteries S) (f .u) u,
+      lent-beyond (λ s. s .v) s (cafes S) (f .v) v,
+      lent-beyond (λ s. s .plan) s (roasteries S * cafes S) (f .plan) plan,
+    )
 
 -- ---- the call
 

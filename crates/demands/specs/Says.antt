@@ -1,7 +1,8 @@
--- What the answer of each call says is what the paper's call gives. A contract settles the declared answer by `..Answer`, and each lent list by `lentAfter`, of the paper's
--- call; read back by `..Says` they give that call again, on any sheet, tableau, text and lent lists: nothing that the paper's call gives is lost or taken for another thing.
--- The idea: a test refuses by a number alone, and a text that is no sheet text by 9 with its place, which the answer holds; and what is given stands in front, a tableau's
--- cells in its array, as many as it counts, prices, plan, sheet and text in their lists, as many as m, n, m × n or the length in the answer.
+-- What the answer of each call says is what the paper's call gives. A contract settles the declared answer by `..Answer`, and each lent list by `lentAfter`,
+-- of the paper's call; read back by `..Says` they give that call again, on any sheet, tableau, text and lent lists: nothing that the paper's call gives is
+-- lost or taken for another thing. The idea: a test refuses by a number alone, and a text that is no sheet text by 9 with its place, which the answer holds;
+-- and what is given stands in front, a tableau's cells in its array, as many as it counts, prices, plan, sheet and text in their lists, as many as m, n, m ×
+-- n or the length in the answer.
 use mathlib.Core.Path.{_≡_, refl, ap, sym, _∙_}
 use mathlib.Core.Bool.{Bool, true, false}
 use mathlib.Core.Option.{Option, none, some}
@@ -16,7 +17,8 @@ use Rattle.transport.specs.Lists.{padded}
 use Rattle.transport.specs.Laws.ListLaws.{length-table}
 use Rattle.transport.specs.Problem.{Problem, sources, sinks}
 use Rattle.transport.specs.Laws.PlanLaws.{planCost-size}
-use Rattle.transport.specs.Calls.{solutionFrom, Answer, given, refusedBy, unless, lentAfter, tableauTests, startCall, roundCall, runCall, settleCall, solution, solveCall}
+use Rattle.transport.specs.Calls.{solutionFrom, Answer, given, refusedBy, unless, lentAfter, tableauTests, startCall, roundCall, runCall, settleCall, solution}
+use Rattle.transport.specs.Calls.{solveCall}
 use Rattle.transport.specs.Sheet.{roasteries, cafes, problemOf, Sheet, sheetTests, refusal}
 use Rattle.transport.specs.Laws.SheetLaws.{refusal-stands}
 use Rattle.transport.specs.Laws.Sound.{accepted-sound}
@@ -27,7 +29,8 @@ use Rattle.transport.specs.Plan.{settled}
 use Rattle.transport.specs.Laws.CallLaws.{some≢none, unless-given, unless-refused, unless-given-iff}
 use Rattle.transport.specs.SheetText.{Reading, stuck, got, sheetReader, sheetText, writeSheetCall, readWith, readTests, readSheetCall}
 use Rattle.transport.specs.PlanText.{planText, writePlanCall}
-use Rattle.transport.specs.Answers.{startAnswer, startSays, prices, roundAnswer, roundSays, runOutcome, runAnswer, runSays, settleAnswer, settleSays, solveAnswer, solveSays, readAnswer, readSays, writeAnswer, writeSays}
+use Rattle.transport.specs.Answers.{startAnswer, startSays, prices, roundAnswer, roundSays, runOutcome, runAnswer, runSays, settleAnswer, settleSays}
+use Rattle.transport.specs.Answers.{solveAnswer, solveSays, readAnswer, readSays, writeAnswer, writeSays}
 use Rattle.grammar.specs.Place.{reader-iff}
 use Rattle.grammar.specs.SheetCalls.{read-got, read-stuck}
 use Rattle.demands.specs.Demand3.{settled-length, solve-fills}
@@ -63,26 +66,34 @@ unfolding round roundAnswer roundSays sourcePrices sinkPrices
 round-back P T = go (isFinished P T) refl
   where
     go : (b : Bool) → isFinished P T ≡ b → roundSays (sources P) (sinks P) (roundAnswer (given (round P T))) ≡ given (round P T)
-    go true e = rw (e, round, prices-front (sourcePrices P T) (sources P) (length-table _ (sources P)), prices-front (sinkPrices P T) (sinks P) (length-table _ (sinks P)))
+    go true e = rw (
+      e,
+      round,
+      prices-front (sourcePrices P T) (sources P) (length-table _ (sources P)),
+      prices-front (sinkPrices P T) (sinks P) (length-table _ (sinks P)),
+    )
     go false e = rw (e, round, cells-of)
 
 pub round-says : (S : Sheet) (t : Tableau) → roundSays (roasteries S) (cafes S) (roundAnswer (roundCall S t)) ≡ roundCall S t
 unfolding roundCall roundAnswer roundSays refusedBy problemOf sources sinks roasteries cafes
 round-says S t =
-    unless-says (λ a. roundSays (roasteries S) (cafes S) (roundAnswer a)) (tableauTests S t) (round (problemOf S) (cellsOf t)) (λ k. refl) (λ e. round-back (problemOf S) (cellsOf t))
+    unless-says (λ a. roundSays (roasteries S) (cafes S) (roundAnswer a)) (tableauTests S t) (round (problemOf S) (cellsOf t)) (λ k. refl)
+    (λ e. round-back (problemOf S) (cellsOf t))
 
 run-back : (r : Run) → runSays (runAnswer (given r)) ≡ given r
 unfolding runOutcome runAnswer runSays
 run-back r = go (r .finished)
   where
-    go : (b : Bool) → runSays (runAnswer (given (record { finished = b; tableau = r .tableau; rounds = r .rounds }))) ≡ given (record { finished = b; tableau = r .tableau; rounds = r .rounds })
+    go : (b : Bool) → runSays (runAnswer (given (record { finished = b; tableau = r .tableau; rounds = r .rounds })))
+        ≡ given (record { finished = b; tableau = r .tableau; rounds = r .rounds })
     go true = rw cells-of
     go false = rw cells-of
 
 pub run-says : (S : Sheet) (t : Tableau) (allowance : ℕ) → runSays (runAnswer (runCall S t allowance)) ≡ runCall S t allowance
 unfolding runCall runAnswer runSays refusedBy
 run-says S t allowance =
-    unless-says (λ a. runSays (runAnswer a)) (tableauTests S t) (run (problemOf S) allowance (cellsOf t)) (λ k. refl) (λ e. run-back (run (problemOf S) allowance (cellsOf t)))
+    unless-says (λ a. runSays (runAnswer a)) (tableauTests S t) (run (problemOf S) allowance (cellsOf t)) (λ k. refl)
+    (λ e. run-back (run (problemOf S) allowance (cellsOf t)))
 
 -- ---- plans
 
@@ -108,12 +119,18 @@ pub solve-says : (S : Sheet) (u v : List ℤ) (plan : List ℕ)
     solveSays (roasteries S) (cafes S) (solveAnswer a) (lentAfter (λ s. s .u) a u) (lentAfter (λ s. s .v) a v) (lentAfter (λ s. s .plan) a plan) ≡ a
 unfolding solveCall solution solutionFrom solveAnswer solveSays refusedBy
 solve-says S u v plan =
-    unless-says (λ a. solveSays (roasteries S) (cafes S) (solveAnswer a) (lentAfter (λ s. s .u) a u) (lentAfter (λ s. s .v) a v) (lentAfter (λ s. s .plan) a plan))
+    unless-says (λ a. solveSays (roasteries S) (cafes S) (solveAnswer a) (lentAfter (λ s. s .u) a u) (lentAfter (λ s. s .v) a v)
+    (lentAfter (λ s. s .plan) a plan))
     (sheetTests S ++ _) (solution S) (λ k. refl)
     (λ e.
     let f = solve-fills S (length u) (length v) (length plan) (solution S) e in
     let s = solution S in
-    rw (lent-filled (λ s. s .u) s (roasteries S) (f .u) u, lent-filled (λ s. s .v) s (cafes S) (f .v) v, lent-filled (λ s. s .plan) s (roasteries S * cafes S) (f .plan) plan, planCost-size S (settled S)))
+    rw (
+      lent-filled (λ s. s .u) s (roasteries S) (f .u) u,
+      lent-filled (λ s. s .v) s (cafes S) (f .v) v,
+      lent-filled (λ s. s .plan) s (roasteries S * cafes S) (f .plan) plan,
+      planCost-size S (settled S),
+    ))
 
 -- ---- texts
 
@@ -131,17 +148,23 @@ readSheet-says text supply demand cost = go (sheetReader text) refl
 
     back : (S : Sheet) → length (S .cost) ≡ roasteries S * cafes S → says (given S) ≡ given S
     back S whole =
-        rw (lent-filled (λ S. S .supply) S (roasteries S) refl supply, lent-filled (λ S. S .demand) S (cafes S) refl demand, lent-filled (λ S. S .cost) S (roasteries S * cafes S) whole cost)
+        rw (
+          lent-filled (λ S. S .supply) S (roasteries S) refl supply,
+          lent-filled (λ S. S .demand) S (cafes S) refl demand,
+          lent-filled (λ S. S .cost) S (roasteries S * cafes S) whole cost,
+        )
 
     go : (o : Reading Sheet) → sheetReader text ≡ o → says (readWith tests text) ≡ readWith tests text
     go (stuck rest) e = rw (read-stuck tests text rest e)
-    go (got S rest) e = rw (read-got tests text S rest e) (unless-says says (tests S) S (λ k. refl) (λ g. back S (reader-iff text S rest .0 e .1 .sheet .lengths)))
+    go (got S rest) e = rw (read-got tests text S rest e)
+        (unless-says says (tests S) S (λ k. refl) (λ g. back S (reader-iff text S rest .0 e .1 .sheet .lengths)))
 
 -- A text, unless a test refuses.
 written-says : (tests : List (Bool × ℕ)) (text out : List ℕ) → let a = unless tests text in writeSays (writeAnswer a) (lentAfter (λ t. t) a out) ≡ a
 unfolding writeAnswer writeSays refusedBy
 written-says tests text out =
-    unless-says (λ a. writeSays (writeAnswer a) (lentAfter (λ t. t) a out)) tests text (λ k. refl) (λ e. ap given (lent-filled (λ t. t) text (length text) refl out))
+    unless-says (λ a. writeSays (writeAnswer a) (lentAfter (λ t. t) a out)) tests text (λ k. refl)
+    (λ e. ap given (lent-filled (λ t. t) text (length text) refl out))
 
 pub writeSheet-says : (S : Sheet) (out : List ℕ) → let a = writeSheetCall S (length out) in writeSays (writeAnswer a) (lentAfter (λ t. t) a out) ≡ a
 unfolding writeSheetCall

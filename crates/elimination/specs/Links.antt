@@ -75,7 +75,12 @@ bit-low x y h = omega arith
 ones-one : (x y : ℕ) → bit x y ≡ 1 → ((z : ℕ) → bit x z ≡ 1 → z ≡ y) → ones x ≡ 1
 ones-one x zero e u = omega (arith, ones-step x, ones-none (x / 2) (λ z. sym (bit-suc x z) ∙ bit-low x (suc z) (λ f. omega (arith, u (suc z) f))))
 ones-one x (suc y) e u =
-    omega (arith, ones-step x, bit-low x 0 (λ f. omega (arith, u 0 f)), ones-one (x / 2) y (sym (bit-suc x y) ∙ e) (λ z f. omega (arith, u (suc z) (bit-suc x z ∙ f))))
+    omega (
+      arith,
+      ones-step x,
+      bit-low x 0 (λ f. omega (arith, u 0 f)),
+      ones-one (x / 2) y (sym (bit-suc x y) ∙ e) (λ z f. omega (arith, u (suc z) (bit-suc x z ∙ f))),
+    )
 
 pub single : (x y : ℕ) → has x y ≡ true → ((z : ℕ) → has x z ≡ true → z ≡ y) → ones x ≡ 1
 single x y e u = ones-one x y (eqb-true (bit x y) 1 e) (λ z f. u z (eq-eqb (bit x z) 1 f))
@@ -169,7 +174,8 @@ module _ {m n : ℕ} {live : List ℕ} (w : Links m n live) (p b : ℕ) (len : l
   end-room = omega (arith, end-below w p b low e, w .rowsHigh, w .colsHigh)
 
   pub at-leaf : getD (without-lane m live p b) p 0 ≡ 0
-  at-leaf = getD-set-other (set live p 0) (otherEnd m p b) p (cut (getD live (otherEnd m p b) 0) (ownBit m p)) 0 (λ q. end-apart w p b low e (sym q)) ∙ getD-set-same live p 0 0 (omega (arith, w .rowsHigh, w .colsHigh))
+  at-leaf = getD-set-other (set live p 0) (otherEnd m p b) p (cut (getD live (otherEnd m p b) 0) (ownBit m p)) 0 (λ q. end-apart w p b low e (sym q))
+      ∙ getD-set-same live p 0 0 (omega (arith, w .rowsHigh, w .colsHigh))
 
   pub at-end : getD (without-lane m live p b) (otherEnd m p b) 0 ≡ cut (getD live (otherEnd m p b) 0) (ownBit m p)
   at-end = getD-set-same (set live p 0) (otherEnd m p b) (cut (getD live (otherEnd m p b) 0) (ownBit m p)) 0 (simp length-set (omega (arith, end-room)))
@@ -185,7 +191,8 @@ module _ {m n : ℕ} {live : List ℕ} (w : Links m n live) (p b : ℕ) (len : l
     where
       at : x ≢ p → x ≡ otherEnd m p b → (tied live x y ≡ true) × (x ≢ p) × (otherEnd m x y ≢ p)
       at s r =
-          let g : not (eqb y (ownBit m p)) && tied live x y ≡ true = rw r (sym (has-cut (getD live (otherEnd m p b) 0) (ownBit m p) y) ∙ ap (λ z. has z y) (sym at-end) ∙ ap (λ z. tied (without-lane m live p b) z y) (sym r) ∙ h) in
+          let g : not (eqb y (ownBit m p)) && tied live x y ≡ true = rw r (sym (has-cut (getD live (otherEnd m p b) 0) (ownBit m p) y)
+          ∙ ap (λ z. has z y) (sym at-end) ∙ ap (λ z. tied (without-lane m live p b) z y) (sym r) ∙ h) in
           let t = and-right (not (eqb y (ownBit m p))) (tied live x y) g in
           let d = eqb-false y (ownBit m p) (not-true (eqb y (ownBit m p)) (and-left (not (eqb y (ownBit m p))) (tied live x y) g)) in
           (t, s, λ f. d (sym (own-end w x y l t) ∙ ap (ownBit m) f))

@@ -1,4 +1,5 @@
--- The queue of leaves: distinct nodes, those before place k struck and without a lane, those from k up to tail with at most one. Every leaf that is left waits in it.
+-- The queue of leaves: distinct nodes, those before place k struck and without a lane, those from k up to tail with at most one. Every leaf that is left
+-- waits in it.
 use mathlib.Core.Path.{_≡_, refl, sym, ap, _∙_}
 use mathlib.Core.Logic.{_≢_, _⊎_, inl, inr, ⊎-elim, by-cases}
 use mathlib.Core.Bool.{Bool, true, false, not, _&&_, cond, true≢false, false≢true}
@@ -16,7 +17,8 @@ use Rattle.transport.specs.Laws.ListLaws.{and-left, and-right, sumTo-cong, sumT
 use Rattle.basis.specs.Mask.{bit, has, cut, has-cut, has-zero, ones-zero, only}
 use Rattle.basis.specs.Layout.{nodeRoom}
 use Rattle.tableaux.specs.Leaves.{one-at, sum-one-at, sum-ones, unless, unless-bits}
-use Rattle.elimination.specs.Links.{Links, otherEnd, ownBit, joins, tied, ones-some, end-below, end-back, without-lane, at-leaf, at-end, at-rest, gone-from}
+use Rattle.elimination.specs.Links.{Links, otherEnd, ownBit, joins, tied, ones-some, end-below, end-back, without-lane, at-leaf, at-end, at-rest}
+use Rattle.elimination.specs.Links.{gone-from}
 
 -- The queue holds nodes below N, and every leaf that P says.
 pub record QueueOf (N : ℕ) (P : ℕ → Type 0) (live leaf : List ℕ) (k tail : ℕ) : Type 0 where
@@ -49,7 +51,8 @@ free f N (suc t) b d = go (free f N t (λ h l. b h (omega arith)) (λ h k l r. d
       count = omega (
         arith,
         r .count,
-        sumTo-cong N (λ x. cond (r .left x) 1 0) (λ x. cond (unless (f t) (r .left) x) 1 0 + one-at (f t) x) (λ x l. unless-bits (f t) (r .left) x (r .stays (f t) (λ k l. d k t l (omega arith)))),
+        sumTo-cong N (λ x. cond (r .left x) 1 0) (λ x. cond (unless (f t) (r .left) x) 1 0 + one-at (f t) x)
+            (λ x l. unless-bits (f t) (r .left) x (r .stays (f t) (λ k l. d k t l (omega arith)))),
         sumTo-add N (λ x. cond (unless (f t) (r .left) x) 1 0) (one-at (f t)),
         sum-one-at N (f t) (b t (omega arith)),
       );
@@ -97,7 +100,8 @@ module _ {N N′ : ℕ} {P P′ : ℕ → Type 0} {live leaf : List ℕ} {k tail
         dead = λ t l. rw (before t (omega (arith, q .order))) (q .dead t l);
         few = λ t l r. by-cases (decLt t tail)
             (λ s. rw (before t s) (q .few t l s))
-            (λ s. let z : t ≡ tail = omega arith in rw (z, last) (λ y v f g. only (getD live o 0) y v (omega (arith, one)) (eqb-true (bit (getD live o 0) y) 1 f) (eqb-true (bit (getD live o 0) v) 1 g)));
+            (λ s. let z : t ≡ tail = omega arith in rw (z, last)
+            (λ y v f g. only (getD live o 0) y v (omega (arith, one)) (eqb-true (bit (getD live o 0) y) 1 f) (eqb-true (bit (getD live o 0) v) 1 g)));
         listed = λ x z p u. ⊎-elim
             (λ s. (tail, q .order, omega arith, last ∙ sym s))
             (λ s. let (t, a, b, c) = q .listed x z s u in (t, a, omega arith, before t b ∙ c))
@@ -132,7 +136,8 @@ queue-next x p l e q =
 
 -- ---- a leaf is struck
 
-module _ {m n : ℕ} {live leaf : List ℕ} {k tail : ℕ} (w : Links m n live) (len : length live ≡ nodeRoom) (size : length leaf ≡ nodeRoom) (q : Queue (m + n) live leaf k tail)
+module _ {m n : ℕ} {live leaf : List ℕ} {k tail : ℕ} (w : Links m n live) (len : length live ≡ nodeRoom) (size : length leaf ≡ nodeRoom)
+    (q : Queue (m + n) live leaf k tail)
     (waits : k < tail) (b : ℕ) (e : tied live (getD leaf k 0) b ≡ true) where
   abbrev leaf-now : ℕ
   leaf-now = getD leaf k 0
@@ -182,20 +187,26 @@ module _ {m n : ℕ} {live leaf : List ℕ} {k tail : ℕ} (w : Links m n live) 
       back = end-back w leaf-now b leaf-low e
 
       one : ones (getD live-next (otherEnd m leaf-now b) 0) ≡ 1
-      one = eqb-true (ones (getD live-next (otherEnd m leaf-now b) 0)) 1 (and-right (not (eqb (otherEnd m leaf-now b) 0)) (eqb (ones (getD live-next (otherEnd m leaf-now b) 0)) 1) j)
+      one = eqb-true (ones (getD live-next (otherEnd m leaf-now b) 0)) 1
+          (and-right (not (eqb (otherEnd m leaf-now b) 0)) (eqb (ones (getD live-next (otherEnd m leaf-now b) 0)) 1) j)
 
       lone : (y : ℕ) × (tied live-next (otherEnd m leaf-now b) y ≡ true) → k ≤ t → ⊥
       lone (y, h) r =
           let f : not (eqb y (ownBit m leaf-now)) && tied live (otherEnd m leaf-now b) y ≡ true =
-          sym (has-cut (getD live (otherEnd m leaf-now b) 0) (ownBit m leaf-now) y) ∙ ap (λ z. has z y) (sym (at-end w leaf-now b len leaf-low e leaf-few)) ∙ h in
+          sym (has-cut (getD live (otherEnd m leaf-now b) 0) (ownBit m leaf-now) y) ∙ ap (λ z. has z y) (sym (at-end w leaf-now b len leaf-low e leaf-few))
+          ∙ h in
           let g : tied live (getD leaf t 0) y ≡ true = rw s (and-right (not (eqb y (ownBit m leaf-now))) (tied live (otherEnd m leaf-now b) y) f) in
           let g′ : tied live (getD leaf t 0) (ownBit m leaf-now) ≡ true = rw s back in
-          eqb-false y (ownBit m leaf-now) (not-true (eqb y (ownBit m leaf-now)) (and-left (not (eqb y (ownBit m leaf-now))) (tied live (otherEnd m leaf-now b) y) f)) (q .few t r l y (ownBit m leaf-now) g g′)
+          eqb-false y (ownBit m leaf-now) (not-true (eqb y (ownBit m leaf-now))
+          (and-left (not (eqb y (ownBit m leaf-now))) (tied live (otherEnd m leaf-now b) y) f)) (q .few t r l y (ownBit m leaf-now) g g′)
 
-  pub queue-struck : Queue (m + n) live-next (set leaf tail (otherEnd m leaf-now b)) (k + 1) (tail + cond (joins (otherEnd m leaf-now b) (cut (getD live (otherEnd m leaf-now b) 0) (ownBit m leaf-now))) 1 0)
+  pub queue-struck : Queue (m + n) live-next (set leaf tail (otherEnd m leaf-now b)) (k + 1) (tail
+      + cond (joins (otherEnd m leaf-now b) (cut (getD live (otherEnd m leaf-now b) 0) (ownBit m leaf-now))) 1 0)
   queue-struck =
-      let r : Queue (m + n) live-next (set leaf tail (otherEnd m leaf-now b)) (k + 1) (tail + cond (joins (otherEnd m leaf-now b) (getD live-next (otherEnd m leaf-now b) 0)) 1 0) =
-      push (otherEnd m leaf-now b) (omega (arith, room (omega (arith, w .rowsLow)) q, w .rowsHigh, w .colsHigh)) (omega arith) (end-below w leaf-now b leaf-low e)
+      let r : Queue (m + n) live-next (set leaf tail (otherEnd m leaf-now b)) (k + 1) (tail
+      + cond (joins (otherEnd m leaf-now b) (getD live-next (otherEnd m leaf-now b) 0)) 1 0) =
+      push (otherEnd m leaf-now b) (omega (arith, room (omega (arith, w .rowsLow)) q, w .rowsHigh, w .colsHigh)) (omega arith)
+      (end-below w leaf-now b leaf-low e)
       (λ x p. by-cases (ℕ-discrete x (otherEnd m leaf-now b)) inl (λ s. inr (p, s)))
       fresh-end
       after-strike in

@@ -12,7 +12,8 @@ use Rattle.transport.specs.Problem.{Lane}
 use Rattle.transport.specs.Laws.ProblemLaws.{lane}
 use Rattle.basis.specs.Mask.{cut}
 use Rattle.basis.specs.Layout.{stride, nodeRoom, laneAt, strikeOf, strikesOf, length-strikes}
-use Rattle.elimination.specs.Links.{Links, Masks, otherEnd, ownBit, laneTo, joins, tied, Seen, of-row, of-col, seen, without-lane, links-without, place-row, place-col}
+use Rattle.elimination.specs.Links.{Links, Masks, otherEnd, ownBit, laneTo, joins, tied, Seen, of-row, of-col, seen, without-lane, links-without}
+use Rattle.elimination.specs.Links.{place-row, place-col}
 use Rattle.elimination.specs.Queue.{Queue, room, leaf-low, leaf-few, queue-struck}
 use Rattle.elimination.specs.Strip.{Strip, Stripped, nodeLane, nodeStrike, lane-row, lane-col, strip-start, strip-next, stripped-empty, stripped-lost}
 
@@ -26,11 +27,21 @@ pub record State (m n : ℕ) (adj live leaf other lane : List ℕ) (k tail : ℕ
   pub queue : Queue (m + n) live leaf k tail
   pub strip : (B : List Lane) → Masks m n B adj → Strip m n B live leaf (strikesOf leaf other lane k) k
 
-pub state-start : {m n : ℕ} {adj leaf other lane : List ℕ} {tail : ℕ} → length adj ≡ nodeRoom → length leaf ≡ nodeRoom → length other ≡ nodeRoom → length lane ≡ nodeRoom
+pub state-start : {m n : ℕ} {adj leaf other lane : List ℕ} {tail : ℕ} → length adj ≡ nodeRoom → length leaf ≡ nodeRoom → length other ≡ nodeRoom → length lane
+    ≡ nodeRoom
     → Links m n adj → Queue (m + n) adj leaf 0 tail → State m n adj adj leaf other lane 0 tail
 unfolding strikesOf
 state-start {leaf = leaf} {other = other} {lane = lane} a b c d w q =
-    record { liveSize = a; leafSize = b; otherSize = c; laneSize = d; links = w; queue = q; strip = λ B M. rw (table-zero (strikeOf leaf other lane)) (strip-start M leaf w) }
+    record {
+      liveSize = a;
+      leafSize = b;
+      otherSize = c;
+      laneSize = d;
+      links = w;
+      queue = q;
+      strip =
+          λ B M. rw (table-zero (strikeOf leaf other lane)) (strip-start M leaf w);
+    }
 
 module _ {m n : ℕ} {adj live leaf other lane : List ℕ} {k tail : ℕ} (s : State m n adj live leaf other lane k tail) where
   module _ (waits : k < tail) (b : ℕ) (e : tied live (getD leaf k 0) b ≡ true) where
@@ -67,18 +78,29 @@ module _ {m n : ℕ} {adj live leaf other lane : List ℕ} {k tail : ℕ} (s : S
         (ap (λ z. table k (strikeOf leaf other lane) ++ (z ∷ [])) last)
       where
         same : (t : ℕ) → t < k → strikeOf (set leaf tail end) (set other k end) (set lane k place) t ≡ strikeOf leaf other lane t
-        same t l = rw (getD-set-other leaf tail t end 0 (omega arith), getD-set-other other k t end 0 (omega arith), getD-set-other lane k t place 0 (omega arith))
+        same t l = rw (
+          getD-set-other leaf tail t end 0 (omega arith),
+          getD-set-other other k t end 0 (omega arith),
+          getD-set-other lane k t place 0 (omega arith),
+        )
 
         last : strikeOf (set leaf tail end) (set other k end) (set lane k place) k ≡ nodeStrike m now b
-        last = rw (getD-set-other leaf tail k end 0 (omega arith), getD-set-same other k end 0 (omega (arith, k-room, s .otherSize)), getD-set-same lane k place 0 (omega (arith, k-room, s .laneSize)), lane-placed)
+        last = rw (
+          getD-set-other leaf tail k end 0 (omega arith),
+          getD-set-same other k end 0 (omega (arith, k-room, s .otherSize)),
+          getD-set-same lane k place 0 (omega (arith, k-room, s .laneSize)),
+          lane-placed,
+        )
 
-    pub state-next : State m n adj (without-lane m live now b) (set leaf tail end) (set other k end) (set lane k place) (k + 1) (tail + cond (joins end (cut (getD live end 0) (ownBit m now))) 1 0)
+    pub state-next : State m n adj (without-lane m live now b) (set leaf tail end) (set other k end) (set lane k place) (k + 1) (tail
+        + cond (joins end (cut (getD live end 0) (ownBit m now))) 1 0)
     state-next = record {
       liveSize = simp length-set (s .liveSize);
       leafSize = simp length-set (s .leafSize);
       otherSize = simp length-set (s .otherSize);
       laneSize = simp length-set (s .laneSize);
-      links = links-without (s .links) now b (s .liveSize) (leaf-low (s .links) (s .liveSize) (s .leafSize) (s .queue) waits b e) e (leaf-few (s .links) (s .liveSize) (s .leafSize) (s .queue) waits b e);
+      links = links-without (s .links) now b (s .liveSize) (leaf-low (s .links) (s .liveSize) (s .leafSize) (s .queue) waits b e) e
+          (leaf-few (s .links) (s .liveSize) (s .leafSize) (s .queue) waits b e);
       queue = queue-struck (s .links) (s .liveSize) (s .leafSize) (s .queue) waits b e;
       strip = λ B M. rw strikes-next (strip-next M (s .links) (s .liveSize) (s .leafSize) (s .queue) waits b e (s .strip B M));
     }

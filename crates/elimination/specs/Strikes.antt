@@ -24,7 +24,8 @@ module _ (m n : ℕ) (leaf other lane : List ℕ) (count : ℕ) (p : Peeled m n 
   step-at : (k : ℕ) → k < count → (later : List Strike) × Step m n (strikeOf leaf other lane k) later
   step-at k l =
       let s = strikeOf leaf other lane k in
-      step-of p s (rw (getD-strikes leaf other lane count k s l) at (member-at (strikesOf leaf other lane count) s k (omega (arith, length-strikes leaf other lane count))))
+      step-of p s (rw (getD-strikes leaf other lane count k s l) at
+      (member-at (strikesOf leaf other lane count) s k (omega (arith, length-strikes leaf other lane count))))
 
   pub leaf-in : (k : ℕ) → k < count → getD leaf k 0 < m + n
   leaf-in k l = leaf-below (step-at k l .1)
@@ -46,7 +47,8 @@ module _ (m n : ℕ) (leaf other lane : List ℕ) (count : ℕ) (p : Peeled m n 
       (rw (getD-strikes leaf other lane count k s r, getD-strikes leaf other lane count i s (omega arith)) (ap laneAt e))
 
 -- The strikes of lanes that span, as the functions over strikes want them.
-pub strikes-room : {B : List Lane} (m n : ℕ) (leaf other lane : List ℕ) (count : ℕ) → m ≤ stride → n ≤ stride → length lane ≡ nodeRoom → Struck m n B (strikesOf leaf other lane count)
+pub strikes-room : {B : List Lane} (m n : ℕ) (leaf other lane : List ℕ) (count : ℕ) → m ≤ stride → n ≤ stride → length lane ≡ nodeRoom
+    → Struck m n B (strikesOf leaf other lane count)
     → layout.Struck leaf other lane count
 strikes-room m n leaf other lane count h v long s = record {
   few = omega (arith, s .size, length-strikes leaf other lane count);

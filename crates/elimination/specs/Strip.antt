@@ -2,7 +2,8 @@
 use mathlib.Core.Path.{_≡_, refl, sym, ap, _∙_}
 use mathlib.Core.Logic.{_≢_, _⊎_, inl, inr, ⊎-elim, by-cases}
 use mathlib.Core.Bool.{Bool, true, false, not, _&&_, cond, true≢false}
-use mathlib.Core.List.{List, [], _∷_, _++_, List·Memᴰ, List·Memᴰ·head, List·Memᴰ·tail, List·Memᴰ·not-nil, List·Memᴰ·cases-cons, List·Memᴰ·append-cases, Memᴰ·append-left, Memᴰ·append-right, List·Memᴰ·eq-of-singleton, Memᴰ·cast}
+use mathlib.Core.List.{List, [], _∷_, _++_, List·Memᴰ, List·Memᴰ·head, List·Memᴰ·tail, List·Memᴰ·not-nil, List·Memᴰ·cases-cons, List·Memᴰ·append-cases}
+use mathlib.Core.List.{Memᴰ·append-left, Memᴰ·append-right, List·Memᴰ·eq-of-singleton, Memᴰ·cast}
 use Prim.Native.Nat.{ℕ, suc, _+_, _-_, _<_, _≤_}
 use native.Mathlib.Omega.{arith}
 use native.Mathlib.Decide.{decLt}
@@ -11,7 +12,8 @@ use lib.Dec.{ltb}
 use lib.ListN.{length, getD, set}
 use lib.Seq.{getD-set-other}
 use Rattle.transport.specs.Lists.{keep, table}
-use Rattle.transport.specs.Laws.ListLaws.{keep-yes, keep-no, keep-none, keep-all, keep-cong, keep-keep, keep-member, member-keep, all-members, member-place, member-at, and-left, and-right}
+use Rattle.transport.specs.Laws.ListLaws.{keep-yes, keep-no, keep-none, keep-all, keep-cong, keep-keep, keep-member, member-keep, all-members, member-place}
+use Rattle.transport.specs.Laws.ListLaws.{member-at, and-left, and-right}
 use Rattle.transport.specs.Problem.{Lane}
 use Rattle.transport.specs.Laws.ProblemLaws.{lane}
 use Rattle.transport.specs.Tableau.{basisSize}
@@ -20,14 +22,18 @@ use Rattle.transport.specs.Belonging.{spans}
 use Rattle.basis.specs.Mask.{has, has-zero}
 use Rattle.basis.specs.Layout.{nodeRoom}
 use Rattle.tableaux.specs.Lanes.{Has}
-use Rattle.tableaux.specs.Leaves.{Ends, row-struck, column-struck, Leaf, Linked, Others, at-node, without, unless, found, leaf-exists, leaf-struck, leaf-member, leaf-lane, length-without, has-lane, touches-true, touches-false}
-use Rattle.tableaux.specs.Striking.{no-members, nodes-others, Step, Peeled, bare, peel, Struck, every-leaf, strike-once, struck-joined, joined-linked, spans-iff}
-use Rattle.elimination.specs.Links.{Links, Masks, otherEnd, ownBit, tied, single, iff-same, end-row, end-col, end-back, Seen, of-row, of-col, seen, without-lane, gone-from, gone-to}
+use Rattle.tableaux.specs.Leaves.{Ends, row-struck, column-struck, Leaf, Linked, Others, at-node, without, unless, found, leaf-exists, leaf-struck, leaf-member}
+use Rattle.tableaux.specs.Leaves.{leaf-lane, length-without, has-lane, touches-true, touches-false}
+use Rattle.tableaux.specs.Striking.{no-members, nodes-others, Step, Peeled, bare, peel, Struck, every-leaf, strike-once, struck-joined, joined-linked}
+use Rattle.tableaux.specs.Striking.{spans-iff}
+use Rattle.elimination.specs.Links.{Links, Masks, otherEnd, ownBit, tied, single, iff-same, end-row, end-col, end-back, Seen, of-row, of-col, seen}
+use Rattle.elimination.specs.Links.{without-lane, gone-from, gone-to}
 use Rattle.elimination.specs.Queue.{Queue, leaf-low, leaf-few}
 
 -- ---- a list of distinct elements, of which one passes the test
 
-keep-single : {A : Type 0} (p : A → Bool) (d y : A) (xs : List A) → ((h k : ℕ) → h < k → k < length xs → getD xs h d ≢ getD xs k d) → List·Memᴰ y xs → p y ≡ true
+keep-single : {A : Type 0} (p : A → Bool) (d y : A) (xs : List A) → ((h k : ℕ) → h < k → k < length xs → getD xs h d ≢ getD xs k d) → List·Memᴰ y xs → p y
+    ≡ true
     → ((x : A) → List·Memᴰ x xs → p x ≡ true → x ≡ y) → keep p xs ≡ y ∷ []
 keep-single p d y [] distinct h e u = absurd (List·Memᴰ·not-nil h)
 keep-single {A} p d y (x ∷ xs) distinct h e u = go (p x) refl (keep-single p d y xs (λ a b l r. distinct (suc a) (suc b) (omega arith) (omega arith)))
@@ -46,7 +52,8 @@ keep-single {A} p d y (x ∷ xs) distinct h e u = go (p x) refl (keep-single p d
 
 -- ---- one strike more at the end
 
-peeled-last : {m n : ℕ} {ss : List Strike} {s : Strike} → Peeled m n ss → Step m n s [] → ((t : Strike) → List·Memᴰ t ss → (s .leaf ≢ t .leaf) × (s .other ≢ t .leaf))
+peeled-last : {m n : ℕ} {ss : List Strike} {s : Strike} → Peeled m n ss → Step m n s []
+    → ((t : Strike) → List·Memᴰ t ss → (s .leaf ≢ t .leaf) × (s .other ≢ t .leaf))
     → Peeled m n (ss ++ (s ∷ []))
 peeled-last bare st clear = peel st bare
 peeled-last {m} {n} {ss} {s} (peel {s = t} {later} u rest) st clear =
@@ -55,7 +62,8 @@ peeled-last {m} {n} {ss} {s} (peel {s = t} {later} u rest) st clear =
       row = u .row;
       col = u .col;
       proper = u .proper;
-      clear = λ r h. ⊎-elim (u .clear r) (λ q. let e : r ≡ s = List·Memᴰ·eq-of-singleton q in rw e (clear t (List·Memᴰ·head refl))) (List·Memᴰ·append-cases later h);
+      clear = λ r h. ⊎-elim (u .clear r) (λ q. let e : r ≡ s = List·Memᴰ·eq-of-singleton q in
+          rw e (clear t (List·Memᴰ·head refl))) (List·Memᴰ·append-cases later h);
     })
     (peeled-last rest st (λ r h. clear r (List·Memᴰ·tail h)))
 
@@ -115,8 +123,12 @@ module _ {m n : ℕ} {live : List ℕ} (w : Links m n live) where
   touched : (x : ℕ) (l : Lane) → l .row < m → l .col < n → alive live l ≡ true → touches m x l ≡ true → (y : ℕ) × (tied live x y ≡ true) × (l ≡ nodeLane m x y)
   touched x l p q e t = ⊎-elim
       (λ r. (l .col, ap (λ z. tied live z (l .col)) (sym r) ∙ e, (λ i. lane (r i) (l .col)) ∙ sym (lane-row m x (l .col) (omega arith))))
-      (λ r. let s : l .col ≡ x - m = omega arith in
-      (l .row, ap (λ z. tied live z (l .row)) (sym r) ∙ w .same (l .row) (l .col) p q ∙ e, (λ i. lane (l .row) (s i)) ∙ sym (lane-col m x (l .row) (omega arith))))
+      (λ r. let s : l .col ≡ x - m = omega arith in (
+        l .row,
+        ap (λ z. tied live z (l .row)) (sym r) ∙ w .same (l .row) (l .col) p q ∙ e,
+        (λ i. lane (l .row) (s i))
+            ∙ sym (lane-col m x (l .row) (omega arith)),
+      ))
       (touches-true m x l t)
 
 -- ---- what is left of B
@@ -170,7 +182,8 @@ module _ {m n : ℕ} {B : List Lane} {adj : List ℕ} (M : Masks m n B adj) wher
 
 -- ---- a leaf of B is struck
 
-module _ {m n : ℕ} {B : List Lane} {adj live leaf : List ℕ} {k tail : ℕ} (M : Masks m n B adj) (w : Links m n live) (len : length live ≡ nodeRoom) (size : length leaf ≡ nodeRoom)
+module _ {m n : ℕ} {B : List Lane} {adj live leaf : List ℕ} {k tail : ℕ} (M : Masks m n B adj) (w : Links m n live) (len : length live ≡ nodeRoom)
+    (size : length leaf ≡ nodeRoom)
     (q : Queue (m + n) live leaf k tail) (waits : k < tail) (b : ℕ) (e : tied live (getD leaf k 0) b ≡ true) where
   abbrev now : ℕ
   now = getD leaf k 0
@@ -213,7 +226,8 @@ module _ {m n : ℕ} {B : List Lane} {adj live leaf : List ℕ} {k tail : ℕ} (
       from : alive live l && not (touches m now l) ≡ true → alive next l ≡ true
       from a =
           let (r, c) = touches-false m now l (not-true (touches m now l) (and-right (alive live l) (not (touches m now l)) a)) in
-          gone-to w now b len low e few (l .row) (l .col) (omega (arith, p)) (and-left (alive live l) (not (touches m now l)) a) r (λ g. c (sym (end-row m (l .row) (l .col) p) ∙ g))
+          gone-to w now b len low e few (l .row) (l .col) (omega (arith, p)) (and-left (alive live l) (not (touches m now l)) a) r
+          (λ g. c (sym (end-row m (l .row) (l .col) p) ∙ g))
 
   left-over : liveOf next B ≡ without m now (liveOf live B)
   left-over = keep-cong (alive next) (λ l. alive live l && not (touches m now l)) B after ∙ sym (keep-keep (λ l. not (touches m now l)) (alive live) B)
@@ -224,7 +238,8 @@ module _ {m n : ℕ} {B : List Lane} {adj live leaf : List ℕ} {k tail : ℕ} (
 
     is-leaf : Leaf m (table (basisSize m n) suc) (liveOf live B) strike
     is-leaf = record {
-      only = keep-keep (touches m now) (alive live) B ∙ keep-single (λ l. alive live l && touches m now l) (lane 0 0) (strike .lane) B (M .distinct) inB (rw (own .lives) (own .touch))
+      only = keep-keep (touches m now) (alive live) B
+          ∙ keep-single (λ l. alive live l && touches m now l) (lane 0 0) (strike .lane) B (M .distinct) inB (rw (own .lives) (own .touch))
           (λ l h t. alone l h (and-left (alive live l) (touches m now l) t) (and-right (alive live l) (touches m now l) t));
       ends = own .ends;
       listed = others now .1 (q .nodes k waits .0, low);
@@ -233,8 +248,10 @@ module _ {m n : ℕ} {B : List Lane} {adj live leaf : List ℕ} {k tail : ℕ} (
     -- Neither end of the lane is a leaf that was struck before.
     apart : (t : Strike) → List·Memᴰ t ss → (now ≢ t .leaf) × (strike .other ≢ t .leaf)
     apart t h =
-        let (a, l, g) = S .leaves t h in
-        ((λ f. q .once a k l waits (sym g ∙ sym f)), (λ f. true≢false (sym (end-back w now b low e) ∙ ap (λ z. tied live z (ownBit m now)) (f ∙ g) ∙ q .dead a l (ownBit m now))))
+        let (a, l, g) = S .leaves t h in (
+          (λ f. q .once a k l waits (sym g ∙ sym f)),
+          (λ f. true≢false (sym (end-back w now b low e) ∙ ap (λ z. tied live z (ownBit m now)) (f ∙ g) ∙ q .dead a l (ownBit m now))),
+        )
 
     before : (t : ℕ) → t < k + 1 → getD (set leaf tail (strike .other)) t 0 ≡ getD leaf t 0
     before t l = getD-set-other leaf tail t (strike .other) 0 (omega arith)
@@ -242,7 +259,8 @@ module _ {m n : ℕ} {B : List Lane} {adj live leaf : List ℕ} {k tail : ℕ} (
     pub strip-next : Strip m n B next (set leaf tail (strike .other)) (ss ++ (strike ∷ [])) (k + 1)
     strip-next = record {
       part = λ i j p r h. S .part i j p r (gone-from w now b len low e few i j (omega arith) h .0);
-      peels = peeled-last (S .peels) (record { ends = own .ends; row = own .row; col = own .col; proper = q .nodes k waits .0; clear = λ t h. absurd (List·Memᴰ·not-nil h) }) apart;
+      peels = peeled-last (S .peels)
+          (record { ends = own .ends; row = own .row; col = own .col; proper = q .nodes k waits .0; clear = λ t h. absurd (List·Memᴰ·not-nil h) }) apart;
       lanes = λ s h. ⊎-elim (S .lanes s) (λ r. Memᴰ·cast (ap (λ (t : Strike). t .lane) (List·Memᴰ·eq-of-singleton r)) inB) (List·Memᴰ·append-cases ss h);
       struck = λ l h. ⊎-elim (λ a. at l h a (touches m now l) refl) (λ (s, r, g). inr (s, Memᴰ·append-left (strike ∷ []) r, g)) (S .struck l h);
       leaves = λ s h. ⊎-elim
@@ -252,7 +270,10 @@ module _ {m n : ℕ} {B : List Lane} {adj live leaf : List ℕ} {k tail : ℕ} (
       count = omega (arith, S .count, ap length left-over, length-without is-leaf);
       hangs = λ s. let g = S .hangs s in record {
         left = unless now (g .left);
-        stays = λ x h. rw (g .stays x (λ t l. rw (← before t (omega arith)) (h t (omega arith))), ne-eqb now x (rw (← before k (omega arith)) (h k (omega arith))));
+        stays = λ x h. rw (
+          g .stays x (λ t l. rw (← before t (omega arith)) (h t (omega arith))),
+          ne-eqb now x (rw (← before k (omega arith)) (h k (omega arith))),
+        );
         linked = rw left-over (leaf-struck (g .linked) others is-leaf);
       };
     }
@@ -295,7 +316,8 @@ module _ {m n : ℕ} {B : List Lane} {adj live leaf : List ℕ} {ss : List Strik
           let (y, g, v) = touched w (s .leaf) (s .lane) (M .inside (s .lane) h .0) (M .inside (s .lane) h .1) a t in
           let (t, c, d, x) = q .listed (s .leaf) z low (single (getD live (s .leaf) 0) y g (λ u i.
           let o = laid w (s .leaf) u low i in
-          let p : List·Memᴰ (nodeLane m (s .leaf) u) (liveOf live B) = member-keep (alive live) (o .lives) (S .part (nodeLane m (s .leaf) u .row) (nodeLane m (s .leaf) u .col) (o .row) (o .col) (o .lives)) in
+          let p : List·Memᴰ (nodeLane m (s .leaf) u) (liveOf live B) =
+          member-keep (alive live) (o .lives) (S .part (nodeLane m (s .leaf) u .row) (nodeLane m (s .leaf) u .col) (o .row) (o .col) (o .lives)) in
           lane-same m (s .leaf) u y (leaf-lane f (nodeLane m (s .leaf) u) p (o .touch) ∙ v))) in
           omega arith
 
@@ -306,7 +328,8 @@ module _ {m n : ℕ} {B : List Lane} {adj live leaf : List ℕ} {ss : List Strik
 
   -- A node that waits has a lane still, for it is joined to the root.
   pub stripped-lost : k < tail → getD live (getD leaf k 0) 0 ≡ 0 → Stripped m n B ss k
-  stripped-lost l e = stripped (λ s. let g = S .hangs s in absurd (has-lane (g .linked) (getD leaf k 0) (q .nodes k l .0) (q .nodes k l .1) (g .stays (getD leaf k 0) (λ t r. q .once t k r l)) (no-members (at-node m (getD leaf k 0) (liveOf live B)) none)))
+  stripped-lost l e = stripped (λ s. let g = S .hangs s in absurd (has-lane (g .linked) (getD leaf k 0) (q .nodes k l .0) (q .nodes k l .1)
+      (g .stays (getD leaf k 0) (λ t r. q .once t k r l)) (no-members (at-node m (getD leaf k 0) (liveOf live B)) none)))
     where
       none : (l : Lane) → List·Memᴰ l (at-node m (getD leaf k 0) (liveOf live B)) → ⊥
       none l h =

@@ -1,5 +1,5 @@
--- What the walks of the calls on a lent list of cells share. Each lends the cells to `lent_tableau` and the sheet's lists to a function that takes the tableau. The lists
--- that are only read are Copy: each callee is passed a copy, and the exit has the rest.
+-- What the walks of the calls on a lent list of cells share. Each lends the cells to `lent_tableau` and the sheet's lists to a function that takes the
+-- tableau. The lists that are only read are Copy: each callee is passed a copy, and the exit has the rest.
 --     Lent, lent-is        the contract of `lent_tableau`, and what it ensures
 --     v₀ …, Own₀ …         the machine values of the supplies, demands, costs and cells, and what each list owns
 --     SheetToks, CellToks  the tokens of the sheet's lists, and of the cells
@@ -27,17 +27,18 @@ use denote.Triple.Statement.{Contract}
 use denote.Triple.Clauses.{ensured, lasts}
 use denote.Triple.Entry.{onEntry}
 use denote.Triple.Spec.{tripleOf}
+use Rattle.transport.specs.Tableau.{lentTableau}
 use Rattle.transport.specs.declared.Cell.{Cell}
 use Rattle.transport.specs.declared.Tableau.{Tableau}
 use Rattle.transport.proofs.Cell as T
-use Rattle.cells.specs.Lent.{lentTableau}
 use Rattle.cells.proofs.lent_tableau as lent
 
 module _ {M : Type 1} (𝓤 : URA M) (H : Heap 𝓤) (A : Atoms 𝓤) (mem : Memory → SProp 𝓤) (run : Routine → Fun 𝓤) where
   abbrev pub Lent : Contract 𝓤
   Lent = tripleOf 𝓤 H A lent.signature (lent.spec 𝓤 H A mem run)
 
-  pub lent-is : (κ : Lft) (x : RefT (List Cell)) (r : Tableau) → ent 𝓤 (ensured 𝓤 H A lent.ended (lent.clauses 𝓤 H A mem run) (κ, tt) (x, tt) tt r) (fact 𝓤 (r ≡ lentTableau (x .now)))
+  pub lent-is : (κ : Lft) (x : RefT (List Cell)) (r : Tableau)
+      → ent 𝓤 (ensured 𝓤 H A lent.ended (lent.clauses 𝓤 H A mem run) (κ, tt) (x, tt) tt r) (fact 𝓤 (r ≡ lentTableau (x .now)))
   lent-is κ x r = exE 𝓤 _ (λ ws. snd∗ 𝓤 (sem 𝓤 H A (lasts lent.ended (κ, tt) (x, tt) ws)) (fact 𝓤 (r ≡ lentTableau (x .now))))
 
 abbrev pub listVal : RefT (List ℕ) → Val
@@ -57,7 +58,8 @@ module _ {M : Type 1} (𝓤 : URA M) where
   abbrev pub Tok : Lft → Share → Item 𝓤
   Tok κ q = ‵ (flft κ q) ⊛ ‵ ftrue
 
-module _ {M : Type 1} (𝓤 : URA M) (H : Heap 𝓤) (A : Atoms 𝓤) (W : Given 𝓤 H A) (mem : Memory → SProp 𝓤) (run : Routine → Fun 𝓤) (κ : Lft) (q : Share) (x : RefT (List Cell)) where
+module _ {M : Type 1} (𝓤 : URA M) (H : Heap 𝓤) (A : Atoms 𝓤) (W : Given 𝓤 H A) (mem : Memory → SProp 𝓤) (run : Routine → Fun 𝓤) (κ : Lft) (q : Share)
+    (x : RefT (List Cell)) where
   abbrev pub to-lent : Lent 𝓤 H A mem run .Ghost
   to-lent = (((κ, tt), (q, tt), tt, (x, tt), (cellsVal x ∷ [], tt)), tt)
 

@@ -29,7 +29,8 @@ use Rattle.transport.specs.SheetText.{Reading, stuck, got, sheetReader, readTes
 use Rattle.transport.specs.Answers.{startAnswer, roundAnswer, runOutcome, runAnswer, settleAnswer, solveAnswer, readAnswer, writeAnswer}
 use Rattle.transport.specs.declared.Cell.{Cell}
 use Rattle.grammar.specs.SheetCalls.{read-got, read-stuck}
-use Rattle.exports.specs.Border.{StartOut, startOut, RoundOut, roundOut, RunOut, runOut, numberOf, SolveOut, solveOut, ReadOut, readOut, WriteOut, writeOut}
+use Rattle.exports.specs.Border.{StartOut, startOut, RoundOut, roundOut, RunOut, runOut, numberOf, SolveOut, solveOut, ReadOut, readOut, WriteOut}
+use Rattle.exports.specs.Border.{writeOut}
 
 abbrev pub started : StartOutcome → Tableau → StartOut
 started StartOutcome.Started t = record { refusal = 0; tableau = t }

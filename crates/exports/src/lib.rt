@@ -12,11 +12,11 @@ use transport::Tableau;
 use transport::WriteAnswer;
 ghost use mathlib.Core.Path.{_≡_};
 ghost use lib.ListN.{length};
+ghost use Rattle.transport.specs.Sheet.{sheetOf};
+ghost use Rattle.transport.specs.Tableau.{lentTableau};
 ghost use Rattle.transport.specs.Calls.{lentAfter, startCall, roundCall, runCall, settleCall, solveCall};
 ghost use Rattle.transport.specs.SheetText.{readSheetCall, writeSheetCall};
 ghost use Rattle.transport.specs.PlanText.{writePlanCall};
-ghost use Rattle.sheet.specs.Check.{sheetOf};
-ghost use Rattle.cells.specs.Lent.{lentTableau};
 ghost use Rattle.exports.specs.Border.{startOut, roundOut, runOut, numberOf, solveOut, readOut, writeOut};
 ghost use Rattle.exports.specs.Crossing.{written};
 

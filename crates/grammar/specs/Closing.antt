@@ -107,7 +107,8 @@ module _ (test : ℕ → Bool) (c : ℕ) (plain : isDigit c ≡ false) where
             (more-digit k x b ((ds ++ (c ∷ [])) ++ rest) both
             ∙ ih z .takes y (ds ++ (c ∷ [])) rest (record { ds = ds; follows = f .2; whole = e; written = refl }) tt)
 
-    tail-taken : (text : List ℕ) (y : ℕ) (rest : List ℕ) → closedBy c (moreDigits test (suc k) x) text ≡ got y rest → Taken (Tail test c (suc k) x) Any y text rest
+    tail-taken : (text : List ℕ) (y : ℕ) (rest : List ℕ) → closedBy c (moreDigits test (suc k) x) text ≡ got y rest
+        → Taken (Tail test c (suc k) x) Any y text rest
     tail-taken [] y rest e = absurd (stuck≢got (sym (last-end x) ∙ sym (more-end k x) ∙ e))
     tail-taken (b ∷ t) y rest e = go (isDigit b && test (x * 10 + digitValue b)) refl
       where

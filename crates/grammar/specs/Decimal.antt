@@ -65,6 +65,6 @@ decimal-digits (b ∷ ds) h = go (decLt (digitValue b) 1)
         rw (start, none) (digits-small (digitValue b) (v .1) ∙ rw (v .0))
     go (no z) = rw start (first-digits (λ x. true) (length ds) b ds (h .digit .0) (omega arith) (every-follows (digitValue b) ds (h .digit .1)))
 
--- Numbers are decimal, with no leading 0 except 0 itself.
+-- What is written of a number is such a numeral.
 pub digits-iff : (n : ℕ) (ds : List ℕ) → (ds ≡ digits n) ↔ Decimal ds × (value 0 ds ≡ n)
 digits-iff n ds = (λ e. rw e (digits-decimal n, value-digits n), λ h. sym (decimal-digits ds (h .0)) ∙ ap digits (h .1))

@@ -154,8 +154,8 @@ module _ {A B : Type 0} {r : Reader A} {s : A → Reader B} {L : A → List ℕ 
                 bind-got r s ((h .part ++ k .part) ++ b ∷ new) a (k .part ++ b ∷ new) g ∙ k .closed b old new f;
           }
 
-  -- Where the first reader is stuck, what it has read is completed to a text of its own and then by any text of the second; where the second is, the first takes
-  -- the same part of every text that goes on so.
+  -- Where the first reader is stuck, what it has read is completed to a text of its own and then by any text of the second; where the second is, the first
+  -- takes the same part of every text that goes on so.
   pub bind : Exact (r >>= s) (Then L M) After
   bind = record { takes = bind-takes; taken = bind-taken; stopped = bind-stopped }
 

@@ -16,8 +16,8 @@ use Rattle.grammar.specs.Lines.{number-line-exact, source-line-exact, si
 use Rattle.grammar.specs.Rows.{flatten-every, flatten-length, rowsOf-flatten, rowsOf-length, rowsOf-every, flatten-rowsOf}
 
 -- The sheet of what the sections hold.
-sheetOf : List ℕ → List ℕ → List (List ℕ) → Sheet
-sheetOf supply demand rows = record { supply = supply; demand = demand; cost = flatten rows }
+sheetOfRows : List ℕ → List ℕ → List (List ℕ) → Sheet
+sheetOfRows supply demand rows = record { supply = supply; demand = demand; cost = flatten rows }
 
 -- The sections in their order.
 abbrev Sections : Sheet → List ℕ → Type 0
@@ -30,11 +30,11 @@ Sections =
     Then (Of (Count Small n) (flatMap numberLine)) (λ demand.
     Then (Bytes (headLine "cost" m)) (λ u.
     Then (Of (Count (Count Small n) m) (flatMap rowLine)) (λ rows.
-    Only (sheetOf supply demand rows)))))))))
+    Only (sheetOfRows supply demand rows)))))))))
 
 -- Section by section, since the pieces are exact.
 sections-exact : Exact sheetReader Sections AtEnd
-unfolding sheetReader sheetOf
+unfolding sheetReader sheetOfRows
 sections-exact =
     then
     (word-exact (bytes "supply "))
@@ -47,7 +47,7 @@ sections-exact =
     then
     (word-exact (headLine "cost" m))
     (bind (times-exact (Count Small n) rowLine (row-exact n) m) (λ rows.
-    end-exact (sheetOf supply demand rows)))))))))
+    end-exact (sheetOfRows supply demand rows)))))))))
 
 -- The sections' texts one after the other.
 laidOut : (m n : ℕ) (supply demand : List ℕ) (rows : List (List ℕ)) → List ℕ
@@ -71,12 +71,12 @@ module _ (m n : ℕ) (supply demand : List ℕ) (rows : List (List ℕ)) (ms : l
   cut : rowsOf m n (flatten rows) ≡ rows
   cut = rw (← rs .0) (rowsOf-flatten Small n rows (rs .1))
 
-  sheetText-sections : sheetText (sheetOf supply demand rows) ≡ laidOut m n supply demand rows
-  unfolding sheetText sheetOf roasteries cafes laidOut
+  sheetText-sections : sheetText (sheetOfRows supply demand rows) ≡ laidOut m n supply demand rows
+  unfolding sheetText sheetOfRows roasteries cafes laidOut
   sheetText-sections = rw (ms, ns, cut, head-line m .0, head-line n .1) (simp (append-assoc, append-nil))
 
-  hasText-sections : Side maxSources m → Every Small supply → Side maxSinks n → Every Small demand → HasText (sheetOf supply demand rows)
-  unfolding sheetOf roasteries cafes
+  hasText-sections : Side maxSources m → Every Small supply → Side maxSinks n → Every Small demand → HasText (sheetOfRows supply demand rows)
+  unfolding sheetOfRows roasteries cafes
   hasText-sections sm es sn ed = record {
     sides = (rw ms sm, rw ns sn);
     lengths = flatten-length Small n rows (rs .1) ∙ rw (rs .0, ms, ns);
@@ -119,7 +119,7 @@ sections-there S text h =
     })
 
 sections-back : (S : Sheet) (text : List ℕ) → SheetTextOf S text → Sections S text
-unfolding laidOut sheetOf roasteries cafes
+unfolding laidOut sheetOfRows roasteries cafes
 sections-back S text h =
     let m = roasteries S in
     let n = cafes S in
@@ -127,7 +127,7 @@ sections-back S text h =
     let numbers = h .sheet .numbers in
     let costs : Every Small (S .cost) = at-every (S .cost) (λ k. numbers k .2) in
     let rs : Count (Count Small n) m rows = (rowsOf-length n m (S .cost), rowsOf-every Small n m (S .cost) (h .sheet .lengths) costs) in
-    let same : S ≡ sheetOf (S .supply) (S .demand) rows =
+    let same : S ≡ sheetOfRows (S .supply) (S .demand) rows =
     ap (λ (c : List ℕ). record { supply = S .supply; demand = S .demand; cost = c }) (sym (flatten-rowsOf n m (S .cost) (h .sheet .lengths)))
     in
     let written : text ≡ laidOut m n (S .supply) (S .demand) rows =

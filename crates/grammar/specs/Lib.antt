@@ -1,5 +1,5 @@
--- The theorems about the sheet text: `reader-iff` and `place` (Place), `text-length` (Longest), `readSheet-iff`, `writeSheet-iff`, `undo`, `nine-iff` and `read-cut`
--- (SheetCalls), and `digits-iff` (Decimal) and `digits-length` (Digits). They rest on `sheet-exact` (Grammar).
+-- The theorems about the sheet text: `reader-iff` and `place` (Place), `text-length` (Longest), `readSheet-iff`, `writeSheet-iff`, `undo`, `nine-iff` and
+-- `read-cut` (SheetCalls), and `digits-iff` (Decimal) and `digits-length` (Digits). They rest on `sheet-exact` (Grammar).
 pub mod Every
 pub mod Numbers
 pub mod Digits

@@ -88,7 +88,8 @@ unfolding largest sheetText roasteries cafes headLine bytes digits digitsUpTo fl
 largest-length = refl
 
 pub largest-accepted : Accepted largest
-unfolding largest roasteries cafes refusal sheetTests numberTests badSides badLength badAmount badCost unbalanced within all total sumTo at maxSources maxSinks maxAmount maxCost
+unfolding largest roasteries cafes refusal sheetTests numberTests badSides badLength badAmount badCost unbalanced within all total sumTo at maxSources
+    maxSinks maxAmount maxCost
 largest-accepted = accepted largest refl
 
 pub largest-text : HasText largest

@@ -69,7 +69,7 @@ module _ (tests : Sheet → List (Bool × ℕ)) (text : List ℕ) where
           let h = unless-given-iff (tests R) R S .0 (sym (read-got R rest e) ∙ f) in
           rw (h .1) (reader-iff text R rest .0 e .1, h .0)
 
-  -- Reading gives refusal 9 exactly on a text that is no sheet text, and with it the place: the length of the longest beginning that some sheet text also has.
+  -- Reading gives refusal 9 exactly on a text that is no sheet text, and with it the place (`Statements.Place`).
   pub nine-iff : (p : ℕ)
       → (readWith tests text ≡ refused (record { number = 9; position = some p })) ↔ ((S : Sheet) → SheetTextOf S text → ⊥) × Place text p
   nine-iff p = (there (sheetReader text) refl, λ h. back (sheetReader text) refl (h .0) (h .1))

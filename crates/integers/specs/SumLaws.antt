@@ -100,7 +100,11 @@ module _ (m n : ℕ) where
   sum₂-nonneg f h = sum-nonneg m (λ i. sum n (f i)) (λ i k. sum-nonneg n (f i) (λ j l. h i j k l))
 
   pub sum₂-add : (f g : ℕ → ℕ → Z) → sum₂ m n (λ i j. f i j ⊕ g i j) ≈ sum₂ m n f ⊕ sum₂ m n g
-  sum₂-add f g = omega (arith, sum-cong m (λ i. sum n (λ j. f i j ⊕ g i j)) (λ i. sum n (f i) ⊕ sum n (g i)) (λ i k. sum-add n (f i) (g i)), sum-add m (λ i. sum n (f i)) (λ i. sum n (g i)))
+  sum₂-add f g = omega (
+    arith,
+    sum-cong m (λ i. sum n (λ j. f i j ⊕ g i j)) (λ i. sum n (f i) ⊕ sum n (g i)) (λ i k. sum-add n (f i) (g i)),
+    sum-add m (λ i. sum n (f i)) (λ i. sum n (g i)),
+  )
 
   pub sum₂-scale : (k : Z) (f : ℕ → ℕ → Z) → sum₂ m n (λ i j. k ⊗ f i j) ≈ k ⊗ sum₂ m n f
   sum₂-scale k f = omega (arith, sum-scale m k (λ i. sum n (f i)), sum-cong m (λ i. sum n (λ j. k ⊗ f i j)) (λ i. k ⊗ sum n (f i)) (λ i l. sum-scale n k (f i)))
@@ -113,11 +117,16 @@ module _ (m n : ℕ) where
   )
 
   pub sum₂-each : (f : ℕ → ℕ → Z) → ((i j : ℕ) → i < m → j < n → nat 0 ≼ f i j) → (i j : ℕ) → i < m → j < n → f i j ≼ sum₂ m n f
-  sum₂-each f h i j k l = omega (arith, sum-each n (f i) (λ j l. h i j k l) j l, sum-each m (λ i. sum n (f i)) (λ i k. sum-nonneg n (f i) (λ j l. h i j k l)) i k)
+  sum₂-each f h i j k l = omega (
+    arith,
+    sum-each n (f i) (λ j l. h i j k l) j l,
+    sum-each m (λ i. sum n (f i)) (λ i k. sum-nonneg n (f i) (λ j l. h i j k l)) i k,
+  )
 
 -- a factor of the row comes out, and meets the row's sum
 pub sum₂-rows : (m n : ℕ) (x : ℕ → ℕ → Z) (u a : ℕ → Z) → ((i : ℕ) → i < m → sum n (x i) ≈ a i) → sum₂ m n (λ i j. u i ⊗ x i j) ≈ sum m (λ i. u i ⊗ a i)
-sum₂-rows m n x u a h = sum-cong m (λ i. sum n (λ j. u i ⊗ x i j)) (λ i. u i ⊗ a i) (λ i k. omega (arith, sum-scale n (u i) (x i), ⊗-cong (u i) (sum n (x i)) (a i) (h i k)))
+sum₂-rows m n x u a h = sum-cong m (λ i. sum n (λ j. u i ⊗ x i j)) (λ i. u i ⊗ a i)
+    (λ i k. omega (arith, sum-scale n (u i) (x i), ⊗-cong (u i) (sum n (x i)) (a i) (h i k)))
 
 pub sum₂-cols : (m n : ℕ) (x : ℕ → ℕ → Z) (v b : ℕ → Z) → ((j : ℕ) → j < n → sum m (λ i. x i j) ≈ b j) → sum₂ m n (λ i j. v j ⊗ x i j) ≈ sum n (λ j. v j ⊗ b j)
 sum₂-cols m n x v b h = omega (arith, sum-swap m n (λ i j. v j ⊗ x i j), sum₂-rows n m (λ j i. x i j) v b h)

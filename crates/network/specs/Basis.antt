@@ -90,7 +90,8 @@ module _ {m n K : ℕ} {r c : ℕ → ℕ} (t : Basis m n K r c) where
 
   -- the cells are distinct: of two equal ones, neither could cross a cut alone
   pub distinct : (k l : ℕ) → k < suc K → l < suc K → r k ≡ r l → c k ≡ c l → k ≡ l
-  distinct k l hk hl e f = let w : Cut K r c l = cut-at l hl in by-cases (ℕ-discrete k l) (λ q. q) (λ q. absurd (w .crosses (ap (w .A) (sym e) ∙ w .others k hk q ∙ ap (w .B) f)))
+  distinct k l hk hl e f = let w : Cut K r c l = cut-at l hl in
+      by-cases (ℕ-discrete k l) (λ q. q) (λ q. absurd (w .crosses (ap (w .A) (sym e) ∙ w .others k hk q ∙ ap (w .B) f)))
 
   module _ {x : ℕ → ℕ → Z} {a b : ℕ → Z} (f : Flow m n (In r c (suc K)) x a b) where
     -- a flow on the basis is, at each cell, the balance of that cell's cut, up to sign
@@ -105,7 +106,8 @@ module _ {m n K : ℕ} {r c : ℕ → ℕ} (t : Basis m n K r c) where
     flow-within {ℓ} hl g H = within (g .A (r ℓ)) (g .B (c ℓ)) (x (r ℓ) (c ℓ)) (bal m n (g .A) (g .B) a b) H (g .crosses) (flow-at hl g)
 
   -- Two flows on a basis with the same margins agree at every cell: both are the balance of the same cut there.
-  pub flow-unique : {x y : ℕ → ℕ → Z} {a b : ℕ → Z} → Flow m n (In r c (suc K)) x a b → Flow m n (In r c (suc K)) y a b → (i j : ℕ) → i < m → j < n → x i j ≈ y i j
+  pub flow-unique : {x y : ℕ → ℕ → Z} {a b : ℕ → Z} → Flow m n (In r c (suc K)) x a b → Flow m n (In r c (suc K)) y a b → (i j : ℕ) → i < m → j < n
+      → x i j ≈ y i j
   flow-unique {x} {y} f g i j hi hj = go (≈-dec (x i j) (nat 0)) (≈-dec (y i j) (nat 0))
     where
       agree : (k : ℕ) → k < suc K → x (r k) (c k) ≈ y (r k) (c k)
@@ -136,5 +138,6 @@ module _ {m n K : ℕ} {r c : ℕ → ℕ} (t : Basis m n K r c) where
     size = t .size;
     rows = hr;
     cols = hc;
-    joined = exchange (t .rows ℓ hl) (t .cols ℓ hl) (flow-on (λ i j hi hj. ⊎-elim inl (λ d. inr (rw (d .0, d .1) (w .enters)))) f) leaves (w .keeps) (t .joined);
+    joined = exchange (t .rows ℓ hl) (t .cols ℓ hl) (flow-on (λ i j hi hj. ⊎-elim inl (λ d. inr (rw (d .0, d .1) (w .enters)))) f) leaves (w .keeps)
+        (t .joined);
   }

@@ -191,10 +191,12 @@ module _ {m n : ℕ} {a b : ℕ → Z} {P₀ : ℕ → ℕ → Type 0} where
     }
       where
         here : (k : ℕ) (y : ℕ → ℕ → Z) → Plan m n P k y a b → (i j : ℕ) → (i ≡ p) × (j ≡ q) → y i j ≈ nat k ⊗ x i j
-        here k y g i j s = rw (s .0, s .1) (omega (arith, on-zero y (g .flow .on) p q hp hq shut, ⊗-cong (nat k) (x p q) (nat 0) (on-zero x (d .flow .on) p q hp hq shut)))
+        here k y g i j s = rw (s .0, s .1)
+            (omega (arith, on-zero y (g .flow .on) p q hp hq shut, ⊗-cong (nat k) (x p q) (nat 0) (on-zero x (d .flow .on) p q hp hq shut)))
 
     -- Where only cells of one basis are still allowed all lanes are decided: a flow on a basis is determined by its margins.
-    pub decided-rest : {K : ℕ} {r c : ℕ → ℕ} → t ≤ m * n → Basis m n K r c → ((i j : ℕ) → i < m → j < n → P i j → In r c (suc K) i j) → Decided m n a b P₀ (m * n) P x
+    pub decided-rest : {K : ℕ} {r c : ℕ → ℕ} → t ≤ m * n → Basis m n K r c → ((i j : ℕ) → i < m → j < n → P i j → In r c (suc K) i j)
+        → Decided m n a b P₀ (m * n) P x
     decided-rest l w h = record {
       inside = d .inside;
       flow = d .flow;

@@ -108,7 +108,8 @@ phaseColumn P p q T j = toZ (phasePotential P p q T (sources P + j))
 abbrev pub phaseReduced : Problem → ℕ → ℕ → List Cell → ℕ → ℕ → ℤ
 phaseReduced P p q T i j = mostOn (lane p q) (lane i j) -ℤ phasePotential P p q T i -ℤ phasePotential P p q T (sources P + j)
 
-pub phase-reduced : (P : Problem) (p q : ℕ) (T : List Cell) (i j : ℕ) → toZ (phaseReduced P p q T i j) ≈ most p q i j ⊖ phaseRow P p q T i ⊖ phaseColumn P p q T j
+pub phase-reduced : (P : Problem) (p q : ℕ) (T : List Cell) (i j : ℕ)
+    → toZ (phaseReduced P p q T i j) ≈ most p q i j ⊖ phaseRow P p q T i ⊖ phaseColumn P p q T j
 phase-reduced P p q T i j =
     rw (← most-on p q i j) (z-ev (! (mostOn (lane p q) (lane i j)) -' ! (phasePotential P p q T i) -' ! (phasePotential P p q T (sources P + j))))
 
@@ -144,7 +145,8 @@ module _ {P : Problem} (ok : Sound P) (allowed : ℕ → ℕ → Bool) {p q : �
   step-or-end T = ⊎-elim
       (λ s. inl (s .0, s .2 .0, s .2 .1))
       (λ s. inr (record { row = row; col = col; feasible = λ i j hi hj a. s i hi j hj a }))
-      (some-or-all (sources P) (λ i. (j : ℕ) × Improving P allowed p q T i j) (λ i. (j : ℕ) → j < sinks P → Allowed allowed i j → Feasible (most p q) u v i j) rows)
+      (some-or-all (sources P) (λ i. (j : ℕ) × Improving P allowed p q T i j) (λ i. (j : ℕ) → j < sinks P → Allowed allowed i j → Feasible (most p q) u v i j)
+      rows)
     where
       u : ℕ → Z
       u = phaseRow P p q T
@@ -160,7 +162,8 @@ module _ {P : Problem} (ok : Sound P) (allowed : ℕ → ℕ → Bool) {p q : �
           (λ a. inr (λ b. absurd (a b))))
 
       rows : (i : ℕ) → i < sources P → ((j : ℕ) × Improving P allowed p q T i j) ⊎ ((j : ℕ) → j < sinks P → Allowed allowed i j → Feasible (most p q) u v i j)
-      rows i hi = ⊎-elim (λ s. inl (s .0, s .2)) inr (some-or-all (sinks P) (Improving P allowed p q T i) (λ j. Allowed allowed i j → Feasible (most p q) u v i j) (lanes i hi))
+      rows i hi = ⊎-elim (λ s. inl (s .0, s .2)) inr
+          (some-or-all (sinks P) (Improving P allowed p q T i) (λ j. Allowed allowed i j → Feasible (most p q) u v i j) (lanes i hi))
 
   module _ (T : List Cell) (r : Restricted P allowed T) {i j : ℕ} (w : Improving P allowed p q T i j) where
     -- Basic lanes are tight, so it is not one of them.
@@ -177,7 +180,8 @@ module _ {P : Problem} (ok : Sound P) (allowed : ℕ → ℕ → Bool) {p q : �
     unfolding phaseLeft
     step-falls = omega (
       arith,
-      pivot-falls ok (r .belongs) (w .row) (w .col) improving-new (most p q) (phaseRow P p q T) (phaseColumn P p q T) (phase-tight T (r .belongs)) (w .negative),
+      pivot-falls ok (r .belongs) (w .row) (w .col) improving-new (most p q) (phaseRow P p q T) (phaseColumn P p q T) (phase-tight T (r .belongs))
+          (w .negative),
       phase-low (step-restricted .belongs),
       phase-low (r .belongs),
     )
@@ -188,7 +192,8 @@ module _ {P : Problem} (ok : Sound P) (allowed : ℕ → ℕ → Bool) {p q : �
   pub phase-ends : (T : List Cell) → Restricted P allowed T → (T′ : List Cell) × Restricted P allowed T′ × Ended P allowed p q T′
   phase-ends T r = within (suc (phaseLeft P p q T)) T (omega arith) r
     where
-      within : (bound : ℕ) (T : List Cell) → phaseLeft P p q T < bound → Restricted P allowed T → (T′ : List Cell) × Restricted P allowed T′ × Ended P allowed p q T′
+      within : (bound : ℕ) (T : List Cell) → phaseLeft P p q T < bound → Restricted P allowed T → (T′ : List Cell) × Restricted P allowed T′
+          × Ended P allowed p q T′
       within zero T l r = absurd (omega arith)
       within (suc bound) T l r = go (step-or-end T) (λ T l r. within bound T l r)
         where

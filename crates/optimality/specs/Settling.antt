@@ -1,5 +1,5 @@
--- Settling over tableaux: the lanes of a finished tableau are decided in sheet order, and the bags that are left are the optimal plan that carries more on the first lane
--- where it differs from any other.
+-- Settling over tableaux: the lanes of a finished tableau are decided in sheet order, and the bags that are left are the optimal plan that carries more on
+-- the first lane where it differs from any other.
 use mathlib.Core.Path.{_≡_, refl, sym, _∙_}
 use mathlib.Core.Logic.{_↔_, by-cases, Iff·rfl, Iff·symm}
 use mathlib.Core.Bool.{Bool, true, Bool-discrete}
@@ -38,11 +38,12 @@ use Rattle.optimality.specs.Phases.{eqZ-zero, Allowed, Restricted, restr
 unfoldable pub tightLanes : Problem → List Cell → ℕ → ℕ → Bool
 tightLanes P T i j = eqZ (reducedCost P T (lane i j)) (pos 0)
 
--- The lanes before t are decided: of all plans on the tight lanes of T₀, those on the lanes still allowed agree with the bags of T before t, and every other one
--- carries less on the first lane where the two differ.
+-- The lanes before t are decided: of all plans on the tight lanes of T₀, those on the lanes still allowed agree with the bags of T before t, and every other
+-- one carries less on the first lane where the two differ.
 pub record DecidedTo (P : Problem) (T₀ : List Cell) (t : ℕ) (allowed : ℕ → ℕ → Bool) (T : List Cell) : Type 1 where
   pub restricted : Restricted P allowed T
-  pub decided : Decided (sources P) (sinks P) (supplies P) (demands P) (Tight (costs P) (rowPotential P T₀) (columnPotential P T₀)) t (Allowed allowed) (bagsAt T)
+  pub decided : Decided (sources P) (sinks P) (supplies P) (demands P) (Tight (costs P) (rowPotential P T₀) (columnPotential P T₀)) t (Allowed allowed)
+      (bagsAt T)
 
 -- Only lanes on the sheet matter.
 pub decidedTo-cong : {P : Problem} {T₀ : List Cell} {t : ℕ} {allowed allowed′ : ℕ → ℕ → Bool} {T : List Cell}
@@ -81,21 +82,22 @@ module _ {P : Problem} (ok : Sound P) (T₀ : List Cell) (belongs : Belongs P T�
         (λ h. eqZ-zero (reducedCost P T₀ (lane i j)) .1 (omega (arith, reduced-parts P T₀ i j))),
       )
 
-  module _ {p q : ℕ} (row : p < sources P) (col : q < sinks P) {allowed : ℕ → ℕ → Bool} {T : List Cell} (d : DecidedTo P T₀ (place (sinks P) p q) allowed T) where
-    -- an allowed lane, by the tableau at which its phase ends
-    pub settling-phase : {T′ : List Cell} → Restricted P allowed T′ → Ended P allowed p q T′
-        → DecidedTo P T₀ (suc (place (sinks P) p q)) (keptLanes P allowed p q T′) T′
-    unfolding place
-    settling-phase {T′} r e = record {
-      restricted = kept-restricted ok allowed row col T′ r;
-      decided = decided-cong (λ i j hi hj. Iff·symm (kept-iff ok allowed row col T′ i j)) (λ i j hi hj. omega arith)
-          (decided-phase (d .decided) refl e (kept-flow ok allowed row col T′ r) (bags-nonneg (belongs-seen ok (r .belongs))));
-    }
+  module _ {p q : ℕ} (row : p < sources P) (col : q < sinks P) {allowed : ℕ → ℕ → Bool} {T : List Cell} (d : DecidedTo P T₀ (place (sinks P) p q) allowed T)
+    where
+      -- an allowed lane, by the tableau at which its phase ends
+      pub settling-phase : {T′ : List Cell} → Restricted P allowed T′ → Ended P allowed p q T′
+          → DecidedTo P T₀ (suc (place (sinks P) p q)) (keptLanes P allowed p q T′) T′
+      unfolding place
+      settling-phase {T′} r e = record {
+        restricted = kept-restricted ok allowed row col T′ r;
+        decided = decided-cong (λ i j hi hj. Iff·symm (kept-iff ok allowed row col T′ i j)) (λ i j hi hj. omega arith)
+            (decided-phase (d .decided) refl e (kept-flow ok allowed row col T′ r) (bags-nonneg (belongs-seen ok (r .belongs))));
+      }
 
-    -- a lane that is not allowed
-    pub settling-skip : ¬ Allowed allowed p q → DecidedTo P T₀ (suc (place (sinks P) p q)) allowed T
-    unfolding place
-    settling-skip shut = record { restricted = d .restricted; decided = decided-skip (d .decided) row col refl shut }
+      -- a lane that is not allowed
+      pub settling-skip : ¬ Allowed allowed p q → DecidedTo P T₀ (suc (place (sinks P) p q)) allowed T
+      unfolding place
+      settling-skip shut = record { restricted = d .restricted; decided = decided-skip (d .decided) row col refl shut }
 
   -- Where only basic lanes are still allowed all lanes are decided.
   pub settling-rest : {t : ℕ} {allowed : ℕ → ℕ → Bool} {T : List Cell} → t ≤ sources P * sinks P → DecidedTo P T₀ t allowed T
@@ -111,7 +113,8 @@ module _ {P : Problem} (ok : Sound P) (T₀ : List Cell) (belongs : Belongs P T�
   settles-to zero l = (tightLanes P T₀, T₀, settling-start)
   settles-to (suc t) l = go (settles-to t (omega arith))
     where
-      go : (allowed : ℕ → ℕ → Bool) × (T : List Cell) × DecidedTo P T₀ t allowed T → (allowed : ℕ → ℕ → Bool) × (T : List Cell) × DecidedTo P T₀ (suc t) allowed T
+      go : (allowed : ℕ → ℕ → Bool) × (T : List Cell) × DecidedTo P T₀ t allowed T → (allowed : ℕ → ℕ → Bool) × (T : List Cell)
+          × DecidedTo P T₀ (suc t) allowed T
       go (allowed, T, d) =
           let w = place-of (sources P) (sinks P) t (omega arith) in
           let d : DecidedTo P T₀ (place (sinks P) (w .row) (w .col)) allowed T = rw (w .placed) d in

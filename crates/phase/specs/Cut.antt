@@ -1,5 +1,5 @@
--- The potentials of a phase are those of a cut: 0 on the root's side of the lane, and beyond it −1 at the nodes like the one at the lane (rows or columns), 1 at
--- the others.
+-- The potentials of a phase are those of a cut: 0 on the root's side of the lane, and beyond it −1 at the nodes like the one at the lane (rows or columns), 1
+-- at the others.
 use mathlib.Core.Path.{_≡_, refl, sym, ap, _∙_}
 use mathlib.Core.Logic.{_≢_}
 use mathlib.Core.Bool.{Bool, true, false, not, _||_, cond}
@@ -150,7 +150,8 @@ module _ (m : ℕ) (leaf other lane : List ℕ) (count at : ℕ) where
   back-start = record { potential = λ k. rw (strikesFrom-nil leaf other lane count, potentialBy-nil (mostOn (laneAt at)) k, has-zero k) }
 
   module _ (w : Peels m (strikesOf leaf other lane count)) (k : ℕ) (p : k < count) (nodes : ℕ) (fromRow : Bool) (h : BeyondFrom (suc k) nodes fromRow) where
-    at-strike : Step m (w .n) (strikeOf leaf other lane k) (strikesFrom leaf other lane count (suc k)) × Peeled m (w .n) (strikesFrom leaf other lane count (suc k))
+    at-strike : Step m (w .n) (strikeOf leaf other lane k) (strikesFrom leaf other lane count (suc k))
+        × Peeled m (w .n) (strikesFrom leaf other lane count (suc k))
     at-strike = unpeel (rw (strikesFrom-cons leaf other lane count k p) at (peeled-drop k (w .order)))
 
     elsewhere : getD lane k 0 ≢ at → laneAt (getD lane k 0) ≢ laneAt at
@@ -199,7 +200,8 @@ module _ {m p q nodes : ℕ} {ss : List Strike} (w : Peels m ss) (one : 1 ≤ m)
 
   pub cuts-row : (n : ℕ) → Beyond m (lane p q) ss nodes true → Cuts m n p q ss (minus (firstBits m) nodes) (bitAnd (nodes / 2 ^ m) (firstBits n))
   cuts-row n h = record {
-    row = λ i l. h .potential i ∙ rw (lt-ltb i m l, root) (down (bit nodes i) (bit rows i) (omega arith) (omega (arith, bit-minus (firstBits m) nodes i, first-below m i l)));
+    row = λ i l. h .potential i ∙ rw (lt-ltb i m l, root)
+        (down (bit nodes i) (bit rows i) (omega arith) (omega (arith, bit-minus (firstBits m) nodes i, first-below m i l)));
     col = λ j l. h .potential (m + j) ∙ rw (le-ltb (m + j) m (omega arith), root) (up (bit nodes (m + j)) (bit cols j + 1) 1 (omega arith)
         (omega (arith, bit-and (nodes / 2 ^ m) (firstBits n) j, bit-shift nodes m j, first-below n j l)) (omega arith));
     inside = λ j l. omega (arith, bit-and (nodes / 2 ^ m) (firstBits n) j, first-above n j l);

@@ -1,5 +1,5 @@
--- What the phase does with the allowed lanes, by the two sides of its cut: bit i of `rows` and bit j of `cols` make the reduced cost of lane (i, j), but for the
--- phase's own lane, 1 − bit − bit.
+-- What the phase does with the allowed lanes, by the two sides of its cut: bit i of `rows` and bit j of `cols` make the reduced cost of lane (i, j), but for
+-- the phase's own lane, 1 − bit − bit.
 use mathlib.Core.Path.{_≡_, refl, ap, _∙_}
 use mathlib.Core.Logic.{by-cases}
 use mathlib.Core.Bool.{Bool, true, false, _&&_, _||_, cond}
@@ -49,7 +49,8 @@ gains-off allowed rows cols i e j g = eqb-false (bit rows i) 1 e (g .row)
 abbrev pub NoneFrom : List ℕ → ℕ → ℕ → ℕ → ℕ → Type 0
 NoneFrom allowed rows cols m k = (i : ℕ) → k ≤ i → i < m → (j : ℕ) → Gains allowed rows cols i j → ⊥
 
-pub none-before : (allowed : List ℕ) (rows cols m k : ℕ) → NoneFrom allowed rows cols m k → ((j : ℕ) → Gains allowed rows cols (k - 1) j → ⊥) → NoneFrom allowed rows cols m (k - 1)
+pub none-before : (allowed : List ℕ) (rows cols m k : ℕ) → NoneFrom allowed rows cols m k → ((j : ℕ) → Gains allowed rows cols (k - 1) j → ⊥)
+    → NoneFrom allowed rows cols m (k - 1)
 none-before allowed rows cols m k later here i p l = by-cases (ℕ-discrete i (k - 1)) (λ e. rw e here) (λ e. later i (omega arith) l)
 
 -- ---- the lanes that are kept
@@ -127,7 +128,14 @@ pub narrow-kept : {old new : List ℕ} {rows cols m : ℕ} (p q : ℕ) → p < m
 narrow-kept {old} {new} {rows} {cols} {m} p q l s h = record {
   long = simp length-set (h .long);
   kept = λ i j b. by-cases (ℕ-discrete i p)
-      (λ e. rw (e, getD-set-same new p (put (getD new p 0) q) 0 (omega (arith, h .long)), has-put (getD new p 0) q j, eq-eqb p p refl, h .done p l, kept-bit rows cols p (getD old p 0) j))
+      (λ e. rw (
+        e,
+        getD-set-same new p (put (getD new p 0) q) 0 (omega (arith, h .long)),
+        has-put (getD new p 0) q j,
+        eq-eqb p p refl,
+        h .done p l,
+        kept-bit rows cols p (getD old p 0) j,
+      ))
       (λ e. rw (getD-set-other new p i (put (getD new p 0) q) 0 e, ne-eqb i p e, h .done i b, kept-bit rows cols i (getD old i 0) j));
   rest = λ i b. getD-set-other new p i _ 0 (λ e. omega arith) ∙ h .rest i b;
 }

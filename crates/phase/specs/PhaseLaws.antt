@@ -1,5 +1,5 @@
--- Phases by masks over tableaux: in whatever order the basic lanes are struck off, the lane that is found improves, none found means that the phase has ended, and the
--- lanes kept are those of the phase.
+-- Phases by masks over tableaux: in whatever order the basic lanes are struck off, the lane that is found improves, none found means that the phase has
+-- ended, and the lanes kept are those of the phase.
 use mathlib.Core.Path.{_≡_, refl, sym, ap, _∙_}
 use mathlib.Core.Logic.{_≢_, by-cases}
 use mathlib.Core.Bool.{Bool, true, false, _&&_, cond}
@@ -30,7 +30,8 @@ use Rattle.tableaux.specs.Lanes.{has-basic}
 use Rattle.tableaux.specs.Striking.{Struck, struck-of}
 use Rattle.tableaux.specs.Potentials.{potential-tight, potential-any}
 use Rattle.tableaux.specs.Belonging.{fits-of, spans-of}
-use Rattle.optimality.specs.Phases.{mostOn, most-on, eqZ-zero, Allowed, phasePotential, phaseRow, phaseColumn, phaseReduced, phase-reduced, Improving, Ended, keptLanes}
+use Rattle.optimality.specs.Phases.{mostOn, most-on, eqZ-zero, Allowed, phasePotential, phaseRow, phaseColumn, phaseReduced, phase-reduced, Improving, Ended}
+use Rattle.optimality.specs.Phases.{keptLanes}
 use Rattle.basis.specs.Mask.{bit, has}
 use Rattle.phase.specs.declared.lanes.Found.the-variants as found
 use Rattle.phase.specs.Cut.{most-here, most-off, none-beyond, Peels, Cuts}
@@ -140,7 +141,8 @@ module _ {P : Problem} (ok : Sound P) {T : List Cell} (b : Belongs P T) {p q : �
             own : lane i j ≡ lane p q → keptBit old rows cols p q i j ≡ allows old i j && eqZ (phaseReduced P p q T i j) (pos 0)
             own e =
                 let (r, s) = same-ends e in
-                let z : eqZ (phaseReduced P p q T p q) (pos 0) ≡ true = eqZ-zero (phaseReduced P p q T p q) .1 (omega (arith, phase-reduced P p q T p q, own-tight basic)) in
+                let z : eqZ (phaseReduced P p q T p q) (pos 0) ≡ true =
+                eqZ-zero (phaseReduced P p q T p q) .1 (omega (arith, phase-reduced P p q T p q, own-tight basic)) in
                 rw (r, s, eq-eqb p p refl, eq-eqb q q refl, a, z)
 
             another : lane i j ≢ lane p q → keptBit old rows cols p q i j ≡ allows old i j && eqZ (phaseReduced P p q T i j) (pos 0)

@@ -70,7 +70,8 @@ pub record Carried (minus plus : List ℕ) (into : ℕ) (x : ℤ) (old new : Lis
   pub enters : getD new into (pos 0) ≡ x
   pub each : (p : ℕ) → (p ≡ into → ⊥) → getD new p (pos 0) ≡ moved (among minus p) (among plus p) x (getD old p (pos 0))
 
-pub carried-by : (minus plus : List ℕ) (into : ℕ) (x : ℤ) (old mid last : List ℤ) → into < laneRoom → Changed (λ z. z -ℤ x) old minus mid → Changed (λ z. z +ℤ x) mid plus last
+pub carried-by : (minus plus : List ℕ) (into : ℕ) (x : ℤ) (old mid last : List ℤ) → into < laneRoom → Changed (λ z. z -ℤ x) old minus mid
+    → Changed (λ z. z +ℤ x) mid plus last
     → Carried minus plus into x old (set last into x)
 carried-by minus plus into x old mid last l c g =
     record {
@@ -101,7 +102,8 @@ pub record Turned (minus plus : List ℕ) (into : ℕ) (q e q' e' : List ℤ) (o
 -- The least lane is one of the lanes, and within the room.
 pub least-member : (q e : List ℤ) (lanes : List ℕ) (n : ℕ) → LaneList lanes n → 1 ≤ n → List·Memᴰ (firstLeast (lessAt q e) 0 (take n lanes)) (take n lanes)
 least-member q e lanes n w l =
-    let (k, f) = firstLeast-is (lessAt q e) (by-key (pairAt q e) less-weak) 0 (take n lanes) (omega (arith, length-take-le n lanes (omega (arith, w .few, w .long)))) in
+    let (k, f) = firstLeast-is (lessAt q e) (by-key (pairAt q e) less-weak) 0 (take n lanes)
+    (omega (arith, length-take-le n lanes (omega (arith, w .few, w .long)))) in
     rw (f .stands) at (member-at (take n lanes) 0 k (f .inside))
 
 pub member-inside : (lanes : List ℕ) (n : ℕ) {p : ℕ} → LaneList lanes n → List·Memᴰ p (take n lanes) → p < laneRoom

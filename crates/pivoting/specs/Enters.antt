@@ -67,7 +67,8 @@ module _ {P : Problem} {T : List Cell} {leaf other lanes : List ℕ} {count : �
       let fits = fits-of (h .sound) enters-belongs in
       let spans = spans-of (h .sound) enters-belongs in
       let low = h .sound .sourcesLow in
-      eq-z _ _ (flow-only low fits spans (h .sound .sinksLow) (struck-signs (h .row) (h .col) low (h .struck)) (signs-of low fits spans e (h .row) (h .col)) i j hi hj)
+      eq-z _ _ (flow-only low fits spans (h .sound .sinksLow) (struck-signs (h .row) (h .col) low (h .struck)) (signs-of low fits spans e (h .row) (h .col)) i
+      j hi hj)
 
   pub sign-none : (i j : ℕ) → ¬ Basic T i j → signs (sources P) (sinks P) T e (lane i j) ≡ pos 0
   sign-none i j d =

@@ -80,10 +80,12 @@ exchanged m i j row col adj = linked m row col (unlinked m i j adj)
 
 module _ (m i j row col : ℕ) (adj : List ℕ) (p : i < m) (r : row < m) (long : m + j < length adj) (far : m + col < length adj) where
   pub exchanged-row : (h k : ℕ) → h < m → has (getD (exchanged m i j row col adj) h 0) k ≡ both row col h k || not (both i j h k) && has (getD adj h 0) k
-  exchanged-row h k l = linked-row m row col (unlinked m i j adj) r h k (omega (arith, length-unlinked m i j adj)) l ∙ rw (unlinked-row m i j adj p h k (omega arith) l)
+  exchanged-row h k l = linked-row m row col (unlinked m i j adj) r h k (omega (arith, length-unlinked m i j adj)) l
+      ∙ rw (unlinked-row m i j adj p h k (omega arith) l)
 
   pub exchanged-column : (h k : ℕ) → has (getD (exchanged m i j row col adj) (m + k) 0) h ≡ both row col h k || not (both i j h k) && has (getD adj (m + k) 0) h
-  exchanged-column h k = linked-column m row col (unlinked m i j adj) r h k (omega (arith, length-unlinked m i j adj)) ∙ rw (unlinked-column m i j adj p h k long)
+  exchanged-column h k = linked-column m row col (unlinked m i j adj) r h k (omega (arith, length-unlinked m i j adj))
+      ∙ rw (unlinked-column m i j adj p h k long)
 
 -- So it is with the basic lanes in a pivot.
 pub isBasic-pivot : (m n : ℕ) (T : List Cell) (e : Lane) (i j : ℕ)

@@ -25,7 +25,8 @@ use Rattle.tableaux.specs.View.{amountAt, amount-none}
 use Rattle.tableaux.specs.Belonging.{inside-of, distinct-of}
 use Rattle.tableaux.specs.PairLaws.{subtract-self}
 use Rattle.tableaux.specs.Order.{Ordered, ordered-by, cell-at, basic-dec, amount-member}
-use Rattle.tableaux.specs.PivotView.{Stands, stands-dec, signs, leaver, step, Leaves, inside-member, amount-enters, amount-stays, amount-leaves, amount-elsewhere}
+use Rattle.tableaux.specs.PivotView.{Stands, stands-dec, signs, leaver, step, Leaves, inside-member, amount-enters, amount-stays, amount-leaves}
+use Rattle.tableaux.specs.PivotView.{amount-elsewhere}
 use Rattle.tableaux.specs.Pivoting.{pivot-leaves, pivot-no-tie}
 use Rattle.basis.specs.Layout.{stride, laneAt, place-laneAt}
 use Rattle.basis.specs.StepLaws.{pairAt, lessAt}
@@ -88,7 +89,8 @@ module _ {P : Problem} {T : List Cell} {leaf other lanes : List ℕ} {count : �
 
   out-minus : List·Memᴰ (cellPlace out) (signed h isMinus)
   unfolding laneOf
-  out-minus = among-member (signed h isMinus) (cellPlace out) (signed-among h isMinus refl (out .row) (out .col) (out-inside .0) (out-inside .1) ∙ leaves .minus)
+  out-minus = among-member (signed h isMinus) (cellPlace out) (signed-among h isMinus refl (out .row) (out .col) (out-inside .0) (out-inside .1)
+      ∙ leaves .minus)
 
   pub some-minus : 1 ≤ length (signed h isMinus)
   some-minus = let (k, l, s) = member-place 0 out-minus in omega arith
@@ -110,7 +112,8 @@ module _ {P : Problem} {T : List Cell} {leaf other lanes : List ℕ} {count : �
         r : ℕ
         r = firstLeast (lessAt q x) 0 (signed h isMinus)
 
-        at : (c : Cell) → List·Memᴰ c T → c .row ≡ r / stride → c .col ≡ r % stride → isMinus (signs m n T e (laneAt r)) ≡ true → less (out .amount) (pairAt q x r) ≡ false → r ≡ cellPlace out
+        at : (c : Cell) → List·Memᴰ c T → c .row ≡ r / stride → c .col ≡ r % stride → isMinus (signs m n T e (laneAt r)) ≡ true
+            → less (out .amount) (pairAt q x r) ≡ false → r ≡ cellPlace out
         at c mem p s minus least =
             let place : cellPlace c ≡ r = (rw (p, s)) ∙ place-laneAt r in
             let held : pairAt q x r ≡ c .amount = ap (pairAt q x) (sym place) ∙ laid-at mem in
@@ -149,7 +152,8 @@ module _ {P : Problem} {T : List Cell} {leaf other lanes : List ℕ} {count : �
       go (yes b) (no o) = amount-stays order (belongs .onSheet) (h .col) (h .new) i j b o
       go (yes b) (yes o) = rw (o .0, o .1)
           (amount-leaves order (belongs .onSheet) (h .col) (h .new) (leaves .member)
-          ∙ sym (ap (gain (signs m n T e (laneOf out)) (out .amount)) (amount-member (distinct-of (h .sound) belongs) (leaves .member)) ∙ gains-minus (signs m n T e (laneOf out)) (out .amount) (leaves .minus)))
+          ∙ sym (ap (gain (signs m n T e (laneOf out)) (out .amount)) (amount-member (distinct-of (h .sound) belongs) (leaves .member))
+          ∙ gains-minus (signs m n T e (laneOf out)) (out .amount) (leaves .minus)))
 
   -- One part of the amounts, carried round the loop, is that of the pivot.
   pub carried-part : (part : Pair → ℤ) → ((a b : Pair) → part (add a b) ≡ part a +ℤ part b) → ((a b : Pair) → part (subtract a b) ≡ part a -ℤ part b)

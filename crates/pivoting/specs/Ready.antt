@@ -80,7 +80,8 @@ module _ {P : Problem} {T : List Cell} {adj : List ℕ} {q e : List ℤ} {leaf o
   light test none = ((λ p mem. omega (arith, ap natAbs (at p mem .0), at p mem .2)), (λ p mem. omega (arith, ap natAbs (at p mem .1), at p mem .2)))
     where
       at : (p : ℕ) → List·Memᴰ p (signed h test)
-          → let a = amountAt T (p / stride) (p % stride) in (getD q p (pos 0) ≡ a .q) × (getD e p (pos 0) ≡ a .e) × ((natAbs (a .q) ≤ maxBags) × (natAbs (a .e) ≤ maxSide))
+          → let a = amountAt T (p / stride) (p % stride) in
+          (getD q p (pos 0) ≡ a .q) × (getD e p (pos 0) ≡ a .e) × ((natAbs (a .q) ≤ maxBags) × (natAbs (a .e) ≤ maxSide))
       at p mem =
           let b = signed-basic h test none p mem .0 in
           let (hi, hj) = inside-basic (inside-of (h .sound) (enters-belongs h)) b in (
@@ -130,10 +131,12 @@ module _ {P : Problem} {T : List Cell} {adj : List ℕ} {q e : List ℤ} {leaf o
       pub out-room : (out / stride < m) × (m ≤ stride) × (out % stride < stride)
       out-room = (omega (arith, out-row, out-inside h, r .rows), ready-room .1, omega arith)
 
-      carried : (part : Pair → ℤ) (xs ys : List ℤ) → getD xs out (pos 0) ≡ part (pairAt q e out) → Carried (take a minus) (take b plus) (row * stride + col) (getD xs out (pos 0)) xs ys
+      carried : (part : Pair → ℤ) (xs ys : List ℤ) → getD xs out (pos 0) ≡ part (pairAt q e out)
+          → Carried (take a minus) (take b plus) (row * stride + col) (getD xs out (pos 0)) xs ys
           → Carried (signed h isMinus) (signed h isPlus) (row * stride + col) (part (step (sources P) (sinks P) T (lane row col))) xs ys
       carried part xs ys s c =
-          let x : getD xs out (pos 0) ≡ part (step (sources P) (sinks P) T (lane row col)) = s ∙ ap (λ (k : ℕ). part (pairAt q e k)) out-is ∙ ap part (out-holds h q e laid) in
+          let x : getD xs out (pos 0) ≡ part (step (sources P) (sinks P) T (lane row col)) = s ∙ ap (λ (k : ℕ). part (pairAt q e k)) out-is
+          ∙ ap part (out-holds h q e laid) in
           rw (← loops .minusIs, ← loops .plusIs, ← x) c
 
       after : Held (sources P) (sinks P) (pivot (sources P) (sinks P) T (lane row col)) (exchanged (sources P) (leaves .row) (leaves .col) row col adj) q' e'

@@ -34,7 +34,8 @@ module _ (S : Sheet) (t : Tableau) (room : ℕ) where
   module _ (e : refusal (sheetTests S) ≡ none) where
     pub tableau-refuses : belongs (problemOf S) t ≡ false → refusal tests ≡ some 6
     unfolding tableauTests
-    tableau-refuses b = refusal-stands (tableauTests S t) late 6 (refusal-pass (sheetTests S) ((not (belongs (problemOf S) t), 6) ∷ []) e ∙ refusal-yes (not (belongs (problemOf S) t), 6) [] (rw b))
+    tableau-refuses b = refusal-stands (tableauTests S t) late 6 (refusal-pass (sheetTests S) ((not (belongs (problemOf S) t), 6) ∷ []) e
+        ∙ refusal-yes (not (belongs (problemOf S) t), 6) [] (rw b))
 
     module _ (b : belongs (problemOf S) t ≡ true) where
       passes : refusal tests ≡ refusal late

@@ -51,7 +51,8 @@ module _ (S : Sheet) (uRoom vRoom planRoom : ℕ) where
       go true h = h
       go false h = let r = rooms-iff uRoom (roasteries S) vRoom (cafes S) planRoom (roasteries S * cafes S) .0 h in absurd (omega arith)
 
-  pub solve-given : refusal (sheetTests S) ≡ none → (roasteries S ≤ uRoom) × (cafes S ≤ vRoom) × (roasteries S * cafes S ≤ planRoom) → solveCall S uRoom vRoom planRoom ≡ given (solution S)
+  pub solve-given : refusal (sheetTests S) ≡ none → (roasteries S ≤ uRoom) × (cafes S ≤ vRoom) × (roasteries S * cafes S ≤ planRoom)
+      → solveCall S uRoom vRoom planRoom ≡ given (solution S)
   unfolding solveCall
   solve-given e h = unless-none (sheetTests S) short 8 (solution S) e (rooms-iff uRoom (roasteries S) vRoom (cafes S) planRoom (roasteries S * cafes S) .1 h)
 
@@ -68,7 +69,8 @@ pub told-refused : {a : Answer Solution} {k : ℕ} {u v : List ℤ} {plan : List
 unfolding solveAnswer refusedBy lentAfter
 told-refused e = rw e (record { answer = refl; uHeld = refl; vHeld = refl; planHeld = refl })
 
-pub told-by : {a b : Answer Solution} {r : SolveAnswer} {u u′ v v′ : List ℤ} {plan plan′ : List ℕ} → a ≡ b → Told b r u u′ v v′ plan plan′ → Told a r u u′ v v′ plan plan′
+pub told-by : {a b : Answer Solution} {r : SolveAnswer} {u u′ v v′ : List ℤ} {plan plan′ : List ℕ} → a ≡ b → Told b r u u′ v v′ plan plan′
+    → Told a r u u′ v v′ plan plan′
 told-by e t = rw e t
 
 -- All that solve ensures.
@@ -111,7 +113,8 @@ module _ {S : Sheet} {made : ℕ} {u u′ v v′ : List ℤ} {plan plan′ : Lis
   }
 
 -- The rounds have come from the start to the finished tableau.
-module _ (S : Sheet) {adj : List ℕ} {q e cost price : List ℤ} {m n made : ℕ} (r : Ran (problemOf S) (start (problemOf S)) (roundBound (problemOf S)) adj q e cost price m n true made) where
+module _ (S : Sheet) {adj : List ℕ} {q e cost price : List ℤ} {m n made : ℕ}
+    (r : Ran (problemOf S) (start (problemOf S)) (roundBound (problemOf S)) adj q e cost price m n true made) where
   pub ran-finished : Finished (problemOf S) (run (problemOf S) (roundBound (problemOf S)) (start (problemOf S)) .tableau) adj q e cost price m n
   ran-finished = record { board = r .board; done = start-finished (r .board .sound); prices = r .prices }
 

@@ -14,11 +14,11 @@ ghost use Prim.Native.Nat.{ℕ, _+_, _<_};
 ghost use lib.IntN.{pos};
 ghost use lib.ListN.{length, getD};
 ghost use Rattle.transport.specs.Problem.{Problem};
+ghost use Rattle.transport.specs.Sheet.{sheetOf};
 ghost use Rattle.transport.specs.Potential.{potential, isFinished};
 ghost use Rattle.transport.specs.Calls.{lentAfter, settleCall};
 ghost use Rattle.transport.specs.Answers.{settleAnswer};
 ghost use Rattle.transport.specs.declared.Cell.{Cell};
-ghost use Rattle.sheet.specs.Check.{sheetOf};
 ghost use Rattle.rounds.specs.Pricing.{Laid};
 
 // Whether the tableau that the masks hold is finished. Its prices then stand in `price`.

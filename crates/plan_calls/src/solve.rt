@@ -14,13 +14,12 @@ use transport::SolveAnswer;
 ghost use mathlib.Core.Path.{_≡_};
 ghost use Prim.Native.Nat.{_+_, _*_, _-_, _≤_};
 ghost use lib.ListN.{length};
-ghost use Rattle.transport.specs.Sheet.{Sheet, problemOf};
+ghost use Rattle.transport.specs.Sheet.{Sheet, problemOf, sheetOf};
 ghost use Rattle.transport.specs.Tableau.{start};
 ghost use Rattle.transport.specs.Calls.{lentAfter, solveCall};
 ghost use Rattle.transport.specs.Answers.{solveAnswer};
 ghost use Rattle.transport.specs.Statements.{Bought};
 ghost use Rattle.basis.specs.Layout.{stride};
-ghost use Rattle.sheet.specs.Check.{sheetOf};
 ghost use Rattle.dealing.specs.Dealt.{Dealt};
 ghost use Rattle.plan_calls.specs.Solve.{Written};
 
@@ -69,8 +68,8 @@ fn solve_on(
     rounds
 }
 
-// Solve gives the cost, the rounds from the start to the first finished tableau, its m and n prices, and its settled plan, whose cost it is. Sheet check, then
-// 8 if a lent list is too short.
+// Solve: cost and rounds in its answer; the prices of the first finished tableau, and the settled plan, in the lent lists. It refuses what the sheet check
+// refuses, and by 8 lists that are too short.
 pub fn solve(
     supply: &[u64],
     demand: &[u64],

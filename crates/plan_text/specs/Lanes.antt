@@ -107,7 +107,8 @@ module _ (n : ℕ) (plan : List ℕ) where
           let three = numbers-three n k (at plan k) (λ z. omega (arith, e)) in
           record {
             last = laneOfPlace n k ∷ [];
-            lanesNext = joined ∙ ap (λ (ls : List Lane). usedTo k ++ ls) (keep-yes hasBag (laneOfPlace n k) [] (rw (carried-at k, e, ne-eqb (suc b) 0 (λ z. omega arith))));
+            lanesNext = joined ∙ ap (λ (ls : List Lane). usedTo k ++ ls)
+                (keep-yes hasBag (laneOfPlace n k) [] (rw (carried-at k, e, ne-eqb (suc b) 0 (λ z. omega arith))));
             counts = rw three;
             written = λ more. rw (append-nil, carried-at k, three, lines-row 3 (suc (k / n) ∷ suc (k % n) ∷ at plan k ∷ []) more (omega arith) refl);
           }
@@ -117,7 +118,14 @@ module _ (n : ℕ) (plan : List ℕ) where
   used-count zero = refl
   used-count (suc k) =
       let x = next k in
-      omega (arith, length-append (usedNumbers n plan k) (laneNumbers n k (at plan k)), used-count k, x .counts, ap length (x .lanesNext), length-append (usedTo k) (x .last))
+      omega (
+        arith,
+        length-append (usedNumbers n plan k) (laneNumbers n k (at plan k)),
+        used-count k,
+        x .counts,
+        ap length (x .lanesNext),
+        length-append (usedTo k) (x .last),
+      )
 
   -- The lines of the lanes are their numbers in lines of three: place by place, with any lines after them.
   used-lines : (k : ℕ) (more : List ℕ) → flatMap (laneLine n plan) (usedTo k) ++ linesFrom 3 3 more ≡ linesFrom 3 3 (usedNumbers n plan k ++ more)
@@ -125,7 +133,14 @@ module _ (n : ℕ) (plan : List ℕ) where
   used-lines zero more = refl
   used-lines (suc k) more =
       let x = next k in
-      rw (x .lanesNext, flatMap-append (laneLine n plan) (usedTo k) (x .last), append-assoc, x .written more, used-lines k (laneNumbers n k (at plan k) ++ more), append-assoc)
+      rw (
+        x .lanesNext,
+        flatMap-append (laneLine n plan) (usedTo k) (x .last),
+        append-assoc,
+        x .written more,
+        used-lines k (laneNumbers n k (at plan k) ++ more),
+        append-assoc,
+      )
 
   -- The lanes of a whole plan, counted and written.
   pub used-whole : (m : ℕ) → 1 ≤ n → length plan ≡ m * n →

@@ -82,4 +82,12 @@ plan-sections S p fills =
     let a = solution S in
     let m = roasteries S in
     let n = cafes S in
-    rw (regroup, total-line S, one-number "total" (natAbs (a .cost)), one-number "rounds" (a .rounds), prices-section "roasteries" m (a .u) (fills .u), prices-section "cafes" n (a .v) (fills .v), lanes-section "lanes" m n (a .plan) p (fills .plan))
+    rw (
+      regroup,
+      total-line S,
+      one-number "total" (natAbs (a .cost)),
+      one-number "rounds" (a .rounds),
+      prices-section "roasteries" m (a .u) (fills .u),
+      prices-section "cafes" n (a .v) (fills .v),
+      lanes-section "lanes" m n (a .plan) p (fills .plan),
+    )

@@ -116,7 +116,8 @@ module _ (S : Sheet) (out after : List ℕ) where
       go : Case → (len ≡ length text) × (after ≡ front text out)
       go (checked k e f) = let z : Written len ≡ Refused k = h ∙ ap writeAnswer f in let y : _≡_ {A = ℕ} 0 1 = cc in absurd (omega arith)
       go (short e f) = let z : Written len ≡ Refused 8 = h ∙ ap writeAnswer f in let y : _≡_ {A = ℕ} 0 1 = cc in absurd (omega arith)
-      go (written e f) = let z : Written len ≡ Written (length (planText S)) = h ∙ ap writeAnswer f in let y : len ≡ length (planText S) = cc in rw e (y, held ∙ rw f)
+      go (written e f) = let z : Written len ≡ Written (length (planText S)) = h ∙ ap writeAnswer f in let y : len ≡ length (planText S) = cc in
+          rw e (y, held ∙ rw f)
 
   pub shown-short : Refused 8 ≡ writeAnswer call → Left → (0 ≡ length text) × (after ≡ front text out)
   unfolding writeAnswer refusedBy lentAfter front
@@ -158,13 +159,15 @@ module _ (input : List ℕ) where
   unfolding printed
   printed-place rest e = rw (read-stuck numberTests textRead rest e, printed) (place-line (length textRead - length rest))
 
-  pub printed-sheet : (S : Sheet) (rest : List ℕ) → sheetReader textRead ≡ got S rest → refusal (sheetTests S) ≡ refusal (numberTests S) → printed input ≡ sheetShown S
+  pub printed-sheet : (S : Sheet) (rest : List ℕ) → sheetReader textRead ≡ got S rest → refusal (sheetTests S) ≡ refusal (numberTests S) → printed input
+      ≡ sheetShown S
   unfolding printed refusedBy
   printed-sheet S rest e same = go (refusal (numberTests S)) refl
     where
       go : (o : Option ℕ) → refusal (numberTests S) ≡ o → printed input ≡ sheetShown S
       go none n = (rw (read-got numberTests textRead S rest e, unless-given (numberTests S) S n, printed)) ∙ sym (shown-plan S (same ∙ n))
-      go (some k) n = (rw (read-got numberTests textRead S rest e, unless-refused (numberTests S) S k n, printed) (refused-line k)) ∙ sym (shown-refusal S k (same ∙ n))
+      go (some k) n = (rw (read-got numberTests textRead S rest e, unless-refused (numberTests S) S k n, printed) (refused-line k))
+          ∙ sym (shown-refusal S k (same ∙ n))
 
 -- A sheet that was read has sides within their limits and a cost for each lane: only its numbers are still to be tested.
 pub read-numbers : (S : Sheet) → (1 ≤ length (S .supply)) × (length (S .supply) ≤ maxSources) → (1 ≤ length (S .demand)) × (length (S .demand) ≤ maxSinks)

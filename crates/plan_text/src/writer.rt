@@ -1,10 +1,10 @@
 // Write plan.
 ghost use mathlib.Core.Path.{_≡_};
 ghost use lib.ListN.{length};
+ghost use Rattle.transport.specs.Sheet.{sheetOf};
 ghost use Rattle.transport.specs.Calls.{lentAfter};
 ghost use Rattle.transport.specs.PlanText.{writePlanCall};
 ghost use Rattle.transport.specs.Answers.{writeAnswer};
-ghost use Rattle.sheet.specs.Check.{sheetOf};
 use crate::lanes::used_lanes;
 use crate::plan_sections::Figures;
 use crate::plan_sections::plan_sections_len;
@@ -15,8 +15,8 @@ use transport::MAX_SIDE;
 use transport::SolveAnswer;
 use transport::WriteAnswer;
 
-// Write plan solves, writes the plan text and gives its length; or it refuses as write sheet does, and the output is as it was. The text's length is known
-// before its first byte is written.
+// Write plan: the plan text of the solved sheet in the output, its length in the answer; or a refusal, as by write sheet, and the output is as it was. The
+// length is known before the first byte is written.
 pub fn write_plan(supply: &[u64], demand: &[u64], cost: &[u64], out: &mut [u8]) -> WriteAnswer
     ensures { λ r.
         let S = sheetOf (now (supply .entry)) (now (demand .entry)) (now (cost .entry)) in

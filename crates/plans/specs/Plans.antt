@@ -11,7 +11,8 @@ use lib.ListN.{length, getD, take, drop, length-append, take-append-drop, List·
 use lib.Seq.{length-take-le}
 use borrow.Author.Tests.{eqb-true, eq-eqb}
 use Rattle.transport.specs.Lists.{all, sumTo, at, total}
-use Rattle.transport.specs.Laws.ListLaws.{all-at, all-of, member-at, member-place, member-map, map-member, member-flatMap, flatMap-member, getD-append-at, sumTo-cong, sumTo-first, at-past}
+use Rattle.transport.specs.Laws.ListLaws.{all-at, all-of, member-at, member-place, member-map, map-member, member-flatMap, flatMap-member, getD-append-at}
+use Rattle.transport.specs.Laws.ListLaws.{sumTo-cong, sumTo-first, at-past}
 use Rattle.transport.specs.Sheet.{Sheet, roasteries, cafes}
 use Rattle.transport.specs.Problem.{place}
 use Rattle.transport.specs.Plan.{rowPlans, plansFor, plans}
@@ -70,7 +71,12 @@ module _ (n : ℕ) (xs p : List ℕ) (e : length xs ≡ n) where
 
   column : (m j : ℕ) → j < n → sumTo (suc m) (λ i. at (xs ++ p) (place n i j)) ≡ at xs j + sumTo m (λ i. at p (place n i j))
   column m j l =
-      omega (arith, sumTo-first m (λ i. at (xs ++ p) (place n i j)), at-first j l, sumTo-cong m (λ i. at (xs ++ p) (place n (suc i) j)) (λ i. at p (place n i j)) (λ i q. at-rest i j))
+      omega (
+        arith,
+        sumTo-first m (λ i. at (xs ++ p) (place n i j)),
+        at-first j l,
+        sumTo-cong m (λ i. at (xs ++ p) (place n (suc i) j)) (λ i. at p (place n i j)) (λ i q. at-rest i j),
+      )
 
   module _ (s : ℕ) (ss ds : List ℕ) (f : length ds ≡ n) where
     fits-cons : Row s ds xs → Fits n ss (zipWith (_-_) ds xs) p → Fits n (s ∷ ss) ds (xs ++ p)

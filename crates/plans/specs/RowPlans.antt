@@ -103,7 +103,12 @@ ahead-first x y xs ys l =
 pub ahead-cons : (x : ℕ) (xs ys : List ℕ) → Ahead xs ys → Ahead (x ∷ xs) (x ∷ ys)
 unfolding at
 ahead-cons x xs ys a =
-    record { lane = suc (a .lane); difference = record { lane = omega (arith, a .difference .lane); differ = a .difference .differ; before = before }; more = a .more }
+    record {
+      lane = suc (a .lane);
+      difference = record { lane = omega (arith, a .difference .lane); differ = a .difference .differ; before = before };
+      more =
+          a .more;
+    }
   where
     before : (h : ℕ) → h < suc (a .lane) → getD (x ∷ xs) h 0 ≡ getD (x ∷ ys) h 0
     before zero p = refl

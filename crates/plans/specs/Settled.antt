@@ -39,13 +39,21 @@ cheaper-weak : (S : Sheet) → StrictWeak (cheaper S)
 unfolding cheaper
 cheaper-weak S = by-key (planCost S) ltZ-weak
 
--- The list holds all plans that meet the sheet, so x stands in it. None costs less; and one before x carries more than x on the first lane where they differ, so it
--- costs more. Hence x is the first of least cost.
+-- The list holds all plans that meet the sheet, so x stands in it. None costs less; and one before x carries more than x on the first lane where they differ,
+-- so it costs more. Hence x is the first of least cost.
 settled-first : (S : Sheet) (x : List ℕ) → Settled S x → (k : ℕ) × FirstLeast (cheaper S) [] (plans S) x k
 unfolding cheaper
 settled-first S x b =
-    let (k, inside, stands) = plans-complete S x (b .meets) in
-    (k, record { inside = inside; stands = stands; least = least; first = λ h l. first k inside stands h l (ltZ (planCost S x) (planCost S (getD (plans S) h []))) refl })
+    let (k, inside, stands) = plans-complete S x (b .meets) in (
+      k,
+      record {
+        inside = inside;
+        stands = stands;
+        least = least;
+        first =
+            λ h l. first k inside stands h l (ltZ (planCost S x) (planCost S (getD (plans S) h []))) refl;
+      },
+    )
   where
     least : (h : ℕ) → h < length (plans S) → ltZ (planCost S (getD (plans S) h [])) (planCost S x) ≡ false
     least h l = no-lt (planCost S (getD (plans S) h [])) (planCost S x) (z-le (b .least _ (plans-sound S h l)))
@@ -57,7 +65,8 @@ settled-first S x b =
         let y = getD (plans S) h [] in
         let g : Meets S 1 y = plans-sound S h (omega arith) in
         let a : Ahead y x = rw stands at (plans-descending S h k l inside) in
-        let same : planCost S y ≡ planCost S x = eq-z (planCost S y) (planCost S x) (omega (arith, lt-no (planCost S x) (planCost S y) p, z-le (b .least y g))) in
+        let same : planCost S y ≡ planCost S x =
+        eq-z (planCost S y) (planCost S x) (omega (arith, lt-no (planCost S x) (planCost S y) p, z-le (b .least y g))) in
         let d : FirstDifference x y (a .lane) = difference-sym y x (a .lane) (g .quantities ∙ sym (b .meets .quantities)) (a .difference) in
         absurd (omega (arith, a .more, b .first y g same (a .lane) d))
 

@@ -1,4 +1,5 @@
--- From the problem behind a sheet back to the sheet: its plans are the sheet's plans at the same cost, so what is optimal there is best here, and the settled plan.
+-- From the problem behind a sheet back to the sheet: its plans are the sheet's plans at the same cost, so what is optimal there is best here, and the settled
+-- plan.
 use mathlib.Core.Path.{_≡_, refl, ap, _∙_}
 use mathlib.Core.List.{List}
 use Prim.Native.Nat.{ℕ, zero, suc, _*_}
@@ -28,7 +29,8 @@ sumZ-cong (suc n) f g e = rw (sumZ-cong n f g e, e n)
 
 pub cost-same : (S : Sheet) (x : List ℕ) → flowCost (problemOf S) x ≡ planCost S x
 unfolding flowCost planCost problemOf sources sinks roasteries cafes
-cost-same S x = sumZ-cong (roasteries S * cafes S) (λ l. pos (at x l) *ℤ atZ (problemOf S .cost) l) (λ l. pos (at x l) *ℤ pos (at (S .cost) l)) (λ l. ap (λ (c : ℤ). pos (at x l) *ℤ c) (cost-of S l))
+cost-same S x = sumZ-cong (roasteries S * cafes S) (λ l. pos (at x l) *ℤ atZ (problemOf S .cost) l) (λ l. pos (at x l) *ℤ pos (at (S .cost) l))
+    (λ l. ap (λ (c : ℤ). pos (at x l) *ℤ c) (cost-of S l))
 
 -- A plan that is optimal for the problem is best for the sheet ..
 pub optimal-best : (S : Sheet) (x : List ℕ) (c : ℤ) → Optimal (problemOf S) x c → Best S x c

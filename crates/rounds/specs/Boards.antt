@@ -124,7 +124,8 @@ module _ {P : Problem} {T : List Cell} {adj : List ℕ} {q e cost : List ℤ} {m
       unfolding next
       next-is = rw (b .rows, p .enters t)
 
-      pub advanced-moves : {adj′ : List ℕ} {q′ e′ : List ℤ} → Held m (sinks P) (pivot m (sinks P) T (lane row col)) adj′ q′ e′ → Advanced P T adj′ q′ e′ cost price m n false
+      pub advanced-moves : {adj′ : List ℕ} {q′ e′ : List ℤ} → Held m (sinks P) (pivot m (sinks P) T (lane row col)) adj′ q′ e′
+          → Advanced P T adj′ q′ e′ cost price m n false
       advanced-moves {adj′} {q′} {e′} h = record { done = unfinished; prices = p .prices; stays = λ s. absurd (true≢false (sym s)); moves = λ s. board }
         where
           board : Board P (next P T) adj′ q′ e′ cost m n
@@ -152,14 +153,21 @@ abbrev pub boardValue : List ℤ → List ℤ → List ℤ → ℕ → ℕ → �
 boardValue q e cost m n = let x = laneValue q e cost m n in x .up + costBelow * mostValue - x .dn
 
 -- It is the measure of the board's tableau ..
-board-value : {P : Problem} {T : List Cell} {adj : List ℕ} {q e cost : List ℤ} {m n : ℕ} → Board P T adj q e cost m n → laneValue q e cost m n ≈ measure P (plan.costs P) T
+board-value : {P : Problem} {T : List Cell} {adj : List ℕ} {q e cost : List ℤ} {m n : ℕ} → Board P T adj q e cost m n
+    → laneValue q e cost m n ≈ measure P (plan.costs P) T
 board-value {P} {T} {adj} {q} {e} {cost} {m} {n} b =
     rw (b .rows, b .columns)
-    (sum₂-cong (sources P) (sinks P) (λ i j. valued (sources P) (onLane q) (onLane e) i j ⊗ onLane cost i j) (λ i j. valued (sources P) (bagsAt T) (marksAt T) i j ⊗ plan.costs P i j)
-    (λ i j k l. rw (b .held .bags i j (omega (arith, b .rows)) (omega (arith, b .columns)), b .held .marks i j (omega (arith, b .rows)) (omega (arith, b .columns)), b .costs .lanes i j k l)))
+    (sum₂-cong (sources P) (sinks P) (λ i j. valued (sources P) (onLane q) (onLane e) i j ⊗ onLane cost i j)
+    (λ i j. valued (sources P) (bagsAt T) (marksAt T) i j ⊗ plan.costs P i j)
+    (λ i j k l. rw (
+      b .held .bags i j (omega (arith, b .rows)) (omega (arith, b .columns)),
+      b .held .marks i j (omega (arith, b .rows)) (omega (arith, b .columns)),
+      b .costs .lanes i j k l,
+    )))
 
 -- .. which falls in each round.
-pub board-falls : {P : Problem} {T : List Cell} {adj adj′ : List ℕ} {q q′ e e′ cost : List ℤ} {m n : ℕ} → Board P T adj q e cost m n → isFinished P T ≡ false → Board P (next P T) adj′ q′ e′ cost m n
+pub board-falls : {P : Problem} {T : List Cell} {adj adj′ : List ℕ} {q q′ e e′ cost : List ℤ} {m n : ℕ} → Board P T adj q e cost m n → isFinished P T ≡ false
+    → Board P (next P T) adj′ q′ e′ cost m n
     → boardValue q′ e′ cost m n < boardValue q e cost m n
 unfolding raised
 board-falls b f b′ = omega (
@@ -218,7 +226,8 @@ module _ {P : Problem} {T : List Cell} {allowance : ℕ} {adj : List ℕ} {q e c
         go zero z = absurd (true≢false (sym d ∙ g .done ∙ ap (λ (a : ℕ). run P a (g .here) .finished) z ∙ ap (λ x. x .finished) (run-none P (g .here) f)))
         go (suc k) s = omega arith
 
-    module _ {adj′ : List ℕ} {q′ e′ : List ℤ} {finished : Bool} (price : List ℤ) (b : Board P (g .here) adj′ q′ e′ cost m n) (p : (k : ℕ) → k < m + n → getD price k (pos 0) ≡ potential P (g .here) k) where
+    module _ {adj′ : List ℕ} {q′ e′ : List ℤ} {finished : Bool} (price : List ℤ) (b : Board P (g .here) adj′ q′ e′ cost m n) (p : (k : ℕ) → k < m + n
+        → getD price k (pos 0) ≡ potential P (g .here) k) where
       ran : run P left (g .here) ≡ record { finished = finished; tableau = g .here; rounds = 0 } → Ran P T allowance adj′ q′ e′ cost price m n finished made
       ran r =
           let t : run P allowance T .tableau ≡ g .here = g .tableau ∙ ap (λ x. x .tableau) r in

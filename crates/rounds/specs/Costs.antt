@@ -46,7 +46,8 @@ module _ (cost : List ℕ) (n : ℕ) where
           let a : h ≡ i = omega arith in
           let b : k ≡ j = omega arith in
           rw (a, b) (getD-set-same out (i * stride + j) (pos (at cost (place n i j))) (pos 0) (omega (arith, p .long))));
-      pads = λ h k s t u. getD-set-other out (i * stride + j) (h * stride + k) (pos (at cost (place n i j))) (pos 0) (λ e. absurd (omega arith)) ∙ p .pads h k s t u;
+      pads = λ h k s t u. getD-set-other out (i * stride + j) (h * stride + k) (pos (at cost (place n i j))) (pos 0) (λ e. absurd (omega arith))
+          ∙ p .pads h k s t u;
     }
 
     pub part-row : n ≤ j → Part cost n (i + 1) 0 out

@@ -115,7 +115,8 @@ module _ {P : Problem} {T : List Cell} {adj : List ℕ} {cost : List ℤ} {m n :
     unfolding laneCost
     strike-cost t q =
         let (r, c) = laid-fits (t .lane) (s .lanes t q) in
-        rw (h .costs .lanes (t .lane .row) (t .lane .col) (omega (arith, h .rows)) (omega (arith, h .columns))) (cost-size (h .sound) (place (sinks P) (t .lane .row) (t .lane .col)))
+        rw (h .costs .lanes (t .lane .row) (t .lane .col) (omega (arith, h .rows)) (omega (arith, h .columns)))
+        (cost-size (h .sound) (place (sinks P) (t .lane .row) (t .lane .col)))
 
     module _ (price : List ℤ) (p : (k : ℕ) → k < nodeRoom → getD price k (pos 0) ≡ potentialBy (costOf cost) ss k) where
       prices-are : (k : ℕ) → k < m + n → getD price k (pos 0) ≡ potential P T k
@@ -128,7 +129,8 @@ module _ {P : Problem} {T : List Cell} {adj : List ℕ} {cost : List ℤ} {m n :
           let turned : potentialBy (laneCost P) (strikes m n (basisOf T)) k ≡ potential P T k = rw (h .rows, h .columns) in
           p k (omega (arith, laid-sides))
           ∙ potential-any low laid-fits laid-spans (costOf cost) s k l
-          ∙ potential-only low laid-fits laid-spans (laneCost P) other (potential-root low laid-fits laid-spans (costOf cost)) (λ t q. omega (arith, potential-tight low laid-fits laid-spans (costOf cost) t q, z-eq (same t q))) k l
+          ∙ potential-only low laid-fits laid-spans (laneCost P) other (potential-root low laid-fits laid-spans (costOf cost))
+          (λ t q. omega (arith, potential-tight low laid-fits laid-spans (costOf cost) t q, z-eq (same t q))) k l
           ∙ turned
 
       pub in-range : InRange cost price m
@@ -138,7 +140,8 @@ module _ {P : Problem} {T : List Cell} {adj : List ℕ} {cost : List ℤ} {m n :
           costs : (l : ℕ) → l < m * stride → natAbs (getD cost l (pos 0)) ≤ padCost
           costs l r = by-cases (decLt (l % stride) n)
               (λ q. omega (arith, cost-small l (omega arith) q))
-              (λ q. rw (sym (costOf-at cost l) ∙ h .costs .pads (l / stride) (l % stride) (omega (arith, h .rows)) (omega (arith, h .columns)) (omega arith)) (omega arith))
+              (λ q. rw (sym (costOf-at cost l) ∙ h .costs .pads (l / stride) (l % stride) (omega (arith, h .rows)) (omega (arith, h .columns)) (omega arith))
+              (omega arith))
 
           noStrike : Strike
           noStrike = record { leaf = 0; other = 0; lane = lane 0 0 }
@@ -197,19 +200,32 @@ module _ {P : Problem} {T : List Cell} {adj : List ℕ} {cost : List ℤ} {m n :
           scanned-enters : entering P T ≡ lane row col
           unfolding entering
           scanned-enters =
-              firstLeast-unique (λ k l. ltZ (reducedCost P T k) (reducedCost P T l)) (by-key (reducedCost P T) ltZ-weak) (laneOf noCell) (lanes (sources P) (sinks P)) (lane row col) (place (sinks P) row col)
+              firstLeast-unique (λ k l. ltZ (reducedCost P T k) (reducedCost P T l)) (by-key (reducedCost P T) ltZ-weak) (laneOf noCell)
+              (lanes (sources P) (sinks P)) (lane row col) (place (sinks P) row col)
               (record {
-                inside = omega (arith, place-below (sources P) (sinks P) row col (omega (arith, h .rows, found .rowIn)) (omega (arith, h .columns, col-in)), length-lanes (sources P) (sinks P));
+                inside = omega (
+                  arith,
+                  place-below (sources P) (sinks P) row col (omega (arith, h .rows, found .rowIn)) (omega (arith, h .columns, col-in)),
+                  length-lanes (sources P) (sinks P),
+                );
                 stands = getD-lanes (sources P) (sinks P) row col (laneOf noCell) (omega (arith, h .rows, found .rowIn)) (omega (arith, h .columns, col-in));
-                least = λ k l. at k l (λ t. ltZ (reducedCost P T t) (reducedCost P T (lane row col)) ≡ false) (λ i j a b r. rw (is-reduced, ← reduced-are i j a b) (found .least i j a (omega (arith, laid-sides))));
-                first = λ k l. at k (omega (arith, place-below (sources P) (sinks P) row col (omega (arith, h .rows, found .rowIn)) (omega (arith, h .columns, col-in)), length-lanes (sources P) (sinks P)))
+                least = λ k l. at k l (λ t. ltZ (reducedCost P T t) (reducedCost P T (lane row col)) ≡ false)
+                    (λ i j a b r. rw (is-reduced, ← reduced-are i j a b) (found .least i j a (omega (arith, laid-sides))));
+                first = λ k l. at k (omega (
+                  arith,
+                  place-below (sources P) (sinks P) row col (omega (arith, h .rows, found .rowIn))
+                      (omega (arith, h .columns, col-in)),
+                  length-lanes (sources P) (sinks P),
+                ))
                     (λ t. ltZ (reducedCost P T (lane row col)) (reducedCost P T t) ≡ true)
                     (λ i j a b r. rw (is-reduced, ← reduced-are i j a b)
-                    (found .first i j a (omega (arith, laid-sides)) (place-order (sinks P) i j row col (omega (arith, h .columns)) (omega (arith, h .columns, col-in)) (omega (arith, h .columns, laid-sides)) (omega arith))));
+                    (found .first i j a (omega (arith, laid-sides)) (place-order (sinks P) i j row col (omega (arith, h .columns))
+                    (omega (arith, h .columns, col-in)) (omega (arith, h .columns, laid-sides)) (omega arith))));
               })
             where
               -- What holds of the lane at each place.
-              at : (k : ℕ) → k < length (lanes (sources P) (sinks P)) → (C : Lane → Type 0) → ((i j : ℕ) → i < m → j < n → place (sinks P) i j ≡ k → C (lane i j))
+              at : (k : ℕ) → k < length (lanes (sources P) (sinks P)) → (C : Lane → Type 0)
+                  → ((i j : ℕ) → i < m → j < n → place (sinks P) i j ≡ k → C (lane i j))
                   → C (getD (lanes (sources P) (sinks P)) k (laneOf noCell))
               at k l C f =
                   let t : Placed (sources P) (sinks P) k = place-of (sources P) (sinks P) k (omega (arith, length-lanes (sources P) (sinks P))) in
@@ -222,20 +238,33 @@ module _ {P : Problem} {T : List Cell} {adj : List ℕ} {cost : List ℤ} {m n :
           where
             go : (b : Bool) → ltZ reduced (pos 0) ≡ b → isFinished P T ≡ not b
             go false e = all-lanes (λ l. nonNeg (reducedCost P T l)) (sources P) (sinks P)
-                (λ i j a b. not-negative (reducedCost P T (lane i j)) (rw (← reduced-are i j (omega (arith, h .rows)) (omega (arith, h .columns))) (w .finished e i j (omega (arith, h .rows)) (omega (arith, h .columns, laid-sides)))))
+                (λ i j a b. not-negative (reducedCost P T (lane i j)) (rw (← reduced-are i j (omega (arith, h .rows)) (omega (arith, h .columns)))
+                (w .finished e i j (omega (arith, h .rows)) (omega (arith, h .columns, laid-sides)))))
             go true e = unless (isFinished P T) refl
               where
                 unless : (b : Bool) → isFinished P T ≡ b → isFinished P T ≡ false
                 unless false q = q
-                unless true q = absurd (true≢false (sym (all-lanes-at (λ l. nonNeg (reducedCost P T l)) (sources P) (sinks P) row col q (omega (arith, h .rows, found e .rowIn)) (omega (arith, h .columns, col-in e)))
+                unless true q = absurd (true≢false (sym (all-lanes-at (λ l. nonNeg (reducedCost P T l)) (sources P) (sinks P) row col q
+                    (omega (arith, h .rows, found e .rowIn)) (omega (arith, h .columns, col-in e)))
                     ∙ negative (reducedCost P T (lane row col)) (rw (is-reduced e) e)))
 
   module _ (leaf other lanes : List ℕ) (count : ℕ) (s : Struck m n (basisOf T) (strikesOf leaf other lanes count)) where
     pub lane-costs : (k : ℕ) → k < count → natAbs (getD cost (getD lanes k 0) (pos 0)) ≤ costAbove
     unfolding strikesOf
     lane-costs k l =
-        omega (arith, strike-cost s (strikeOf leaf other lanes k) (member-table count (strikeOf leaf other lanes) k l), ap natAbs (costOf-at cost (getD lanes k 0)))
+        omega (
+          arith,
+          strike-cost s (strikeOf leaf other lanes k) (member-table count (strikeOf leaf other lanes) k l),
+          ap natAbs (costOf-at cost (getD lanes k 0)),
+        )
 
-    pub laid-priced : {price : List ℤ} {row col : ℕ} {reduced : ℤ} → ((k : ℕ) → k < nodeRoom → getD price k (pos 0) ≡ potentialBy (costOf cost) (strikesOf leaf other lanes count) k)
+    pub laid-priced : {price : List ℤ} {row col : ℕ} {reduced : ℤ}
+        → ((k : ℕ) → k < nodeRoom → getD price k (pos 0) ≡ potentialBy (costOf cost) (strikesOf leaf other lanes count) k)
         → Scanned cost price m row col reduced → count ≡ m + n - 1 → Priced P T leaf other lanes price m n row col reduced
-    laid-priced {price} p w c = record { struck = rw c at s; prices = prices-are s price p; done = scanned-done s price p w; enters = scanned-enters s price p w }
+    laid-priced {price} p w c = record {
+      struck = rw c at s;
+      prices = prices-are s price p;
+      done = scanned-done s price p w;
+      enters =
+          scanned-enters s price p w;
+    }

@@ -49,7 +49,8 @@ module _ (D : List ℕ) (rest k : ℕ) (p : k < length D) (e : take (suc k) D �
       go (no h) = last-of (digits (rest / 10)) (48 + rest % 10) (digits-large rest (omega arith)) .0
 
 -- One place more, from the back on.
-pub fill-back : (D out old : List ℕ) (k b : ℕ) → k < length D → k < length out → getD D k 0 ≡ b → drop (suc k) out ≡ drop (suc k) D ++ old → drop k (set out k b) ≡ drop k D ++ old
+pub fill-back : (D out old : List ℕ) (k b : ℕ) → k < length D → k < length out → getD D k 0 ≡ b → drop (suc k) out ≡ drop (suc k) D ++ old
+    → drop k (set out k b) ≡ drop k D ++ old
 fill-back D out old k b p q d e =
     drop-cons (set out k b) k 0 (lt-length-set out k b q)
     ∙ (rw (getD-set-same out k b 0 q, drop-set-lt (suc k) out k b (omega arith), e, drop-cons D k 0 p, d))

@@ -28,7 +28,13 @@ front-take text out n e = take-at text (drop (length text) out) n (sym e)
 pub front-byte : (text out : List ℕ) (n b : ℕ) → n ≡ length text → length text < length out → set (front text out) n b ≡ front (text ++ (b ∷ [])) out
 unfolding front
 front-byte text out n b e p =
-    rw (drop-cons out (length text) 0 p, set-at text (getD out (length text) 0) (drop (suc (length text)) out) b n (sym e), length-append, add-one, append-assoc)
+    rw (
+      drop-cons out (length text) 0 p,
+      set-at text (getD out (length text) 0) (drop (suc (length text)) out) b n (sym e),
+      length-append,
+      add-one,
+      append-assoc,
+    )
 
 pub front-first : (out : List ℕ) (b : ℕ) → 0 < length out → set out 0 b ≡ front (b ∷ []) out
 unfolding front
@@ -84,7 +90,8 @@ module _ {first second out held : List ℕ} {n : ℕ} (b : FirstWritten first se
   pub both-length : (k : ℕ) → k ≡ length second → n + k ≡ length (first ++ second)
   both-length k e = omega (arith, b .ends, length-append first second)
 
-  pub both-written : (after : List ℕ) → after ≡ front second (midOf n (length held - n) held) → putMid n (length held - n) held after ≡ front (first ++ second) out
+  pub both-written : (after : List ℕ) → after ≡ front second (midOf n (length held - n) held) → putMid n (length held - n) held after
+      ≡ front (first ++ second) out
   both-written after e = rw e (front-then first out held n (b .ends) (b .holds) second)
 
 -- ---- a text written piece by piece: what is written is its first `at` bytes
@@ -113,7 +120,11 @@ module _ {A : Type 0} (f : A → List ℕ) (xs : List A) (i : ℕ) where
   pieces-next d p = rw (add-one, take-suc xs i d p, flatMap-append f (take i xs) (getD xs i d ∷ []), append-nil)
 
   pub pieces-within : length (flatMap f (take i xs)) ≤ length (flatMap f xs)
-  pieces-within = omega (arith, ap length (sym (flatMap-append f (take i xs) (drop i xs)) ∙ ap (flatMap f) (take-append-drop i xs)), length-append (flatMap f (take i xs)) (flatMap f (drop i xs)))
+  pieces-within = omega (
+    arith,
+    ap length (sym (flatMap-append f (take i xs) (drop i xs)) ∙ ap (flatMap f) (take-append-drop i xs)),
+    length-append (flatMap f (take i xs)) (flatMap f (drop i xs)),
+  )
 
   pub pieces-end : length xs ≤ i → flatMap f (take i xs) ≡ flatMap f xs
   pieces-end p = rw (take-all i xs p)

@@ -77,7 +77,12 @@ length-lines : (width left : ℕ) (xs : List ℕ) → length (linesFrom width le
 unfolding linesFrom numbersLength
 length-lines width left [] = refl
 length-lines width left (x ∷ xs) =
-    omega (arith, length-append (ended x (ending left)) (linesFrom width (leftAfter width left) xs), length-ended x (ending left), length-lines width (leftAfter width left) xs)
+    omega (
+      arith,
+      length-append (ended x (ending left)) (linesFrom width (leftAfter width left) xs),
+      length-ended x (ending left),
+      length-lines width (leftAfter width left) xs,
+    )
 
 -- A column is lines of one number.
 pub lines-column : (xs : List ℕ) → flatMap numberLine xs ≡ linesFrom 1 1 xs
@@ -99,10 +104,18 @@ line-then width x [] more = lines-cons width 1 x more ∙ (rw (ending-last, left
 line-then width x (y ∷ xs) more =
     let one : suc (suc (length xs)) - 1 ≡ suc (length xs) = omega arith in
     lines-cons width (suc (suc (length xs))) x (y ∷ (xs ++ more))
-    ∙ (rw (ending-more (suc (suc (length xs))) (λ e. omega arith), left-more width (suc (suc (length xs))) (λ e. omega arith), one, line-then width y xs more, row-more, append-assoc))
+    ∙ (rw (
+      ending-more (suc (suc (length xs))) (λ e. omega arith),
+      left-more width (suc (suc (length xs))) (λ e. omega arith),
+      one,
+      line-then width y xs more,
+      row-more,
+      append-assoc,
+    ))
 
 -- A whole row, and then the lines after it.
-pub lines-row : (width : ℕ) (row more : List ℕ) → 1 ≤ length row → length row ≡ width → linesFrom width width (row ++ more) ≡ rowLine row ++ linesFrom width width more
+pub lines-row : (width : ℕ) (row more : List ℕ) → 1 ≤ length row → length row ≡ width → linesFrom width width (row ++ more) ≡ rowLine row
+    ++ linesFrom width width more
 lines-row width [] more p e = absurd (omega arith)
 lines-row width (x ∷ row) more p e = rw (← e) (line-then (suc (length row)) x row more)
 
@@ -125,7 +138,8 @@ lines-rows (suc m) n xs p e =
 unfoldable pub sectionText : List ℕ → ℕ → ℕ → List ℕ → List ℕ
 sectionText name count width xs = name ++ ended count 10 ++ linesFrom width width xs
 
-pub length-section : (name : List ℕ) (count width : ℕ) (xs : List ℕ) → length (sectionText name count width xs) ≡ length (name ++ ended count 10) + numbersLength xs
+pub length-section : (name : List ℕ) (count width : ℕ) (xs : List ℕ) → length (sectionText name count width xs) ≡ length (name ++ ended count 10)
+    + numbersLength xs
 unfolding sectionText
 length-section name count width xs = omega (arith, length-append (name ++ ended count 10) (linesFrom width width xs), length-lines width width xs)
 
@@ -134,7 +148,8 @@ pub head-line : (name : String) (count : ℕ) → headLine name count ≡ bytes 
 unfolding headLine ended bytes
 head-line name count = append-assoc (bytes name ++ bytes " ") (digits count) (bytes "\n")
 
-pub section-of : (name : String) (count width : ℕ) (xs : List ℕ) → headLine name count ++ linesFrom width width xs ≡ sectionText (bytes name ++ bytes " ") count width xs
+pub section-of : (name : String) (count width : ℕ) (xs : List ℕ) → headLine name count ++ linesFrom width width xs
+    ≡ sectionText (bytes name ++ bytes " ") count width xs
 unfolding sectionText
 section-of name count width xs = rw (head-line name count)
 
@@ -147,7 +162,8 @@ left-pos width left p q = go (decLt 1 left)
     go (yes h) = rw (left-more width left (λ e. omega arith)) (omega arith)
     go (no h) = let e : left ≡ 1 = omega arith in rw (e, left-last) p
 
-pub lines-next : (width left : ℕ) (xs : List ℕ) (i : ℕ) → i < length xs → linesFrom width left (drop i xs) ≡ ended (getD xs i 0) (ending left) ++ linesFrom width (leftAfter width left) (drop (i + 1) xs)
+pub lines-next : (width left : ℕ) (xs : List ℕ) (i : ℕ) → i < length xs → linesFrom width left (drop i xs) ≡ ended (getD xs i 0) (ending left)
+    ++ linesFrom width (leftAfter width left) (drop (i + 1) xs)
 lines-next width left xs i p = rw (drop-cons xs i 0 p, lines-cons, add-one)
 
 pub lines-end : (width left : ℕ) (xs : List ℕ) (i : ℕ) → length xs ≤ i → linesFrom width left (drop i xs) ≡ []

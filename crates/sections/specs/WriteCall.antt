@@ -1,4 +1,5 @@
--- A call that writes a text, case by case: the sheet check refuses, the output is too short, or the text stands at its front. Write sheet and write plan are such calls.
+-- A call that writes a text, case by case: the sheet check refuses, the output is too short, or the text stands at its front. Write sheet and write plan are
+-- such calls.
 use mathlib.Core.Path.{_≡_, sym, ap, _∙_}
 use mathlib.Core.List.{List, [], _∷_, _++_}
 use mathlib.Core.Option.{none, some}

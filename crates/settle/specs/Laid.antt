@@ -121,7 +121,8 @@ module _ {P : Problem} {m n : ℕ} {adj : List ℕ} {q e : List ℤ} {masks : Li
 
 -- No bags are owed on any lane.
 pub laid-debtless : {P : Problem} {m n : ℕ} {adj : List ℕ} {q e : List ℤ} {masks : List ℕ} {T : List Cell} → Laid P m n adj q e masks T → NoDebt m n q
-laid-debtless {T = T} l i j hi hj = rw (l .held .bags i j hi hj) (whole (amountAt T i j .q) (bags-nonneg (belongs-seen (l .sound) (laid-belongs l)) i j (omega (arith, l .rows)) (omega (arith, l .cols))))
+laid-debtless {T = T} l i j hi hj = rw (l .held .bags i j hi hj)
+    (whole (amountAt T i j .q) (bags-nonneg (belongs-seen (l .sound) (laid-belongs l)) i j (omega (arith, l .rows)) (omega (arith, l .cols))))
   where
     whole : (z : ℤ) → nat 0 ≼ toZ z → z ≡ pos (natAbs z)
     whole (pos k) p = refl

@@ -46,7 +46,8 @@ module _ {n : ℕ} {q : List ℤ} {k : ℕ} {old new : List ℕ} (w : Written n 
   rest : (h : ℕ) → k ≤ h → drop h new ≡ drop h old
   rest h p =
       let s : h ≡ k + (h - k) = omega arith in
-      rw s (sym (drop-drop (h - k) k new) ∙ ap (drop (h - k)) (rw (w .is) (drop-at (table k (bagsIn n q)) (drop k old) k (length-table (bagsIn n q) k))) ∙ drop-drop (h - k) k old)
+      rw s (sym (drop-drop (h - k) k new) ∙ ap (drop (h - k)) (rw (w .is) (drop-at (table k (bagsIn n q)) (drop k old) k (length-table (bagsIn n q) k)))
+      ∙ drop-drop (h - k) k old)
 
   -- Again from here, and on to what is written then.
   pub written-again : Written n q k new new
@@ -76,5 +77,6 @@ bags-held P {T} {adj} {q} {e} h = ext-getD 0 _ _ (length-table (bagsIn n q) (m *
         let w = place-of m n k p in
         getD-table (bagsIn n q) (m * n) k 0 p
         ∙ rw (← w .placed) (bagsIn-place n (w .row) (w .col) q (w .colBelow) ∙ ap natAbs (h .bags (w .row) (w .col) (w .rowBelow) (w .colBelow))
-        ∙ sym (getD-map (bagsOn T) (lanes m n) (place n (w .row) (w .col)) (lane 0 0) 0 (omega (arith, length-lanes m n, place-below m n (w .row) (w .col) (w .rowBelow) (w .colBelow)))
+        ∙ sym (getD-map (bagsOn T) (lanes m n) (place n (w .row) (w .col)) (lane 0 0) 0
+        (omega (arith, length-lanes m n, place-below m n (w .row) (w .col) (w .rowBelow) (w .colBelow)))
         ∙ ap (bagsOn T) (getD-lanes m n (w .row) (w .col) (lane 0 0) (w .rowBelow) (w .colBelow))))

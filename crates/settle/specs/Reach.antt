@@ -31,7 +31,8 @@ module _ {t t′ m n : ℕ} {adj adj′ : List ℕ} {q e q′ e′ : List ℤ} {
   pub at-on : AtStage t m n adj q e masks → AtStage t′ m n adj′ q′ e′ masks′
   at-on s = let (T, w) = r .stage (s .problem) (s .first) (s .tableau) (s .stage) in record { problem = s .problem; first = s .first; tableau = T; stage = w }
 
-  pub reaches-on : {t″ : ℕ} {adj″ : List ℕ} {q″ e″ : List ℤ} {masks″ : List ℕ} → Reaches t′ t″ m n adj′ q′ e′ masks′ adj″ q″ e″ masks″ → Reaches t t″ m n adj q e masks adj″ q″ e″ masks″
+  pub reaches-on : {t″ : ℕ} {adj″ : List ℕ} {q″ e″ : List ℤ} {masks″ : List ℕ} → Reaches t′ t″ m n adj′ q′ e′ masks′ adj″ q″ e″ masks″
+      → Reaches t t″ m n adj q e masks adj″ q″ e″ masks″
   reaches-on v = record { stage = λ P T₀ T s. let (T′, w) = r .stage P T₀ T s in v .stage P T₀ T′ w }
 
   -- Only basic lanes are still allowed: all lanes are decided.
@@ -53,7 +54,8 @@ pub record Stepped (m n : ℕ) (adj : List ℕ) (q e : List ℤ) (masks adj′ :
 pub stepped-none : {m n : ℕ} {adj : List ℕ} {q e : List ℤ} {masks : List ℕ} → Stepped m n adj q e masks adj q e masks
 stepped-none = record { same = refl; laid = λ P T l. (T, l) }
 
-module _ {m n p c : ℕ} {adj adj′ adj″ : List ℕ} {q e q′ e′ q″ e″ : List ℤ} {masks masks′ masks″ : List ℕ} {moves : Bool} (w : Stepped m n adj q e masks adj′ q′ e′ masks′)
+module _ {m n p c : ℕ} {adj adj′ adj″ : List ℕ} {q e q′ e′ q″ e″ : List ℤ} {masks masks′ masks″ : List ℕ} {moves : Bool}
+    (w : Stepped m n adj q e masks adj′ q′ e′ masks′)
     (f : (P : Problem) (T : List Cell) → Laid P m n adj′ q′ e′ masks′ T → Advanced moves P m n p c q′ e′ masks′ T adj″ q″ e″ masks″) where
   -- One more ..
   pub stepped-more : masks″ ≡ masks′ → moves ≡ true → Stepped m n adj q e masks adj″ q″ e″ masks″

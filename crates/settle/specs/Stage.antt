@@ -35,7 +35,8 @@ use Rattle.settle.specs.Step.{Over}
 pub record Stage (P : Problem) (T₀ : List Cell) (t m n : ℕ) (adj : List ℕ) (q e : List ℤ) (masks : List ℕ) (T : List Cell) : Type 0 where
   pub laid : Laid P m n adj q e masks T
   pub first : cellsBelong P T₀ ≡ true
-  pub decided : Decided (sources P) (sinks P) (supplies P) (demands P) (Tight (costs P) (rowPotential P T₀) (columnPotential P T₀)) t (λ i j. allows masks i j ≡ true) (bagsAt T)
+  pub decided : Decided (sources P) (sinks P) (supplies P) (demands P) (Tight (costs P) (rowPotential P T₀) (columnPotential P T₀)) t (λ i j. allows masks i j
+      ≡ true) (bagsAt T)
 
 stage-of : {P : Problem} {T₀ : List Cell} {t m n : ℕ} {adj : List ℕ} {q e : List ℤ} {masks : List ℕ} {T : List Cell} → Sound P → m ≡ sources P → n ≡ sinks P
     → length masks ≡ stride → cellsBelong P T₀ ≡ true → Held m n T adj q e → DecidedTo P T₀ t (allows masks) T → Stage P T₀ t m n adj q e masks T
@@ -74,15 +75,19 @@ module _ {P : Problem} {T₀ : List Cell} {m n : ℕ} {adj : List ℕ} {q e : Li
     here = rw (s .laid .cols) at (stage-decided s)
 
     -- Its phase is over.
-    pub stage-phase : {adj′ : List ℕ} {q′ e′ : List ℤ} {masks′ : List ℕ} {T′ : List Cell} → Over P m n p c masks T′ adj′ q′ e′ masks′ → Stage P T₀ (suc (place n p c)) m n adj′ q′ e′ masks′ T′
+    pub stage-phase : {adj′ : List ℕ} {q′ e′ : List ℤ} {masks′ : List ℕ} {T′ : List Cell} → Over P m n p c masks T′ adj′ q′ e′ masks′
+        → Stage P T₀ (suc (place n p c)) m n adj′ q′ e′ masks′ T′
     stage-phase {T′ = T′} o =
-        let d : DecidedTo P T₀ (suc (place (sinks P) p c)) (keptLanes P (allows masks) p c T′) T′ = settling-phase ok T₀ (stage-first s) row col here (laid-restricted (o .laid)) (o .ended) in
-        stage-of ok (s .laid .rows) (s .laid .cols) (o .long) (s .first) (o .laid .held) (rw (s .laid .cols) (decidedTo-cong (λ i j hi hj. sym (o .kept i j hi hj)) d))
+        let d : DecidedTo P T₀ (suc (place (sinks P) p c)) (keptLanes P (allows masks) p c T′) T′ =
+        settling-phase ok T₀ (stage-first s) row col here (laid-restricted (o .laid)) (o .ended) in
+        stage-of ok (s .laid .rows) (s .laid .cols) (o .long) (s .first) (o .laid .held)
+        (rw (s .laid .cols) (decidedTo-cong (λ i j hi hj. sym (o .kept i j hi hj)) d))
 
     -- The lane is not allowed.
     pub stage-skip : allows masks p c ≡ false → Stage P T₀ (suc (place n p c)) m n adj q e masks T
     stage-skip shut =
-        let d : DecidedTo P T₀ (suc (place (sinks P) p c)) (allows masks) T = settling-skip ok T₀ (stage-first s) row col here (λ a. false≢true (sym shut ∙ a)) in
+        let d : DecidedTo P T₀ (suc (place (sinks P) p c)) (allows masks) T =
+        settling-skip ok T₀ (stage-first s) row col here (λ a. false≢true (sym shut ∙ a)) in
         stage-of ok (s .laid .rows) (s .laid .cols) (s .laid .long) (s .first) (s .laid .held) (rw (s .laid .cols) d)
 
   -- Only basic lanes are still allowed.
@@ -103,7 +108,9 @@ module _ {P : Problem} {T₀ : List Cell} {m n : ℕ} {adj : List ℕ} {q e : Li
       rw (s .laid .rows, s .laid .cols, bags-held P h) (decided-optimal (s .laid .sound) T₀ (stage-first s) done d)
 
 -- The start: the tight lanes of a tableau.
-pub stage-start : {P : Problem} {T₀ : List Cell} {m n : ℕ} {adj : List ℕ} {q e : List ℤ} {masks : List ℕ} → Sound P → m ≡ sources P → n ≡ sinks P → length masks ≡ stride
-    → cellsBelong P T₀ ≡ true → Held m n T₀ adj q e → ((i j : ℕ) → i < sources P → j < sinks P → allows masks i j ≡ tightLanes P T₀ i j) → Stage P T₀ 0 m n adj q e masks T₀
+pub stage-start : {P : Problem} {T₀ : List Cell} {m n : ℕ} {adj : List ℕ} {q e : List ℤ} {masks : List ℕ} → Sound P → m ≡ sources P → n ≡ sinks P
+    → length masks ≡ stride
+    → cellsBelong P T₀ ≡ true → Held m n T₀ adj q e → ((i j : ℕ) → i < sources P → j < sinks P → allows masks i j ≡ tightLanes P T₀ i j)
+    → Stage P T₀ 0 m n adj q e masks T₀
 stage-start {P} {T₀} ok rows cols long first held tight = stage-of ok rows cols long first held
     (decidedTo-cong (λ i j hi hj. sym (tight i j hi hj)) (settling-start ok T₀ (belongs-iff P T₀ (ok .sourcesLow) (ok .sinksLow) .0 first)))

@@ -48,7 +48,8 @@ unfolding phaseLeft
 value-rises {P} ok {p} {c} hp hc T T′ f =
     let m = sources P in
     let n = sinks P in
-    less-left (allValue P) (measure P (most p c) T) (measure P (most p c) T′) (value m (bagsAt T p c) (marksAt T p c)) (value m (bagsAt T′ p c) (marksAt T′ p c)) (allValue-high ok)
+    less-left (allValue P) (measure P (most p c) T) (measure P (most p c) T′) (value m (bagsAt T p c) (marksAt T p c))
+    (value m (bagsAt T′ p c) (marksAt T′ p c)) (allValue-high ok)
     (most-cost m n p c hp hc (valued m (bagsAt T) (marksAt T)))
     (most-cost m n p c hp hc (valued m (bagsAt T′) (marksAt T′)))
     f
@@ -64,7 +65,8 @@ module _ {P : Problem} {m n : ℕ} {adj : List ℕ} {q e : List ℤ} {masks : Li
 
   pub step-laid : Laid P m n adj′ q′ e′ masks (pivot m n T (lane i j))
   step-laid =
-      let r : Restricted P (allows masks) (pivot m n T (lane i j)) = rw (l .rows, l .cols) (step-restricted (l .sound) (allows masks) hp′ hc′ T (laid-restricted l) w) in
+      let r : Restricted P (allows masks) (pivot m n T (lane i j)) =
+      rw (l .rows, l .cols) (step-restricted (l .sound) (allows masks) hp′ hc′ T (laid-restricted l) w) in
       record {
         sound = l .sound;
         rows = l .rows;
@@ -96,13 +98,15 @@ pub record Over (P : Problem) (m n p c : ℕ) (masks : List ℕ) (T : List Cell)
   pub kept : (i j : ℕ) → i < sources P → j < sinks P → allows masks′ i j ≡ keptLanes P (allows masks) p c T i j
 
 -- The one, or the other.
-pub record Advanced (moves : Bool) (P : Problem) (m n p c : ℕ) (q e : List ℤ) (masks : List ℕ) (T : List Cell) (adj′ : List ℕ) (q′ e′ : List ℤ) (masks′ : List ℕ) : Type 0 where
+pub record Advanced (moves : Bool) (P : Problem) (m n p c : ℕ) (q e : List ℤ) (masks : List ℕ) (T : List Cell) (adj′ : List ℕ) (q′ e′ : List ℤ)
+    (masks′ : List ℕ) : Type 0 where
   pub yes : moves ≡ true → Moved P m n p c q e masks adj′ q′ e′ masks′
   pub no : moves ≡ false → Over P m n p c masks T adj′ q′ e′ masks′
 
 -- ---- a step, by what the code finds
 
-module _ {P : Problem} {m n : ℕ} {adj : List ℕ} {q e : List ℤ} {masks : List ℕ} {T : List Cell} (l : Laid P m n adj q e masks T) {p c : ℕ} (hp : p < m) (hc : c < n) where
+module _ {P : Problem} {m n : ℕ} {adj : List ℕ} {q e : List ℤ} {masks : List ℕ} {T : List Cell} (l : Laid P m n adj q e masks T) {p c : ℕ} (hp : p < m)
+    (hc : c < n) where
   row-in : p < sources P
   row-in = omega (arith, l .rows)
 
@@ -113,7 +117,8 @@ module _ {P : Problem} {m n : ℕ} {adj : List ℕ} {q e : List ℤ} {masks : Li
   pub own-improves : has (getD adj p 0) c ≡ false → allows masks p c ≡ true → Improving P (allows masks) p c T p c
   own-improves off a = phase-enters (l .sound) (laid-belongs l) row-in col-in (λ b. false≢true (sym off ∙ basic-row (l .held) p c hp b)) a
 
-  module _ {leaf other lanes : List ℕ} {rows cols : ℕ} (w : StruckOff m n adj leaf other lanes) (cut : Cuts m n p c (strikesOf leaf other lanes (m + n - 1)) rows cols) where
+  module _ {leaf other lanes : List ℕ} {rows cols : ℕ} (w : StruckOff m n adj leaf other lanes)
+      (cut : Cuts m n p c (strikesOf leaf other lanes (m + n - 1)) rows cols) where
     cuts : Cuts (sources P) (sinks P) p c (strikesOf leaf other lanes (m + n - 1)) rows cols
     cuts = rw (l .rows, l .cols) (rw (l .rows, l .cols) at cut)
 
@@ -122,7 +127,8 @@ module _ {P : Problem} {m n : ℕ} {adj : List ℕ} {q e : List ℤ} {masks : Li
     lane-improves i j f = found-improves (l .sound) (laid-belongs l) row-in col-in (laid-struck l w) cuts masks i j (rw (l .rows) at f)
 
     -- None is found.
-    pub none-over : {masks′ : List ℕ} → has (getD adj p 0) c ≡ true → allows masks p c ≡ true → masked.Finds masks rows cols m found.Nothing → masked.Keeps masks rows cols m p c masks′
+    pub none-over : {masks′ : List ℕ} → has (getD adj p 0) c ≡ true → allows masks p c ≡ true → masked.Finds masks rows cols m found.Nothing
+        → masked.Keeps masks rows cols m p c masks′
         → Advanced false P m n p c q e masks T adj q e masks′
     none-over {masks′} on a f k =
         let basic : Basic T p c = row-basic (l .held) p c hp on in
@@ -138,5 +144,6 @@ module _ {P : Problem} {m n : ℕ} {adj : List ℕ} {q e : List ℤ} {masks : Li
   pub lane-moves : {i j : ℕ} {adj′ : List ℕ} {q′ e′ : List ℤ} → Improving P (allows masks) p c T i j → Held m n (pivot m n T (lane i j)) adj′ q′ e′
       → Advanced true P m n p c q e masks T adj′ q′ e′ masks
   lane-moves {i} {j} {adj′} {q′} {e′} v h =
-      let moved : Moved P m n p c q e masks adj′ q′ e′ masks = record { tableau = pivot m n T (lane i j); laid = step-laid l hp hc v h; same = refl; less = step-less l hp hc v h } in
+      let moved : Moved P m n p c q e masks adj′ q′ e′ masks =
+      record { tableau = pivot m n T (lane i j); laid = step-laid l hp hc v h; same = refl; less = step-less l hp hc v h } in
       record { yes = λ t. moved; no = λ t. absurd (false≢true (sym t)) }

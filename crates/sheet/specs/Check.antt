@@ -1,16 +1,10 @@
 -- The answer of the sheet check.
 use mathlib.Core.Path.{_≡_, refl}
-use mathlib.Core.List.{List}
 use mathlib.Core.Option.{Option, none, some}
 use Prim.Native.Nat.{ℕ}
 use native.Mathlib.Omega.{arith}
 pub use Rattle.sheet.specs.declared.SheetCheck.{SheetCheck}
 pub use Rattle.sheet.specs.declared.SheetCheck.the-variants.{Accepted, Refused}
-use Rattle.transport.specs.Sheet.{Sheet}
-
--- The sheet that three lists are.
-abbrev pub sheetOf : List ℕ → List ℕ → List ℕ → Sheet
-sheetOf supply demand cost = record { supply = supply; demand = demand; cost = cost }
 
 -- The answer for what the tests refuse: nothing, or a number.
 unfoldable pub checkAnswer : Option ℕ → SheetCheck

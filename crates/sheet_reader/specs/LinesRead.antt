@@ -75,7 +75,8 @@ module _ (width left : ℕ) where
   unfolding readLines
   read-stuck k t rest e = rw (readLines, e)
 
-  pub read-got : (k : ℕ) (t : List ℕ) (x : ℕ) (rest : List ℕ) → endReading (ending left) (number t) ≡ got x rest → readLines width left (suc k) t ≡ after (x ∷ []) (readLines width (leftAfter width left) k rest)
+  pub read-got : (k : ℕ) (t : List ℕ) (x : ℕ) (rest : List ℕ) → endReading (ending left) (number t) ≡ got x rest → readLines width left (suc k) t
+      ≡ after (x ∷ []) (readLines width (leftAfter width left) k rest)
   unfolding readLines
   read-got k t x rest e = rw (readLines, e)
 
@@ -84,7 +85,8 @@ pub column-lines : (m : ℕ) (t : List ℕ) → times m (line number) t ≡ read
 column-lines zero t = times-none (line number) t ∙ sym (read-none 1 1 t)
 column-lines (suc m) t = go (endReading 10 (number t)) refl (column-lines m)
   where
-    go : (v : Reading ℕ) → endReading 10 (number t) ≡ v → ((u : List ℕ) → times m (line number) u ≡ readLines 1 1 m u) → times (suc m) (line number) t ≡ readLines 1 1 (suc m) t
+    go : (v : Reading ℕ) → endReading 10 (number t) ≡ v → ((u : List ℕ) → times m (line number) u ≡ readLines 1 1 m u) → times (suc m) (line number) t
+        ≡ readLines 1 1 (suc m) t
     go (stuck u) e ih = times-stuck m (line number) t u (line-end number t ∙ e) ∙ sym (read-stuck 1 1 m t u (rw ending-last e))
     go (got x u) e ih =
         let s : readLines 1 1 (suc m) t ≡ after (x ∷ []) (readLines 1 1 m u) = rw left-last at (read-got 1 1 m t x u (rw ending-last e)) in
@@ -114,7 +116,8 @@ module _ (width k : ℕ) where
   abbrev others : Reader (List ℕ)
   others = readLines width width k
 
-  first-stuck : (l : ℕ) (t u : List ℕ) → endReading (ending (suc l)) (number t) ≡ stuck u → row (suc l) t ≡ stuck u → readLines width (suc l) (suc (l + k)) t ≡ andThen (row (suc l) t) others
+  first-stuck : (l : ℕ) (t u : List ℕ) → endReading (ending (suc l)) (number t) ≡ stuck u → row (suc l) t ≡ stuck u → readLines width (suc l) (suc (l + k)) t
+      ≡ andThen (row (suc l) t) others
   unfolding andThen
   first-stuck l t u e s = read-stuck width (suc l) (l + k) t u e ∙ (rw s)
 
@@ -137,9 +140,11 @@ module _ (width k : ℕ) where
       fewer : leftAfter width (suc (suc l)) ≡ suc l
       fewer = left-more width (suc (suc l)) (λ e. omega arith) ∙ omega arith
 
-      go : (v : Reading ℕ) → number t ≡ v → ((u : List ℕ) → readLines width (suc l) (suc (l + k)) u ≡ andThen (row (suc l) u) others) → readLines width (suc (suc l)) (suc (suc l + k)) t ≡ andThen (row (suc (suc l)) t) others
+      go : (v : Reading ℕ) → number t ≡ v → ((u : List ℕ) → readLines width (suc l) (suc (l + k)) u ≡ andThen (row (suc l) u) others)
+          → readLines width (suc (suc l)) (suc (suc l + k)) t ≡ andThen (row (suc (suc l)) t) others
       go (stuck u) e ih =
-          first-stuck (suc l) t u (rw e (end-stuck (ending (suc (suc l))) u)) (row-more l t ∙ bind-stuck number t u (λ x. word (32 ∷ []) >> (row (suc l) >>= λ xs. pure (x ∷ xs))) e)
+          first-stuck (suc l) t u (rw e (end-stuck (ending (suc (suc l))) u)) (row-more l t
+          ∙ bind-stuck number t u (λ x. word (32 ∷ []) >> (row (suc l) >>= λ xs. pure (x ∷ xs))) e)
       go (got x u) e ih = by-byte (byteNext 32 u) refl
         where
           row-is : row (suc (suc l)) t ≡ (word (32 ∷ []) >> (row (suc l) >>= λ xs. pure (x ∷ xs))) u
@@ -148,7 +153,8 @@ module _ (width k : ℕ) where
           by-byte : (b : Bool) → byteNext 32 u ≡ b → readLines width (suc (suc l)) (suc (suc l + k)) t ≡ andThen (row (suc (suc l)) t) others
           by-byte false h = first-stuck (suc l) t u (rw (e, spaced) (end-no 32 x u h)) (row-is ∙ one-no 32 (row (suc l) >>= λ xs. pure (x ∷ xs)) u h)
           by-byte true h =
-              let s : row (suc (suc l)) t ≡ after (x ∷ []) (row (suc l) (drop 1 u)) = row-is ∙ one-yes 32 (row (suc l) >>= λ xs. pure (x ∷ xs)) u h ∙ cons-after x (row (suc l)) (drop 1 u) in
+              let s : row (suc (suc l)) t ≡ after (x ∷ []) (row (suc l) (drop 1 u)) = row-is ∙ one-yes 32 (row (suc l) >>= λ xs. pure (x ∷ xs)) u h
+              ∙ cons-after x (row (suc l)) (drop 1 u) in
               let a = read-got width (suc (suc l)) (suc (l + k)) t x (drop 1 u) (rw (e, spaced) (end-yes 32 x u h)) in
               rw (suc-add l k, s, then-after) (a ∙ (rw (fewer, ih (drop 1 u))))
 
@@ -170,6 +176,7 @@ rows-lines (suc m) l t = rw (count, row-then (suc l) (m * suc l) l t) (go (row (
     count : suc m * suc l ≡ suc (l + m * suc l)
     count = omega (arith, suc-mul m (suc l))
 
-    go : (v : Reading (List ℕ)) → row (suc l) t ≡ v → ((u : List ℕ) → flat (times m (row (suc l)) u) ≡ readLines (suc l) (suc l) (m * suc l) u) → flat (times (suc m) (row (suc l)) t) ≡ andThen (row (suc l) t) (readLines (suc l) (suc l) (m * suc l))
+    go : (v : Reading (List ℕ)) → row (suc l) t ≡ v → ((u : List ℕ) → flat (times m (row (suc l)) u) ≡ readLines (suc l) (suc l) (m * suc l) u)
+        → flat (times (suc m) (row (suc l)) t) ≡ andThen (row (suc l) t) (readLines (suc l) (suc l) (m * suc l))
     go (stuck u) e ih = rw (times-stuck m (row (suc l)) t u e, e)
     go (got xs u) e ih = rw (times-got m (row (suc l)) t u xs e, flat-after, ih u, e)

@@ -59,7 +59,8 @@ module _ (supply demand cost : List ℕ) where
   unfolding readAnswer refusedBy lentAfter
   filled-refused a k e = rw e (refl, refl, refl, refl)
 
-  filled-given : (a : Answer SheetRecord) (S : SheetRecord) → a ≡ given S → Filled a supply demand cost (ReadAnswer.Sheet (length (S .supply)) (length (S .demand))) (front (S .supply) supply) (front (S .demand) demand) (front (S .cost) cost)
+  filled-given : (a : Answer SheetRecord) (S : SheetRecord) → a ≡ given S → Filled a supply demand cost
+      (ReadAnswer.Sheet (length (S .supply)) (length (S .demand))) (front (S .supply) supply) (front (S .demand) demand) (front (S .cost) cost)
   unfolding readAnswer lentAfter front roasteries cafes
   filled-given a S e = rw e (refl, refl, refl, refl)
 
@@ -78,20 +79,23 @@ module _ (supply demand cost : List ℕ) where
     module _ (e : refusal (numberTests S) ≡ none) (whole : length (S .cost) ≡ length (S .supply) * length (S .demand)) where
       tight-unless : tight ≡ not roomy
       unfolding roasteries cafes
-      tight-unless = rw whole (short-unless (length supply) (length (S .supply)) (length demand) (length (S .demand)) (length cost) (length (S .supply) * length (S .demand)))
+      tight-unless = rw whole (short-unless (length supply) (length (S .supply)) (length demand) (length (S .demand)) (length cost)
+          (length (S .supply) * length (S .demand)))
 
       pub stored-tight : roomy ≡ false → Stored S supply demand cost (ReadAnswer.Refused 8) supply demand cost
       unfolding readTests
       stored-tight f = filled-refused _ 8 (unless-last (numberTests S) tight 8 S e (tight-unless ∙ ap not f))
 
-      pub stored-given : roomy ≡ true → Stored S supply demand cost (ReadAnswer.Sheet (length (S .supply)) (length (S .demand))) (front (S .supply) supply) (front (S .demand) demand) (front (S .cost) cost)
+      pub stored-given : roomy ≡ true → Stored S supply demand cost (ReadAnswer.Sheet (length (S .supply)) (length (S .demand))) (front (S .supply) supply)
+          (front (S .demand) demand) (front (S .cost) cost)
       unfolding readTests
       stored-given f = filled-given _ S (unless-none (numberTests S) tight 8 S e (tight-unless ∙ ap not f))
 
 -- ---- the call
 
 module _ (text : List ℕ) (a b c : ℕ) where
-  pub call-stuck : (place : ℕ) → place ≤ length text → sheetReader text ≡ stuck (drop place text) → readSheetCall text a b c ≡ refused (record { number = 9; position = some place })
+  pub call-stuck : (place : ℕ) → place ≤ length text → sheetReader text ≡ stuck (drop place text) → readSheetCall text a b c
+      ≡ refused (record { number = 9; position = some place })
   unfolding readSheetCall readWith
   call-stuck place p e = let n : length text - length (drop place text) ≡ place = omega (arith, length-drop place text) in rw (readWith, e, n)
 
@@ -108,5 +112,6 @@ module _ (text supply demand cost : List ℕ) where
   unfolding readAnswer lentAfter
   read-stuck place p e = rw (call-stuck text (length supply) (length demand) (length cost) place p e) (refl, refl, refl, refl)
 
-  pub read-got : (S : SheetRecord) (rest : List ℕ) → sheetReader text ≡ got S rest → (r : ReadAnswer) (s d c : List ℕ) → Stored S supply demand cost r s d c → Read r s d c
+  pub read-got : (S : SheetRecord) (rest : List ℕ) → sheetReader text ≡ got S rest → (r : ReadAnswer) (s d c : List ℕ) → Stored S supply demand cost r s d c
+      → Read r s d c
   read-got S rest e r s d c h = rw (call-got text (length supply) (length demand) (length cost) S rest e) h

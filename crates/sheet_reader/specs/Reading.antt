@@ -165,8 +165,10 @@ end-told left (b ∷ t) k e = rw (← e) (go (eqb left 1))
     not-space false false false = refl
 
     go : (last : Bool) → eqb (cond last 10 32) b ≡ ofEnd last (kindOf b)
-    go true = by-cases (ℕ-discrete b 10) (λ e. rw e) (λ n. rw (ne-eqb 10 b (λ e. n (sym e)), ne-eqb b 10 n) (sym (not-line-end (within 48 57 b) (eqb b 32) (within 97 122 b))))
-    go false = by-cases (ℕ-discrete b 32) (λ e. rw e) (λ n. rw (ne-eqb 32 b (λ e. n (sym e)), ne-eqb b 32 n) (sym (not-space (within 48 57 b) (eqb b 10) (within 97 122 b))))
+    go true = by-cases (ℕ-discrete b 10) (λ e. rw e)
+        (λ n. rw (ne-eqb 10 b (λ e. n (sym e)), ne-eqb b 10 n) (sym (not-line-end (within 48 57 b) (eqb b 32) (within 97 122 b))))
+    go false = by-cases (ℕ-discrete b 32) (λ e. rw e)
+        (λ n. rw (ne-eqb 32 b (λ e. n (sym e)), ne-eqb b 32 n) (sym (not-space (within 48 57 b) (eqb b 10) (within 97 122 b))))
 
 -- A digit stands at this place of the text: a byte from `0` to `9`.
 pub record DigitAt (text : List ℕ) (at : ℕ) : Type 0 where
@@ -288,7 +290,8 @@ module _ (test : ℕ → Bool) (x : ℕ) where
   more-stop (suc k) (b ∷ t) e = rw (moreDigits, e)
 
   module _ (k : ℕ) {text : List ℕ} {at : ℕ} (d : DigitAt text at) where
-    pub more-step : test (x * 10 + (getD text at 0 - 48)) ≡ true → moreDigits test (suc k) x (drop at text) ≡ moreDigits test k (x * 10 + (getD text at 0 - 48)) (drop (at + 1) text)
+    pub more-step : test (x * 10 + (getD text at 0 - 48)) ≡ true → moreDigits test (suc k) x (drop at text)
+        ≡ moreDigits test k (x * 10 + (getD text at 0 - 48)) (drop (at + 1) text)
     unfolding moreDigits digitValue
     more-step e = rw (drop-cons text at 0 (d .inside), moreDigits, d .digit, e, add-one)
 
@@ -383,7 +386,8 @@ more-passes test zero x t m rest p e = let z : x ≡ m = cc in rw z at p
 more-passes test (suc k) x [] m rest p e = let z : x ≡ m = cc in rw z at p
 more-passes test (suc k) x (b ∷ t) m rest p e = go (isDigit b && test (x * 10 + digitValue b)) refl (more-passes test k (x * 10 + digitValue b) t m rest)
   where
-    go : (v : Bool) → (isDigit b && test (x * 10 + digitValue b)) ≡ v → (test (x * 10 + digitValue b) ≡ true → moreDigits test k (x * 10 + digitValue b) t ≡ got m rest → test m ≡ true) → test m ≡ true
+    go : (v : Bool) → (isDigit b && test (x * 10 + digitValue b)) ≡ v
+        → (test (x * 10 + digitValue b) ≡ true → moreDigits test k (x * 10 + digitValue b) t ≡ got m rest → test m ≡ true) → test m ≡ true
     go true h ih =
         let s : moreDigits test (suc k) x (b ∷ t) ≡ moreDigits test k (x * 10 + digitValue b) t = rw (moreDigits, h) in
         ih (and-right (isDigit b) (test (x * 10 + digitValue b)) h) (sym s ∙ e)
@@ -421,7 +425,8 @@ module _ (most : ℕ) where
         let b = getD text at 0 in
         let first : within 1 most (b - 48) ≡ true = true-within 1 most (b - 48) (omega arith) (omega (arith, d .high)) in
         rw (drop-cons text at 0 (d .inside), add-one)
-        (side-is _ ∙ bind-got (byteThat startsSide) _ (drop (suc at) text) _ b (byte-yes startsSide b (drop (suc at) text) (and-yes (isDigit b) _ (d .digit) ∙ first)))
+        (side-is _ ∙ bind-got (byteThat startsSide) _ (drop (suc at) text) _ b
+        (byte-yes startsSide b (drop (suc at) text) (and-yes (isDigit b) _ (d .digit) ∙ first)))
 
   -- A side that was read is within its limit.
   side-within : (m : ℕ) (rest t : List ℕ) → side most t ≡ got m rest → within 1 most m ≡ true

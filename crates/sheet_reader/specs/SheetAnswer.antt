@@ -55,7 +55,8 @@ pub record CostsRead (m n : ℕ) (text : List ℕ) (at : ℕ) (cost : List ℕ) 
   pub inside : next ≤ length text
 
 module _ {m n : ℕ} {text : List ℕ} {at : ℕ} {cost : List ℕ} {next : ℕ} where
-  pub costs-read : {found : Taken} {v : ℕ} → costReader m n (drop at text) ≡ readingOf text (λ v. take v cost) found → placeOf found ≤ length text → valueIs (m * n) found → found ≡ Got v next → CostsRead m n text at cost next
+  pub costs-read : {found : Taken} {v : ℕ} → costReader m n (drop at text) ≡ readingOf text (λ v. take v cost) found → placeOf found ≤ length text
+      → valueIs (m * n) found → found ≡ Got v next → CostsRead m n text at cost next
   costs-read e p k g =
       let c = rw g at k in
       record { reads = rw (← c) (e ∙ ap (readingOf text (λ v. take v cost)) g); inside = rw g at p }
@@ -87,12 +88,15 @@ module _ {name : List ℕ} {most : ℕ} {text : List ℕ} {at : ℕ} {list : Lis
 -- The answer of what comes after the list is that of the whole.
 module _ {A B : Type 0} (name : List ℕ) (most : ℕ) (text : List ℕ) (rest : ℕ → Reader B) (join : List ℕ → B → A) {at : ℕ} {list : List ℕ} {k next : ℕ}
     (l : ListRead name most text at list k next) where
-  list-answer : (f : ℕ → ℕ → B) (g : ℕ → ℕ → A) (P : ℕ → ℕ → Type 0) → ((a b : ℕ) → P a b → join (take k list) (f a b) ≡ g a b) → (r : ReadAnswer) → answerFits text P r → rest k (drop next text) ≡ answerOf text f r →
+  list-answer : (f : ℕ → ℕ → B) (g : ℕ → ℕ → A) (P : ℕ → ℕ → Type 0) → ((a b : ℕ) → P a b → join (take k list) (f a b) ≡ g a b) → (r : ReadAnswer)
+      → answerFits text P r → rest k (drop next text) ≡ answerOf text f r →
       (listReader name most >>= λ xs. rest (length xs) >>= λ x. pure (join xs x)) (drop at text) ≡ answerOf text g r
   unfolding pure
-  list-answer f g P same r h e = bind-got (listReader name most) (drop at text) (drop next text) _ (take k list) (l .reads) ∙ (rw (length-take-le k list (l .room)) (go r h e))
+  list-answer f g P same r h e = bind-got (listReader name most) (drop at text) (drop next text) _ (take k list) (l .reads)
+      ∙ (rw (length-take-le k list (l .room)) (go r h e))
     where
-      go : (r : ReadAnswer) → answerFits text P r → rest k (drop next text) ≡ answerOf text f r → (rest k >>= λ x. pure (join (take k list) x)) (drop next text) ≡ answerOf text g r
+      go : (r : ReadAnswer) → answerFits text P r → rest k (drop next text) ≡ answerOf text f r
+          → (rest k >>= λ x. pure (join (take k list) x)) (drop next text) ≡ answerOf text g r
       go (ReadAnswer.Sheet a b) h e = bind-got (rest k) (drop next text) [] _ (f a b) e ∙ ap (λ x. got x []) (same a b h)
       go (ReadAnswer.NotSheetText place) h e = bind-stuck (rest k) (drop next text) (drop place text) _ e
       go (ReadAnswer.Refused number) h e = absurd h
@@ -102,10 +106,12 @@ answer-fits text P Q h (ReadAnswer.Sheet a b) p = h a b p
 answer-fits text P Q h (ReadAnswer.NotSheetText place) p = p
 answer-fits text P Q h (ReadAnswer.Refused number) p = p
 
-module _ {text : List ℕ} {at : ℕ} {demand : List ℕ} {n next : ℕ} (l : ListRead (bytes "demand ") maxSinks text at demand n next) (m : ℕ) (cost : List ℕ) (r : ReadAnswer) where
+module _ {text : List ℕ} {at : ℕ} {demand : List ℕ} {n next : ℕ} (l : ListRead (bytes "demand ") maxSinks text at demand n next) (m : ℕ) (cost : List ℕ)
+    (r : ReadAnswer) where
   -- The demands were read: the answer of what comes after them, with them, is that of the whole from the demands on.
   pub demands-answer : afterDemand m n (drop next text) ≡ answerOf text (λ a b. take (a * b) cost) r → answerFits text (λ a b. (a ≡ m) × (b ≡ n)) r →
-      (afterSupply m (drop at text) ≡ answerOf text (λ a b. (take b demand, take (a * b) cost)) r) × (answerFits text (λ a b. (a ≡ m) × (1 ≤ b) × (b ≤ maxSinks)) r)
+      (afterSupply m (drop at text) ≡ answerOf text (λ a b. (take b demand, take (a * b) cost)) r)
+      × (answerFits text (λ a b. (a ≡ m) × (1 ≤ b) × (b ≤ maxSinks)) r)
   unfolding afterSupply
   demands-answer e h = (
     list-answer (bytes "demand ") maxSinks text (afterDemand m) (λ xs ys. (xs, ys)) l _ _ _ (λ a b p. rw (p .1)) r h e,
@@ -114,11 +120,13 @@ module _ {text : List ℕ} {at : ℕ} {demand : List ℕ} {n next : ℕ} (l : Li
 
 module _ {text supply : List ℕ} {m next : ℕ} (l : ListRead (bytes "supply ") maxSources text 0 supply m next) (demand cost : List ℕ) (r : ReadAnswer) where
   -- The supplies were read: the answer of what comes after them, with them, is that of the whole text.
-  pub supplies-answer : afterSupply m (drop next text) ≡ answerOf text (λ a b. (take b demand, take (a * b) cost)) r → answerFits text (λ a b. (a ≡ m) × (1 ≤ b) × (b ≤ maxSinks)) r →
+  pub supplies-answer : afterSupply m (drop next text) ≡ answerOf text (λ a b. (take b demand, take (a * b) cost)) r
+      → answerFits text (λ a b. (a ≡ m) × (1 ≤ b) × (b ≤ maxSinks)) r →
       (sheetReader text ≡ sheetRead text supply demand cost r) × (readFits text r)
   supplies-answer e h = (
     sheet-then text ∙ list-answer (bytes "supply ") maxSources text afterSupply _ l _ _ _ (λ a b p. rw (p .0)) r h e,
-    answer-fits text (λ a b. (a ≡ m) × (1 ≤ b) × (b ≤ maxSinks)) (λ a b. (1 ≤ a) × (a ≤ maxSources) × (1 ≤ b) × (b ≤ maxSinks)) (λ a b p. (rw (p .0) (l .some), rw (p .0) (l .few), p .1, p .2)) r h,
+    answer-fits text (λ a b. (a ≡ m) × (1 ≤ b) × (b ≤ maxSinks)) (λ a b. (1 ≤ a) × (a ≤ maxSources) × (1 ≤ b) × (b ≤ maxSinks))
+        (λ a b p. (rw (p .0) (l .some), rw (p .0) (l .few), p .1, p .2)) r h,
   )
 
 -- ---- a sheet that was read
@@ -135,7 +143,8 @@ pub record SheetIn (text supply demand cost : List ℕ) (m n : ℕ) : Type 0 whe
   pub cost-room : m * n ≤ length cost
 
 module _ {text supply demand cost : List ℕ} {m n : ℕ} where
-  pub sheet-in : {r : ReadAnswer} → sheetReader text ≡ sheetRead text supply demand cost r → readFits text r → r ≡ ReadAnswer.Sheet m n → maxSources ≤ length supply → maxSinks ≤ length demand → maxSources * maxSinks ≤ length cost → SheetIn text supply demand cost m n
+  pub sheet-in : {r : ReadAnswer} → sheetReader text ≡ sheetRead text supply demand cost r → readFits text r → r ≡ ReadAnswer.Sheet m n → maxSources
+      ≤ length supply → maxSinks ≤ length demand → maxSources * maxSinks ≤ length cost → SheetIn text supply demand cost m n
   sheet-in e f g s d c =
       let h : readFits text (ReadAnswer.Sheet m n) = rw g at f in
       record {

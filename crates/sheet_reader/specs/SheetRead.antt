@@ -116,18 +116,21 @@ times-length (suc k) r t xs rest e =
     ap length (sym z) ∙ ap suc (times-length k r (a .1) (b .0) (b .1) (b .2))
 
 -- What comes after a list learns its count from its length.
-module _ {B : Type 0} (name : List ℕ) (most : ℕ) (K : ℕ → List ℕ → Reader B) (L : List ℕ → Reader B) (same : (xs u : List ℕ) → K (length xs) xs u ≡ L xs u) where
-  list-then : (t : List ℕ) → (word name >> (line (side most) >>= λ m. times m (line number) >>= λ xs. K m xs)) t ≡ (listReader name most >>= L) t
-  unfolding listReader
-  list-then t =
-      then-same (word name) t _ _ (λ x u w. bind-same (line (side most)) u _ _ (λ m v s. bind-same (times m (line number)) v _ _ (numbers m v)) ∙ sym (bind-assoc (line (side most)) L u (λ m. times m (line number))))
-      ∙ sym (then-assoc (word name) L t (line (side most) >>= λ m. times m (line number)))
-    where
-      numbers : (m : ℕ) (v xs z : List ℕ) → times m (line number) v ≡ got xs z → K m xs z ≡ L xs z
-      numbers m v xs z h = ap (λ k. K k xs z) (sym (times-length m (line number) v xs z h)) ∙ same xs z
+module _ {B : Type 0} (name : List ℕ) (most : ℕ) (K : ℕ → List ℕ → Reader B) (L : List ℕ → Reader B) (same : (xs u : List ℕ) → K (length xs) xs u ≡ L xs u)
+  where
+    list-then : (t : List ℕ) → (word name >> (line (side most) >>= λ m. times m (line number) >>= λ xs. K m xs)) t ≡ (listReader name most >>= L) t
+    unfolding listReader
+    list-then t =
+        then-same (word name) t _ _ (λ x u w. bind-same (line (side most)) u _ _ (λ m v s. bind-same (times m (line number)) v _ _ (numbers m v))
+        ∙ sym (bind-assoc (line (side most)) L u (λ m. times m (line number))))
+        ∙ sym (then-assoc (word name) L t (line (side most) >>= λ m. times m (line number)))
+      where
+        numbers : (m : ℕ) (v xs z : List ℕ) → times m (line number) v ≡ got xs z → K m xs z ≡ L xs z
+        numbers m v xs z h = ap (λ k. K k xs z) (sym (times-length m (line number) v xs z h)) ∙ same xs z
 
 -- What comes after the rows has them as one list.
-rows-then : {B : Type 0} (m n : ℕ) (L : List ℕ → Reader B) (t : List ℕ) → (word (headLine "cost" m) >> (times m (row n) >>= λ rows. L (flatten rows))) t ≡ (costReader m n >>= L) t
+rows-then : {B : Type 0} (m n : ℕ) (L : List ℕ → Reader B) (t : List ℕ) → (word (headLine "cost" m) >> (times m (row n) >>= λ rows. L (flatten rows))) t
+    ≡ (costReader m n >>= L) t
 unfolding costReader pure _>>=_
 rows-then m n L t =
     then-same (word (headLine "cost" m)) t _ _ (λ x u w. sym (bind-assoc (times m (row n)) L u (λ rows. pure (flatten rows))))
@@ -141,7 +144,8 @@ module _ (m : ℕ) (supply : List ℕ) where
   abbrev costRows : ℕ → List ℕ → Reader Sheet
   costRows n demand = word (headLine "cost" m) >> (times m (row n) >>= λ rows. end >> sheetWith supply (demand, flatten rows))
 
-  costs-then : (demand t : List ℕ) → costRows (length demand) demand t ≡ ((afterDemand m (length demand) >>= λ cost. pure (demand, cost)) >>= sheetWith supply) t
+  costs-then : (demand t : List ℕ) → costRows (length demand) demand t
+      ≡ ((afterDemand m (length demand) >>= λ cost. pure (demand, cost)) >>= sheetWith supply) t
   unfolding afterDemand pure _>>=_
   costs-then demand t =
       rows-then m (length demand) (λ cost. end >> sheetWith supply (demand, cost)) t
@@ -149,7 +153,8 @@ module _ (m : ℕ) (supply : List ℕ) where
       ∙ sym (bind-assoc (costReader m (length demand)) (λ cost. sheetWith supply (demand, cost)) t (λ cost. end >> pure cost))
       ∙ sym (bind-assoc (afterDemand m (length demand)) (sheetWith supply) t (λ cost. pure (demand, cost)))
 
-  demands-then : (t : List ℕ) → (word (bytes "demand ") >> (line (side maxSinks) >>= λ n. times n (line number) >>= λ demand. costRows n demand)) t ≡ (afterSupply m >>= sheetWith supply) t
+  demands-then : (t : List ℕ) → (word (bytes "demand ") >> (line (side maxSinks) >>= λ n. times n (line number) >>= λ demand. costRows n demand)) t
+      ≡ (afterSupply m >>= sheetWith supply) t
   unfolding afterSupply
   demands-then t =
       list-then (bytes "demand ") maxSinks costRows _ costs-then t

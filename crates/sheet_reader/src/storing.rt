@@ -4,11 +4,11 @@ ghost use mathlib.Core.Bool.{true, false};
 ghost use Prim.Native.Nat.{_*_, _≤_};
 ghost use lib.ListN.{length};
 ghost use Rattle.transport.specs.Limits.{maxSources, maxSinks};
+ghost use Rattle.transport.specs.Sheet.{sheetOf};
 ghost use Rattle.transport.specs.SheetText.{readTests};
 ghost use Rattle.transport.specs.Calls.{unless, lentAfter};
 ghost use Rattle.transport.specs.Answers.{readAnswer};
 ghost use Rattle.sections.specs.Front.{front};
-ghost use Rattle.sheet.specs.Check.{sheetOf};
 use sheet::SheetCheck;
 use transport::ReadAnswer;
 

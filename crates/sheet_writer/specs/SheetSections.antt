@@ -28,4 +28,12 @@ unfolding sheetText roasteries cafes bytes
 sheet-sections S p e =
     let m = length (S .supply) in
     let n = length (S .demand) in
-    rw (lines-column (S .supply), lines-column (S .demand), lines-rows m n (S .cost) p e, regroup, section-of "supply" m 1 (S .supply), section-of "demand" n 1 (S .demand), section-of "cost" m n (S .cost))
+    rw (
+      lines-column (S .supply),
+      lines-column (S .demand),
+      lines-rows m n (S .cost) p e,
+      regroup,
+      section-of "supply" m 1 (S .supply),
+      section-of "demand" n 1 (S .demand),
+      section-of "cost" m n (S .cost),
+    )

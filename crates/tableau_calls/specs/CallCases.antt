@@ -74,7 +74,8 @@ module _ (P : Problem) (T : List Cell) where
   round-next f = rw (f, round)
 
   pub round-finished : isFinished P T ≡ true
-      → record { outcome = RoundOutcome.Finished; tableau = noTableau; u = prices (sourcePrices P T); v = prices (sinkPrices P T) } ≡ roundAnswer (given (round P T))
+      → record { outcome = RoundOutcome.Finished; tableau = noTableau; u = prices (sourcePrices P T); v = prices (sinkPrices P T) }
+      ≡ roundAnswer (given (round P T))
   unfolding roundAnswer
   round-finished f = ap (λ r. roundAnswer (given r)) (sym (round-done f))
 
@@ -91,7 +92,8 @@ pub round-astray : (S : Sheet) (t : Tableau) → refusal (sheetTests S) ≡ none
 unfolding roundCall tableauTests
 round-astray S t e w = unless-last (sheetTests S) (not (belongs (problemOf S) t)) 6 (round (problemOf S) (cellsOf t)) e (ap not w)
 
-pub round-given : (S : Sheet) (t : Tableau) → refusal (sheetTests S) ≡ none → belongs (problemOf S) t ≡ true → roundCall S t ≡ given (round (problemOf S) (cellsOf t))
+pub round-given : (S : Sheet) (t : Tableau) → refusal (sheetTests S) ≡ none → belongs (problemOf S) t ≡ true → roundCall S t
+    ≡ given (round (problemOf S) (cellsOf t))
 unfolding roundCall tableauTests
 round-given S t e w = unless-none (sheetTests S) (not (belongs (problemOf S) t)) 6 (round (problemOf S) (cellsOf t)) e (ap not w)
 

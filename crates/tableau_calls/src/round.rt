@@ -18,11 +18,11 @@ ghost use lib.IntN.{pos, natAbs};
 ghost use lib.ListN.{getD};
 ghost use Rattle.transport.specs.Lists.{table};
 ghost use Rattle.transport.specs.Problem.{Problem};
+ghost use Rattle.transport.specs.Sheet.{sheetOf};
 ghost use Rattle.transport.specs.Calls.{refusedBy, roundCall};
 ghost use Rattle.transport.specs.Answers.{prices, roundAnswer};
 ghost use Rattle.transport.specs.declared.Cell.{Cell};
 ghost use Rattle.basis.specs.Layout.{stride, maxPotential};
-ghost use Rattle.sheet.specs.Check.{sheetOf};
 ghost use Rattle.dealing.specs.Dealt.{Dealt};
 ghost use Rattle.tableau_calls.specs.CallCases.{Rounded};
 
@@ -68,7 +68,7 @@ fn round_on(
     rounds::run::make_round(adj, q, e, &lane_cost, price, m, n)
 }
 
-// Round gives the next tableau, or `finished` with the prices. Sheet check, then 6 if the tableau doesn't belong to the sheet.
+// Round: the next tableau, or that this one is finished, with its prices. It refuses what the sheet check refuses, and by 6 a tableau that does not belong.
 pub fn round(supply: &[u64], demand: &[u64], cost: &[u64], t: Tableau) -> RoundAnswer
     ensures { λ r.
         let S = sheetOf (now (supply .entry)) (now (demand .entry)) (now (cost .entry)) in

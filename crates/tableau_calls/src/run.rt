@@ -13,11 +13,11 @@ use transport::Tableau;
 ghost use mathlib.Core.Path.{_≡_};
 ghost use mathlib.Core.List.{List};
 ghost use Rattle.transport.specs.Problem.{Problem};
+ghost use Rattle.transport.specs.Sheet.{sheetOf};
 ghost use Rattle.transport.specs.Round.{run};
 ghost use Rattle.transport.specs.Calls.{refusedBy, runCall};
 ghost use Rattle.transport.specs.Answers.{runAnswer};
 ghost use Rattle.transport.specs.declared.Cell.{Cell};
-ghost use Rattle.sheet.specs.Check.{sheetOf};
 ghost use Rattle.dealing.specs.Dealt.{Dealt};
 ghost use Rattle.tableau_calls.specs.CallCases.{Ended};
 

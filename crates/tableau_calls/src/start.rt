@@ -1,8 +1,8 @@
 // Start: the first tableau of a sheet.
 ghost use mathlib.Core.Path.{_≡_};
+ghost use Rattle.transport.specs.Sheet.{sheetOf};
 ghost use Rattle.transport.specs.Calls.{startCall};
 ghost use Rattle.transport.specs.Answers.{startAnswer};
-ghost use Rattle.sheet.specs.Check.{sheetOf};
 use dealing::corner::first_tableau;
 use dealing::tableau::empty_tableau;
 use sheet::SheetCheck;

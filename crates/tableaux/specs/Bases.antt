@@ -36,7 +36,8 @@ joined-on h w = record {
   cols = λ A B z closed. w .cols A B z (λ i j p q s. closed i j p q (h i j s));
 }
 
-joined-basis : {m n : ℕ} {B : List Lane} → 1 ≤ m → 1 ≤ n → Fits m n B → length B ≡ basisSize m n → Joined m n (Has B) → Basis m n (m + n - 2) (rowAt B) (colAt B)
+joined-basis : {m n : ℕ} {B : List Lane} → 1 ≤ m → 1 ≤ n → Fits m n B → length B ≡ basisSize m n → Joined m n (Has B)
+    → Basis m n (m + n - 2) (rowAt B) (colAt B)
 unfolding basisSize
 joined-basis {m} {n} {B} p q h e w = record {
   size = omega arith;

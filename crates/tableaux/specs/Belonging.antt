@@ -41,18 +41,24 @@ use Rattle.tableaux.specs.Potentials.{potential-tight}
 
 -- ---- each test, and what it says
 
-pub order-true : (n : ℕ) (T : List Cell) → inOrder n T ≡ true → (k : ℕ) → suc k < length T → place n (rowOf T k) (colOf T k) < place n (rowOf T (suc k)) (colOf T (suc k))
+pub order-true : (n : ℕ) (T : List Cell) → inOrder n T ≡ true → (k : ℕ) → suc k < length T → place n (rowOf T k) (colOf T k)
+    < place n (rowOf T (suc k)) (colOf T (suc k))
 unfolding inOrder
 order-true n [] e k l = absurd (omega arith)
 order-true n (c ∷ []) e k l = absurd (omega arith)
 order-true n (c ∷ d ∷ cs) e zero l = ltb-true _ _ (and-left (ltb (place n (c .row) (c .col)) (place n (d .row) (d .col))) (inOrder n (d ∷ cs)) e)
-order-true n (c ∷ d ∷ cs) e (suc k) l = order-true n (d ∷ cs) (and-right (ltb (place n (c .row) (c .col)) (place n (d .row) (d .col))) (inOrder n (d ∷ cs)) e) k (omega arith)
+order-true n (c ∷ d ∷ cs) e (suc k) l =
+    order-true n (d ∷ cs) (and-right (ltb (place n (c .row) (c .col)) (place n (d .row) (d .col))) (inOrder n (d ∷ cs)) e) k (omega arith)
 
-true-order : (n : ℕ) (T : List Cell) → ((k : ℕ) → suc k < length T → place n (rowOf T k) (colOf T k) < place n (rowOf T (suc k)) (colOf T (suc k))) → inOrder n T ≡ true
+true-order : (n : ℕ) (T : List Cell) → ((k : ℕ) → suc k < length T → place n (rowOf T k) (colOf T k) < place n (rowOf T (suc k)) (colOf T (suc k)))
+    → inOrder n T ≡ true
 unfolding inOrder
 true-order n [] h = refl
 true-order n (c ∷ []) h = refl
-true-order n (c ∷ d ∷ cs) h = rw (lt-ltb (place n (c .row) (c .col)) (place n (d .row) (d .col)) (h 0 (omega arith)), true-order n (d ∷ cs) (λ k l. h (suc k) (omega arith)))
+true-order n (c ∷ d ∷ cs) h = rw (
+  lt-ltb (place n (c .row) (c .col)) (place n (d .row) (d .col)) (h 0 (omega arith)),
+  true-order n (d ∷ cs) (λ k l. h (suc k) (omega arith)),
+)
 
 pub fits-inside : (m n : ℕ) (T : List Cell) → Inside m n T → Fits m n (basisOf T)
 unfolding basisOf laneOf
@@ -107,8 +113,10 @@ belongs-iff P T p q = (to, from)
 
     inside : sheet ≡ true → Inside m n T
     inside e k l =
-        let c : ltb (rowOf T k) m && ltb (colOf T k) n ≡ true = all-at (onSheet P) T noCell k e l in
-        (ltb-true (rowOf T k) m (and-left (ltb (rowOf T k) m) (ltb (colOf T k) n) c), ltb-true (colOf T k) n (and-right (ltb (rowOf T k) m) (ltb (colOf T k) n) c))
+        let c : ltb (rowOf T k) m && ltb (colOf T k) n ≡ true = all-at (onSheet P) T noCell k e l in (
+          ltb-true (rowOf T k) m (and-left (ltb (rowOf T k) m) (ltb (colOf T k) n) c),
+          ltb-true (colOf T k) n (and-right (ltb (rowOf T k) m) (ltb (colOf T k) n) c),
+        )
 
     to : cellsBelong P T ≡ true → Belongs P T
     to e =
@@ -120,8 +128,10 @@ belongs-iff P T p q = (to, from)
           order = order-true n T o;
           joined = joined-on (λ i j w. has-basic T i j .0 w) join;
           above = λ k l. all-at aboveZero T noCell k v l;
-          rows = λ i l. same-true (rowTotal T i) (pairedSupply P i) (all-below-at (λ i. same (rowTotal T i) (pairedSupply P i)) m i (and-left rows columns r) l);
-          columns = λ j l. same-true (columnTotal T j) (pairedDemand P j) (all-below-at (λ j. same (columnTotal T j) (pairedDemand P j)) n j (and-right rows columns r) l);
+          rows = λ i l. same-true (rowTotal T i) (pairedSupply P i)
+              (all-below-at (λ i. same (rowTotal T i) (pairedSupply P i)) m i (and-left rows columns r) l);
+          columns = λ j l. same-true (columnTotal T j) (pairedDemand P j)
+              (all-below-at (λ j. same (columnTotal T j) (pairedDemand P j)) n j (and-right rows columns r) l);
         }
 
     from : Belongs P T → cellsBelong P T ≡ true
@@ -181,7 +191,12 @@ module _ {P : Problem} {T : List Cell} (c : Sound P) (b : Belongs P T) where
   pub bags-flow : Flow (sources P) (sinks P) (In (rowOf T) (colOf T) (suc (sources P + sinks P - 2))) (λ i j. toZ (amountAt T i j .q))
       (λ i. nat (at (P .supply) i)) (λ j. nat (at (P .demand) j))
   unfolding nothing add pairedSupply pairedDemand
-  bags-flow = record { on = on-basis (λ a. a .q) refl (λ a b. refl); rows = row-of (λ a. a .q) refl (λ a b. refl); cols = column-of (λ a. a .q) refl (λ a b. refl) }
+  bags-flow = record {
+    on = on-basis (λ a. a .q) refl (λ a b. refl);
+    rows = row-of (λ a. a .q) refl (λ a b. refl);
+    cols =
+        column-of (λ a. a .q) refl (λ a b. refl);
+  }
 
   -- .. and the marks that of one mark from each row to the last column.
   pub marks-flow : Flow (sources P) (sinks P) (In (rowOf T) (colOf T) (suc (sources P + sinks P - 2))) (λ i j. toZ (amountAt T i j .e))
@@ -204,10 +219,12 @@ module _ {P : Problem} {T : List Cell} (c : Sound P) (b : Belongs P T) where
   -- The signs of the loop that an entering lane closes are the flow of −1 at its row and −1 at its column.
   pub signs-flow : (enter : Lane) → enter .row < sources P → enter .col < sinks P
       → Flow (sources P) (sinks P) (In (rowOf T) (colOf T) (suc (sources P + sinks P - 2)))
-      (λ i j. toZ (sign (sources P) (strikes (sources P) (sinks P) (basisOf T)) enter (lane i j))) (point (enter .row) (neg (nat 1))) (point (enter .col) (neg (nat 1)))
+      (λ i j. toZ (sign (sources P) (strikes (sources P) (sinks P) (basisOf T)) enter (lane i j))) (point (enter .row) (neg (nat 1)))
+      (point (enter .col) (neg (nat 1)))
   signs-flow enter hr hc = flow-on (λ i j hi hj w. on-cells i j (has-basic T i j .0 w)) (signs-of (c .sourcesLow) fits-of spans-of enter hr hc)
 
   -- The prices add up to the cost on every basic cell.
-  pub prices-tight : (i j : ℕ) → Basic T i j → Tight (λ i j. toZ (laneCost P (lane i j))) (λ i. toZ (potential P T i)) (λ j. toZ (potential P T (sources P + j))) i j
+  pub prices-tight : (i j : ℕ) → Basic T i j
+      → Tight (λ i j. toZ (laneCost P (lane i j))) (λ i. toZ (potential P T i)) (λ j. toZ (potential P T (sources P + j))) i j
   unfolding potential
   prices-tight i j w = potential-tight (c .sourcesLow) fits-of spans-of (laneCost P) (lane i j) (has-basic T i j .1 w)

@@ -98,7 +98,8 @@ module _ {P : Problem} (ok : Sound P) where
           (costs P) (rowPotential P T) (columnPotential P T) (prices-tight ok w) (entering-below ok T unfinished),
     )
 
-  -- Every run ends. The measure is a natural number that falls by 1 or more in each round, so no more rounds than it says are made before a tableau is finished.
+  -- Every run ends. The measure is a natural number that falls by 1 or more in each round, so no more rounds than it says are made before a tableau is
+  -- finished.
   pub ends : (k : ℕ) (T : List Cell) → Belongs P T → raised T ≼ nat k → (h : ℕ) × (h ≤ k) × FirstFinished P T h
   ends zero T w l = go (isFinished P T) refl
     where

@@ -40,14 +40,16 @@ module _ {P : Problem} (ok : Sound P) (T : List Cell) where
 
   chosen : (k : ℕ) × FirstLeast less (laneOf noCell) (lanes m n) (entering P T) k
   unfolding entering
-  chosen = firstLeast-is less (by-key (reducedCost P T) ltZ-weak) (laneOf noCell) (lanes m n) (omega (arith, length-lanes m n, mul-le-mul-right n (ok .sourcesLow), ok .sinksLow))
+  chosen = firstLeast-is less (by-key (reducedCost P T) ltZ-weak) (laneOf noCell) (lanes m n)
+      (omega (arith, length-lanes m n, mul-le-mul-right n (ok .sourcesLow), ok .sinksLow))
 
   -- It is on the sheet.
   pub entering-inside : (entering P T .row < sources P) × (entering P T .col < sinks P)
   entering-inside =
       let (k, f) = chosen in
       let w : Placed m n k = place-of m n k (omega (arith, f .inside, length-lanes m n)) in
-      let e : entering P T ≡ lane (w .row) (w .col) = sym (f .stands) ∙ ap (λ x. getD (lanes m n) x (laneOf noCell)) (sym (w .placed)) ∙ getD-lanes m n (w .row) (w .col) (laneOf noCell) (w .rowBelow) (w .colBelow) in
+      let e : entering P T ≡ lane (w .row) (w .col) = sym (f .stands) ∙ ap (λ x. getD (lanes m n) x (laneOf noCell)) (sym (w .placed))
+      ∙ getD-lanes m n (w .row) (w .col) (laneOf noCell) (w .rowBelow) (w .colBelow) in
       rw e (w .rowBelow, w .colBelow)
 
   -- No lane has a smaller reduced cost.
@@ -64,7 +66,8 @@ module _ {P : Problem} (ok : Sound P) (T : List Cell) where
       where
         go : (b : Bool) → ltZ (reducedCost P T (entering P T)) (pos 0) ≡ b → ltZ (reducedCost P T (entering P T)) (pos 0) ≡ true
         go true p = p
-        go false p = absurd (true≢false (sym (all-lanes (λ l. nonNeg (reducedCost P T l)) m n (λ i j hi hj. not-negative (reducedCost P T (entering P T)) (reducedCost P T (lane i j)) p (entering-least i j hi hj))) ∙ unfinished))
+        go false p = absurd (true≢false (sym (all-lanes (λ l. nonNeg (reducedCost P T l)) m n
+            (λ i j hi hj. not-negative (reducedCost P T (entering P T)) (reducedCost P T (lane i j)) p (entering-least i j hi hj))) ∙ unfinished))
 
     pub entering-below : costs P (entering P T .row) (entering P T .col) ≺ rowPotential P T (entering P T .row) ⊕ columnPotential P T (entering P T .col)
     entering-below = omega (arith, reduced-parts P T (entering P T .row) (entering P T .col), lt-yes (reducedCost P T (entering P T)) (pos 0) entering-negative)

@@ -92,14 +92,16 @@ left w [] k = w k
 left w (s ∷ ss) k = left (leftBy w s) ss k
 
 -- What a row gets of the flow and what it has left add up to its weight: so it is at the end, and each strike takes from a row what its lane brings it.
-row-weight : {m n : ℕ} (w : ℕ → ℤ) {ss : List Strike} → Peeled m n ss → (i : ℕ) → i < m → sum n (λ j. toZ (flow w ss (lane i j))) ⊕ toZ (left w ss i) ≈ toZ (w i)
+row-weight : {m n : ℕ} (w : ℕ → ℤ) {ss : List Strike} → Peeled m n ss → (i : ℕ) → i < m
+    → sum n (λ j. toZ (flow w ss (lane i j))) ⊕ toZ (left w ss i) ≈ toZ (w i)
 unfolding flow left
 row-weight {m} {n} w bare i l = omega (arith, sum-zero n (λ j. nat 0) (λ j q. omega arith))
 row-weight {m} {n} w (peel {s} {later} st rest) i l =
     let y = toZ (w (s .leaf)) in
     omega (
       arith,
-      sum-cong n (λ j. toZ (flow w (s ∷ later) (lane i j))) (λ j. on-lane (s .lane) y i j ⊕ toZ (flow (leftBy w s) later (lane i j))) (λ j q. flow-splits w st rest i j),
+      sum-cong n (λ j. toZ (flow w (s ∷ later) (lane i j))) (λ j. on-lane (s .lane) y i j ⊕ toZ (flow (leftBy w s) later (lane i j)))
+          (λ j q. flow-splits w st rest i j),
       sum-add n (on-lane (s .lane) y i) (λ j. toZ (flow (leftBy w s) later (lane i j))),
       on-lane-row (s .lane) y n (st .col) i,
       row-weight (leftBy w s) rest i l,
@@ -108,14 +110,16 @@ row-weight {m} {n} w (peel {s} {later} st rest) i l =
     )
 
 -- And so for a column.
-column-weight : {m n : ℕ} (w : ℕ → ℤ) {ss : List Strike} → Peeled m n ss → (j : ℕ) → sum m (λ i. toZ (flow w ss (lane i j))) ⊕ toZ (left w ss (m + j)) ≈ toZ (w (m + j))
+column-weight : {m n : ℕ} (w : ℕ → ℤ) {ss : List Strike} → Peeled m n ss → (j : ℕ)
+    → sum m (λ i. toZ (flow w ss (lane i j))) ⊕ toZ (left w ss (m + j)) ≈ toZ (w (m + j))
 unfolding flow left
 column-weight {m} {n} w bare j = omega (arith, sum-zero m (λ i. nat 0) (λ i q. omega arith))
 column-weight {m} {n} w (peel {s} {later} st rest) j =
     let y = toZ (w (s .leaf)) in
     omega (
       arith,
-      sum-cong m (λ i. toZ (flow w (s ∷ later) (lane i j))) (λ i. on-lane (s .lane) y i j ⊕ toZ (flow (leftBy w s) later (lane i j))) (λ i q. flow-splits w st rest i j),
+      sum-cong m (λ i. toZ (flow w (s ∷ later) (lane i j))) (λ i. on-lane (s .lane) y i j ⊕ toZ (flow (leftBy w s) later (lane i j)))
+          (λ i q. flow-splits w st rest i j),
       sum-add m (λ i. on-lane (s .lane) y i j) (λ i. toZ (flow (leftBy w s) later (lane i j))),
       on-lane-column (s .lane) y m (st .row) j,
       column-weight (leftBy w s) rest j,

@@ -47,7 +47,8 @@ length-bagsOf P T = length-map (lanes (sources P) (sinks P)) (bagsOn T) ∙ leng
 bagsOf-at : (P : Problem) (T : List Cell) (i j : ℕ) → i < sources P → j < sinks P → at (bagsOf P T) (place (sinks P) i j) ≡ bagsOn T (lane i j)
 unfolding bagsOf at
 bagsOf-at P T i j k l =
-    getD-map (bagsOn T) (lanes (sources P) (sinks P)) (place (sinks P) i j) (lane 0 0) 0 (omega (arith, length-lanes (sources P) (sinks P), place-below (sources P) (sinks P) i j k l))
+    getD-map (bagsOn T) (lanes (sources P) (sinks P)) (place (sinks P) i j) (lane 0 0) 0
+    (omega (arith, length-lanes (sources P) (sinks P), place-below (sources P) (sinks P) i j k l))
     ∙ ap (bagsOn T) (getD-lanes (sources P) (sinks P) i j (lane 0 0) k l)
 
 nat-natAbs : (x : ℤ) → nat 0 ≼ toZ x → nat (natAbs x) ≈ toZ x
@@ -59,7 +60,8 @@ amount-nonneg : (T : List Cell) → ((k : ℕ) → k < length T → less nothing
 unfolding amountAt
 amount-nonneg [] h i j = omega (arith, nothing-parts)
 amount-nonneg (c ∷ cs) h i j = by-cases (Dec·and (ℕ-discrete (c .row) i) (ℕ-discrete (c .col) j))
-    (λ e. rw (amount-here c cs i j (e .0) (e .1)) (⊎-elim (λ s. omega (arith, nothing-parts)) (λ s. omega (arith, nothing-parts)) (less-true nothing (c .amount) (h 0 (omega arith)))))
+    (λ e. rw (amount-here c cs i j (e .0) (e .1))
+    (⊎-elim (λ s. omega (arith, nothing-parts)) (λ s. omega (arith, nothing-parts)) (less-true nothing (c .amount) (h 0 (omega arith)))))
     (λ e. rw (amount-later c cs i j e) (amount-nonneg cs (λ k l. h (suc k) (omega arith)) i j))
 
 pub bags-carried : (P : Problem) (T : List Cell) → Belongs P T → (i j : ℕ) → i < sources P → j < sinks P
@@ -128,8 +130,8 @@ module _ (P : Problem) (ok : Sound P) (T : List Cell) (belongs : Belongs P T)
       z-mul (pos k) (flowCost P (bagsOf P T)),
     )
 
-    -- Optimality. The potentials' worth of the supplies and demands bounds the cost of every plan from below, for no reduced cost is negative; and the tableau's
-    -- bags cost just that, for they are on basic cells, where the reduced cost is 0.
+    -- Optimality. The potentials' worth of the supplies and demands bounds the cost of every plan from below, for no reduced cost is negative; and the
+    -- tableau's bags cost just that, for they are on basic cells, where the reduced cost is 0.
     pub bags-least : (pos k *ℤ flowCost P (bagsOf P T)) ≤ℤ flowCost P Q
     bags-least =
         le-z (pos k *ℤ flowCost P (bagsOf P T)) (flowCost P Q)

@@ -1,4 +1,5 @@
--- Leaves: while any of the lanes that join the nodes left is there, a node but the root has a single one; and after striking it off the lanes join the nodes left.
+-- Leaves: while any of the lanes that join the nodes left is there, a node but the root has a single one; and after striking it off the lanes join the nodes
+-- left.
 use mathlib.Core.Path.{_≡_, refl, ap, sym, _∙_}
 use mathlib.Core.Logic.{_↔_, _≢_, _⊎_, inl, inr, by-cases}
 use mathlib.Core.Bool.{Bool, true, false, not, _&&_, _||_, cond, true≢false}
@@ -11,7 +12,8 @@ use borrow.Author.Tests.{eqb-true, eqb-false, eq-eqb, ne-eqb, not-true}
 use lib.Dec.{eqb}
 use lib.ListN.{length}
 use Rattle.transport.specs.Lists.{keep, sumTo}
-use Rattle.transport.specs.Laws.ListLaws.{keep-yes, keep-no, keep-member, member-keep, and-left, and-right, sumTo-cong, sumTo-none, sumTo-add, sumTo-le, sumTo-scale}
+use Rattle.transport.specs.Laws.ListLaws.{keep-yes, keep-no, keep-member, member-keep, and-left, and-right, sumTo-cong, sumTo-none, sumTo-add, sumTo-le}
+use Rattle.transport.specs.Laws.ListLaws.{sumTo-scale}
 use Rattle.transport.specs.Problem.{Lane}
 use Rattle.transport.specs.Laws.ProblemLaws.{lane}
 use Rattle.transport.specs.Leaf.{Strike, touches, strikeAt, onlyOne, firstLeaf}
@@ -310,7 +312,8 @@ leaf-struck {m} {n} {left} {nodes} {B} {s} w others f = record {
     arith,
     w .count,
     length-without f,
-    sumTo-cong (m + n) (λ k. cond (left k) 1 0) (λ k. cond (unless (s .leaf) left k) 1 0 + one-at (s .leaf) k) (λ k l. unless-bits (s .leaf) left k (there (f .ends))),
+    sumTo-cong (m + n) (λ k. cond (left k) 1 0) (λ k. cond (unless (s .leaf) left k) 1 0 + one-at (s .leaf) k)
+        (λ k l. unless-bits (s .leaf) left k (there (f .ends))),
     sumTo-add (m + n) (λ k. cond (unless (s .leaf) left k) 1 0) (one-at (s .leaf)),
     sum-one-at (m + n) (s .leaf) (others (s .leaf) .0 (f .listed) .1),
   );

@@ -1,7 +1,8 @@
 -- The loop that the entering lane closes with the basic lanes: there is one, and the signs alternate round it and are 0 off it.
 use mathlib.Core.Path.{_≡_, refl, ap, sym, _∙_}
 use mathlib.Core.Logic.{_≢_, _⊎_, inl, inr, ⊎-elim, by-cases}
-use mathlib.Core.List.{List, [], _∷_, _++_, List·Memᴰ, List·Memᴰ·head, List·Memᴰ·tail, List·Memᴰ·not-nil, List·Memᴰ·cases-cons, List·Memᴰ·append-cases, List·Memᴰ·eq-of-singleton, Memᴰ·cast}
+use mathlib.Core.List.{List, [], _∷_, _++_, List·Memᴰ, List·Memᴰ·head, List·Memᴰ·tail, List·Memᴰ·not-nil, List·Memᴰ·cases-cons, List·Memᴰ·append-cases}
+use mathlib.Core.List.{List·Memᴰ·eq-of-singleton, Memᴰ·cast}
 use Prim.Native.Nat.{ℕ, _+_, _<_}
 use native.Mathlib.Omega.{arith}
 use native.Mathlib.Decide.{ℕ-discrete}
@@ -21,7 +22,8 @@ use Rattle.transport.specs.declared.Cell.{Cell}
 use Rattle.network.specs.Flow.{Flow}
 use Rattle.tableaux.specs.Lanes.{Has, Fits, has-basic, member-dec, on-lane, on-lane-at, on-lane-off, on-lane-row, on-lane-column}
 use Rattle.tableaux.specs.Leaves.{Ends, row-struck, column-struck}
-use Rattle.tableaux.specs.Striking.{Peeled, bare, peel, Struck, struck-of, lane-once, Live, live-later, Hung, hung-later, hung-first, struck-live, struck-hung}
+use Rattle.tableaux.specs.Striking.{Peeled, bare, peel, Struck, struck-of, lane-once, Live, live-later, Hung, hung-later, hung-first, struck-live}
+use Rattle.tableaux.specs.Striking.{struck-hung}
 use Rattle.tableaux.specs.Flows.{point-neg, signs-of, sign-off, flow-only}
 use Rattle.tableaux.specs.Belonging.{fits-of, spans-of}
 
@@ -60,8 +62,8 @@ record Walked (m : ℕ) (ss : List Strike) (a b : ℕ) : Type 0 where
   apart : Apart lanes
   used : (l : Lane) → List·Memᴰ l lanes → (t : Strike) × List·Memᴰ t ss × (t .lane ≡ l)
 
--- From any node to any other there is a walk. If the first leaf is neither, it is one of the strikes after it; if it is one of the two, its lane leads to the node
--- that it hangs on, and from there it is.
+-- From any node to any other there is a walk. If the first leaf is neither, it is one of the strikes after it; if it is one of the two, its lane leads to the
+-- node that it hangs on, and from there it is.
 walked : {m n : ℕ} {ss : List Strike} → Peeled m n ss → Hung ss → (a b : ℕ) → Live ss a → Live ss b → Walked m ss a b
 walked {m} bare hang a b la lb = record { lanes = []; walk = stay (root la ∙ sym (root lb)); apart = empty; used = λ l h. absurd (List·Memᴰ·not-nil h) }
   where
@@ -146,7 +148,8 @@ turn-row {m} {n} h (goes {l} {p} {ls} a b rest) i = rw (← a) (omega (
   point-neg (p .row) i,
 ))
 
-turn-column : {m n : ℕ} {enter k : Lane} {ls : List Lane} → Fits m n ls → Way enter k ls → (j : ℕ) → sum m (λ i. turn ls i j) ≈ point (enter .col) (neg (nat 1)) j
+turn-column : {m n : ℕ} {enter k : Lane} {ls : List Lane} → Fits m n ls → Way enter k ls → (j : ℕ)
+    → sum m (λ i. turn ls i j) ≈ point (enter .col) (neg (nat 1)) j
 unfolding turn
 turn-column {m} {n} h (closes {l} a b) j = rw (← b) (on-lane-column l (neg (nat 1)) m (h l (List·Memᴰ·head refl) .0) j)
 turn-column {m} {n} h (goes {l} {p} {ls} a b rest) j = omega (
@@ -288,7 +291,7 @@ module _ {P : Problem} {T : List Cell} (ok : Sound P) (w : Belongs P T) {enter :
       go (fresh d rest) = by-cases (member-dec l others) (λ r. r) (λ r. absurd (alternate-sign (loop-alternate x) l (List·Memᴰ·tail k)
           (loop-off v l (λ h. ⊎-elim (λ e. d (Memᴰ·cast (sym e) k)) r (List·Memᴰ·cases-cons h)))))
 
-  -- The sentence of the paper: with the basic cells of a tableau the entering lane closes one loop; going round it, signs alternate, plus at the entering lane.
+  -- The sentence of the paper on the loop and its signs (`Statements.OneLoop`).
   pub one-loop : ¬ Basic T (enter .row) (enter .col) → OneLoop P T enter
   one-loop new =
       let (others, v) = loop-exists new in

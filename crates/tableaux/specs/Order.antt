@@ -145,7 +145,8 @@ module _ (n : ℕ) where
       step rest (inl e) = inr (List·Memᴰ·head e)
       step rest (inr k) = ⊎-elim inl (λ l. inr (List·Memᴰ·tail l)) (rest k)
 
-      go : (b : Bool) → (List·Memᴰ x (insert n c ds) → (x ≡ c) ⊎ List·Memᴰ x ds) → List·Memᴰ x (cond b (c ∷ d ∷ ds) (d ∷ insert n c ds)) → (x ≡ c) ⊎ List·Memᴰ x (d ∷ ds)
+      go : (b : Bool) → (List·Memᴰ x (insert n c ds) → (x ≡ c) ⊎ List·Memᴰ x ds) → List·Memᴰ x (cond b (c ∷ d ∷ ds) (d ∷ insert n c ds))
+          → (x ≡ c) ⊎ List·Memᴰ x (d ∷ ds)
       go true rest m = List·Memᴰ·cases-cons m
       go false rest m = step rest (List·Memᴰ·cases-cons m)
 
@@ -169,8 +170,10 @@ module _ (n : ℕ) where
       go true e o′ = (before, (after, o))
         where
           before : After n (placeOf n c) (d ∷ ds)
-          before x m = ⊎-elim (λ q. rw q (ltb-true (placeOf n c) (placeOf n d) e)) (λ k. omega (arith, ltb-true (placeOf n c) (placeOf n d) e, after x k)) (List·Memᴰ·cases-cons m)
+          before x m = ⊎-elim (λ q. rw q (ltb-true (placeOf n c) (placeOf n d) e)) (λ k. omega (arith, ltb-true (placeOf n c) (placeOf n d) e, after x k))
+              (List·Memᴰ·cases-cons m)
       go false e o′ = (behind, o′)
         where
           behind : After n (placeOf n d) (insert n c ds)
-          behind x m = ⊎-elim (λ q. rw q (omega (arith, ltb-false (placeOf n c) (placeOf n d) e, free d (List·Memᴰ·head refl)))) (λ k. after x k) (insert-member c ds m)
+          behind x m = ⊎-elim (λ q. rw q (omega (arith, ltb-false (placeOf n c) (placeOf n d) e, free d (List·Memᴰ·head refl)))) (λ k. after x k)
+              (insert-member c ds m)

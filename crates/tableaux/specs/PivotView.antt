@@ -10,7 +10,8 @@ use lib.IntN.{ℤ, pos}
 use lib.Signed.{ltZ}
 use lib.ListN.{length, getD, length-map}
 use Rattle.transport.specs.Lists.{keep}
-use Rattle.transport.specs.Laws.ListLaws.{member-at, member-place, member-keep, keep-member, member-map, map-member, keep-yes, keep-no, keep-all, all-of, by-key, FirstLeast, firstLeast-is}
+use Rattle.transport.specs.Laws.ListLaws.{member-at, member-place, member-keep, keep-member, member-map, map-member, keep-yes, keep-no, keep-all, all-of}
+use Rattle.transport.specs.Laws.ListLaws.{by-key, FirstLeast, firstLeast-is}
 use Rattle.transport.specs.Problem.{Lane, place}
 use Rattle.transport.specs.Laws.ProblemLaws.{lane, place-injective}
 use Rattle.transport.specs.Amount.{nothing, less}
@@ -23,7 +24,8 @@ use Rattle.transport.specs.Laws.RoundLaws.{lane-same, lane-other}
 use Rattle.transport.specs.declared.Pair.{Pair}
 use Rattle.transport.specs.declared.Cell.{Cell}
 use Rattle.tableaux.specs.View.{Distinct, Inside, amountAt, amount-none}
-use Rattle.tableaux.specs.Order.{CellAt, cell-at, basic-member, amount-member, placeOf, Ordered, ordered-distinct, ordered-keep, ordered-map, ordered-insert, insert-here, insert-keeps, insert-member, length-insert}
+use Rattle.tableaux.specs.Order.{CellAt, cell-at, basic-member, amount-member, placeOf, Ordered, ordered-distinct, ordered-keep, ordered-map}
+use Rattle.tableaux.specs.Order.{ordered-insert, insert-here, insert-keeps, insert-member, length-insert}
 
 -- ---- lanes
 
@@ -63,7 +65,8 @@ pub record Leaves (signOf : Lane → ℤ) (T : List Cell) (out : Cell) : Type 0 
 -- Where there is a minus cell.
 pub leaving-is : (signOf : Lane → ℤ) (T : List Cell) {c : Cell} → List·Memᴰ c T → ltZ (signOf (laneOf c)) (pos 0) ≡ true → Leaves signOf T (leaving signOf T)
 unfolding leaving
-leaving-is signOf T {c} mem e = go (firstLeast-is smaller (by-key (λ (a : Cell). a .amount) less-weak) noCell (keep test T) (some (member-place noCell (member-keep test e mem))))
+leaving-is signOf T {c} mem e =
+    go (firstLeast-is smaller (by-key (λ (a : Cell). a .amount) less-weak) noCell (keep test T) (some (member-place noCell (member-keep test e mem))))
   where
     test : Cell → Bool
     test d = ltZ (signOf (laneOf d)) (pos 0)
@@ -78,7 +81,8 @@ leaving-is signOf T {c} mem e = go (firstLeast-is smaller (by-key (λ (a : Cell)
     go (k, f) = record {
       member = here .0;
       minus = here .1;
-      least = λ d m p. let (h, l, s) = member-place noCell (member-keep test p m) in ap (λ x. less (x .amount) (leaving signOf T .amount)) (sym s) ∙ f .least h l;
+      least = λ d m p. let (h, l, s) = member-place noCell (member-keep test p m) in
+          ap (λ x. less (x .amount) (leaving signOf T .amount)) (sym s) ∙ f .least h l;
     }
       where
         here : List·Memᴰ (leaving signOf T) T × (test (leaving signOf T) ≡ true)
@@ -149,8 +153,10 @@ length-without : (n : ℕ) (T : List Cell) → Ordered n T → {out : Cell} → 
 length-without n [] o mem = absurd (List·Memᴰ·not-nil mem)
 length-without n (c ∷ cs) (after, o) {out} mem = go (length-without n cs o) (List·Memᴰ·cases-cons mem)
   where
-    go : (List·Memᴰ out cs → suc (length (keep (other out) cs)) ≡ length cs) → (out ≡ c) ⊎ List·Memᴰ out cs → suc (length (keep (other out) (c ∷ cs))) ≡ suc (length cs)
-    go rest (inl s) = ap (λ l. suc (length l)) (keep-no (other out) c cs (other-no out c (ap (λ x. x .row) (sym s), ap (λ x. x .col) (sym s))) ∙ keep-all (other out) cs (all-of (other out) cs noCell later))
+    go : (List·Memᴰ out cs → suc (length (keep (other out) cs)) ≡ length cs) → (out ≡ c) ⊎ List·Memᴰ out cs → suc (length (keep (other out) (c ∷ cs)))
+        ≡ suc (length cs)
+    go rest (inl s) = ap (λ l. suc (length l)) (keep-no (other out) c cs (other-no out c (ap (λ x. x .row) (sym s), ap (λ x. x .col) (sym s)))
+        ∙ keep-all (other out) cs (all-of (other out) cs noCell later))
       where
         later : (k : ℕ) → k < length cs → other out (getD cs k noCell) ≡ true
         later k l = other-yes out (getD cs k noCell) (λ d.
@@ -200,11 +206,13 @@ module _ {m n : ℕ} {T : List Cell} (o : Ordered n T) (h : Inside m n T) {e : L
   unfolding withAmount
   amount-enters = amount-member pivot-distinct (pivot-enters m n T e)
 
-  pub amount-stays : (i j : ℕ) → Basic T i j → ¬ Stands leaves i j → amountAt (pivot m n T e) i j ≡ gain (signs m n T e (lane i j)) (step m n T e) (amountAt T i j)
+  pub amount-stays : (i j : ℕ) → Basic T i j → ¬ Stands leaves i j → amountAt (pivot m n T e) i j
+      ≡ gain (signs m n T e (lane i j)) (step m n T e) (amountAt T i j)
   unfolding shift withAmount laneOf
   amount-stays i j b d = let x = cell-at b in at (x .cell) (x .member) (x .row) (x .col) d
     where
-      at : (c : Cell) → List·Memᴰ c T → c .row ≡ i → c .col ≡ j → ¬ Stands leaves i j → amountAt (pivot m n T e) i j ≡ gain (signs m n T e (lane i j)) (step m n T e) (amountAt T i j)
+      at : (c : Cell) → List·Memᴰ c T → c .row ≡ i → c .col ≡ j → ¬ Stands leaves i j → amountAt (pivot m n T e) i j
+          ≡ gain (signs m n T e (lane i j)) (step m n T e) (amountAt T i j)
       at c mem p q d = rw (← p, ← q)
           (amount-member pivot-distinct (pivot-stays m n T e mem (rw (← p, ← q) at d))
           ∙ ap (gain (signs m n T e (lane (c .row) (c .col))) (step m n T e)) (sym (amount-member (ordered-distinct n T o) mem)))

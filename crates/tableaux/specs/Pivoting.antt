@@ -37,7 +37,8 @@ use Rattle.tableaux.specs.PlanView.{supplies, demands}
 use Rattle.tableaux.specs.Belonging.{distinct-of, signs-flow}
 use Rattle.tableaux.specs.Order.{Ordered, ordered-by, basic-member, basic-dec, amount-member}
 use Rattle.tableaux.specs.TableauView.{bagsAt, marksAt, Seen, cells-many, seen-belongs, belongs-seen}
-use Rattle.tableaux.specs.PivotView.{Stands, stands-dec, Leaves, leaving-is, signs, leaver, step, pivot-basic, pivot-ordered, length-pivot, pivot-inside, amount-enters, amount-stays, amount-leaves, amount-elsewhere}
+use Rattle.tableaux.specs.PivotView.{Stands, stands-dec, Leaves, leaving-is, signs, leaver, step, pivot-basic, pivot-ordered, length-pivot, pivot-inside}
+use Rattle.tableaux.specs.PivotView.{amount-enters, amount-stays, amount-leaves, amount-elsewhere}
 
 -- The loop's signs as integers of the theory.
 abbrev signAt : ℕ → ℕ → List Cell → Lane → ℕ → ℕ → Z
@@ -148,7 +149,8 @@ module _ {P : Problem} (ok : Sound P) {T : List Cell} (w : Belongs P T) {e : Lan
     off = λ i. new (basic-in T (suc K) (e .row) (e .col) many .1 i);
     signs = f;
     leaves = omega (arith, indexed .1, many);
-    minus = subst (λ (c : Cell). toZ (signs m n T e (lane (c .row) (c .col))) ≺ nat 0) (sym (indexed .2)) (lt-yes (signs m n T e (laneOf out)) (pos 0) (pivot-leaves .minus));
+    minus = subst (λ (c : Cell). toZ (signs m n T e (lane (c .row) (c .col))) ≺ nat 0) (sym (indexed .2))
+        (lt-yes (signs m n T e (laneOf out)) (pos 0) (pivot-leaves .minus));
     least = λ k l s p. true≢false
         (sym (true-less (getD T k noCell .amount) (out .amount) (rw (amount-at T (distinct-of ok w) k (omega (arith, many)), at-out) at p))
         ∙ pivot-leaves .least (getD T k noCell) (member-at T noCell k (omega (arith, many))) (yes-lt (signs m n T e (lane (rowOf T k) (colOf T k))) (pos 0) s));
@@ -167,7 +169,8 @@ module _ {P : Problem} (ok : Sound P) {T : List Cell} (w : Belongs P T) {e : Lan
 
   replaces : Replaces m n (In (rowOf T) (colOf T) (suc K)) (rowOf T ℓ) (colOf T ℓ) (In (rowOf T′) (colOf T′) (suc K)) (e .row) (e .col)
   replaces = record {
-    keeps = λ i j hi hj s d. basic-in T′ (suc K) i j many-after .0 (pivot-basic m n T e i j .1 (inr (basic-in T (suc K) i j many .1 s, (λ r. d (r .0 ∙ ap (λ c. c .row) (sym (indexed .2)), r .1 ∙ ap (λ c. c .col) (sym (indexed .2)))))));
+    keeps = λ i j hi hj s d. basic-in T′ (suc K) i j many-after .0 (pivot-basic m n T e i j .1
+        (inr (basic-in T (suc K) i j many .1 s, (λ r. d (r .0 ∙ ap (λ c. c .row) (sym (indexed .2)), r .1 ∙ ap (λ c. c .col) (sym (indexed .2)))))));
     enters = basic-in T′ (suc K) (e .row) (e .col) many-after .0 (pivot-basic m n T e (e .row) (e .col) .1 (inl (refl, refl)));
   }
 
@@ -201,7 +204,8 @@ module _ {P : Problem} (ok : Sound P) {T : List Cell} (w : Belongs P T) {e : Lan
 
   -- Every amount changes by the step times the loop.
   pivot-moves : (i j : ℕ) → i < sources P → j < sinks P
-      → Moves (amountAt (pivot (sources P) (sinks P) T e) i j) (amountAt T i j) (step (sources P) (sinks P) T e) (loop (signAt (sources P) (sinks P) T e) (e .row) (e .col) i j)
+      → Moves (amountAt (pivot (sources P) (sinks P) T e) i j) (amountAt T i j) (step (sources P) (sinks P) T e)
+      (loop (signAt (sources P) (sinks P) T e) (e .row) (e .col) i j)
   pivot-moves i j hi hj = go (Dec·and (ℕ-discrete i (e .row)) (ℕ-discrete j (e .col))) (basic-dec T i j) (stands-dec out i j)
     where
       d : Z
@@ -223,7 +227,8 @@ module _ {P : Problem} (ok : Sound P) {T : List Cell} (w : Belongs P T) {e : Lan
   wanted : (j : ℕ) → j < n → nat 0 ≺ demands P j
   wanted j l = omega (arith, ok .demandLow j l)
 
-  round-after : Tableau m n K (rowOf T′) (colOf T′) (after (rowOf T) (colOf T) ℓ σ (e .row) (e .col) (bagsAt T)) (after (rowOf T) (colOf T) ℓ σ (e .row) (e .col) (marksAt T)) (supplies P) (demands P) (n - 1)
+  round-after : Tableau m n K (rowOf T′) (colOf T′) (after (rowOf T) (colOf T) ℓ σ (e .row) (e .col) (bagsAt T))
+      (after (rowOf T) (colOf T) ℓ σ (e .row) (e .col) (marksAt T)) (supplies P) (demands P) (n - 1)
   round-after = round hz wanted t choice (λ k l. inside-after k (omega (arith, many-after)) .0) (λ k l. inside-after k (omega (arith, many-after)) .1) replaces
 
   bags-after : (i j : ℕ) → i < m → j < n → bagsAt T′ i j ≈ after (rowOf T) (colOf T) ℓ σ (e .row) (e .col) (bagsAt T) i j
@@ -235,8 +240,8 @@ module _ {P : Problem} (ok : Sound P) {T : List Cell} (w : Belongs P T) {e : Lan
   pivot-seen : Seen P (pivot (sources P) (sinks P) T e)
   pivot-seen = tableau-cong bags-after marks-after round-after
 
-  -- The pivot belongs to the sheet. Every amount changes by the step times the sign of its lane on the loop, so rows and columns add up as before; and a basis with
-  -- the step, its smallest minus pair, moved round the loop is a tableau again (network's `round`).
+  -- The pivot belongs to the sheet. Every amount changes by the step times the sign of its lane on the loop, so rows and columns add up as before; and a
+  -- basis with the step, its smallest minus pair, moved round the loop is a tableau again (network's `round`).
   pub pivot-belongs : Belongs P (pivot (sources P) (sinks P) T e)
   pivot-belongs = seen-belongs ok T′ length-after (pivot-ordered order (w .onSheet) col new) pivot-seen
 
@@ -254,7 +259,8 @@ module _ {P : Problem} (ok : Sound P) {T : List Cell} (w : Belongs P T) {e : Lan
 
           tie : k ≡ ℓ
           tie = no-tie hz wanted t choice (λ k l. inside-after k (omega (arith, many-after)) .0) (λ k l. inside-after k (omega (arith, many-after)) .1) replaces
-              k (omega (arith, many)) (subst (λ (x : Cell). toZ (signs m n T e (lane (x .row) (x .col))) ≺ nat 0) (sym s) (lt-yes (signs m n T e (laneOf c)) (pos 0) minus))
+              k (omega (arith, many)) (subst (λ (x : Cell). toZ (signs m n T e (lane (x .row) (x .col))) ≺ nat 0) (sym s)
+              (lt-yes (signs m n T e (laneOf c)) (pos 0) minus))
               (z-eq (ap (λ x. x .q) amounts)) (z-eq (ap (λ x. x .e) amounts))
 
   minus-test : {c : Cell} → MinusCell P T e c → ltZ (signs (sources P) (sinks P) T e (laneOf c)) (pos 0) ≡ true
@@ -289,7 +295,8 @@ module _ {P : Problem} (ok : Sound P) {T : List Cell} (w : Belongs P T) {e : Lan
   at-step = ap (λ x. value m (bags x) (marks x)) at-out
 
   stepValue-positive : nat 1 ≼ stepValue (sources P) (sinks P) T e
-  stepValue-positive = let h : nat 0 ≺ stepValue m n T e = subst (λ (x : Z). nat 0 ≺ x) at-step (value-above hz t ℓ (omega (arith, many, indexed .1))) in omega arith
+  stepValue-positive = let h : nat 0 ≺ stepValue m n T e = subst (λ (x : Z). nat 0 ≺ x) at-step (value-above hz t ℓ (omega (arith, many, indexed .1))) in
+      omega arith
 
   -- The valued cost changes by the value of the step times the reduced cost of the entering lane.
   pivot-measure : (c : ℕ → ℕ → Z) (u v : ℕ → Z) → ((i j : ℕ) → Basic T i j → Tight c u v i j)
@@ -307,10 +314,12 @@ module _ {P : Problem} (ok : Sound P) {T : List Cell} (w : Belongs P T) {e : Lan
 
       change : cost m n c (valued m q′ e′) ≈ measure P c T ⊕ stepValue (sources P) (sinks P) T e ⊗ (c (e .row) (e .col) ⊖ u (e .row) ⊖ v (e .col))
       change = subst (λ (x : Z). cost m n c (valued m q′ e′) ≈ measure P c T ⊕ x ⊗ (c (e .row) (e .col) ⊖ u (e .row) ⊖ v (e .col))) at-step
-          (round-cost hz wanted t choice c u v (λ k l. tight (rowOf T k) (colOf T k) (record { index = k; below = omega (arith, many); row = refl; column = refl })))
+          (round-cost hz wanted t choice c u v
+          (λ k l. tight (rowOf T k) (colOf T k) (record { index = k; below = omega (arith, many); row = refl; column = refl })))
 
   -- So where that reduced cost is negative it falls by 1 or more, for the step's value is positive.
   pub pivot-falls : (c : ℕ → ℕ → Z) (u v : ℕ → Z) → ((i j : ℕ) → Basic T i j → Tight c u v i j) → c (e .row) (e .col) ≺ u (e .row) ⊕ v (e .col)
       → measure P c (pivot (sources P) (sinks P) T e) ⊕ nat 1 ≼ measure P c T
   pivot-falls c u v tight h = let l : measure P c T′ ≺ measure P c T =
-      lowers (measure P c T) (measure P c T′) (stepValue m n T e) (c (e .row) (e .col) ⊖ u (e .row) ⊖ v (e .col)) (pivot-measure c u v tight) (omega (arith, stepValue-positive)) (omega arith) in omega arith
+      lowers (measure P c T) (measure P c T′) (stepValue m n T e) (c (e .row) (e .col) ⊖ u (e .row) ⊖ v (e .col)) (pivot-measure c u v tight)
+      (omega (arith, stepValue-positive)) (omega arith) in omega arith

@@ -61,7 +61,8 @@ module _ (cost : Lane → ℤ) where
       there q e = rw (potential-later s later (t .leaf) (st .clear t q .0), potential-later s later (t .other) (st .clear t q .1)) e
 
   -- Each assignment adds at most one cost.
-  potential-bound : (C : ℕ) (ss : List Strike) → ((s : Strike) → List·Memᴰ s ss → natAbs (cost (s .lane)) ≤ C) → (k : ℕ) → natAbs (potentialBy cost ss k) ≤ length ss * C
+  potential-bound : (C : ℕ) (ss : List Strike) → ((s : Strike) → List·Memᴰ s ss → natAbs (cost (s .lane)) ≤ C) → (k : ℕ) → natAbs (potentialBy cost ss k)
+      ≤ length ss * C
   unfolding potentialBy
   potential-bound C [] h k = omega arith
   potential-bound C (s ∷ ss) h k = by-cases (ℕ-discrete k (s .leaf))
@@ -84,7 +85,8 @@ struck-tight {m} {n} {B} {ss} w cost l q =
     by : ℕ → ℤ
     by = potentialBy cost ss
 
-    by-ends : (s : Strike) → Ends m s → toZ (by (s .leaf)) ⊕ toZ (by (s .other)) ≈ toZ (cost (s .lane)) → toZ (by (s .lane .row)) ⊕ toZ (by (m + s .lane .col)) ≈ toZ (cost (s .lane))
+    by-ends : (s : Strike) → Ends m s → toZ (by (s .leaf)) ⊕ toZ (by (s .other)) ≈ toZ (cost (s .lane))
+        → toZ (by (s .lane .row)) ⊕ toZ (by (m + s .lane .col)) ≈ toZ (cost (s .lane))
     by-ends s (row-struck a b) t = omega (arith, z-eq (ap by a), z-eq (ap by b))
     by-ends s (column-struck a b) t = omega (arith, z-eq (ap by a), z-eq (ap by b))
 

@@ -25,7 +25,9 @@ use Rattle.transport.specs.Statements.{Belongs}
 use Rattle.transport.specs.declared.Pair.{Pair}
 use Rattle.transport.specs.declared.Cell.{Cell}
 use Rattle.tableaux.specs.View.{rowOf, colOf, basic-in}
-use Rattle.tableaux.specs.PairLaws.{bags, marks, Less, pair-eq, nothing-parts, subtract-parts, add-nothing, add-subtract, subtract-self, subtract-nothing, less-true, less-false, true-less, subtract-above, pairedSupply-parts, pairedDemand-bags, pairedDemand-last, pairedDemand-early}
+use Rattle.tableaux.specs.PairLaws.{bags, marks, Less, pair-eq, nothing-parts, subtract-parts, add-nothing, add-subtract, subtract-self, subtract-nothing}
+use Rattle.tableaux.specs.PairLaws.{less-true, less-false, true-less, subtract-above, pairedSupply-parts, pairedDemand-bags, pairedDemand-last}
+use Rattle.tableaux.specs.PairLaws.{pairedDemand-early}
 
 -- ---- one step of the rule
 
@@ -154,7 +156,8 @@ module _ (P : Problem) (ok : Sound P) where
     pub state-down : less d s ≡ false → State P left (suc i) j (pairedSupply P (suc i)) (subtract d s)
     unfolding sumTo
     state-down p =
-        let l : suc i < sources P = by-cases (decLt (suc i) (sources P)) (λ l. l) (λ l. absurd (omega (arith, down-exists (suc left) i j s d st p (omega (arith, st .row))))) in
+        let l : suc i < sources P = by-cases (decLt (suc i) (sources P)) (λ l. l)
+        (λ l. absurd (omega (arith, down-exists (suc left) i j s d st p (omega (arith, st .row))))) in
         record {
           row = l;
           column = st .column;
@@ -166,7 +169,11 @@ module _ (P : Problem) (ok : Sound P) where
         }
       where
         under : (bags s ≈ bags d) × (marks s ≼ marks d) → Less s d
-        under q = inr (q .0, by-cases (≼-dec (marks d) (marks s)) (λ r. absurd (omega (arith, even-last (suc left) i j s d st (q .0) (omega arith)))) (λ r. omega arith))
+        under q = inr (
+          q .0,
+          by-cases (≼-dec (marks d) (marks s)) (λ r. absurd (omega (arith, even-last (suc left) i j s d st (q .0) (omega arith))))
+              (λ r. omega arith),
+        )
 
 -- ---- the cells that the rule puts
 
@@ -216,7 +223,8 @@ module _ {P : Problem} where
   stairs-some (down a t) = omega arith
   stairs-some (right a t) = omega arith
 
-  stairs-last : {i j : ℕ} {s d : Pair} {T : List Cell} → Stairs P i j s d T → (K : ℕ) → suc K ≡ length T → (sources P ≡ suc (rowOf T K)) × (sinks P ≡ suc (colOf T K))
+  stairs-last : {i j : ℕ} {s d : Pair} {T : List Cell} → Stairs P i j s d T → (K : ℕ) → suc K ≡ length T → (sources P ≡ suc (rowOf T K))
+      × (sinks P ≡ suc (colOf T K))
   stairs-last (last p q a) zero e = (sym p, sym q)
   stairs-last (last p q a) (suc K) e = absurd (omega arith)
   stairs-last (down a t) zero e = absurd (omega (arith, stairs-some t))
@@ -303,10 +311,10 @@ unfolding place
 later n i j h k l (inl e) = rw (e .0, e .1) (omega arith)
 later n i j h k l (inr e) = rw (e .0, e .1) (omega arith)
 
--- The start belongs to its sheet. While the rule runs, the rows so far have given as much as the columns so far have taken. The marks of the rows so far are 1 to m,
--- and those of the columns so far are 0 or, from the last column on, m; so the present row and column are not empty together before the last cell. Each cell
--- therefore takes a pair above (0, 0), and the rule moves by one row or one column m + n − 2 times and ends in the last row and column. That is a staircase,
--- whose cells join all; and each row and column has given or taken all of its pair when the rule leaves it.
+-- The start belongs to its sheet. While the rule runs, the rows so far have given as much as the columns so far have taken. The marks of the rows so far are
+-- 1 to m, and those of the columns so far are 0 or, from the last column on, m; so the present row and column are not empty together before the last cell.
+-- Each cell therefore takes a pair above (0, 0), and the rule moves by one row or one column m + n − 2 times and ends in the last row and column. That is a
+-- staircase, whose cells join all; and each row and column has given or taken all of its pair when the rule leaves it.
 pub start-belongs : (P : Problem) → Sound P → Belongs P (start P)
 unfolding rowTotal columnTotal basisSize
 start-belongs P ok = record {
@@ -418,7 +426,8 @@ passes-state P ok (rowNotEmpty {left} {i} {j} {s} {d} w p) k e = go (less d s) r
     go true q st = rw (smaller-column s d q) (state-right P ok k i j s d st q)
     go false q st = absurd (p (row-empty s d q))
 
--- Both are empty together at the last cell, and only there: with equal pairs left, the marks of the rows so far, 1 to m, are those of the columns so far, 0 or m.
+-- Both are empty together at the last cell, and only there: with equal pairs left, the marks of the rows so far, 1 to m, are those of the columns so far, 0
+-- or m.
 pub both-empty : (P : Problem) → Sound P → (left i j : ℕ) (s d : Pair) → Passes P (suc left) i j s d
     → ((subtract s (smaller s d) ≡ nothing) × (subtract d (smaller s d) ≡ nothing)) ↔ ((i ≡ sources P - 1) × (j ≡ sinks P - 1))
 both-empty P ok left i j s d w = (

@@ -20,7 +20,9 @@ use Rattle.transport.specs.Belonging.{spans}
 use Rattle.transport.specs.Statements.{Joined, Closed}
 use Rattle.network.specs.Cut.{bit-le}
 use Rattle.tableaux.specs.Lanes.{Has, Fits}
-use Rattle.tableaux.specs.Leaves.{one-at, one-off, sum-one-at, sum-ones, touches-false, at-node, without, Ends, row-struck, column-struck, Leaf, none-some, found, Linked, Others, leaf-exists, without-member, member-without, leaf-member, leaf-lane, length-without, ends-differ, leaf-struck}
+use Rattle.tableaux.specs.Leaves.{one-at, one-off, sum-one-at, sum-ones, touches-false, at-node, without, Ends, row-struck, column-struck, Leaf}
+use Rattle.tableaux.specs.Leaves.{none-some, found, Linked, Others, leaf-exists, without-member, member-without, leaf-member, leaf-lane, length-without}
+use Rattle.tableaux.specs.Leaves.{ends-differ, leaf-struck}
 
 -- ---- striking off leaf after leaf
 
@@ -45,7 +47,8 @@ linked-struck zero p others w q = omega arith
 linked-struck {m} {n} {left} {nodes} (suc most) {B} p others w q = go (firstLeaf m nodes B) refl (λ s f. linked-struck most p others (leaf-struck w others f))
   where
     go : (o : Option Strike) → firstLeaf m nodes B ≡ o
-        → ((s : Strike) → Leaf m nodes B s → length (without m (s .leaf) B) ≤ most → length (strikeOff m nodes most (without m (s .leaf) B)) ≡ length (without m (s .leaf) B))
+        → ((s : Strike) → Leaf m nodes B s → length (without m (s .leaf) B) ≤ most → length (strikeOff m nodes most (without m (s .leaf) B))
+        ≡ length (without m (s .leaf) B))
         → length (strikeOff m nodes (suc most) B) ≡ length B
     go none e rest = rw (strike-none m nodes most B e) (sym (no-members B (λ l h. none-some (sym e ∙ leaf-exists w p others l h .1))))
     go (some s) e rest =
@@ -96,9 +99,11 @@ ends-clear {m} {k} {t} (column-struck p q) e = let (a, b) = touches-false m k (t
 peeled : {m n : ℕ} {nodes : List ℕ} (most : ℕ) {B : List Lane} → Others m n nodes → Fits m n B → Peeled m n (strikeOff m nodes most B)
 unfolding strikeOff
 peeled zero others h = bare
-peeled {m} {n} {nodes} (suc most) {B} others h = go (firstLeaf m nodes B) refl (λ k. peeled most {B = without m k B} others (λ l p. h l (without-member m k B l p .0)))
+peeled {m} {n} {nodes} (suc most) {B} others h =
+    go (firstLeaf m nodes B) refl (λ k. peeled most {B = without m k B} others (λ l p. h l (without-member m k B l p .0)))
   where
-    go : (o : Option Strike) → firstLeaf m nodes B ≡ o → ((k : ℕ) → Peeled m n (strikeOff m nodes most (without m k B))) → Peeled m n (strikeOff m nodes (suc most) B)
+    go : (o : Option Strike) → firstLeaf m nodes B ≡ o → ((k : ℕ) → Peeled m n (strikeOff m nodes most (without m k B)))
+        → Peeled m n (strikeOff m nodes (suc most) B)
     go none e rest = rw (strike-none m nodes most B e) bare
     go (some s) e rest =
         let f = found m nodes B s e in
@@ -107,7 +112,8 @@ peeled {m} {n} {nodes} (suc most) {B} others h = go (firstLeaf m nodes B) refl (
           row = h (s .lane) (leaf-member f .0) .0;
           col = h (s .lane) (leaf-member f .0) .1;
           proper = others (s .leaf) .0 (f .listed) .0;
-          clear = λ t q. let r = strike-of m nodes most (without m (s .leaf) B) t q in ends-clear (r .ends) (without-member m (s .leaf) B (t .lane) (r .member) .1);
+          clear = λ t q. let r = strike-of m nodes most (without m (s .leaf) B) t q in
+              ends-clear (r .ends) (without-member m (s .leaf) B (t .lane) (r .member) .1);
         }) (rest (s .leaf)))
 
 -- If as many lanes are struck off as there are, each lane is.
@@ -359,7 +365,8 @@ struck-joined {m} {n} {B} {ss} p w = record {
         across s h = let (later, st) = step-of (w .peels) s h in ends st (st .ends)
           where
             same : {later : List Strike} → Step m n s later → side A C (s .lane .row) ≡ side A C (m + s .lane .col)
-            same st = side-row A C (s .lane .row) (st .row) ∙ closed (s .lane .row) (s .lane .col) (st .row) (st .col) (w .lanes s h) ∙ sym (side-col A C (s .lane .col))
+            same st = side-row A C (s .lane .row) (st .row) ∙ closed (s .lane .row) (s .lane .col) (st .row) (st .col) (w .lanes s h)
+                ∙ sym (side-col A C (s .lane .col))
 
             ends : {later : List Strike} → Step m n s later → Ends m s → side A C (s .leaf) ≡ side A C (s .other)
             ends st (row-struck a b) = ap (side A C) a ∙ same st ∙ ap (side A C) (sym b)
@@ -377,8 +384,9 @@ joined-linked {m} {n} {B} p h e w = record {
   count = omega (arith, sum-ones (m + n));
 }
 
--- Lanes span exactly if they are m + n − 1 and join all rows and columns. If all are struck off, each leaf hangs on one struck later or on the root, so from the
--- last strike back all nodes are on the root's side of a split that no lane crosses. And of lanes that join all nodes there is a leaf to strike, again and again.
+-- Lanes span exactly if they are m + n − 1 and join all rows and columns. If all are struck off, each leaf hangs on one struck later or on the root, so from
+-- the last strike back all nodes are on the root's side of a split that no lane crosses. And of lanes that join all nodes there is a leaf to strike, again
+-- and again.
 pub spans-iff : {m n : ℕ} {B : List Lane} → 1 ≤ m → Fits m n B → (spans m n B ≡ true) ↔ ((length B ≡ basisSize m n) × Joined m n (Has B))
 unfolding spans strikes
 spans-iff {m} {n} {B} p h = (
@@ -415,6 +423,6 @@ linked-leaves {m} {n} {left} (suc size) B p w q =
         let f = found m nodes B s o in
         leaf (s .leaf) (s .lane) (f .only) (rest s f)
 
--- The sentence of the paper: there is a row or column with a single basic cell, and again after striking it off.
+-- The sentence of the paper on single basic cells: joined lanes have a leaf, and what is left without it is joined again.
 pub leaf-again : {m n : ℕ} {B : List Lane} → 1 ≤ m → Fits m n B → length B ≡ basisSize m n → Joined m n (Has B) → Strikable m B
 leaf-again {m} {n} {B} p h e w = linked-leaves (length B) B p (joined-linked p h e w) (omega arith)

@@ -106,7 +106,15 @@ module _ (part : Pair → ℤ) (part-zero : part nothing ≡ pos 0) (part-add : 
   splits : (c : Cell) (cs : List Cell) → Distinct (c ∷ cs) → (i j : ℕ)
       → at (c ∷ cs) i j ≈ point (c .row) (nat 1) i ⊗ point (c .col) (toZ (part (c .amount))) j ⊕ at cs i j
   splits c cs d i j = by-cases (Dec·and (ℕ-discrete (c .row) i) (ℕ-discrete (c .col) j))
-      (λ e. rw (amount-here c cs i j (e .0) (e .1), ← e .0, ← e .1, amount-none cs (c .row) (c .col) (distinct-fresh c cs d), part-zero, point-at (c .row) (nat 1), point-at (c .col) (toZ (part (c .amount)))) (omega arith))
+      (λ e. rw (
+        amount-here c cs i j (e .0) (e .1),
+        ← e .0,
+        ← e .1,
+        amount-none cs (c .row) (c .col) (distinct-fresh c cs d),
+        part-zero,
+        point-at (c .row) (nat 1),
+        point-at (c .col) (toZ (part (c .amount))),
+      ) (omega arith))
       (λ e. rw (amount-later c cs i j e) (omega (arith, off e)))
     where
       off : ¬ ((c .row ≡ i) × (c .col ≡ j)) → point (c .row) (nat 1) i ⊗ point (c .col) (toZ (part (c .amount))) j ≈ nat 0
@@ -127,7 +135,8 @@ module _ (part : Pair → ℤ) (part-zero : part nothing ≡ pos 0) (part-add : 
   along-cons : (line : Cell → ℕ) (c : Cell) (cs : List Cell) (k : ℕ) → along line (c ∷ cs) k ≈ point (line c) (toZ (part (c .amount))) k ⊕ along line cs k
   unfolding keep addUp
   along-cons line c cs k = by-cases (ℕ-discrete k (line c))
-      (λ e. rw (eq-eqb (line c) k (sym e), e, point-at (line c) (toZ (part (c .amount)))) (part-sum (c .amount) (addUp (map (λ d. d .amount) (keep (λ d. eqb (line d) (line c)) cs)))))
+      (λ e. rw (eq-eqb (line c) k (sym e), e, point-at (line c) (toZ (part (c .amount))))
+      (part-sum (c .amount) (addUp (map (λ d. d .amount) (keep (λ d. eqb (line d) (line c)) cs)))))
       (λ e. rw (ne-eqb (line c) k (λ f. e (sym f)), point-off (line c) (toZ (part (c .amount))) k e) (omega arith))
 
   pub row-sum : (m n : ℕ) (T : List Cell) → Distinct T → Inside m n T → (i : ℕ) → sum n (at T i) ≈ along (λ c. c .row) T i
@@ -148,7 +157,8 @@ module _ (part : Pair → ℤ) (part-zero : part nothing ≡ pos 0) (part-add : 
   column-sum m n [] d h j = omega (arith, sum-zero m (λ i. at [] i j) (λ i l. zero-part), zero-part)
   column-sum m n (c ∷ cs) d h j = omega (
     arith,
-    sum-cong m (λ i. at (c ∷ cs) i j) (λ i. point (c .col) (toZ (part (c .amount))) j ⊗ point (c .row) (nat 1) i ⊕ at cs i j) (λ i l. omega (arith, splits c cs d i j)),
+    sum-cong m (λ i. at (c ∷ cs) i j) (λ i. point (c .col) (toZ (part (c .amount))) j ⊗ point (c .row) (nat 1) i ⊕ at cs i j)
+        (λ i l. omega (arith, splits c cs d i j)),
     sum-add m (λ i. point (c .col) (toZ (part (c .amount))) j ⊗ point (c .row) (nat 1) i) (λ i. at cs i j),
     sum-point m (λ i. point (c .col) (toZ (part (c .amount))) j) (c .row) (nat 1) (h 0 (omega arith) .0),
     column-sum m n cs (distinct-tail c cs d) (inside-tail m n c cs h) j,

@@ -1,5 +1,5 @@
--- The declared answers of the calls: which one stands for the paper's answer (`..Answer`), and what one says in the paper's terms, given what the lent lists then
--- hold (`..Says`). Fields without a meaning hold zeros.
+-- The declared answers of the calls: which one stands for the paper's answer (`..Answer`), and what one says in the paper's terms, given what the lent lists
+-- then hold (`..Says`). Fields without a meaning hold zeros.
 use mathlib.Core.Bool.{true, false}
 use mathlib.Core.List.{List, []}
 use mathlib.Core.Option.{none, some}

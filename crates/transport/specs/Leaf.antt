@@ -1,4 +1,4 @@
--- Striking leaves (paper 01, "Tableau and start"; 002): a row or column with a single basic cell, and again after striking it off.
+-- Striking leaves (paper 01, "Tableau and start"; 002): nodes with one basic cell left are struck off, one after the other.
 -- The cells of a tableau are links between nodes: row i is node i, column j is node m + j.
 use mathlib.Core.Bool.{Bool, not, _||_, cond}
 use mathlib.Core.List.{List, [], _∷_}

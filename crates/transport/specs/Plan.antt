@@ -12,8 +12,8 @@ use Rattle.transport.specs.Sheet.{Sheet, roasteries, cafes}
 unfoldable pub planCost : Sheet → List ℕ → ℤ
 planCost S x = sumZ (roasteries S * cafes S) (λ l. pos (at x l) *ℤ pos (at (S .cost) l))
 
--- All ways to send `left` over lanes to sinks that still want ds, more on an earlier lane first: a lane takes at most what its sink wants, and at least what the
--- later sinks have no room for.
+-- All ways to send `left` over lanes to sinks that still want ds, more on an earlier lane first: a lane takes at most what its sink wants, and at least what
+-- the later sinks have no room for.
 unfoldable pub rowPlans : ℕ → List ℕ → List (List ℕ)
 rowPlans left [] = cond (eqb left 0) ([] ∷ []) []
 rowPlans left (d ∷ ds) = flatMap (λ x. map (λ xs. x ∷ xs) (rowPlans (left - x) ds)) (downTo (left - total ds) (min left d))
@@ -27,6 +27,6 @@ plansFor (s ∷ ss) ds = flatMap (λ xs. map (λ p. xs ++ p) (plansFor ss (zipWi
 unfoldable pub plans : Sheet → List (List ℕ)
 plans S = plansFor (S .supply) (S .demand)
 
--- Of all plans of least cost, the one that carries more on the first lane where it differs from any other.
+-- The settled plan: least in cost, and of these ahead of every other on the first lane that tells two apart; the first of the least, by the order of `plans`.
 unfoldable pub settled : Sheet → List ℕ
 settled S = firstLeast (λ x y. ltZ (planCost S x) (planCost S y)) [] (plans S)

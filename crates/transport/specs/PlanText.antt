@@ -41,7 +41,7 @@ planText S =
     ++ headLine "cafes" (cafes S) ++ flatMap wholeLine (a .v)
     ++ headLine "lanes" (length ls) ++ flatMap (laneLine (cafes S) (a .plan)) ls
 
--- Write plan solves, writes the plan text and gives its length, refusing as write sheet does. `room` is the length of the output.
+-- Write plan gives the plan text of the solved sheet; it refuses what write sheet refuses. `room` is the length of the output.
 unfoldable pub writePlanCall : Sheet → ℕ → Answer (List ℕ)
 writePlanCall S room = unless (sheetTests S ++ ((tooShort room (length (planText S)), 8) ∷ [])) (planText S)
 

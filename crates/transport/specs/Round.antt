@@ -13,7 +13,7 @@ use Rattle.transport.specs.Tableau.{Cell, laneOf, withAmount, basisOf, s
 use Rattle.transport.specs.Leaf.{Strike, strikes}
 use Rattle.transport.specs.Potential.{sourcePrices, sinkPrices, reducedCost, isFinished}
 
--- The entering lane has the least reduced cost, the first in sheet order among equals.
+-- The entering lane: of least reduced cost, and of several the first in sheet order.
 unfoldable pub entering : Problem → List Cell → Lane
 entering P T =
     firstLeast (λ k l. ltZ (reducedCost P T k) (reducedCost P T l)) (laneOf noCell) (lanes (sources P) (sinks P))
@@ -49,7 +49,7 @@ sign m ss enter = flow (takeFrom (takeFrom (λ k. pos 0) (enter .row) (pos 1)) (
 unfoldable pub leaving : (Lane → ℤ) → List Cell → Cell
 leaving signOf T = firstLeast (λ a b. less (a .amount) (b .amount)) noCell (keep (λ c. ltZ (signOf (laneOf c)) (pos 0)) T)
 
--- Plus cells gain the step, minus cells lose it.
+-- What the step makes of a pair, by the sign of its cell.
 unfoldable pub gain : ℤ → Pair → Pair → Pair
 gain (pos zero) step a = a
 gain (pos (suc k)) step a = add a step

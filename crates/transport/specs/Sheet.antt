@@ -16,6 +16,10 @@ pub record Sheet : Type 0 where
   pub demand : List ℕ
   pub cost : List ℕ
 
+-- The sheet that the three lists of a call are.
+abbrev pub sheetOf : List ℕ → List ℕ → List ℕ → Sheet
+sheetOf supply demand cost = record { supply = supply; demand = demand; cost = cost }
+
 -- m, the number of roasteries.
 unfoldable pub roasteries : Sheet → ℕ
 roasteries S = length (S .supply)

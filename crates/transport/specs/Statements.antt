@@ -116,7 +116,7 @@ pub record Belongs (P : Problem) (cells : List Cell) : Type 1 where
 
 -- ---- prices (01, "Prices and rounds")
 
--- "Prices are whole numbers u for roasteries and v for cafés, with u of roastery 1 = 0 and u + v = cost on every basic cell."
+-- Prices: u by row and v by column, nothing for the first row, and together the lane's cost wherever a cell is basic.
 pub record PricesOf (P : Problem) (cells : List Cell) (u v : ℕ → ℤ) : Type 0 where
   pub root : u 0 ≡ pos 0
   pub tight : (i j : ℕ) → Basic cells i j → u i +ℤ v j ≡ laneCost P (record { row = i; col = j })
@@ -128,7 +128,7 @@ pub record OnlyPrices (P : Problem) (cells : List Cell) (u v : ℕ → ℤ) : Ty
 
 -- ---- the loop (01, "Prices and rounds")
 
--- "With the basic cells it closes one loop; going round it, signs alternate, plus at the entering lane."
+-- The entering lane and basic cells form exactly one loop; its signs change at each corner and begin with plus at the entering lane.
 
 -- The way round, from lane k on: a lane in its row, then a lane in that one's column, and so on, until a lane stands in the column of the entering lane.
 pub data Way (enter : Lane) : Lane → List Lane → Type 0 where
@@ -169,7 +169,7 @@ pub record OneLoop (P : Problem) (cells : List Cell) (enter : Lane) : Type 0 whe
 
 -- ---- the step (01, "Prices and rounds")
 
--- "The step is the smallest pair on a minus cell; two minus cells never tie for it."
+-- The least pair among minus cells is the step, and only one of them has it.
 
 -- A basic cell with a minus.
 pub record MinusCell (P : Problem) (cells : List Cell) (enter : Lane) (c : Cell) : Type 0 where
@@ -193,7 +193,7 @@ unfoldable pub after : Problem → ℕ → List Cell → List Cell
 after P zero cells = cells
 after P (suc k) cells = after P k (next P cells)
 
--- "The rounds .. to the first finished tableau" are k.
+-- It takes k rounds to come to a finished tableau, and no fewer.
 pub record FirstFinished (P : Problem) (cells : List Cell) (k : ℕ) : Type 0 where
   pub finished : isFinished P (after P k cells) ≡ true
   pub before : (h : ℕ) → h < k → isFinished P (after P h cells) ≡ false
@@ -215,13 +215,13 @@ pub record Best (S : Sheet) (plan : List ℕ) (cost : ℤ) : Type 0 where
 abbrev pub Unfinished : Problem → List Cell → ℕ → Type 0
 Unfinished P cells k = (h : ℕ) → h ≤ k → isFinished P (after P h cells) ≡ false
 
--- Run: "'finished' with the tableau and the number of rounds made, if it finishes within that many; else 'spent', with the tableau after exactly that many
--- rounds."
+-- Run: finished, where the first finished tableau is within the allowance, with that tableau and its rounds; spent, where it is not, with the tableau after all
+-- rounds that were allowed.
 pub record RunOf (P : Problem) (allowance : ℕ) (cells : List Cell) (r : Run) : Type 0 where
   pub done : (k : ℕ) → k ≤ allowance → FirstFinished P cells k → r ≡ record { finished = true; tableau = after P k cells; rounds = k }
   pub spent : Unfinished P cells allowance → r ≡ record { finished = false; tableau = after P allowance cells; rounds = allowance }
 
--- Solve: "the rounds from the start to the first finished tableau, its m and n prices". The tableau belongs to the problem.
+-- Solve counts its rounds from the start, and shows the prices of the first finished tableau. That tableau belongs to the problem.
 pub record FromFirstFinished (P : Problem) (s : Solution) : Type 1 where
   pub reached : FirstFinished P (start P) (s .rounds)
   pub belongs : Belongs P (after P (s .rounds) (start P))
@@ -271,7 +271,7 @@ pub record Shared (text : List ℕ) (p : ℕ) : Type 0 where
   pub inOther : p ≤ length (sheetText sheet)
   pub same : take p text ≡ take p (sheetText sheet)
 
--- The place: the length of the longest beginning that some sheet text also has.
+-- The place: how many bytes the text has, at most, in common with the beginning of a sheet text.
 pub record Place (text : List ℕ) (p : ℕ) : Type 0 where
   pub shared : Shared text p
   pub longest : (q : ℕ) → Shared text q → q ≤ p

@@ -40,6 +40,10 @@ cellsOf t = take (t .count) (t .cells)
 unfoldable pub tableauOf : List Cell → Tableau
 tableauOf T = record { cells = padded maxCells noCell T; count = length T }
 
+-- The tableau that a lent list of cells is: all are counted, and as many as the array has room for are in it.
+unfoldable pub lentTableau : List Cell → Tableau
+lentTableau T = record { cells = padded maxCells noCell (take maxCells T); count = length T }
+
 -- The tableau of an answer that gives none.
 unfoldable pub noTableau : Tableau
 noTableau = tableauOf []

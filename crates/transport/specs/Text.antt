@@ -20,7 +20,7 @@ abbrev pub byte : String → ℕ
 byte ε = 0
 byte (c ◃ s) = code c
 
--- Each byte is a digit, a space, a line end (LF), a small letter or none of these.
+-- The kind of a byte; a line end is LF, and small letters are a to z.
 unfoldable pub kindOf : ℕ → ByteKind
 kindOf b =
     cond (within (byte "0") (byte "9") b) Digit
@@ -37,7 +37,7 @@ digitsUpTo (suc most) n = elim (ltb n 10) [
   | false ↦ digitsUpTo most (n / 10) ++ ((byte "0" + n % 10) ∷ [])
 ]
 
--- Numbers are decimal, with no leading 0 except 0 itself, and as many digits as they need.
+-- The decimal digits of a number, as many as it needs: none is a leading 0, and 0 is one digit.
 unfoldable pub digits : ℕ → List ℕ
 digits n = digitsUpTo (suc n) n
 

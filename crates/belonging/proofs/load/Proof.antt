@@ -47,13 +47,18 @@ returns-2 c = (
   λ e. absurd (false≢true e),
 )
 
-fits : (c : tie.Else2) → let a = c .before .before .before .before .before .before .args in cellsFit (length (a .supply .now)) (length (a .demand .now)) (cellsOf (a .t)) ≡ true
+fits : (c : tie.Else2) → let a = c .before .before .before .before .before .before .args in
+    cellsFit (length (a .supply .now)) (length (a .demand .now)) (cellsOf (a .t)) ≡ true
 fits c = sym (c .before .cells-fit .ensures) ∙ not-false (c .before .cells-fit .result) (c .if2 .left)
 
 spread-requires : tie.Need-spread-requires
 spread-requires c κs =
-    let s = sides (c .before .before .before .before .before .before .before .before .before) in
-    (few (c .before .before .before .before .before), s .rowsHigh, λ k l. let (i, j) = fit-inside _ _ _ (fits (c .before .before .before)) k l in (i, omega (arith, s .colsHigh)))
+    let s = sides (c .before .before .before .before .before .before .before .before .before) in (
+      few (c .before .before .before .before .before),
+      s .rowsHigh,
+      λ k l. let (i, j) = fit-inside _ _ _ (fits (c .before .before .before)) k l in
+          (i, omega (arith, s .colsHigh)),
+    )
 
 laid : (c : tie.After-spread)
     → let a = c .before .before .before .before .before .before .before .before .before .before .args in
@@ -63,16 +68,23 @@ laid c = record {
   held = c .spread .ensures _ (sides (c .before .before .before .before .before .before .before .before .before .before) .colsHigh);
   inside = fit-inside _ _ _ (fits (c .before .before .before .before));
   distinct = fit-distinct _ _ _ (fits (c .before .before .before .before));
-  count = length-cells (c .before .before .before .before .before .before .before .before .before .before .args .t) (omega (arith, few (c .before .before .before .before .before .before), roomy (c .before .before .before .before .before .before .before))) ∙ counted (c .before .before .before .before .before .before);
+  count = length-cells (c .before .before .before .before .before .before .before .before .before .before .args .t)
+      (omega (arith, few (c .before .before .before .before .before .before), roomy (c .before .before .before .before .before .before .before)))
+      ∙ counted (c .before .before .before .before .before .before);
 }
 
 spans-and-balances-requires : tie.Need-spans-and-balances-requires
-spans-and-balances-requires c κs = (c .before .before .before .before .before .before .before .before .before .before .before .before .before .pre, (_, laid (c .before .before .before)))
+spans-and-balances-requires c κs =
+    (c .before .before .before .before .before .before .before .before .before .before .before .before .before .pre, (_, laid (c .before .before .before)))
 
 returns-3 : tie.Need-returns-3
 returns-3 c =
-    let l = laid (c .before .before .before .before) in
-    ((λ cost. c .spans-and-balances .ensures cost _ l ∙ sym (belongs-whole _ _ cost _ (counted (c .before .before .before .before .before .before .before .before .before .before)) (fits (c .before .before .before .before .before .before .before .before)))), λ e. l .held)
+    let l = laid (c .before .before .before .before) in (
+      (λ cost. c .spans-and-balances .ensures cost _ l ∙ sym (belongs-whole _ _ cost _ (counted
+          (c .before .before .before .before .before .before .before .before .before .before))
+          (fits (c .before .before .before .before .before .before .before .before)))),
+      λ e. l .held,
+    )
 
 pub load-spec : {M : Type 1} → statement M
 load-spec =

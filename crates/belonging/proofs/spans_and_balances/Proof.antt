@@ -1,5 +1,5 @@
--- `belonging::spans_and_balances` meets its contract: lanes that are not all struck off do not span (`laid-apart`); with a tree (`laid-tree`) the two flows decide
--- (`balanced-is`).
+-- `belonging::spans_and_balances` meets its contract: lanes that are not all struck off do not span (`laid-apart`); with a tree (`laid-tree`) the two flows
+-- decide (`balanced-is`).
 use native.Mathlib.Omega.{arith}
 use mathlib.Core.Path.{_≡_, refl, sym, _∙_}
 use mathlib.Core.Bool.{_&&_}
@@ -68,7 +68,8 @@ strikes c =
     (strikes-room _ _ _ _ _ _ (s .rowsHigh) (s .colsHigh) (c .before .strike .ensures .0 .2) (t .struck), strikes-distinct _ _ _ _ _ _ (t .struck .peels))
 
 flows-match-requires : tie.Need-flows-match-requires
-flows-match-requires c κs = let (room, distinct) = strikes (c .before .before .before .before .before .before .before .before) in (room, (distinct, c .before .before .before .before .before .before .weigh-bags .ensures .light))
+flows-match-requires c κs = let (room, distinct) = strikes (c .before .before .before .before .before .before .before .before) in
+    (room, (distinct, c .before .before .before .before .before .before .weigh-bags .ensures .light))
 
 -- What is left to find: whether both flows are carried.
 flows : (c : tie.After-lane2) (cost : List ℤ) (T : List Cell)
@@ -82,18 +83,24 @@ flows : (c : tie.After-lane2) (cost : List ℤ) (T : List Cell)
 flows c cost T h =
     let t = tree (c .before .before .before .before .before .before .before .before) T h in
     rw (t .spans)
-    (balanced-is _ _ cost (h .held) _ _ _ _ t (c .before .before .before .before .before .before .before .before .before .before .before .before .before .before .before .pre .0 .1 .balance) (c .before .before .before .before .before .before .weigh-bags .ensures) (c .before .before .before .before .weigh-marks .ensures))
+    (balanced-is _ _ cost (h .held) _ _ _ _ t
+    (c .before .before .before .before .before .before .before .before .before .before .before .before .before .before .before .pre .0 .1 .balance)
+    (c .before .before .before .before .before .before .weigh-bags .ensures) (c .before .before .before .before .weigh-marks .ensures))
 
 returns-2 : tie.Need-returns-2
-returns-2 c cost T h = sym (flows (c .before .before) cost T h ∙ rw (← c .before .flows-match .ensures, not-true (c .before .flows-match .result) (c .if2 .taken)))
+returns-2 c cost T h = sym (flows (c .before .before) cost T h
+    ∙ rw (← c .before .flows-match .ensures, not-true (c .before .flows-match .result) (c .if2 .taken)))
 
 flows-match-requires-2 : tie.Need-flows-match-requires-2
-flows-match-requires-2 c κs = let (room, distinct) = strikes (c .before .before .before .before .before .before .before .before .before .before .before .before .before .before) in (room, (distinct, c .before .before .before .before .before .before .before .before .before .before .weigh-marks .ensures .light))
+flows-match-requires-2 c κs = let (room, distinct) =
+    strikes (c .before .before .before .before .before .before .before .before .before .before .before .before .before .before) in
+    (room, (distinct, c .before .before .before .before .before .before .before .before .before .before .weigh-marks .ensures .light))
 
 returns-3 : tie.Need-returns-3
 returns-3 c cost T h =
     let v = c .before .before .before .before .before .before in
-    sym (flows (v .before) cost T h ∙ rw (← v .flows-match .ensures, not-false (v .flows-match .result) (c .before .before .before .before .before .if2 .left), ← c .flows-match2 .ensures))
+    sym (flows (v .before) cost T h
+    ∙ rw (← v .flows-match .ensures, not-false (v .flows-match .result) (c .before .before .before .before .before .if2 .left), ← c .flows-match2 .ensures))
 
 pub spans-and-balances-spec : {M : Type 1} → statement M
 spans-and-balances-spec =

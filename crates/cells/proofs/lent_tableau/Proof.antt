@@ -21,9 +21,11 @@ use prog.Wp.{Heap, Out, Env, afterSeq, afterBlock, afterTurn, Calls, Loops, Wp, 
 use ghost.Atoms.{Atoms, sem}
 use contract.Monad.{Fun, fact}
 use contract.Running.{givenOf, tables, tablesOf}
-use types.Kit.{Given, Item, ‵, raw, _⊛_, some, later, ⋆, anyQ, atRet, _$_, _∵_, !, qed, by, move, keep, drop, use1, use2, split, join, pick, rewrite, fsplit, fjoin, suffices, frame, await, done}
+use types.Kit.{Given, Item, ‵, raw, _⊛_, some, later, ⋆, anyQ, atRet, _$_, _∵_, !, qed, by, move, keep, drop, use1, use2, split, join, pick, rewrite, fsplit}
+use types.Kit.{fjoin, suffices, frame, await, done}
 use types.Part.{whole, sub, look-in}
-use types.Run.{look, look-raw, store, init, forget, stop, hop, fld, from, load, lit, of-opd, bin, assigns, assigns-last, and-then, no-more, land, stays, leaves-loop, returns, enter, alloc1, alloc0, params1, pass1, pass0, free1, free0, exec}
+use types.Run.{look, look-raw, store, init, forget, stop, hop, fld, from, load, lit, of-opd, bin, assigns, assigns-last, and-then, no-more, land, stays}
+use types.Run.{leaves-loop, returns, enter, alloc1, alloc0, params1, pass1, pass0, free1, free0, exec}
 use types.Share.{arr-parts}
 use sound.Loop.{loop-rule}
 use sound.WpLaws.{fmOf, WpFn-mono}
@@ -106,12 +108,14 @@ module _ {M : Type 1} (𝓤 : URA M) (H : Heap 𝓤) (A : Atoms 𝓤) (mem : Mem
   abbrev AddCell : Contract 𝓤
   AddCell = tripleOf 𝓤 H A add-cell.signature (add-cell.spec 𝓤 H A mem run)
 
-  said : (a : Tableau) (c : Cell) (r : Tableau) → ent 𝓤 (ensured 𝓤 H A add-cell.ended (add-cell.clauses 𝓤 H A mem run) tt (a, (c, tt)) tt r) (fact 𝓤 (r ≡ addCell a c))
+  said : (a : Tableau) (c : Cell) (r : Tableau)
+      → ent 𝓤 (ensured 𝓤 H A add-cell.ended (add-cell.clauses 𝓤 H A mem run) tt (a, (c, tt)) tt r) (fact 𝓤 (r ≡ addCell a c))
   said a c r = exE 𝓤 _ (λ ws. snd∗ 𝓤 (sem 𝓤 H A (lasts add-cell.ended tt (a, (c, tt)) ws)) (fact 𝓤 (r ≡ addCell a c)))
 
 -- ---- the walk, with the cells ys lent at the place o of the block b
 
-module _ {M : Type 1} (𝓤 : URA M) (H : Heap 𝓤) (A : Atoms 𝓤) (W : Given 𝓤 H A) (mem : Memory → SProp 𝓤) (run : Routine → Fun 𝓤) (κ : Lft) (q : Share) (b o : ℕ) (γ : GName) (ys : List Cell) where
+module _ {M : Type 1} (𝓤 : URA M) (H : Heap 𝓤) (A : Atoms 𝓤) (W : Given 𝓤 H A) (mem : Memory → SProp 𝓤) (run : Routine → Fun 𝓤) (κ : Lft) (q : Share)
+    (b o : ℕ) (γ : GName) (ys : List Cell) where
   abbrev n : ℕ
   n = length ys
 
@@ -134,10 +138,14 @@ module _ {M : Type 1} (𝓤 : URA M) (H : Heap 𝓤) (A : Atoms 𝓤) (W : Given
   abbrev Post : Val → SProp 𝓤
   Post = walkOf 𝓤 H A lent-tableau.ended stayed (lent-tableau.clauses 𝓤 H A mem run) .post bound
 
-  exits : length ys < 2 ^ 64 → Good (tableau n) → ent 𝓤 (⋆ 𝓤 H A (‵ (flft κ q) ∷ ‵ (ShrSlice (named 0) κ T.the-row .own lent (at .0)) ∷ [])) (Post (tableauVal (tableau n)))
+  exits : length ys < 2 ^ 64 → Good (tableau n)
+      → ent 𝓤 (⋆ 𝓤 H A (‵ (flft κ q) ∷ ‵ (ShrSlice (named 0) κ T.the-row .own lent (at .0)) ∷ [])) (Post (tableauVal (tableau n)))
   exits l g =
       qed W (‵ (flft κ q) ∷ ‵ (ShrSlice (named 0) κ T.the-row .own lent (at .0)) ∷ []) ∵
-      suffices ! _ (ends-at 𝓤 H A lent-tableau.ended stayed (lent-tableau.clauses 𝓤 H A mem run) W bound (tableauVal (tableau n)) (tableau n) (tt, tt) (tt, tt)) $ says ! (added-all ys l) $
+      suffices ! _ (ends-at 𝓤 H A lent-tableau.ended stayed (lent-tableau.clauses 𝓤 H A mem run) W bound (tableauVal (tableau n)) (tableau n) (tt, tt) (
+        tt,
+        tt,
+      )) $ says ! (added-all ys l) $
       nothing ! $ move ! (1 ∷ 0 ∷ []) $ join ! $ nothing ! $ move ! (2 ∷ 0 ∷ []) $ fjoin ! $ move ! (1 ∷ 0 ∷ []) $
       frame ! $ frame ! $ owned ! S.the-row (Is S.the-row) (LL.makes S.the-type S′.the-plain 𝓤 H A) (tableau n) _ g $ done !
 
@@ -152,8 +160,10 @@ module _ {M : Type 1} (𝓤 : URA M) (H : Heap 𝓤) (A : Atoms 𝓤) (W : Given
   abbrev to : Tableau → Cell → AddCell 𝓤 H A mem run .Ghost
   to a c = ((tt, tt, tt, (a, (c, tt)), (tableauVal a ∷ [], (cellVals c, tt))), tt)
 
-  goes : (a : Tableau) (c : Cell) → ent 𝓤 (sep 𝓤 (sem 𝓤 H A (S.the-row .own a (tableauVal a ∷ []))) (sem 𝓤 H A (T.the-row .own c (cellVals c)))) (AddCell 𝓤 H A mem run .pre (to a c))
-  goes a c = qed W (‵ (S.the-row .own a (tableauVal a ∷ [])) ∷ ‵ (T.the-row .own c (cellVals c)) ∷ []) ∵ nothing ! $ move ! (2 ∷ 0 ∷ []) $ join ! $ move ! (1 ∷ 0 ∷ []) $ join ! $ nothing ! $ join ! $ frame ! $ done !
+  goes : (a : Tableau) (c : Cell)
+      → ent 𝓤 (sep 𝓤 (sem 𝓤 H A (S.the-row .own a (tableauVal a ∷ []))) (sem 𝓤 H A (T.the-row .own c (cellVals c)))) (AddCell 𝓤 H A mem run .pre (to a c))
+  goes a c = qed W (‵ (S.the-row .own a (tableauVal a ∷ [])) ∷ ‵ (T.the-row .own c (cellVals c)) ∷ []) ∵ nothing ! $ move ! (2 ∷ 0 ∷ [])
+      $ join ! $ move ! (1 ∷ 0 ∷ []) $ join ! $ nothing ! $ join ! $ frame ! $ done !
 
   module _ (𝓣 : Tables 𝓤 H) (known : Triple 𝓤 (𝓣 .C #add-cell) (AddCell 𝓤 H A mem run)) (gn : Room T.the-row n) (l₀ l₁ l₂ l₃ l₄ l₅ l₆ l₇ : ℕ) where
     abbrev C : Calls 𝓤 H
@@ -168,10 +178,12 @@ module _ {M : Type 1} (𝓤 : URA M) (H : Heap 𝓤) (A : Atoms 𝓤) (W : Given
     -- what there is after k cells, where the tableau is a
     abbrev AtBy : Tableau → ℕ → List (Item 𝓤)
     AtBy a k = ‵ (fshr-bor κ (λ s. arr-parts (shares T.the-row) n .part s ys b o)) ∷ ‵ (flft κ q)
-        ∷ ‵ (fat fullShare tableauTy l₂ 0 (tableauVal a)) ∷ ‵ (fat fullShare word l₃ 0 (vint w64 k)) ∷ ‵ (froom word l₄ 0) ∷ ‵ (froom tyBool l₅ 0) ∷ ‵ (froom tyPtr l₆ 0) ∷ ‵ (froom cellTy l₇ 0)
+        ∷ ‵ (fat fullShare tableauTy l₂ 0 (tableauVal a)) ∷ ‵ (fat fullShare word l₃ 0 (vint w64 k)) ∷ ‵ (froom word l₄ 0) ∷ ‵ (froom tyBool l₅ 0)
+        ∷ ‵ (froom tyPtr l₆ 0) ∷ ‵ (froom cellTy l₇ 0)
         ∷ ‵ (fat fullShare slice l₁ 0 (sliceVal (b, o) n)) ∷ ‵ (froom tableauTy l₀ 0)
         ∷ ‵ (fres γ (codedHoleys T.the-row .code (heres T.the-row ys))) ∷ ‵ (at-slice T.the-row lent (at .0))
-        ∷ ‵ (fdies tableauTy l₀) ∷ ‵ (fdies slice l₁) ∷ ‵ (fdies tableauTy l₂) ∷ ‵ (fdies word l₃) ∷ ‵ (fdies word l₄) ∷ ‵ (fdies tyBool l₅) ∷ ‵ (fdies tyPtr l₆) ∷ ‵ (fdies cellTy l₇) ∷ []
+        ∷ ‵ (fdies tableauTy l₀) ∷ ‵ (fdies slice l₁) ∷ ‵ (fdies tableauTy l₂) ∷ ‵ (fdies word l₃) ∷ ‵ (fdies word l₄) ∷ ‵ (fdies tyBool l₅)
+        ∷ ‵ (fdies tyPtr l₆) ∷ ‵ (fdies cellTy l₇) ∷ []
 
     abbrev At : ℕ → List (Item 𝓤)
     At k = AtBy (tableau k) k
@@ -190,34 +202,46 @@ module _ {M : Type 1} (𝓤 : URA M) (H : Heap 𝓤) (A : Atoms 𝓤) (W : Given
     Left = afterBlock 𝓤 H (afterSeq 𝓤 H (Wp 𝓤 H C Λ En mir.t-4 (atReturn 𝓤 H En Post)) (atReturn 𝓤 H En Post))
 
     -- a turn that adds a cell
-    more : (k : ℕ) (X : SProp 𝓤) → Good (tableau k) → k < n → (Good (tableau (suc k)) → ent 𝓤 (⋆ 𝓤 H A (At (suc k))) X) → ent 𝓤 (⋆ 𝓤 H A (At k)) (Wp 𝓤 H C Λ En mir.turn-1 (afterTurn 𝓤 H X Left))
+    more : (k : ℕ) (X : SProp 𝓤) → Good (tableau k) → k < n → (Good (tableau (suc k)) → ent 𝓤 (⋆ 𝓤 H A (At (suc k))) X)
+        → ent 𝓤 (⋆ 𝓤 H A (At k)) (Wp 𝓤 H C Λ En mir.turn-1 (afterTurn 𝓤 H X Left))
     unfolding afterTurn
     more k X ga l z =
         qed W (At k) ∵ exec ! C Λ En mir.turn-1 (anyQ (afterTurn 𝓤 H X Left)) $
-        assigns ! (of-opd ! (load ! (from ! (fld ! refl (stop !))) (look-in ! 8 (sub ! 1 refl (whole !))))) (from ! (stop !)) (init ! 4 refl (tt, record { fits = gn .0 })) $
+        assigns ! (of-opd ! (load ! (from ! (fld ! refl (stop !))) (look-in ! 8 (sub ! 1 refl (whole !))))) (from ! (stop !))
+        (init ! 4 refl (tt, record { fits = gn .0 })) $
         assigns ! (bin ! (load ! (from ! (stop !)) (look ! 3 refl)) (load ! (from ! (stop !)) (look ! 4 refl)) tt) (from ! (stop !)) (init ! 5 refl (tt, tt)) $
         rewrite ! 5 (λ (t : Bool). ‵ (fat fullShare tyBool l₅ 0 (vbool t))) (lt-ltb k n l) refl $
         stays ! (load ! (from ! (stop !)) (look ! 5 refl)) $
-        assigns ! (bin ! (load ! (from ! (stop !)) (look ! 3 refl)) (lit ! tt) (scaled-fits k n 32 l (gn .1))) (from ! (stop !)) (store ! 4 refl (tt, scaled-fits k n 32 l (gn .1))) $
-        assigns ! (bin ! (load ! (from ! (fld ! refl (stop !))) (look-in ! 8 (sub ! 0 refl (whole !)))) (load ! (from ! (stop !)) (look ! 4 refl)) tt) (from ! (stop !)) (init ! 6 refl (tt, tt)) $
+        assigns ! (bin ! (load ! (from ! (stop !)) (look ! 3 refl)) (lit ! tt) (scaled-fits k n 32 l (gn .1))) (from ! (stop !))
+        (store ! 4 refl (tt, scaled-fits k n 32 l (gn .1))) $
+        assigns ! (bin ! (load ! (from ! (fld ! refl (stop !))) (look-in ! 8 (sub ! 0 refl (whole !)))) (load ! (from ! (stop !)) (look ! 4 refl)) tt)
+        (from ! (stop !)) (init ! 6 refl (tt, tt)) $
         rewrite ! 6 (λ (p : ℕ). ‵ (fat fullShare tyPtr l₆ 0 (vptr b p))) (sym (place-is 32 o k)) refl $
-        looks-slice ! tt T.the-row (Is T.the-row) (shows 𝓤 H A T.the-row) cellVals (LL.tells T.the-type T′.the-laws) (LL.copy T.the-type T′.the-copy 𝓤 H A W) ys b o (λ q′.
+        looks-slice ! tt T.the-row (Is T.the-row) (shows 𝓤 H A T.the-row) cellVals (LL.tells T.the-type T′.the-laws) (LL.copy T.the-type T′.the-copy 𝓤 H A W)
+        ys b o (λ q′.
         elem-out ! T.the-row (Is T.the-row) (shows 𝓤 H A T.the-row) cellVals (LL.tells T.the-type T′.the-laws) q′ ys k noCell b o l (λ g.
         -- [cells[k]; what it owns; the others; what shuts; the fractured borrow; _2; _3; _4; _5; _6; _7; _1; …]
-        assigns ! (of-opd ! (load ! (from ! (hop ! (look ! 9 refl) (stop !))) (look-raw ! 0 refl))) (from ! (stop !)) (init ! 10 refl (LL.lawful T.the-type T′.the-laws 𝓤 H A W .typed (cell k) (cellVals (cell k)) g .0)) $
+        assigns ! (of-opd ! (load ! (from ! (hop ! (look ! 9 refl) (stop !))) (look-raw ! 0 refl))) (from ! (stop !))
+        (init ! 10 refl (LL.lawful T.the-type T′.the-laws 𝓤 H A W .typed (cell k) (cellVals (cell k)) g .0)) $
         elem-back ! T.the-row q′ ys k noCell (cellVals (cell k)) b o l $ shuts-slice ! tt T.the-row q′ ys b o $ move ! (1 ∷ 0 ∷ []) $
         -- the call
-        owned ! T.the-row (Is T.the-row) (LL.makes T.the-type T′.the-plain 𝓤 H A) (cell k) _ g $ owned ! S.the-row (Is S.the-row) (LL.makes S.the-type S′.the-plain 𝓤 H A) (tableau k) _ ga $
+        owned ! T.the-row (Is T.the-row) (LL.makes T.the-type T′.the-plain 𝓤 H A) (cell k) _ g
+        $ owned ! S.the-row (Is S.the-row) (LL.makes S.the-type S′.the-plain 𝓤 H A) (tableau k) _ ga $
         use2 W (raw (AddCell 𝓤 H A mem run .pre (to (tableau k) (cell k)))) (goes (tableau k) (cell k)) $
-        calls-at ! (fmOf 𝓤 H (W .laws) 𝓣) (AddCell 𝓤 H A mem run) known (to (tableau k) (cell k)) (and-then ! (load ! (from ! (stop !)) (look ! 3 refl)) (and-then ! (load ! (from ! (stop !)) (look ! 8 refl)) (no-more !))) (λ v.
-        use1 W (later (some (λ (r : Tableau). (‵ ftrue ⊛ ‵ (S.the-row .own r (v ∷ []))) ⊛ raw (ensured 𝓤 H A add-cell.ended (add-cell.clauses 𝓤 H A mem run) tt (tableau k, (cell k, tt)) tt r)))) (id⊢ 𝓤 _) $ await ! tt $ pick ! (λ r.
-        split ! $ move ! (1 ∷ []) $ use1 W (raw (fact 𝓤 (r ≡ addCell (tableau k) (cell k)))) (said 𝓤 H A mem run (tableau k) (cell k) r) $ heard ! (r ≡ addCell (tableau k) (cell k)) (λ e. split ! $ drop ! $
+        calls-at ! (fmOf 𝓤 H (W .laws) 𝓣) (AddCell 𝓤 H A mem run) known (to (tableau k) (cell k))
+        (and-then ! (load ! (from ! (stop !)) (look ! 3 refl)) (and-then ! (load ! (from ! (stop !)) (look ! 8 refl)) (no-more !))) (λ v.
+        use1 W (later (some (λ (r : Tableau). (‵ ftrue ⊛ ‵ (S.the-row .own r (v ∷ [])))
+        ⊛ raw (ensured 𝓤 H A add-cell.ended (add-cell.clauses 𝓤 H A mem run) tt (tableau k, (cell k, tt)) tt r)))) (id⊢ 𝓤 _) $ await ! tt $ pick ! (λ r.
+        split ! $ move ! (1 ∷ []) $ use1 W (raw (fact 𝓤 (r ≡ addCell (tableau k) (cell k)))) (said 𝓤 H A mem run (tableau k) (cell k) r)
+        $ heard ! (r ≡ addCell (tableau k) (cell k)) (λ e. split ! $ drop ! $
         peeks ! S.the-row (Is S.the-row) (shows 𝓤 H A S.the-row) r (v ∷ []) (λ is.
         land ! (from ! (stop !)) (store ! 3 refl (LL.lawful S.the-type S′.the-laws 𝓤 H A W .typed r _ is .0)) $ drop ! $
-        assigns-last ! (bin ! (load ! (from ! (stop !)) (look ! 3 refl)) (lit ! tt) (record { fits = one-fits })) (from ! (stop !)) (store ! 3 refl (tt, record { fits = one-fits })) $
+        assigns-last ! (bin ! (load ! (from ! (stop !)) (look ! 3 refl)) (lit ! tt) (record { fits = one-fits })) (from ! (stop !))
+        (store ! 3 refl (tt, record { fits = one-fits })) $
         forget ! 4 refl $ forget ! 5 refl $ forget ! 6 refl $ forget ! 7 refl $
         rewrite ! 3 (λ (j : ℕ). ‵ (fat fullShare word l₃ 0 (vint w64 j))) (add-one k) refl $
-        rewrite ! 2 (λ (w : Val). ‵ (fat fullShare tableauTy l₂ 0 w)) (ap only (LL.tells S.the-type S′.the-laws r (v ∷ []) is) ∙ ap tableauVal (e ∙ sym (added-one ys k))) refl $
+        rewrite ! 2 (λ (w : Val). ‵ (fat fullShare tableauTy l₂ 0 w)) (ap only (LL.tells S.the-type S′.the-laws r (v ∷ []) is)
+        ∙ ap tableauVal (e ∙ sym (added-one ys k))) refl $
         by ! (z (subst Good (e ∙ sym (added-one ys k)) (subst (Is S.the-row r) (LL.tells S.the-type S′.the-laws r (v ∷ []) is) is)))))))))
       where
         one-fits : k + 1 < 2 ^ 64
@@ -228,21 +252,25 @@ module _ {M : Type 1} (𝓤 : URA M) (H : Heap 𝓤) (A : Atoms 𝓤) (W : Given
     unfolding afterTurn
     ends X ga =
         qed W (At n) ∵ exec ! C Λ En mir.turn-1 (anyQ (afterTurn 𝓤 H X Left)) $
-        assigns ! (of-opd ! (load ! (from ! (fld ! refl (stop !))) (look-in ! 8 (sub ! 1 refl (whole !))))) (from ! (stop !)) (init ! 4 refl (tt, record { fits = gn .0 })) $
+        assigns ! (of-opd ! (load ! (from ! (fld ! refl (stop !))) (look-in ! 8 (sub ! 1 refl (whole !))))) (from ! (stop !))
+        (init ! 4 refl (tt, record { fits = gn .0 })) $
         assigns ! (bin ! (load ! (from ! (stop !)) (look ! 3 refl)) (load ! (from ! (stop !)) (look ! 4 refl)) tt) (from ! (stop !)) (init ! 5 refl (tt, tt)) $
         rewrite ! 5 (λ (t : Bool). ‵ (fat fullShare tyBool l₅ 0 (vbool t))) (le-ltb n n (omega arith)) refl $
         leaves-loop ! (load ! (from ! (stop !)) (look ! 5 refl)) $ exec ! C Λ En mir.t-4 (atRet En Post) $
-        assigns ! (of-opd ! (load ! (from ! (stop !)) (look ! 2 refl))) (from ! (stop !)) (init ! 9 refl (LL.lawful S.the-type S′.the-laws 𝓤 H A W .typed (tableau n) _ ga .0)) $
+        assigns ! (of-opd ! (load ! (from ! (stop !)) (look ! 2 refl))) (from ! (stop !))
+        (init ! 9 refl (LL.lawful S.the-type S′.the-laws 𝓤 H A W .typed (tableau n) _ ga .0)) $
         returns ! (look ! 9 refl) $ forget ! 2 refl $ forget ! 3 refl $ forget ! 4 refl $ forget ! 5 refl $ forget ! 8 refl $ forget ! 9 refl $
         move ! (9 ∷ 12 ∷ []) $ free1 ! $ move ! (8 ∷ 11 ∷ []) $ free1 ! $ move ! (2 ∷ 10 ∷ []) $ free1 ! $ move ! (2 ∷ 9 ∷ []) $ free1 ! $
         move ! (2 ∷ 8 ∷ []) $ free1 ! $ move ! (2 ∷ 7 ∷ []) $ free1 ! $ move ! (2 ∷ 6 ∷ []) $ free1 ! $ move ! (2 ∷ 5 ∷ []) $ free1 ! $ free0 ! $
         move ! (2 ∷ 0 ∷ []) $ fjoin ! $ move ! (2 ∷ 0 ∷ []) $ fjoin ! $ move ! (1 ∷ 0 ∷ []) $ by ! (exits (gn .0) ga)
 
     into : (t k : ℕ) → Facts t k → ent 𝓤 (⋆ 𝓤 H A (At k)) (Inv t)
-    into t k e = via 𝓤 (guard 𝓤 (Facts t k) (⋆ 𝓤 H A (At k))) (guardI 𝓤 (Facts t k) (⋆ 𝓤 H A (At k)) e) (exI 𝓤 (λ (j : ℕ). guard 𝓤 (Facts t j) (⋆ 𝓤 H A (At j))) k)
+    into t k e = via 𝓤 (guard 𝓤 (Facts t k) (⋆ 𝓤 H A (At k))) (guardI 𝓤 (Facts t k) (⋆ 𝓤 H A (At k)) e)
+        (exI 𝓤 (λ (j : ℕ). guard 𝓤 (Facts t j) (⋆ 𝓤 H A (At j))) k)
 
     turn-at : (t k : ℕ) → Facts t k → ent 𝓤 (⋆ 𝓤 H A (At k)) (Wp 𝓤 H C Λ En mir.turn-1 (afterTurn 𝓤 H (Below t) Left))
-    turn-at zero k f = subst (λ (j : ℕ). Good (tableau j) → ent 𝓤 (⋆ 𝓤 H A (At j)) (Wp 𝓤 H C Λ En mir.turn-1 (afterTurn 𝓤 H (Below zero) Left))) (omega arith) (ends (Below zero)) (f .1)
+    turn-at zero k f = subst (λ (j : ℕ). Good (tableau j) → ent 𝓤 (⋆ 𝓤 H A (At j)) (Wp 𝓤 H C Λ En mir.turn-1 (afterTurn 𝓤 H (Below zero) Left))) (omega arith)
+        (ends (Below zero)) (f .1)
     turn-at (suc t) k f =
         more k (Below (suc t)) (f .1) (omega arith) (λ ga.
         via 𝓤 (Inv t) (into t (suc k) (omega arith, ga))
@@ -253,10 +281,12 @@ module _ {M : Type 1} (𝓤 : URA M) (H : Heap 𝓤) (A : Atoms 𝓤) (W : Given
 
     loops : Good noTableau → ent 𝓤 (⋆ 𝓤 H A (AtBy noTableau 0)) (Wp 𝓤 H C Λ En (loop mir.turn-1) Left)
     loops good = subst (λ (a : Tableau). ent 𝓤 (⋆ 𝓤 H A (AtBy a 0)) (Wp 𝓤 H C Λ En (loop mir.turn-1) Left)) (added-none ys)
-        (via 𝓤 (Inv n) (into n 0 (omega arith, subst Good (sym (added-none ys)) good)) (loop-rule 𝓤 H (W .laws) 𝓣 _<_ (Nat·lt-wfRel .wf) En mir.turn-1 Left Inv turns n))
+        (via 𝓤 (Inv n) (into n 0 (omega arith, subst Good (sym (added-none ys)) good))
+        (loop-rule 𝓤 H (W .laws) 𝓣 _<_ (Nat·lt-wfRel .wf) En mir.turn-1 Left Inv turns n))
 
     abbrev Begun : List (Item 𝓤)
-    Begun = ‵ (froom cellTy l₇ 0) ∷ ‵ (fdies cellTy l₇) ∷ ‵ (froom tyPtr l₆ 0) ∷ ‵ (fdies tyPtr l₆) ∷ ‵ (froom tyBool l₅ 0) ∷ ‵ (fdies tyBool l₅) ∷ ‵ (froom word l₄ 0) ∷ ‵ (fdies word l₄)
+    Begun = ‵ (froom cellTy l₇ 0) ∷ ‵ (fdies cellTy l₇) ∷ ‵ (froom tyPtr l₆ 0) ∷ ‵ (fdies tyPtr l₆) ∷ ‵ (froom tyBool l₅ 0) ∷ ‵ (fdies tyBool l₅)
+        ∷ ‵ (froom word l₄ 0) ∷ ‵ (fdies word l₄)
         ∷ ‵ (fat fullShare word l₃ 0 (vint w64 0)) ∷ ‵ (fdies word l₃) ∷ ‵ (fat fullShare tableauTy l₂ 0 (tableauVal noTableau)) ∷ ‵ (fdies tableauTy l₂)
         ∷ ‵ (fat fullShare slice l₁ 0 (sliceVal (b, o) n)) ∷ ‵ (fdies slice l₁) ∷ ‵ (froom tableauTy l₀ 0) ∷ ‵ (fdies tableauTy l₀)
         ∷ (‵ (flft κ q) ⊛ ‵ ftrue) ∷ ‵ (owns (ShrSlice (named 0) κ T.the-row ∷ []) (lent, tt) at) ∷ []
@@ -271,12 +301,14 @@ module _ {M : Type 1} (𝓤 : URA M) (H : Heap 𝓤) (A : Atoms 𝓤) (W : Given
   walk : (𝓣 : Tables 𝓤 H) → Triple 𝓤 (𝓣 .C #empty-tableau) (Empty 𝓤 H A mem run) → Triple 𝓤 (𝓣 .C #add-cell) (AddCell 𝓤 H A mem run) → Room T.the-row n
       → ent 𝓤 (onEntry 𝓤 H A lent-tableau.signature (κ, tt) (q, tt) (lent, tt) at) (WpFn 𝓤 H (𝓣 .C) (𝓣 .Λ) code.function (sliceVal (b, o) n ∷ []) Post)
   walk 𝓣 known-empty known gn =
-      qed W ((‵ (flft κ q) ⊛ ‵ ftrue) ∷ ‵ (owns (ShrSlice (named 0) κ T.the-row ∷ []) (lent, tt) at) ∷ []) ∵ enter ! (𝓣 .C) (𝓣 .Λ) code.function (sliceVal (b, o) n ∷ []) _ $
+      qed W ((‵ (flft κ q) ⊛ ‵ ftrue) ∷ ‵ (owns (ShrSlice (named 0) κ T.the-row ∷ []) (lent, tt) at) ∷ []) ∵ enter ! (𝓣 .C) (𝓣 .Λ) code.function
+      (sliceVal (b, o) n ∷ []) _ $
       alloc1 ! (λ l₀. alloc1 ! (λ l₁. alloc1 ! (λ l₂. alloc1 ! (λ l₃. alloc1 ! (λ l₄. alloc1 ! (λ l₅. alloc1 ! (λ l₆. alloc1 ! (λ l₇. alloc0 ! $ params1 ! $
       pass1 ! (init ! 12 refl (tt, (tt, (record { fits = gn .0 }, tt)))) $ pass0 ! $ nothing ! $ nothing ! $
       use2 W (raw (Empty 𝓤 H A mem run .pre nought)) goes-nought $
       calls-at ! (fmOf 𝓤 H (W .laws) 𝓣) (Empty 𝓤 H A mem run) known-empty nought (no-more !) (λ v.
-      use1 W (later (some (λ (r : Tableau). (‵ ftrue ⊛ ‵ (S.the-row .own r (v ∷ []))) ⊛ raw (ensured 𝓤 H A empty.ended (empty.clauses 𝓤 H A mem run) tt tt tt r)))) (id⊢ 𝓤 _) $ await ! tt $ pick ! (λ r.
+      use1 W (later (some (λ (r : Tableau). (‵ ftrue ⊛ ‵ (S.the-row .own r (v ∷ [])))
+      ⊛ raw (ensured 𝓤 H A empty.ended (empty.clauses 𝓤 H A mem run) tt tt tt r)))) (id⊢ 𝓤 _) $ await ! tt $ pick ! (λ r.
       split ! $ move ! (1 ∷ []) $ use1 W (raw (fact 𝓤 (r ≡ noTableau))) (emptied 𝓤 H A mem run r) $ heard ! (r ≡ noTableau) (λ e. split ! $ drop ! $
       peeks ! S.the-row (Is S.the-row) (shows 𝓤 H A S.the-row) r (v ∷ []) (λ is.
       land ! (from ! (stop !)) (init ! 11 refl (LL.lawful S.the-type S′.the-laws 𝓤 H A W .typed r _ is .0)) $ drop ! $
@@ -306,5 +338,6 @@ lent-tableau-spec 𝓤 H 𝓜 𝓖 𝓡 =
     entered 𝓤 H (tripleOf 𝓤 H (𝓖 .A) lent-tableau.signature (lent-tableau.spec 𝓤 H (𝓖 .A) (𝓜 .mem) (𝓡 .run)))
     (tables 𝓤 H 𝓜 𝓡 code.env .C) (tables 𝓤 H 𝓜 𝓡 code.env .Λ) #lent-tableau code.function (code.unfolded 𝓤 H 𝓜 𝓡)
     (meets 𝓤 H (𝓖 .A) (givenOf 𝓤 H 𝓜 𝓖) (𝓜 .mem) (𝓡 .run) (tablesOf 𝓤 H 𝓜 (tables 𝓤 H 𝓜 𝓡 code.env))
-    (cited 𝓤 H (Empty 𝓤 H (𝓖 .A) (𝓜 .mem) (𝓡 .run)) 𝓜 𝓡 code.env #empty-tableau empty-def.routine code.calls-dealing·tableau·empty-tableau (empty-thm.met 𝓤 H 𝓜 𝓖 𝓡))
+    (cited 𝓤 H (Empty 𝓤 H (𝓖 .A) (𝓜 .mem) (𝓡 .run)) 𝓜 𝓡 code.env #empty-tableau empty-def.routine code.calls-dealing·tableau·empty-tableau
+    (empty-thm.met 𝓤 H 𝓜 𝓖 𝓡))
     (cited 𝓤 H (AddCell 𝓤 H (𝓖 .A) (𝓜 .mem) (𝓡 .run)) 𝓜 𝓡 code.env #add-cell add-cell-def.routine code.calls-cells·add-cell (add-cell-thm.met 𝓤 H 𝓜 𝓖 𝓡)))

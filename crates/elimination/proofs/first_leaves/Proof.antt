@@ -1,4 +1,5 @@
--- `elimination::first_leaves` meets its contract. The loop's invariant: the queue holds the leaves among the nodes passed; the measure is what is left of the nodes.
+-- `elimination::first_leaves` meets its contract. The loop's invariant: the queue holds the leaves among the nodes passed; the measure is what is left of the
+-- nodes.
 use mathlib.Core.Path.{_≡_}
 use Prim.Native.Nat.{_+_, _-_, _≤_, _<_}
 use native.Mathlib.Omega.{arith}
@@ -16,7 +17,13 @@ abbrev μ-loop : tie.MeasureT-loop
 μ-loop live leaf₀ m n tail₀ node₀ leaf tail node = m + n - node
 
 loop-holds : tie.Need-loop-holds Inv-loop μ-loop
-loop-holds c = (omega arith, omega (arith, c .pre .0 .rowsLow), omega (arith, c .pre .0 .rowsHigh, c .pre .0 .colsHigh), c .pre .1, queue-start (c .args .live .now) (c .args .leaf .now))
+loop-holds c = (
+  omega arith,
+  omega (arith, c .pre .0 .rowsLow),
+  omega (arith, c .pre .0 .rowsHigh, c .pre .0 .colsHigh),
+  c .pre .1,
+  queue-start (c .args .live .now) (c .args .leaf .now),
+)
 
 add-loop : tie.Need-add-loop Inv-loop μ-loop
 add-loop c = omega arith
@@ -61,7 +68,8 @@ loop-again : tie.Need-loop-again Inv-loop μ-loop
 loop-again c = (omega arith, omega arith, omega arith, simp length-set (c .before .before .before .loop .inv .3), again c)
 
 returns : tie.Need-returns Inv-loop μ-loop
-returns c = let e : c .before .loop .node ≡ c .before .before .args .m + c .before .before .args .n = omega arith in (c .before .loop .inv .3, rw e at (c .before .loop .inv .4))
+returns c = let e : c .before .loop .node ≡ c .before .before .args .m + c .before .before .args .n = omega arith in
+    (c .before .loop .inv .3, rw e at (c .before .loop .inv .4))
 
 pub first-leaves-spec : {M : Type 1} → statement M
 first-leaves-spec =

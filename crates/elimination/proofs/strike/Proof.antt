@@ -43,7 +43,8 @@ element-copy-out-node c = k-room c
 
 -- The node that waits is one of the m + n.
 node-room : (c : tie.In-loop Inv-loop μ-loop) → getD (c .before .loop .leaf) (c .before .loop .k) 0 < nodeRoom
-node-room c = let s = c .before .loop .inv in omega (arith, s .queue .nodes (c .before .loop .k) (c .loop-test .taken) .1, s .links .rowsHigh, s .links .colsHigh)
+node-room c = let s = c .before .loop .inv in
+    omega (arith, s .queue .nodes (c .before .loop .k) (c .loop-test .taken) .1, s .links .rowsHigh, s .links .colsHigh)
 
 mul-lanes : tie.Need-mul-lanes Inv-loop μ-loop
 mul-lanes c = omega (arith, node-room (c .before))
@@ -63,7 +64,8 @@ first-bit-requires c κs = omega arith
 chosen : (c : tie.After-first-bit Inv-loop μ-loop)
     → let i = c .before .before .before .before .loop in
     tied (i .live) (getD (i .leaf) (i .k) 0) (c .first-bit .result) ≡ true
-chosen c = let i = c .before .before .before .before .loop in eq-eqb (bit (getD (i .live) (getD (i .leaf) (i .k) 0) 0) (c .first-bit .result)) 1 (c .first-bit .ensures .1)
+chosen c = let i = c .before .before .before .before .loop in
+    eq-eqb (bit (getD (i .live) (getD (i .leaf) (i .k) 0) 0) (c .first-bit .result)) 1 (c .first-bit .ensures .1)
 
 other-end-requires : tie.Need-other-end-requires Inv-loop μ-loop
 other-end-requires c κs = (c .before .before .before .before .loop .inv .links .rowsHigh, c .first-bit .ensures .0)
@@ -73,7 +75,14 @@ end-in : (c : tie.After-other-end Inv-loop μ-loop) → c .other-end .result < n
 end-in c =
     let i = c .before .before .before .before .before .loop in
     let s = i .inv in
-    omega (arith, c .other-end .ensures, end-below (s .links) (getD (i .leaf) (i .k) 0) (c .before .first-bit .result) (s .queue .nodes (i .k) (c .before .before .before .before .loop-test .taken) .1) (chosen (c .before)), s .links .rowsHigh, s .links .colsHigh)
+    omega (
+      arith,
+      c .other-end .ensures,
+      end-below (s .links) (getD (i .leaf) (i .k) 0) (c .before .first-bit .result)
+          (s .queue .nodes (i .k) (c .before .before .before .before .loop-test .taken) .1) (chosen (c .before)),
+      s .links .rowsHigh,
+      s .links .colsHigh,
+    )
 
 mul-clear-bit : tie.Need-mul-clear-bit Inv-loop μ-loop
 mul-clear-bit c = omega (arith, end-in c)
@@ -87,7 +96,13 @@ own-bit-requires c κs = search needs
 clear-bit-requires : tie.Need-clear-bit-requires Inv-loop μ-loop
 clear-bit-requires c κs =
     let i = c .before .before .before .before .before .before .loop in
-    omega (arith, c .own-bit .ensures, own-le (c .before .before .before .before .before .before .before .before .before .before .args .m) (getD (i .leaf) (i .k) 0), node-room (c .before .before .before .before .before))
+    omega (
+      arith,
+      c .own-bit .ensures,
+      own-le (c .before .before .before .before .before .before .before .before .before .before .args .m)
+          (getD (i .leaf) (i .k) 0),
+      node-room (c .before .before .before .before .before),
+    )
 
 mul-other : tie.Need-mul-other Inv-loop μ-loop
 mul-other c = omega (arith, k-room (c .before .before .before .before .before .before))
@@ -96,8 +111,11 @@ element-write-other : tie.Need-element-write-other Inv-loop μ-loop
 element-write-other c = k-room (c .before .before .before .before .before .before)
 
 lane-to-requires : tie.Need-lane-to-requires Inv-loop μ-loop
-lane-to-requires c κs =
-    (c .before .before .before .before .before .before .before .loop .inv .links .rowsHigh, node-room (c .before .before .before .before .before .before), c .before .before .before .first-bit .ensures .0)
+lane-to-requires c κs = (
+  c .before .before .before .before .before .before .before .loop .inv .links .rowsHigh,
+  node-room (c .before .before .before .before .before .before),
+  c .before .before .before .first-bit .ensures .0,
+)
 
 mul-lane : tie.Need-mul-lane Inv-loop μ-loop
 mul-lane c = omega (arith, k-room (c .before .before .before .before .before .before .before))
@@ -131,11 +149,19 @@ next : (c : tie.After-joins-queue Inv-loop μ-loop)
     → let a = c .before .before .before .before .before .before .before .before .before .before .before .before .before .args in
     let i = c .before .before .before .before .before .before .before .before .before .loop in
     let end = c .before .before .before .before .other-end .result in
-    State (a .m) (a .n) (a .adj .now) (set (set (i .live) (getD (i .leaf) (i .k) 0) 0) end (c .before .before .clear-bit .result)) (set (i .leaf) (i .tail) end) (set (i .other) (i .k) end) (set (i .lane) (i .k) (c .before .lane-to .result)) (i .k + 1) (i .tail + c .joins-queue .result)
+    State (a .m) (a .n) (a .adj .now) (set (set (i .live) (getD (i .leaf) (i .k) 0) 0) end (c .before .before .clear-bit .result)) (set (i .leaf) (i .tail)
+    end) (set (i .other) (i .k) end) (set (i .lane) (i .k) (c .before .lane-to .result)) (i .k + 1) (i .tail + c .joins-queue .result)
 next c =
     let i = c .before .before .before .before .before .before .before .before .before .loop in
-    rw (c .joins-queue .ensures, c .before .before .clear-bit .ensures, c .before .lane-to .ensures, c .before .before .before .own-bit .ensures, c .before .before .before .before .other-end .ensures)
-    (state-next (i .inv) (c .before .before .before .before .before .before .before .before .loop-test .taken) (c .before .before .before .before .before .first-bit .result) (chosen (c .before .before .before .before .before)))
+    rw (
+      c .joins-queue .ensures,
+      c .before .before .clear-bit .ensures,
+      c .before .lane-to .ensures,
+      c .before .before .before .own-bit .ensures,
+      c .before .before .before .before .other-end .ensures,
+    )
+    (state-next (i .inv) (c .before .before .before .before .before .before .before .before .loop-test .taken)
+    (c .before .before .before .before .before .first-bit .result) (chosen (c .before .before .before .before .before)))
 
 add-tail : tie.Need-add-tail Inv-loop μ-loop
 add-tail c = let s = next c in omega (arith, room (omega (arith, s .links .rowsLow)) (s .queue), s .links .rowsHigh, s .links .colsHigh)

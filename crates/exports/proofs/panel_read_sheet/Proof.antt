@@ -30,8 +30,13 @@ same-length-3 c = search needs
 returns : tie.Need-returns
 returns c =
     let t = c .before .before .before .before .before .before .before .before .before .before .before .before .before .before .before .before .before in
-    let e = c .before .before .before .before .before .before .before .before .before .read-sheet .ensures in
-    (ap readAs (sym (c .before .answer .given .1) ∙ e .0) ∙ read-is (t .args .text .now) (length (t .args .supply .now)) (length (t .args .demand .now)) (length (t .args .cost .now)), e .1, e .2, e .3)
+    let e = c .before .before .before .before .before .before .before .before .before .read-sheet .ensures in (
+      ap readAs (sym (c .before .answer .given .1) ∙ e .0)
+          ∙ read-is (t .args .text .now) (length (t .args .supply .now)) (length (t .args .demand .now)) (length (t .args .cost .now)),
+      e .1,
+      e .2,
+      e .3,
+    )
 
 same-length-4 : tie.Need-same-length-4
 same-length-4 c = search needs
@@ -45,8 +50,13 @@ same-length-6 c = search needs
 returns-2 : tie.Need-returns-2
 returns-2 c =
     let t = c .before .before .before .before .before .before .before .before .before .before .before .before .before .before .before .before .before in
-    let e = c .before .before .before .before .before .before .before .before .before .read-sheet .ensures in
-    (ap readAs (sym (c .before .answer2 .given .1) ∙ e .0) ∙ read-is (t .args .text .now) (length (t .args .supply .now)) (length (t .args .demand .now)) (length (t .args .cost .now)), e .1, e .2, e .3)
+    let e = c .before .before .before .before .before .before .before .before .before .read-sheet .ensures in (
+      ap readAs (sym (c .before .answer2 .given .1) ∙ e .0)
+          ∙ read-is (t .args .text .now) (length (t .args .supply .now)) (length (t .args .demand .now)) (length (t .args .cost .now)),
+      e .1,
+      e .2,
+      e .3,
+    )
 
 same-length-7 : tie.Need-same-length-7
 same-length-7 c = search needs
@@ -60,8 +70,13 @@ same-length-9 c = search needs
 returns-3 : tie.Need-returns-3
 returns-3 c =
     let t = c .before .before .before .before .before .before .before .before .before .before .before .before .before .before .before .before .before in
-    let e = c .before .before .before .before .before .before .before .before .before .read-sheet .ensures in
-    (ap readAs (sym (c .before .answer3 .given .1) ∙ e .0) ∙ read-is (t .args .text .now) (length (t .args .supply .now)) (length (t .args .demand .now)) (length (t .args .cost .now)), e .1, e .2, e .3)
+    let e = c .before .before .before .before .before .before .before .before .before .read-sheet .ensures in (
+      ap readAs (sym (c .before .answer3 .given .1) ∙ e .0)
+          ∙ read-is (t .args .text .now) (length (t .args .supply .now)) (length (t .args .demand .now)) (length (t .args .cost .now)),
+      e .1,
+      e .2,
+      e .3,
+    )
 
 pub panel-read-sheet-spec : {M : Type 1} → statement M
 panel-read-sheet-spec =

@@ -33,14 +33,14 @@ use denote.Triple.Spec.{Meets, tripleOf}
 use denote.Triple.Table.{entered, cited}
 use denote.Triple.Walked.{says, Stays, stay-none-slice, walkOf, goes-none-slice, Walks, ends-at, walked, walk-meets}
 use denote.Exit.{yes}
+use Rattle.transport.specs.Sheet.{sheetOf}
+use Rattle.transport.specs.Tableau.{lentTableau}
 use Rattle.transport.specs.declared.Cell.{Cell}
 use Rattle.transport.specs.declared.Tableau.{Tableau}
 use Rattle.transport.specs.Calls.{roundCall}
 use Rattle.transport.proofs.Cell as T
 use Rattle.transport.proofs.Tableau as S
 use Rattle.transport.proofs.Tableau.Laws as S′
-use Rattle.sheet.specs.Check.{sheetOf}
-use Rattle.cells.specs.Lent.{lentTableau}
 use Rattle.cells.proofs.lent_tableau as lent
 use Rattle.cells.proofs.lent_tableau.Symbol as lent-def
 use Rattle.cells.proofs.lent_tableau.Symbol.{name as #lent-tableau}
@@ -94,20 +94,32 @@ module _ {M : Type 1} (𝓤 : URA M) (H : Heap 𝓤) (A : Atoms 𝓤) (W : Given
   Toks = ‵ (flft κ₀ q₀) ⊛ (‵ (flft κ₁ q₁) ⊛ (‵ (flft κ₂ q₂) ⊛ Tok 𝓤 κ₃ q₃))
 
   abbrev bound : walkOf 𝓤 H A panel-round.ended stayed (panel-round.clauses 𝓤 H A mem run) .Ghost
-  bound =
-      (((κ₀, (κ₁, (κ₂, (κ₃, tt)))), (q₀, (q₁, (q₂, (q₃, tt)))), tt, (x₀, (x₁, (x₂, (x₃, tt)))), (listVal x₀ ∷ [], (listVal x₁ ∷ [], (listVal x₂ ∷ [], (cellsVal x₃ ∷ [], tt))))), tt)
+  bound = (
+    (
+      (κ₀, (κ₁, (κ₂, (κ₃, tt)))),
+      (q₀, (q₁, (q₂, (q₃, tt)))),
+      tt,
+      (x₀, (x₁, (x₂, (x₃, tt)))),
+      (listVal x₀ ∷ [], (listVal x₁ ∷ [], (listVal x₂ ∷ [], (cellsVal x₃ ∷ [], tt)))),
+    ),
+    tt,
+  )
 
   abbrev Post : Val → SProp 𝓤
   Post = walkOf 𝓤 H A panel-round.ended stayed (panel-round.clauses 𝓤 H A mem run) .post bound
 
   -- what is left at the exit, where the answer is r
   abbrev Last : RoundOut → Val → List (Item 𝓤)
-  Last r v = ‵ (R.the-row .own r (v ∷ [])) ∷ SheetToks ∷ ‵ (OwnList 2 κ₂ x₂) ∷ ‵ (OwnList 1 κ₁ x₁) ∷ ‵ (OwnList 0 κ₀ x₀) ∷ Tok 𝓤 κ₃ q₃ ∷ ‵ (OwnCells 3 κ₃ x₃) ∷ []
+  Last r v = ‵ (R.the-row .own r (v ∷ [])) ∷ SheetToks ∷ ‵ (OwnList 2 κ₂ x₂) ∷ ‵ (OwnList 1 κ₁ x₁) ∷ ‵ (OwnList 0 κ₀ x₀) ∷ Tok 𝓤 κ₃ q₃ ∷ ‵ (OwnCells 3 κ₃ x₃)
+      ∷ []
 
   exits : (r : RoundOut) (v : Val) → r ≡ out (lentTableau (x₃ .now)) → ent 𝓤 (⋆ 𝓤 H A (Last r v)) (Post v)
   exits r v e =
       qed W (Last r v) ∵
-      suffices ! _ (ends-at 𝓤 H A panel-round.ended stayed (panel-round.clauses 𝓤 H A mem run) W bound v r (tt, (tt, (tt, (tt, tt)))) (tt, (tt, (tt, (tt, tt))))) $ says ! e $
+      suffices ! _ (ends-at 𝓤 H A panel-round.ended stayed (panel-round.clauses 𝓤 H A mem run) W bound v r (tt, (tt, (tt, (tt, tt)))) (
+        tt,
+        (tt, (tt, (tt, tt))),
+      )) $ says ! e $
       -- the tokens
       move ! (1 ∷ []) $ split ! $ move ! (1 ∷ []) $ split ! $ move ! (1 ∷ []) $ split ! $
       move ! (0 ∷ 8 ∷ []) $ join ! $ move ! (2 ∷ 0 ∷ []) $ join ! $ move ! (2 ∷ 0 ∷ []) $ join ! $ frame ! $
@@ -116,25 +128,45 @@ module _ {M : Type 1} (𝓤 : URA M) (H : Heap 𝓤) (A : Atoms 𝓤) (W : Given
 
   -- what `round_from` is passed
   abbrev to-from : Tableau → Val → From 𝓤 H A mem run .Ghost
-  to-from t u = (((κ₀, (κ₁, (κ₂, tt))), (q₀, (q₁, (q₂, tt))), tt, (x₀, (x₁, (x₂, (t, tt)))), (listVal x₀ ∷ [], (listVal x₁ ∷ [], (listVal x₂ ∷ [], (u ∷ [], tt))))), tt)
+  to-from t u = (
+    (
+      (κ₀, (κ₁, (κ₂, tt))),
+      (q₀, (q₁, (q₂, tt))),
+      tt,
+      (x₀, (x₁, (x₂, (t, tt)))),
+      (listVal x₀ ∷ [], (listVal x₁ ∷ [], (listVal x₂ ∷ [], (u ∷ [], tt)))),
+    ),
+    tt,
+  )
 
   goes-from : (t : Tableau) (u : Val)
-      → ent 𝓤 (onEntry 𝓤 H A round-from.signature (κ₀, (κ₁, (κ₂, tt))) (q₀, (q₁, (q₂, tt))) (x₀, (x₁, (x₂, (t, tt)))) (listVal x₀ ∷ [], (listVal x₁ ∷ [], (listVal x₂ ∷ [], (u ∷ [], tt)))))
+      → ent 𝓤 (onEntry 𝓤 H A round-from.signature (κ₀, (κ₁, (κ₂, tt))) (q₀, (q₁, (q₂, tt))) (x₀, (x₁, (x₂, (t, tt)))) (
+        listVal x₀ ∷ [],
+        (listVal x₁ ∷ [], (listVal x₂ ∷ [], (u ∷ [], tt))),
+      ))
       (From 𝓤 H A mem run .pre (to-from t u))
   goes-from t u =
       qed W (SheetToks
-      ∷ ‵ (owns (ShrSlice (named 0) κ₀ u64 ∷ ShrSlice (named 1) κ₁ u64 ∷ ShrSlice (named 2) κ₂ u64 ∷ S.the-row ∷ []) (x₀, (x₁, (x₂, (t, tt)))) (listVal x₀ ∷ [], (listVal x₁ ∷ [], (listVal x₂ ∷ [], (u ∷ [], tt)))))
+      ∷ ‵ (owns (ShrSlice (named 0) κ₀ u64 ∷ ShrSlice (named 1) κ₁ u64 ∷ ShrSlice (named 2) κ₂ u64 ∷ S.the-row ∷ []) (x₀, (x₁, (x₂, (t, tt)))) (
+        listVal x₀
+            ∷ [],
+        (listVal x₁ ∷ [], (listVal x₂ ∷ [], (u ∷ [], tt))),
+      ))
       ∷ []) ∵
       join ! $ frame ! $ done !
 
-  module _ (C : Calls 𝓤 H) (Λ : Loops 𝓤 H) (fm : FmC 𝓤 H (W .laws) C) (known-lent : Triple 𝓤 (C #lent-tableau) (Lent 𝓤 H A mem run)) (known-from : Triple 𝓤 (C #round-from) (From 𝓤 H A mem run)) where
+  module _ (C : Calls 𝓤 H) (Λ : Loops 𝓤 H) (fm : FmC 𝓤 H (W .laws) C) (known-lent : Triple 𝓤 (C #lent-tableau) (Lent 𝓤 H A mem run))
+      (known-from : Triple 𝓤 (C #round-from) (From 𝓤 H A mem run)) where
     walk : Room u64 (length (x₀ .now)) → Room u64 (length (x₁ .now)) → Room u64 (length (x₂ .now)) → Room T.the-row (length (x₃ .now))
         → ent 𝓤 (onEntry 𝓤 H A panel-round.signature (κ₀, (κ₁, (κ₂, (κ₃, tt)))) (q₀, (q₁, (q₂, (q₃, tt)))) (x₀, (x₁, (x₂, (x₃, tt))))
         (listVal x₀ ∷ [], (listVal x₁ ∷ [], (listVal x₂ ∷ [], (cellsVal x₃ ∷ [], tt)))))
         (WpFn 𝓤 H C Λ code.function (listVal x₀ ∷ listVal x₁ ∷ listVal x₂ ∷ cellsVal x₃ ∷ []) Post)
     walk g₀ g₁ g₂ g₃ =
         qed W (Toks
-        ∷ ‵ (owns (ShrSlice (named 0) κ₀ u64 ∷ ShrSlice (named 1) κ₁ u64 ∷ ShrSlice (named 2) κ₂ u64 ∷ ShrSlice (named 3) κ₃ T.the-row ∷ []) (x₀, (x₁, (x₂, (x₃, tt))))
+        ∷ ‵ (owns (ShrSlice (named 0) κ₀ u64 ∷ ShrSlice (named 1) κ₁ u64 ∷ ShrSlice (named 2) κ₂ u64 ∷ ShrSlice (named 3) κ₃ T.the-row ∷ []) (
+          x₀,
+          (x₁, (x₂, (x₃, tt))),
+        )
         (listVal x₀ ∷ [], (listVal x₁ ∷ [], (listVal x₂ ∷ [], (cellsVal x₃ ∷ [], tt)))))
         ∷ []) ∵
         enter ! C Λ code.function (listVal x₀ ∷ listVal x₁ ∷ listVal x₂ ∷ cellsVal x₃ ∷ []) _ $
@@ -144,13 +176,18 @@ module _ {M : Type 1} (𝓤 : URA M) (H : Heap 𝓤) (A : Atoms 𝓤) (W : Given
         -- [_5; …; _0; …; the tokens; what the lists own]: both are taken apart
         move ! (13 ∷ []) $ fsplit ! $ move ! (1 ∷ []) $ fsplit ! $ move ! (1 ∷ []) $ fsplit ! $ move ! (1 ∷ []) $ fsplit ! $
         move ! (17 ∷ []) $ split ! $ move ! (1 ∷ []) $ split ! $ move ! (1 ∷ []) $ split ! $ move ! (1 ∷ []) $ split ! $
-        -- [the cells' token; true; three tokens, from the last; what the cells own; true; what three lists own, from the last; _5; …]: the cells are passed, and kept
-        move ! (5 ∷ []) $ use1 W (‵ (OwnCells 3 κ₃ x₃) ⊛ ‵ (OwnCells 3 κ₃ x₃)) (shr-slice-copy 𝓤 H A W (named 3) κ₃ T.the-row .twice x₃ (cellsVal x₃ ∷ [])) $ split ! $
+        -- [the cells' token; true; three tokens, from the last; what the cells own; true; what three lists own, from the last; _5; …]: the cells are passed,
+        -- and kept
+        move ! (5 ∷ []) $ use1 W (‵ (OwnCells 3 κ₃ x₃) ⊛ ‵ (OwnCells 3 κ₃ x₃)) (shr-slice-copy 𝓤 H A W (named 3) κ₃ T.the-row .twice x₃ (cellsVal x₃ ∷ []))
+        $ split ! $
         move ! (0 ∷ 7 ∷ []) $ fjoin ! $ move ! (2 ∷ 3 ∷ []) $ join ! $
         use2 W (raw (Lent 𝓤 H A mem run .pre (to-lent 𝓤 H A W mem run κ₃ q₃ x₃))) (goes-lent 𝓤 H A W mem run κ₃ q₃ x₃) $
-        calls-at ! fm (Lent 𝓤 H A mem run) known-lent (to-lent 𝓤 H A W mem run κ₃ q₃ x₃) (and-then ! (load ! (from ! (stop !)) (look ! 10 refl)) (no-more !)) (λ u.
-        use1 W (later (some (λ (t : Tableau). (Tok 𝓤 κ₃ q₃ ⊛ ‵ (S.the-row .own t (u ∷ []))) ⊛ raw (ensured 𝓤 H A lent.ended (lent.clauses 𝓤 H A mem run) (κ₃, tt) (x₃, tt) tt t)))) (id⊢ 𝓤 _) $ await ! tt $ pick ! (λ t.
-        split ! $ move ! (1 ∷ []) $ use1 W (raw (fact 𝓤 (t ≡ lentTableau (x₃ .now)))) (lent-is 𝓤 H A mem run κ₃ x₃ t) $ heard ! (t ≡ lentTableau (x₃ .now)) (λ e. split ! $ move ! (1 ∷ []) $
+        calls-at ! fm (Lent 𝓤 H A mem run) known-lent (to-lent 𝓤 H A W mem run κ₃ q₃ x₃) (and-then ! (load ! (from ! (stop !)) (look ! 10 refl)) (no-more !))
+        (λ u.
+        use1 W (later (some (λ (t : Tableau). (Tok 𝓤 κ₃ q₃ ⊛ ‵ (S.the-row .own t (u ∷ [])))
+        ⊛ raw (ensured 𝓤 H A lent.ended (lent.clauses 𝓤 H A mem run) (κ₃, tt) (x₃, tt) tt t)))) (id⊢ 𝓤 _) $ await ! tt $ pick ! (λ t.
+        split ! $ move ! (1 ∷ []) $ use1 W (raw (fact 𝓤 (t ≡ lentTableau (x₃ .now)))) (lent-is 𝓤 H A mem run κ₃ x₃ t)
+        $ heard ! (t ≡ lentTableau (x₃ .now)) (λ e. split ! $ move ! (1 ∷ []) $
         peeks ! S.the-row (Is S.the-row) (shows 𝓤 H A S.the-row) t (u ∷ []) (λ is.
         land ! (from ! (stop !)) (init ! 9 refl (LL.lawful S.the-type S′.the-laws 𝓤 H A W .typed t _ is .0)) $
         -- [the tableau; the cells' token; what the cells own; three tokens and what three lists own, from the last; _5; …]: these are passed, and kept
@@ -161,25 +198,36 @@ module _ {M : Type 1} (𝓤 : URA M) (H : Heap 𝓤) (A : Atoms 𝓤) (W : Given
         nothing ! $ move ! (7 ∷ 0 ∷ []) $ join ! $ move ! (7 ∷ 0 ∷ []) $ join ! $ move ! (7 ∷ 0 ∷ []) $ join ! $
         use2 W (raw (From 𝓤 H A mem run .pre (to-from t u))) (goes-from t u) $
         calls-at ! fm (From 𝓤 H A mem run) known-from (to-from t u)
-        (and-then ! (load ! (from ! (stop !)) (look ! 14 refl)) (and-then ! (load ! (from ! (stop !)) (look ! 12 refl)) (and-then ! (load ! (from ! (stop !)) (look ! 10 refl)) (and-then ! (load ! (from ! (stop !)) (look ! 6 refl)) (no-more !))))) (λ v.
-        use1 W (later (some (λ (r : RoundOut). (SheetToks ⊛ ‵ (R.the-row .own r (v ∷ []))) ⊛ raw (ensured 𝓤 H A round-from.ended (round-from.clauses 𝓤 H A mem run) (κ₀, (κ₁, (κ₂, tt))) (x₀, (x₁, (x₂, (t, tt)))) tt r)))) (id⊢ 𝓤 _) $ await ! tt $ pick ! (λ r.
+        (and-then ! (load ! (from ! (stop !)) (look ! 14 refl)) (and-then ! (load ! (from ! (stop !)) (look ! 12 refl))
+        (and-then ! (load ! (from ! (stop !)) (look ! 10 refl)) (and-then ! (load ! (from ! (stop !)) (look ! 6 refl)) (no-more !))))) (λ v.
+        use1 W (later (some (λ (r : RoundOut). (SheetToks ⊛ ‵ (R.the-row .own r (v ∷ []))) ⊛ raw (ensured 𝓤 H A round-from.ended
+        (round-from.clauses 𝓤 H A mem run) (κ₀, (κ₁, (κ₂, tt))) (x₀, (x₁, (x₂, (t, tt)))) tt r)))) (id⊢ 𝓤 _) $ await ! tt $ pick ! (λ r.
         split ! $ move ! (1 ∷ []) $ use1 W (raw (fact 𝓤 (r ≡ out t))) (answered t r) $ heard ! (r ≡ out t) (λ f. split ! $ move ! (1 ∷ []) $
         peeks ! R.the-row (Is R.the-row) (shows 𝓤 H A R.the-row) r (v ∷ []) (λ is′.
         land ! (from ! (stop !)) (init ! 17 refl (LL.lawful R.the-type R′.the-laws 𝓤 H A W .typed r _ is′ .0)) $
         -- [what is left at the exit; _5; …; _0; …]
         returns ! (look ! 17 refl) $ forget ! 7 refl $ forget ! 9 refl $ forget ! 11 refl $ forget ! 13 refl $ forget ! 15 refl $ forget ! 17 refl $
-        move ! (17 ∷ 18 ∷ []) $ free1 ! $ move ! (15 ∷ 16 ∷ []) $ free1 ! $ move ! (13 ∷ 14 ∷ []) $ free1 ! $ move ! (11 ∷ 12 ∷ []) $ free1 ! $ move ! (9 ∷ 10 ∷ []) $ free1 ! $ move ! (7 ∷ 8 ∷ []) $ free1 ! $ free0 ! $
+        move ! (17 ∷ 18 ∷ []) $ free1 ! $ move ! (15 ∷ 16 ∷ []) $ free1 ! $ move ! (13 ∷ 14 ∷ []) $ free1 ! $ move ! (11 ∷ 12 ∷ [])
+        $ free1 ! $ move ! (9 ∷ 10 ∷ []) $ free1 ! $ move ! (7 ∷ 8 ∷ []) $ free1 ! $ free0 ! $
         by ! (exits r v (f ∙ ap out e))))))))))))))))
 
 module _ {M : Type 1} (𝓤 : URA M) (H : Heap 𝓤) (A : Atoms 𝓤) (W : Given 𝓤 H A) (mem : Memory → SProp 𝓤) (run : Routine → Fun 𝓤) where
-  walks : (C : Calls 𝓤 H) (Λ : Loops 𝓤 H) → FmC 𝓤 H (W .laws) C → Triple 𝓤 (C #lent-tableau) (Lent 𝓤 H A mem run) → Triple 𝓤 (C #round-from) (From 𝓤 H A mem run)
+  walks : (C : Calls 𝓤 H) (Λ : Loops 𝓤 H) → FmC 𝓤 H (W .laws) C → Triple 𝓤 (C #lent-tableau) (Lent 𝓤 H A mem run)
+      → Triple 𝓤 (C #round-from) (From 𝓤 H A mem run)
       → Walks 𝓤 H A panel-round.ended stayed (WpFn 𝓤 H C Λ code.function) (panel-round.clauses 𝓤 H A mem run)
   walks C Λ fm k₁ k₂ =
       walked 𝓤 H A panel-round.ended stayed (panel-round.clauses 𝓤 H A mem run) (WpFn 𝓤 H C Λ code.function)
       (λ κs. (slice-vals, (slice-vals, (slice-vals, (slice-vals, tt)))))
-      (λ κs. (shr-slice-tells (named 0) (κs .0) u64, (shr-slice-tells (named 1) (κs .1 .0) u64, (shr-slice-tells (named 2) (κs .1 .1 .0) u64, (shr-slice-tells (named 3) (κs .1 .1 .1 .0) T.the-row, tt)))))
+      (λ κs. (
+        shr-slice-tells (named 0) (κs .0) u64,
+        (
+          shr-slice-tells (named 1) (κs .1 .0) u64,
+          (shr-slice-tells (named 2) (κs .1 .1 .0) u64, (shr-slice-tells (named 3) (κs .1 .1 .1 .0) T.the-row, tt)),
+        ),
+      ))
       (λ κs qs bounds a g are. via 𝓤 _ (fst∗ 𝓤 _ (emp 𝓤))
-      (walk 𝓤 H A W mem run (κs .0) (κs .1 .0) (κs .1 .1 .0) (κs .1 .1 .1 .0) (qs .0) (qs .1 .0) (qs .1 .1 .0) (qs .1 .1 .1 .0) (a .0) (a .1 .0) (a .1 .1 .0) (a .1 .1 .1 .0) C Λ fm k₁ k₂
+      (walk 𝓤 H A W mem run (κs .0) (κs .1 .0) (κs .1 .1 .0) (κs .1 .1 .1 .0) (qs .0) (qs .1 .0) (qs .1 .1 .0) (qs .1 .1 .1 .0) (a .0) (a .1 .0) (a .1 .1 .0)
+      (a .1 .1 .1 .0) C Λ fm k₁ k₂
       (are .0 .0 .1) (are .1 .0 .0 .1) (are .1 .1 .0 .0 .1) (are .1 .1 .1 .0 .0 .1)))
 
 meets : {M : Type 1} (𝓤 : URA M) (H : Heap 𝓤) (A : Atoms 𝓤) (W : Given 𝓤 H A) (mem : Memory → SProp 𝓤) (run : Routine → Fun 𝓤) (𝓣 : Tables 𝓤 H)
@@ -206,4 +254,5 @@ panel-round-spec 𝓤 H 𝓜 𝓖 𝓡 =
     (tables 𝓤 H 𝓜 𝓡 code.env .C) (tables 𝓤 H 𝓜 𝓡 code.env .Λ) #panel-round code.function (code.unfolded 𝓤 H 𝓜 𝓡)
     (meets 𝓤 H (𝓖 .A) (givenOf 𝓤 H 𝓜 𝓖) (𝓜 .mem) (𝓡 .run) (tablesOf 𝓤 H 𝓜 (tables 𝓤 H 𝓜 𝓡 code.env))
     (cited 𝓤 H (Lent 𝓤 H (𝓖 .A) (𝓜 .mem) (𝓡 .run)) 𝓜 𝓡 code.env #lent-tableau lent-def.routine code.calls-cells·lent-tableau (lent-thm.met 𝓤 H 𝓜 𝓖 𝓡))
-    (cited 𝓤 H (From 𝓤 H (𝓖 .A) (𝓜 .mem) (𝓡 .run)) 𝓜 𝓡 code.env #round-from round-from-def.routine code.calls-exports·round-from (round-from-thm.met 𝓤 H 𝓜 𝓖 𝓡)))
+    (cited 𝓤 H (From 𝓤 H (𝓖 .A) (𝓜 .mem) (𝓡 .run)) 𝓜 𝓡 code.env #round-from round-from-def.routine code.calls-exports·round-from
+    (round-from-thm.met 𝓤 H 𝓜 𝓖 𝓡)))

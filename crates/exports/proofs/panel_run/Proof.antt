@@ -14,7 +14,8 @@ use prog.Wp.{Heap, Calls, Loops, WpFn, Tables}
 use ghost.Atoms.{Atoms, sem}
 use contract.Monad.{Fun, fact}
 use contract.Running.{givenOf, tables, tablesOf}
-use types.Kit.{Given, Item, ‵, raw, _⊛_, ⋆, some, later, _$_, _∵_, !, qed, by, move, drop, use1, use2, split, join, pick, fsplit, fjoin, suffices, frame, await, done}
+use types.Kit.{Given, Item, ‵, raw, _⊛_, ⋆, some, later, _$_, _∵_, !, qed, by, move, drop, use1, use2, split, join, pick, fsplit, fjoin, suffices, frame, await}
+use types.Kit.{done}
 use types.Run.{look, init, forget, stop, from, load, and-then, no-more, land, returns, enter, alloc1, alloc0, params1, pass1, pass0, free1, free0}
 use sound.WpLaws.{FmC, fmOf, WpFn-mono}
 use denote.RattleType.{owns}
@@ -34,14 +35,14 @@ use denote.Triple.Spec.{Meets, tripleOf}
 use denote.Triple.Table.{entered, cited}
 use denote.Triple.Walked.{says, Stays, stay-none, stay-none-slice, walkOf, goes-none, goes-none-slice, Walks, ends-at, walked, walk-meets}
 use denote.Exit.{yes}
+use Rattle.transport.specs.Sheet.{sheetOf}
+use Rattle.transport.specs.Tableau.{lentTableau}
 use Rattle.transport.specs.declared.Cell.{Cell}
 use Rattle.transport.specs.declared.Tableau.{Tableau}
 use Rattle.transport.specs.Calls.{runCall}
 use Rattle.transport.proofs.Cell as T
 use Rattle.transport.proofs.Tableau as S
 use Rattle.transport.proofs.Tableau.Laws as S′
-use Rattle.sheet.specs.Check.{sheetOf}
-use Rattle.cells.specs.Lent.{lentTableau}
 use Rattle.cells.proofs.lent_tableau as lent
 use Rattle.cells.proofs.lent_tableau.Symbol as lent-def
 use Rattle.cells.proofs.lent_tableau.Symbol.{name as #lent-tableau}
@@ -95,20 +96,32 @@ module _ {M : Type 1} (𝓤 : URA M) (H : Heap 𝓤) (A : Atoms 𝓤) (W : Given
   Toks = ‵ (flft κ₀ q₀) ⊛ (‵ (flft κ₁ q₁) ⊛ (‵ (flft κ₂ q₂) ⊛ Tok 𝓤 κ₃ q₃))
 
   abbrev bound : walkOf 𝓤 H A panel-run.ended stayed (panel-run.clauses 𝓤 H A mem run) .Ghost
-  bound =
-      (((κ₀, (κ₁, (κ₂, (κ₃, tt)))), (q₀, (q₁, (q₂, (q₃, tt)))), tt, (x₀, (x₁, (x₂, (x₃, (k, tt))))), (listVal x₀ ∷ [], (listVal x₁ ∷ [], (listVal x₂ ∷ [], (cellsVal x₃ ∷ [], (vint w32 k ∷ [], tt)))))), tt)
+  bound = (
+    (
+      (κ₀, (κ₁, (κ₂, (κ₃, tt)))),
+      (q₀, (q₁, (q₂, (q₃, tt)))),
+      tt,
+      (x₀, (x₁, (x₂, (x₃, (k, tt))))),
+      (listVal x₀ ∷ [], (listVal x₁ ∷ [], (listVal x₂ ∷ [], (cellsVal x₃ ∷ [], (vint w32 k ∷ [], tt))))),
+    ),
+    tt,
+  )
 
   abbrev Post : Val → SProp 𝓤
   Post = walkOf 𝓤 H A panel-run.ended stayed (panel-run.clauses 𝓤 H A mem run) .post bound
 
   -- what is left at the exit, where the answer is r
   abbrev Last : RunOut → Val → List (Item 𝓤)
-  Last r v = ‵ (R.the-row .own r (v ∷ [])) ∷ SheetToks ∷ ‵ (OwnList 2 κ₂ x₂) ∷ ‵ (OwnList 1 κ₁ x₁) ∷ ‵ (OwnList 0 κ₀ x₀) ∷ Tok 𝓤 κ₃ q₃ ∷ ‵ (OwnCells 3 κ₃ x₃) ∷ []
+  Last r v = ‵ (R.the-row .own r (v ∷ [])) ∷ SheetToks ∷ ‵ (OwnList 2 κ₂ x₂) ∷ ‵ (OwnList 1 κ₁ x₁) ∷ ‵ (OwnList 0 κ₀ x₀) ∷ Tok 𝓤 κ₃ q₃ ∷ ‵ (OwnCells 3 κ₃ x₃)
+      ∷ []
 
   exits : (r : RunOut) (v : Val) → r ≡ out (lentTableau (x₃ .now)) → ent 𝓤 (⋆ 𝓤 H A (Last r v)) (Post v)
   exits r v e =
       qed W (Last r v) ∵
-      suffices ! _ (ends-at 𝓤 H A panel-run.ended stayed (panel-run.clauses 𝓤 H A mem run) W bound v r (tt, (tt, (tt, (tt, (tt, tt))))) (tt, (tt, (tt, (tt, (tt, tt)))))) $ says ! e $
+      suffices ! _ (ends-at 𝓤 H A panel-run.ended stayed (panel-run.clauses 𝓤 H A mem run) W bound v r (tt, (tt, (tt, (tt, (tt, tt))))) (
+        tt,
+        (tt, (tt, (tt, (tt, tt)))),
+      )) $ says ! e $
       -- the tokens
       move ! (1 ∷ []) $ split ! $ move ! (1 ∷ []) $ split ! $ move ! (1 ∷ []) $ split ! $
       move ! (0 ∷ 8 ∷ []) $ join ! $ move ! (2 ∷ 0 ∷ []) $ join ! $ move ! (2 ∷ 0 ∷ []) $ join ! $ frame ! $
@@ -118,60 +131,89 @@ module _ {M : Type 1} (𝓤 : URA M) (H : Heap 𝓤) (A : Atoms 𝓤) (W : Given
 
   -- what `run_from` is passed
   abbrev to-from : Tableau → Val → From 𝓤 H A mem run .Ghost
-  to-from t u = (((κ₀, (κ₁, (κ₂, tt))), (q₀, (q₁, (q₂, tt))), tt, (x₀, (x₁, (x₂, (t, (k, tt))))), (listVal x₀ ∷ [], (listVal x₁ ∷ [], (listVal x₂ ∷ [], (u ∷ [], (vint w32 k ∷ [], tt)))))), tt)
+  to-from t u = (
+    (
+      (κ₀, (κ₁, (κ₂, tt))),
+      (q₀, (q₁, (q₂, tt))),
+      tt,
+      (x₀, (x₁, (x₂, (t, (k, tt))))),
+      (listVal x₀ ∷ [], (listVal x₁ ∷ [], (listVal x₂ ∷ [], (u ∷ [], (vint w32 k ∷ [], tt))))),
+    ),
+    tt,
+  )
 
   goes-from : (t : Tableau) (u : Val)
-      → ent 𝓤 (onEntry 𝓤 H A run-from.signature (κ₀, (κ₁, (κ₂, tt))) (q₀, (q₁, (q₂, tt))) (x₀, (x₁, (x₂, (t, (k, tt))))) (listVal x₀ ∷ [], (listVal x₁ ∷ [], (listVal x₂ ∷ [], (u ∷ [], (vint w32 k ∷ [], tt))))))
+      → ent 𝓤 (onEntry 𝓤 H A run-from.signature (κ₀, (κ₁, (κ₂, tt))) (q₀, (q₁, (q₂, tt))) (x₀, (x₁, (x₂, (t, (k, tt))))) (
+        listVal x₀ ∷ [],
+        (listVal x₁ ∷ [], (listVal x₂ ∷ [], (u ∷ [], (vint w32 k ∷ [], tt)))),
+      ))
       (From 𝓤 H A mem run .pre (to-from t u))
   goes-from t u =
       qed W (SheetToks
-      ∷ ‵ (owns (ShrSlice (named 0) κ₀ u64 ∷ ShrSlice (named 1) κ₁ u64 ∷ ShrSlice (named 2) κ₂ u64 ∷ S.the-row ∷ u32 ∷ []) (x₀, (x₁, (x₂, (t, (k, tt))))) (listVal x₀ ∷ [], (listVal x₁ ∷ [], (listVal x₂ ∷ [], (u ∷ [], (vint w32 k ∷ [], tt))))))
+      ∷ ‵ (owns (ShrSlice (named 0) κ₀ u64 ∷ ShrSlice (named 1) κ₁ u64 ∷ ShrSlice (named 2) κ₂ u64 ∷ S.the-row ∷ u32 ∷ []) (x₀, (x₁, (x₂, (t, (k, tt)))))
+      (listVal x₀ ∷ [], (listVal x₁ ∷ [], (listVal x₂ ∷ [], (u ∷ [], (vint w32 k ∷ [], tt))))))
       ∷ []) ∵
       join ! $ frame ! $ done !
 
-  module _ (C : Calls 𝓤 H) (Λ : Loops 𝓤 H) (fm : FmC 𝓤 H (W .laws) C) (known-lent : Triple 𝓤 (C #lent-tableau) (Lent 𝓤 H A mem run)) (known-from : Triple 𝓤 (C #run-from) (From 𝓤 H A mem run)) where
+  module _ (C : Calls 𝓤 H) (Λ : Loops 𝓤 H) (fm : FmC 𝓤 H (W .laws) C) (known-lent : Triple 𝓤 (C #lent-tableau) (Lent 𝓤 H A mem run))
+      (known-from : Triple 𝓤 (C #run-from) (From 𝓤 H A mem run)) where
     walk : Room u64 (length (x₀ .now)) → Room u64 (length (x₁ .now)) → Room u64 (length (x₂ .now)) → Room T.the-row (length (x₃ .now))
         → ent 𝓤 (onEntry 𝓤 H A panel-run.signature (κ₀, (κ₁, (κ₂, (κ₃, tt)))) (q₀, (q₁, (q₂, (q₃, tt)))) (x₀, (x₁, (x₂, (x₃, (k, tt)))))
         (listVal x₀ ∷ [], (listVal x₁ ∷ [], (listVal x₂ ∷ [], (cellsVal x₃ ∷ [], (vint w32 k ∷ [], tt))))))
         (WpFn 𝓤 H C Λ code.function (listVal x₀ ∷ listVal x₁ ∷ listVal x₂ ∷ cellsVal x₃ ∷ vint w32 k ∷ []) Post)
     walk g₀ g₁ g₂ g₃ =
         qed W (Toks
-        ∷ ‵ (owns (ShrSlice (named 0) κ₀ u64 ∷ ShrSlice (named 1) κ₁ u64 ∷ ShrSlice (named 2) κ₂ u64 ∷ ShrSlice (named 3) κ₃ T.the-row ∷ u32 ∷ []) (x₀, (x₁, (x₂, (x₃, (k, tt)))))
+        ∷ ‵ (owns (ShrSlice (named 0) κ₀ u64 ∷ ShrSlice (named 1) κ₁ u64 ∷ ShrSlice (named 2) κ₂ u64 ∷ ShrSlice (named 3) κ₃ T.the-row ∷ u32 ∷ []) (
+          x₀,
+          (x₁, (x₂, (x₃, (k, tt)))),
+        )
         (listVal x₀ ∷ [], (listVal x₁ ∷ [], (listVal x₂ ∷ [], (cellsVal x₃ ∷ [], (vint w32 k ∷ [], tt))))))
         ∷ []) ∵
         enter ! C Λ code.function (listVal x₀ ∷ listVal x₁ ∷ listVal x₂ ∷ cellsVal x₃ ∷ vint w32 k ∷ []) _ $
         alloc1 ! (λ l₀. alloc1 ! (λ l₁. alloc1 ! (λ l₂. alloc1 ! (λ l₃. alloc1 ! (λ l₄. alloc1 ! (λ l₅. alloc1 ! (λ l₆. alloc0 ! $ params1 ! $
         pass1 ! (init ! 10 refl (tt, (tt, (record { fits = g₀ .0 }, tt)))) $ pass1 ! (init ! 8 refl (tt, (tt, (record { fits = g₁ .0 }, tt)))) $
-        pass1 ! (init ! 6 refl (tt, (tt, (record { fits = g₂ .0 }, tt)))) $ pass1 ! (init ! 4 refl (tt, (tt, (record { fits = g₃ .0 }, tt)))) $ pass1 ! (init ! 2 refl (tt, record { fits = fits })) $ pass0 ! $
+        pass1 ! (init ! 6 refl (tt, (tt, (record { fits = g₂ .0 }, tt)))) $ pass1 ! (init ! 4 refl (tt, (tt, (record { fits = g₃ .0 }, tt))))
+        $ pass1 ! (init ! 2 refl (tt, record { fits = fits })) $ pass0 ! $
         -- [_6; …; _0; …; the tokens; what the parameters own]: both are taken apart
-        move ! (15 ∷ []) $ fsplit ! $ move ! (1 ∷ []) $ fsplit ! $ move ! (1 ∷ []) $ fsplit ! $ move ! (1 ∷ []) $ fsplit ! $ move ! (1 ∷ []) $ fsplit ! $ drop ! $ move ! (1 ∷ []) $
+        move ! (15 ∷ []) $ fsplit ! $ move ! (1 ∷ []) $ fsplit ! $ move ! (1 ∷ []) $ fsplit ! $ move ! (1 ∷ []) $ fsplit ! $ move ! (1 ∷ [])
+        $ fsplit ! $ drop ! $ move ! (1 ∷ []) $
         move ! (19 ∷ []) $ split ! $ move ! (1 ∷ []) $ split ! $ move ! (1 ∷ []) $ split ! $ move ! (1 ∷ []) $ split ! $
-        -- [the cells' token; true; three tokens, from the last; what the cells own; true; what three lists own, from the last; _6; …]: the cells are passed, and kept
-        move ! (5 ∷ []) $ use1 W (‵ (OwnCells 3 κ₃ x₃) ⊛ ‵ (OwnCells 3 κ₃ x₃)) (shr-slice-copy 𝓤 H A W (named 3) κ₃ T.the-row .twice x₃ (cellsVal x₃ ∷ [])) $ split ! $
+        -- [the cells' token; true; three tokens, from the last; what the cells own; true; what three lists own, from the last; _6; …]: the cells are passed,
+        -- and kept
+        move ! (5 ∷ []) $ use1 W (‵ (OwnCells 3 κ₃ x₃) ⊛ ‵ (OwnCells 3 κ₃ x₃)) (shr-slice-copy 𝓤 H A W (named 3) κ₃ T.the-row .twice x₃ (cellsVal x₃ ∷ []))
+        $ split ! $
         move ! (0 ∷ 7 ∷ []) $ fjoin ! $ move ! (2 ∷ 3 ∷ []) $ join ! $
         use2 W (raw (Lent 𝓤 H A mem run .pre (to-lent 𝓤 H A W mem run κ₃ q₃ x₃))) (goes-lent 𝓤 H A W mem run κ₃ q₃ x₃) $
-        calls-at ! fm (Lent 𝓤 H A mem run) known-lent (to-lent 𝓤 H A W mem run κ₃ q₃ x₃) (and-then ! (load ! (from ! (stop !)) (look ! 12 refl)) (no-more !)) (λ u.
-        use1 W (later (some (λ (t : Tableau). (Tok 𝓤 κ₃ q₃ ⊛ ‵ (S.the-row .own t (u ∷ []))) ⊛ raw (ensured 𝓤 H A lent.ended (lent.clauses 𝓤 H A mem run) (κ₃, tt) (x₃, tt) tt t)))) (id⊢ 𝓤 _) $ await ! tt $ pick ! (λ t.
-        split ! $ move ! (1 ∷ []) $ use1 W (raw (fact 𝓤 (t ≡ lentTableau (x₃ .now)))) (lent-is 𝓤 H A mem run κ₃ x₃ t) $ heard ! (t ≡ lentTableau (x₃ .now)) (λ e. split ! $ move ! (1 ∷ []) $
+        calls-at ! fm (Lent 𝓤 H A mem run) known-lent (to-lent 𝓤 H A W mem run κ₃ q₃ x₃) (and-then ! (load ! (from ! (stop !)) (look ! 12 refl)) (no-more !))
+        (λ u.
+        use1 W (later (some (λ (t : Tableau). (Tok 𝓤 κ₃ q₃ ⊛ ‵ (S.the-row .own t (u ∷ [])))
+        ⊛ raw (ensured 𝓤 H A lent.ended (lent.clauses 𝓤 H A mem run) (κ₃, tt) (x₃, tt) tt t)))) (id⊢ 𝓤 _) $ await ! tt $ pick ! (λ t.
+        split ! $ move ! (1 ∷ []) $ use1 W (raw (fact 𝓤 (t ≡ lentTableau (x₃ .now)))) (lent-is 𝓤 H A mem run κ₃ x₃ t)
+        $ heard ! (t ≡ lentTableau (x₃ .now)) (λ e. split ! $ move ! (1 ∷ []) $
         peeks ! S.the-row (Is S.the-row) (shows 𝓤 H A S.the-row) t (u ∷ []) (λ is.
         land ! (from ! (stop !)) (init ! 9 refl (LL.lawful S.the-type S′.the-laws 𝓤 H A W .typed t _ is .0)) $
         -- [the tableau; the cells' token; what the cells own; three tokens and what three lists own, from the last; _6; …]: these are passed, and kept
         move ! (8 ∷ []) $ use1 W (‵ (OwnList 0 κ₀ x₀) ⊛ ‵ (OwnList 0 κ₀ x₀)) (shr-slice-copy 𝓤 H A W (named 0) κ₀ u64 .twice x₀ (listVal x₀ ∷ [])) $ split ! $
         move ! (9 ∷ []) $ use1 W (‵ (OwnList 1 κ₁ x₁) ⊛ ‵ (OwnList 1 κ₁ x₁)) (shr-slice-copy 𝓤 H A W (named 1) κ₁ u64 .twice x₁ (listVal x₁ ∷ [])) $ split ! $
         move ! (10 ∷ []) $ use1 W (‵ (OwnList 2 κ₂ x₂) ⊛ ‵ (OwnList 2 κ₂ x₂)) (shr-slice-copy 𝓤 H A W (named 2) κ₂ u64 .twice x₂ (listVal x₂ ∷ [])) $ split ! $
-        nothing ! $ owned ! u32 (Is u32) (uint-makes 𝓤 H A W w32) k _ (refl, fits) $ fjoin ! $ move ! (7 ∷ 0 ∷ []) $ fjoin ! $ move ! (1 ∷ 0 ∷ []) $ fjoin ! $ move ! (2 ∷ 0 ∷ []) $ fjoin ! $ move ! (3 ∷ 0 ∷ []) $ fjoin ! $
+        nothing ! $ owned ! u32 (Is u32) (uint-makes 𝓤 H A W w32) k _ (refl, fits) $ fjoin ! $ move ! (7 ∷ 0 ∷ []) $ fjoin ! $ move ! (1 ∷ 0 ∷ [])
+        $ fjoin ! $ move ! (2 ∷ 0 ∷ []) $ fjoin ! $ move ! (3 ∷ 0 ∷ []) $ fjoin ! $
         nothing ! $ move ! (7 ∷ 0 ∷ []) $ join ! $ move ! (7 ∷ 0 ∷ []) $ join ! $ move ! (7 ∷ 0 ∷ []) $ join ! $
         use2 W (raw (From 𝓤 H A mem run .pre (to-from t u))) (goes-from t u) $
         calls-at ! fm (From 𝓤 H A mem run) known-from (to-from t u)
-        (and-then ! (load ! (from ! (stop !)) (look ! 16 refl)) (and-then ! (load ! (from ! (stop !)) (look ! 14 refl)) (and-then ! (load ! (from ! (stop !)) (look ! 12 refl))
+        (and-then ! (load ! (from ! (stop !)) (look ! 16 refl))
+        (and-then ! (load ! (from ! (stop !)) (look ! 14 refl)) (and-then ! (load ! (from ! (stop !)) (look ! 12 refl))
         (and-then ! (load ! (from ! (stop !)) (look ! 6 refl)) (and-then ! (load ! (from ! (stop !)) (look ! 8 refl)) (no-more !)))))) (λ v.
-        use1 W (later (some (λ (r : RunOut). (SheetToks ⊛ ‵ (R.the-row .own r (v ∷ []))) ⊛ raw (ensured 𝓤 H A run-from.ended (run-from.clauses 𝓤 H A mem run) (κ₀, (κ₁, (κ₂, tt))) (x₀, (x₁, (x₂, (t, (k, tt))))) tt r)))) (id⊢ 𝓤 _) $ await ! tt $ pick ! (λ r.
+        use1 W (later (some (λ (r : RunOut). (SheetToks ⊛ ‵ (R.the-row .own r (v ∷ []))) ⊛ raw (ensured 𝓤 H A run-from.ended (run-from.clauses 𝓤 H A mem run)
+        (κ₀, (κ₁, (κ₂, tt))) (x₀, (x₁, (x₂, (t, (k, tt))))) tt r)))) (id⊢ 𝓤 _) $ await ! tt $ pick ! (λ r.
         split ! $ move ! (1 ∷ []) $ use1 W (raw (fact 𝓤 (r ≡ out t))) (answered t r) $ heard ! (r ≡ out t) (λ f. split ! $ move ! (1 ∷ []) $
         peeks ! R.the-row (Is R.the-row) (shows 𝓤 H A R.the-row) r (v ∷ []) (λ is′.
         land ! (from ! (stop !)) (init ! 19 refl (LL.lawful R.the-type R′.the-laws 𝓤 H A W .typed r _ is′ .0)) $
         -- [what is left at the exit; _6; …; _0; …]
-        returns ! (look ! 19 refl) $ forget ! 7 refl $ forget ! 9 refl $ forget ! 11 refl $ forget ! 13 refl $ forget ! 15 refl $ forget ! 17 refl $ forget ! 19 refl $
-        move ! (19 ∷ 20 ∷ []) $ free1 ! $ move ! (17 ∷ 18 ∷ []) $ free1 ! $ move ! (15 ∷ 16 ∷ []) $ free1 ! $ move ! (13 ∷ 14 ∷ []) $ free1 ! $ move ! (11 ∷ 12 ∷ []) $ free1 ! $ move ! (9 ∷ 10 ∷ []) $ free1 ! $ move ! (7 ∷ 8 ∷ []) $ free1 ! $ free0 ! $
+        returns ! (look ! 19 refl) $ forget ! 7 refl $ forget ! 9 refl $ forget ! 11 refl $ forget ! 13 refl $ forget ! 15 refl $ forget ! 17 refl
+        $ forget ! 19 refl $
+        move ! (19 ∷ 20 ∷ []) $ free1 ! $ move ! (17 ∷ 18 ∷ []) $ free1 ! $ move ! (15 ∷ 16 ∷ []) $ free1 ! $ move ! (13 ∷ 14 ∷ [])
+        $ free1 ! $ move ! (11 ∷ 12 ∷ []) $ free1 ! $ move ! (9 ∷ 10 ∷ []) $ free1 ! $ move ! (7 ∷ 8 ∷ []) $ free1 ! $ free0 ! $
         by ! (exits r v (f ∙ ap out e)))))))))))))))))
 
 module _ {M : Type 1} (𝓤 : URA M) (H : Heap 𝓤) (A : Atoms 𝓤) (W : Given 𝓤 H A) (mem : Memory → SProp 𝓤) (run : Routine → Fun 𝓤) where
@@ -180,9 +222,16 @@ module _ {M : Type 1} (𝓤 : URA M) (H : Heap 𝓤) (A : Atoms 𝓤) (W : Given
   walks C Λ fm k₁ k₂ =
       walked 𝓤 H A panel-run.ended stayed (panel-run.clauses 𝓤 H A mem run) (WpFn 𝓤 H C Λ code.function)
       (λ κs. (slice-vals, (slice-vals, (slice-vals, (slice-vals, (uint-vals w32, tt))))))
-      (λ κs. (shr-slice-tells (named 0) (κs .0) u64, (shr-slice-tells (named 1) (κs .1 .0) u64, (shr-slice-tells (named 2) (κs .1 .1 .0) u64, (shr-slice-tells (named 3) (κs .1 .1 .1 .0) T.the-row, (uint-tells w32, tt))))))
+      (λ κs. (
+        shr-slice-tells (named 0) (κs .0) u64,
+        (
+          shr-slice-tells (named 1) (κs .1 .0) u64,
+          (shr-slice-tells (named 2) (κs .1 .1 .0) u64, (shr-slice-tells (named 3) (κs .1 .1 .1 .0) T.the-row, (uint-tells w32, tt))),
+        ),
+      ))
       (λ κs qs bounds a g are. via 𝓤 _ (fst∗ 𝓤 _ (emp 𝓤))
-      (walk 𝓤 H A W mem run (κs .0) (κs .1 .0) (κs .1 .1 .0) (κs .1 .1 .1 .0) (qs .0) (qs .1 .0) (qs .1 .1 .0) (qs .1 .1 .1 .0) (a .0) (a .1 .0) (a .1 .1 .0) (a .1 .1 .1 .0) (a .1 .1 .1 .1 .0) (are .1 .1 .1 .1 .0 .1) C Λ fm k₁ k₂
+      (walk 𝓤 H A W mem run (κs .0) (κs .1 .0) (κs .1 .1 .0) (κs .1 .1 .1 .0) (qs .0) (qs .1 .0) (qs .1 .1 .0) (qs .1 .1 .1 .0) (a .0) (a .1 .0) (a .1 .1 .0)
+      (a .1 .1 .1 .0) (a .1 .1 .1 .1 .0) (are .1 .1 .1 .1 .0 .1) C Λ fm k₁ k₂
       (are .0 .0 .1) (are .1 .0 .0 .1) (are .1 .1 .0 .0 .1) (are .1 .1 .1 .0 .0 .1)))
 
 meets : {M : Type 1} (𝓤 : URA M) (H : Heap 𝓤) (A : Atoms 𝓤) (W : Given 𝓤 H A) (mem : Memory → SProp 𝓤) (run : Routine → Fun 𝓤) (𝓣 : Tables 𝓤 H)

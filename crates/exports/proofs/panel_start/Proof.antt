@@ -2,9 +2,8 @@
 use mathlib.Core.Path.{sym, ap, _∙_}
 use Rattle.transport.specs.declared.StartAnswer.{StartAnswer}
 use Rattle.transport.specs.declared.StartOutcome.{StartOutcome}
-use Rattle.transport.specs.Sheet.{Sheet}
+use Rattle.transport.specs.Sheet.{Sheet, sheetOf}
 use Rattle.transport.specs.Calls.{startCall}
-use Rattle.sheet.specs.Check.{sheetOf}
 use Rattle.exports.specs.Crossing.{started, started-is}
 use borrow.Author.Needs.{needs}
 use Rattle.exports.proofs.panel_start.Statement.{statement}
@@ -27,14 +26,16 @@ returns c =
     let t = c .before .before .before .before .before .before .before in
     let w = c .before .before .before .start in
     let a = startCall (sheetAt t) in
-    ap (λ (o : StartOutcome). started o (w .result .tableau)) (sym (c .enum-told .given .1)) ∙ ap (λ (x : StartAnswer). started (x .outcome) (x .tableau)) (w .ensures) ∙ started-is a
+    ap (λ (o : StartOutcome). started o (w .result .tableau)) (sym (c .enum-told .given .1))
+    ∙ ap (λ (x : StartAnswer). started (x .outcome) (x .tableau)) (w .ensures) ∙ started-is a
 
 returns-2 : tie.Need-returns-2
 returns-2 c =
     let t = c .before .before .before .before .before .before .before .before in
     let w = c .before .before .before .before .start in
     let a = startCall (sheetAt t) in
-    ap (λ (o : StartOutcome). started o (w .result .tableau)) (sym (c .before .outcome .given .1)) ∙ ap (λ (x : StartAnswer). started (x .outcome) (x .tableau)) (w .ensures) ∙ started-is a
+    ap (λ (o : StartOutcome). started o (w .result .tableau)) (sym (c .before .outcome .given .1))
+    ∙ ap (λ (x : StartAnswer). started (x .outcome) (x .tableau)) (w .ensures) ∙ started-is a
 
 pub panel-start-spec : {M : Type 1} → statement M
 panel-start-spec =

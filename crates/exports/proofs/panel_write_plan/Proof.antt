@@ -1,9 +1,8 @@
 -- The answer of the call, as it crosses the border.
 use mathlib.Core.Path.{ap, _∙_}
 use lib.ListN.{length}
-use Rattle.transport.specs.Sheet.{Sheet}
+use Rattle.transport.specs.Sheet.{Sheet, sheetOf}
 use Rattle.transport.specs.PlanText.{writePlanCall}
-use Rattle.sheet.specs.Check.{sheetOf}
 use Rattle.exports.specs.Crossing.{written, written-is}
 use borrow.Author.Needs.{needs}
 use Rattle.exports.proofs.panel_write_plan.Statement.{statement}

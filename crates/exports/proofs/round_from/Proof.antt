@@ -2,9 +2,8 @@
 use mathlib.Core.Path.{sym, ap, _∙_}
 use Rattle.transport.specs.declared.RoundAnswer.{RoundAnswer}
 use Rattle.transport.specs.declared.RoundOutcome.{RoundOutcome}
-use Rattle.transport.specs.Sheet.{Sheet}
+use Rattle.transport.specs.Sheet.{Sheet, sheetOf}
 use Rattle.transport.specs.Calls.{roundCall}
-use Rattle.sheet.specs.Check.{sheetOf}
 use Rattle.exports.specs.Crossing.{rounded, rounded-is}
 use borrow.Author.Needs.{needs}
 use Rattle.exports.proofs.round_from.Statement.{statement}
@@ -30,21 +29,24 @@ returns c =
     let t = c .before .before .before .before .before .before .before .before .before in
     let w = c .before .before .before .before .before .round in
     let a = roundCall (sheetAt t) (t .args .t) in
-    ap (λ (o : RoundOutcome). rounded o (w .result .tableau) (w .result .u) (w .result .v)) (sym (c .enum-told .given .1)) ∙ ap (λ (x : RoundAnswer). rounded (x .outcome) (x .tableau) (x .u) (x .v)) (w .ensures) ∙ rounded-is a
+    ap (λ (o : RoundOutcome). rounded o (w .result .tableau) (w .result .u) (w .result .v)) (sym (c .enum-told .given .1))
+    ∙ ap (λ (x : RoundAnswer). rounded (x .outcome) (x .tableau) (x .u) (x .v)) (w .ensures) ∙ rounded-is a
 
 returns-2 : tie.Need-returns-2
 returns-2 c =
     let t = c .before .before .before .before .before .before .before .before .before in
     let w = c .before .before .before .before .before .round in
     let a = roundCall (sheetAt t) (t .args .t) in
-    ap (λ (o : RoundOutcome). rounded o (w .result .tableau) (w .result .u) (w .result .v)) (sym (c .enum-told2 .given .1)) ∙ ap (λ (x : RoundAnswer). rounded (x .outcome) (x .tableau) (x .u) (x .v)) (w .ensures) ∙ rounded-is a
+    ap (λ (o : RoundOutcome). rounded o (w .result .tableau) (w .result .u) (w .result .v)) (sym (c .enum-told2 .given .1))
+    ∙ ap (λ (x : RoundAnswer). rounded (x .outcome) (x .tableau) (x .u) (x .v)) (w .ensures) ∙ rounded-is a
 
 returns-3 : tie.Need-returns-3
 returns-3 c =
     let t = c .before .before .before .before .before .before .before .before .before .before in
     let w = c .before .before .before .before .before .before .round in
     let a = roundCall (sheetAt t) (t .args .t) in
-    ap (λ (o : RoundOutcome). rounded o (w .result .tableau) (w .result .u) (w .result .v)) (sym (c .before .outcome .given .1)) ∙ ap (λ (x : RoundAnswer). rounded (x .outcome) (x .tableau) (x .u) (x .v)) (w .ensures) ∙ rounded-is a
+    ap (λ (o : RoundOutcome). rounded o (w .result .tableau) (w .result .u) (w .result .v)) (sym (c .before .outcome .given .1))
+    ∙ ap (λ (x : RoundAnswer). rounded (x .outcome) (x .tableau) (x .u) (x .v)) (w .ensures) ∙ rounded-is a
 
 pub round-from-spec : {M : Type 1} → statement M
 round-from-spec =

@@ -2,9 +2,8 @@
 use mathlib.Core.Path.{sym, ap, _∙_}
 use Rattle.transport.specs.declared.RunAnswer.{RunAnswer}
 use Rattle.transport.specs.declared.RunOutcome.{RunOutcome}
-use Rattle.transport.specs.Sheet.{Sheet}
+use Rattle.transport.specs.Sheet.{Sheet, sheetOf}
 use Rattle.transport.specs.Calls.{runCall}
-use Rattle.sheet.specs.Check.{sheetOf}
 use Rattle.exports.specs.Crossing.{ran, ran-is}
 use borrow.Author.Needs.{needs}
 use Rattle.exports.proofs.run_from.Statement.{statement}
@@ -30,21 +29,24 @@ returns c =
     let t = c .before .before .before .before .before .before .before .before in
     let w = c .before .before .before .before .run in
     let a = runCall (sheetAt t) (t .args .t) (t .args .allowance) in
-    ap (λ (o : RunOutcome). ran o (w .result .tableau)) (sym (c .before .outcome .given .1)) ∙ ap (λ (x : RunAnswer). ran (x .outcome) (x .tableau)) (w .ensures) ∙ ran-is a
+    ap (λ (o : RunOutcome). ran o (w .result .tableau)) (sym (c .before .outcome .given .1))
+    ∙ ap (λ (x : RunAnswer). ran (x .outcome) (x .tableau)) (w .ensures) ∙ ran-is a
 
 returns-2 : tie.Need-returns-2
 returns-2 c =
     let t = c .before .before .before .before .before .before .before .before in
     let w = c .before .before .before .before .run in
     let a = runCall (sheetAt t) (t .args .t) (t .args .allowance) in
-    ap (λ (o : RunOutcome). ran o (w .result .tableau)) (sym (c .before .outcome2 .given .1)) ∙ ap (λ (x : RunAnswer). ran (x .outcome) (x .tableau)) (w .ensures) ∙ ran-is a
+    ap (λ (o : RunOutcome). ran o (w .result .tableau)) (sym (c .before .outcome2 .given .1))
+    ∙ ap (λ (x : RunAnswer). ran (x .outcome) (x .tableau)) (w .ensures) ∙ ran-is a
 
 returns-3 : tie.Need-returns-3
 returns-3 c =
     let t = c .before .before .before .before .before .before .before .before in
     let w = c .before .before .before .before .run in
     let a = runCall (sheetAt t) (t .args .t) (t .args .allowance) in
-    ap (λ (o : RunOutcome). ran o (w .result .tableau)) (sym (c .before .outcome3 .given .1)) ∙ ap (λ (x : RunAnswer). ran (x .outcome) (x .tableau)) (w .ensures) ∙ ran-is a
+    ap (λ (o : RunOutcome). ran o (w .result .tableau)) (sym (c .before .outcome3 .given .1))
+    ∙ ap (λ (x : RunAnswer). ran (x .outcome) (x .tableau)) (w .ensures) ∙ ran-is a
 
 pub run-from-spec : {M : Type 1} → statement M
 run-from-spec =

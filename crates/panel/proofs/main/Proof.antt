@@ -45,7 +45,12 @@ answer-requires c κs = omega arith
 
 array-share-prefix-out : tie.Need-array-share-prefix-out
 unfolding maxPlanText
-array-share-prefix-out c = omega (arith, c .before .answer .ensures .0, printed-length (take (c .before .before .before .before .before .read .given .0 .0) (c .before .before .before .before .before .before .before .before .read-input .last .0)))
+array-share-prefix-out c = omega (
+  arith,
+  c .before .answer .ensures .0,
+  printed-length (take (c .before .before .before .before .before .read .given .0 .0)
+      (c .before .before .before .before .before .before .before .before .read-input .last .0)),
+)
 
 slice-aggregate-write-all : tie.Need-slice-aggregate-write-all
 slice-aggregate-write-all c = sym (length-take-le _ _ (array-share-prefix-out (c .before)))

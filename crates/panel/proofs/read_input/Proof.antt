@@ -36,7 +36,8 @@ read-requires : tie.Need-read-requires Inv-loop μ-loop
 read-requires c κs = search needs
 
 -- The buffer is as long as it was.
-after : (c : tie.After-read Inv-loop μ-loop) → let l = c .before .before .before .loop in length (putMid (l .at) (length (l .buffer) - l .at) (l .buffer) (c .read .last .1 .0)) ≡ length (l .buffer)
+after : (c : tie.After-read Inv-loop μ-loop) → let l = c .before .before .before .loop in
+    length (putMid (l .at) (length (l .buffer) - l .at) (l .buffer) (c .read .last .1 .0)) ≡ length (l .buffer)
 after c = let l = c .before .before .before .loop in same-len-mid (l .at) (length (l .buffer) - l .at) (l .buffer) (c .read .last .1 .0) (search needs)
 
 same-length : tie.Need-same-length Inv-loop μ-loop
@@ -56,10 +57,16 @@ module _ (c : tie.Else2 Inv-loop μ-loop) where
   in-range : mag (c .before .before .before .before .read .result) < 2 ^ 63
   in-range = search needs
 
-  most : natAbs (toZ w64 (ofZ w64 (c .before .before .before .before .read .result))) ≤ length (c .before .before .before .before .before .before .before .loop .buffer) - c .before .before .before .before .before .before .before .loop .at
+  most : natAbs (toZ w64 (ofZ w64 (c .before .before .before .before .read .result)))
+      ≤ length (c .before .before .before .before .before .before .before .loop .buffer) - c .before .before .before .before .before .before .before .loop .at
   most =
       let l = c .before .before .before .before .before .before .before .loop in
-      omega (arith, moved-most (c .before .before .before .before .read .result) in-range (c .before .if1 .left) _ (c .before .before .before .before .read .ensures), mid-len (l .at) (length (l .buffer)) (l .buffer) (omega arith))
+      omega (
+        arith,
+        moved-most (c .before .before .before .before .read .result) in-range (c .before .if1 .left) _
+            (c .before .before .before .before .read .ensures),
+        mid-len (l .at) (length (l .buffer)) (l .buffer) (omega arith),
+      )
 
   least : 1 ≤ natAbs (toZ w64 (ofZ w64 (c .before .before .before .before .read .result)))
   least = moved-some (c .before .before .before .before .read .result) in-range (c .before .if1 .left) (c .if2 .left)

@@ -24,8 +24,13 @@ add-to-requires : tie.Need-add-to-requires
 add-to-requires c κs =
     let s = c .before in
     let a = s .args in
-    let m = minus-is (a .x) (s .pre .1 .1 .1 .1 .1) in
-    (s .pre .0, (s .pre .1 .1 .0 .0, λ k p. rw m (omega (arith, light-at (a .q .now) (a .minus .now) (a .losing) k (s .pre .0) (s .pre .1 .1 .1 .0) p, abs-neg (a .x)))))
+    let m = minus-is (a .x) (s .pre .1 .1 .1 .1 .1) in (
+      s .pre .0,
+      (
+        s .pre .1 .1 .0 .0,
+        λ k p. rw m (omega (arith, light-at (a .q .now) (a .minus .now) (a .losing) k (s .pre .0) (s .pre .1 .1 .1 .0) p, abs-neg (a .x))),
+      ),
+    )
 
 add-to-requires-2 : tie.Need-add-to-requires-2
 add-to-requires-2 c κs =
@@ -55,7 +60,8 @@ returns c =
     let s = c .before .before .before .before in
     let a = s .args in
     let e = same-is (a .x) (s .pre .1 .1 .1 .1 .1) in
-    rw e (carried-by _ _ (a .into) (a .x) _ _ _ (s .pre .1 .1 .0 .1) (rw (minus-is (a .x) (s .pre .1 .1 .1 .1 .1)) at (c .before .before .add-to .ensures)) (rw e at (c .add-to2 .ensures)))
+    rw e (carried-by _ _ (a .into) (a .x) _ _ _ (s .pre .1 .1 .0 .1) (rw (minus-is (a .x) (s .pre .1 .1 .1 .1 .1)) at (c .before .before .add-to .ensures))
+    (rw e at (c .add-to2 .ensures)))
 
 pub carry-spec : {M : Type 1} → statement M
 carry-spec = tie.close (tie.spec sub-add-to add-to-requires add-to-requires-2 mul-x element-set-from-x returns)

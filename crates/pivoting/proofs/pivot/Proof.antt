@@ -25,15 +25,18 @@ turn-requires c κs = ready-turns (c .before .before .before .before .before .be
 
 unlink-requires : tie.Need-unlink-requires
 unlink-requires c κs =
-    out-room (c .before .before .before .before .before .before .before .before .before .pre .0 .2) (c .before .before .before .before .before .before .loop-signs .ensures) (c .before .turn .ensures)
+    out-room (c .before .before .before .before .before .before .before .before .before .pre .0 .2)
+    (c .before .before .before .before .before .before .loop-signs .ensures) (c .before .turn .ensures)
 
 link-requires : tie.Need-link-requires
 link-requires c κs = ready-room (c .before .before .before .before .before .before .before .before .before .before .before .pre .0 .2)
 
 returns : tie.Need-returns
 returns c =
-    let g = c .before .before .before .before .before .before .before .before .before .loop-signs .ensures in
-    (λ S T r. rw (c .link .ensures, c .before .before .unlink .ensures) (held-pivot r g (c .before .before .before .before .turn .ensures)), (g .minusLong, g .plusLong))
+    let g = c .before .before .before .before .before .before .before .before .before .loop-signs .ensures in (
+      λ S T r. rw (c .link .ensures, c .before .before .unlink .ensures) (held-pivot r g (c .before .before .before .before .turn .ensures)),
+      (g .minusLong, g .plusLong),
+    )
 
 pub pivot-spec : {M : Type 1} → statement M
 pivot-spec = tie.close (tie.spec add-loop-signs loop-signs-requires mul-turn add-turn turn-requires unlink-requires link-requires returns)

@@ -4,7 +4,8 @@ use mathlib.Core.Bool.{true}
 use borrow.Author.Tests.{not-true, not-false, eq-eqb, ne-eqb}
 use Rattle.transport.specs.Lists.{all, within}
 use Rattle.transport.specs.Limits.{maxAmount, maxCost}
-use Rattle.sheet.specs.Check.{sheetOf, check-none, check-some}
+use Rattle.transport.specs.Sheet.{sheetOf}
+use Rattle.sheet.specs.Check.{check-none, check-some}
 use Rattle.sheet.specs.Refusals.{refused-supply, refused-demand, refused-cost, refused-totals, numbers-accepted}
 use borrow.Author.Needs.{needs}
 use Rattle.sheet.proofs.check_numbers.Statement.{statement}
@@ -50,7 +51,11 @@ unfolding maxCost
 returns-3 c =
     let a = c .before .before .before .before .before .before .before .before .before .args in
     let S = sheetOf (a .supply .now) (a .demand .now) (a .cost .now) in
-    rw (refused-cost S (supplies-fit (c .before .before .before .before)) (demands-fit (c .before .before)) (sym (c .before .all-within3 .ensures) ∙ not-true _ (c .if3 .taken)), check-some)
+    rw (
+      refused-cost S (supplies-fit (c .before .before .before .before)) (demands-fit (c .before .before)) (sym (c .before .all-within3 .ensures)
+          ∙ not-true _ (c .if3 .taken)),
+      check-some,
+    )
 
 total-of-requires : tie.Need-total-of-requires
 total-of-requires c κs = (c .before .before .before .before .before .before .before .before .before .pre .0, supplies-fit (c .before .before .before .before))
@@ -62,13 +67,23 @@ returns-4 : tie.Need-returns-4
 returns-4 c =
     let a = c .before .before .before .before .before .before .before .before .before .before .before .before .args in
     let S = sheetOf (a .supply .now) (a .demand .now) (a .cost .now) in
-    rw (refused-totals S (supplies-fit (c .before .before .before .before .before .before .before)) (demands-fit (c .before .before .before .before .before)) (costs-fit (c .before .before .before)) (ne-eqb _ _ (λ e. c .if4 .taken (c .before .before .total-of .ensures ∙ e ∙ sym (c .before .total-of2 .ensures)))), check-some)
+    rw (
+      refused-totals S (supplies-fit (c .before .before .before .before .before .before .before)) (demands-fit (c .before .before .before .before .before))
+          (costs-fit (c .before .before .before))
+          (ne-eqb _ _ (λ e. c .if4 .taken (c .before .before .total-of .ensures ∙ e ∙ sym (c .before .total-of2 .ensures)))),
+      check-some,
+    )
 
 returns-5 : tie.Need-returns-5
 returns-5 c =
     let a = c .before .before .before .before .before .before .before .before .before .before .before .before .args in
     let S = sheetOf (a .supply .now) (a .demand .now) (a .cost .now) in
-    rw (numbers-accepted S (supplies-fit (c .before .before .before .before .before .before .before)) (demands-fit (c .before .before .before .before .before)) (costs-fit (c .before .before .before)) (eq-eqb _ _ (sym (c .before .before .total-of .ensures) ∙ c .if4 .left ∙ c .before .total-of2 .ensures)), check-none)
+    rw (
+      numbers-accepted S (supplies-fit (c .before .before .before .before .before .before .before))
+          (demands-fit (c .before .before .before .before .before)) (costs-fit (c .before .before .before))
+          (eq-eqb _ _ (sym (c .before .before .total-of .ensures) ∙ c .if4 .left ∙ c .before .total-of2 .ensures)),
+      check-none,
+    )
 
 pub check-numbers-spec : {M : Type 1} → statement M
 check-numbers-spec =

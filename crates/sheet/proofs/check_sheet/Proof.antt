@@ -6,9 +6,10 @@ use lib.ListN.{length}
 use borrow.Author.Tests.{not-true, not-false, eq-eqb, ne-eqb}
 use Rattle.transport.specs.Lists.{within}
 use Rattle.transport.specs.Limits.{maxSources, maxSinks}
+use Rattle.transport.specs.Sheet.{sheetOf}
 use Rattle.transport.specs.Laws.SheetLaws.{within-true}
 use Rattle.transport.specs.Laws.Sound.{sources-room, sinks-room}
-use Rattle.sheet.specs.Check.{sheetOf, check-some}
+use Rattle.sheet.specs.Check.{check-some}
 use Rattle.sheet.specs.Laws.{sides-product}
 use Rattle.sheet.specs.Refusals.{refused-sources, refused-sinks, refused-length, sheet-numbers}
 use borrow.Author.Needs.{needs}
@@ -54,13 +55,17 @@ returns-3 c =
     rw (refused-length S (sources-fit (c .before .before .before)) (sinks-fit (c .before)) (ne-eqb _ _ (c .if3 .taken)), check-some)
 
 check-numbers-requires : tie.Need-check-numbers-requires
-check-numbers-requires c κs = (omega (arith, within-true 1 maxSources _ (sources-fit (c .before .before .before)) .1, sources-room), omega (arith, within-true 1 maxSinks _ (sinks-fit (c .before)) .1, sinks-room))
+check-numbers-requires c κs = (
+  omega (arith, within-true 1 maxSources _ (sources-fit (c .before .before .before)) .1, sources-room),
+  omega (arith, within-true 1 maxSinks _ (sinks-fit (c .before)) .1, sinks-room),
+)
 
 returns-4 : tie.Need-returns-4
 returns-4 c =
     let a = c .before .before .before .before .before .before .before .before .before .args in
     let S = sheetOf (a .supply .now) (a .demand .now) (a .cost .now) in
-    rw (sheet-numbers S (sources-fit (c .before .before .before .before)) (sinks-fit (c .before .before)) (eq-eqb _ _ (c .before .if3 .left))) (c .check-numbers .ensures)
+    rw (sheet-numbers S (sources-fit (c .before .before .before .before)) (sinks-fit (c .before .before)) (eq-eqb _ _ (c .before .if3 .left)))
+    (c .check-numbers .ensures)
 
 pub check-sheet-spec : {M : Type 1} → statement M
 check-sheet-spec =

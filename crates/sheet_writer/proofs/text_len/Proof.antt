@@ -6,8 +6,7 @@ use Prim.Native.Nat.{_≤_}
 use lib.ListN.{length, length-append}
 use Rattle.transport.specs.Limits.{maxSources, maxSinks}
 use Rattle.transport.specs.Text.{bytes}
-use Rattle.transport.specs.Sheet.{Sheet}
-use Rattle.sheet.specs.Check.{sheetOf}
+use Rattle.transport.specs.Sheet.{Sheet, sheetOf}
 use Rattle.sheet.specs.Refusals.{sources-few, sinks-few, sinks-some, costs-few, costs-whole}
 use Rattle.sections.specs.Lines.{length-section}
 use Rattle.sheet_writer.specs.SheetSections.{supplySection, demandSection, costSection, sheet-sections}
@@ -45,7 +44,11 @@ section-len-requires-2 : tie.Need-section-len-requires-2
 section-len-requires-2 c κs = omega (arith, sinks-most (c .before .before .before .before .before .before))
 
 add-result : tie.Need-add-result
-add-result c = omega (arith, sources-most (c .before .before .before .before .before .before .before), sinks-most (c .before .before .before .before .before .before .before))
+add-result c = omega (
+  arith,
+  sources-most (c .before .before .before .before .before .before .before),
+  sinks-most (c .before .before .before .before .before .before .before),
+)
 
 slice-aggregate-section-len-3 : tie.Need-slice-aggregate-section-len-3
 slice-aggregate-section-len-3 c = search needs
@@ -54,7 +57,12 @@ section-len-requires-3 : tie.Need-section-len-requires-3
 section-len-requires-3 c κs = omega (arith, costs-most (c .before .before .before .before .before .before .before .before))
 
 add-result-2 : tie.Need-add-result-2
-add-result-2 c = omega (arith, sources-most (c .before .before .before .before .before .before .before .before .before), sinks-most (c .before .before .before .before .before .before .before .before .before), costs-most (c .before .before .before .before .before .before .before .before .before))
+add-result-2 c = omega (
+  arith,
+  sources-most (c .before .before .before .before .before .before .before .before .before),
+  sinks-most (c .before .before .before .before .before .before .before .before .before),
+  costs-most (c .before .before .before .before .before .before .before .before .before),
+)
 
 returns : tie.Need-returns
 unfolding bytes

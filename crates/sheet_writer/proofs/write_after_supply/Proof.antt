@@ -14,11 +14,15 @@ slice-aggregate-write-section c = search needs
 write-section-requires : tie.Need-write-section-requires
 unfolding bytes
 write-section-requires c κs =
-    let t = c .before .before .before .before .before in
-    (omega arith, first-room (demandSection (t .args .demand .now)) (costSection (t .args .m) (length (t .args .demand .now)) (t .args .cost .now)) (t .args .out .now) (t .pre .1))
+    let t = c .before .before .before .before .before in (
+      omega arith,
+      first-room (demandSection (t .args .demand .now)) (costSection (t .args .m) (length (t .args .demand .now)) (t .args .cost .now))
+          (t .args .out .now) (t .pre .1),
+    )
 
 begun : (c : tie.After-write-section) → let t = c .before .before .before .before .before .before in
-    FirstWritten (demandSection (t .args .demand .now)) (costSection (t .args .m) (length (t .args .demand .now)) (t .args .cost .now)) (t .args .out .now) (c .write-section .last .1 .1 .1 .1 .0) (c .write-section .result)
+    FirstWritten (demandSection (t .args .demand .now)) (costSection (t .args .m) (length (t .args .demand .now)) (t .args .cost .now)) (t .args .out .now)
+    (c .write-section .last .1 .1 .1 .1 .0) (c .write-section .result)
 unfolding bytes
 begun c = record { room = c .before .before .before .before .before .before .pre .1; ends = c .write-section .ensures .0; holds = c .write-section .ensures .1 }
 
@@ -36,7 +40,8 @@ part-write-section-end c = search needs
 
 write-section-requires-2 : tie.Need-write-section-requires-2
 unfolding bytes
-write-section-requires-2 c κs = (c .before .before .before .before .before .before .before .before .before .before .pre .0, second-room (begun (c .before .before .before .before)))
+write-section-requires-2 c κs =
+    (c .before .before .before .before .before .before .before .before .before .before .pre .0, second-room (begun (c .before .before .before .before)))
 
 add-result : tie.Need-add-result
 unfolding bytes

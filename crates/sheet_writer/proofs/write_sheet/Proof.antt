@@ -2,10 +2,10 @@
 use mathlib.Core.Path.{_≡_, sym, _∙_}
 use mathlib.Core.Option.{none}
 use native.Mathlib.Omega.{arith}
-use Rattle.transport.specs.Sheet.{Sheet, refusal, sheetTests}
+use Rattle.transport.specs.Sheet.{Sheet, refusal, sheetTests, sheetOf}
 use Rattle.transport.specs.SheetText.{sheetText, writeSheetCall}
 use Rattle.transport.specs.Laws.SheetLaws.{accepted}
-use Rattle.sheet.specs.Check.{sheetOf, accepted-none, refused-some}
+use Rattle.sheet.specs.Check.{accepted-none, refused-some}
 use Rattle.sections.specs.WriteCall.{wrote-check, wrote-short, wrote-given}
 use borrow.Author.Needs.{needs}
 use Rattle.sheet_writer.proofs.write_sheet.Statement.{statement}
@@ -24,7 +24,8 @@ returns : tie.Need-returns
 unfolding writeSheetCall
 returns c =
     let t = c .before .before .before .before .before .before .before .before in
-    wrote-check (sheetAt t) (sheetText (sheetAt t)) (t .args .out .now) _ (refused-some _ _ (sym (c .before .before .before .check-sheet .ensures) ∙ c .before .check .given .1))
+    wrote-check (sheetAt t) (sheetText (sheetAt t)) (t .args .out .now) _
+    (refused-some _ _ (sym (c .before .before .before .check-sheet .ensures) ∙ c .before .check .given .1))
 
 enum-told : tie.Need-enum-told
 enum-told c = search needs
@@ -42,7 +43,11 @@ returns-2 c =
     wrote-short (sheetAt t) (sheetText (sheetAt t)) (t .args .out .now) (passed (c .before .before)) (omega (arith, c .before .text-len .ensures))
 
 write-text-requires : tie.Need-write-text-requires
-write-text-requires c κs = (accepted (sheetAt (c .before .before .before .before .before .before .before .before .before .before)) (passed (c .before .before .before)), omega (arith, c .before .before .text-len .ensures))
+write-text-requires c κs = (
+  accepted (sheetAt (c .before .before .before .before .before .before .before .before .before .before))
+      (passed (c .before .before .before)),
+  omega (arith, c .before .before .text-len .ensures),
+)
 
 same-length : tie.Need-same-length
 same-length c = search needs
@@ -52,7 +57,8 @@ unfolding writeSheetCall
 returns-3 c =
     let t = c .before .before .before .before .before .before .before .before .before .before .before .before .before in
     let w = c .before .before .write-text in
-    rw (w .ensures .0, w .ensures .1) (wrote-given (sheetAt t) (sheetText (sheetAt t)) (t .args .out .now) (passed (c .before .before .before .before .before .before)) (omega (arith, c .before .before .before .before .before .text-len .ensures)))
+    rw (w .ensures .0, w .ensures .1) (wrote-given (sheetAt t) (sheetText (sheetAt t)) (t .args .out .now)
+    (passed (c .before .before .before .before .before .before)) (omega (arith, c .before .before .before .before .before .text-len .ensures)))
 
 pub write-sheet-spec : {M : Type 1} → statement M
 write-sheet-spec =

@@ -5,9 +5,8 @@ use Prim.Native.Nat.{ℕ, _≤_}
 use native.Mathlib.Omega.{arith}
 use lib.ListN.{length}
 use Rattle.transport.specs.Text.{bytes}
-use Rattle.transport.specs.Sheet.{Sheet}
+use Rattle.transport.specs.Sheet.{Sheet, sheetOf}
 use Rattle.transport.specs.SheetText.{sheetText}
-use Rattle.sheet.specs.Check.{sheetOf}
 use Rattle.sheet.specs.Refusals.{sinks-some, costs-whole}
 use Rattle.sections.specs.Front.{FirstWritten, first-room, second-start, second-room, both-length, both-written}
 use Rattle.sheet_writer.specs.SheetSections.{supplySection, demandSection, costSection, sheet-sections}
@@ -40,7 +39,12 @@ write-section-requires c κs =
 begun : (c : tie.After-write-section) → let t = c .before .before .before .before .before .before .before in
     FirstWritten (supplySection (t .args .supply .now)) (others t) (t .args .out .now) (c .write-section .last .1 .1 .1 .1 .0) (c .write-section .result)
 unfolding bytes
-begun c = record { room = room (c .before .before .before .before .before .before .before); ends = c .write-section .ensures .0; holds = c .write-section .ensures .1 }
+begun c = record {
+  room = room (c .before .before .before .before .before .before .before);
+  ends = c .write-section .ensures .0;
+  holds =
+      c .write-section .ensures .1;
+}
 
 sub-write-after-supply : tie.Need-sub-write-after-supply
 sub-write-after-supply c = second-start (begun (c .before .before))
@@ -68,7 +72,8 @@ returns : tie.Need-returns
 returns c =
     let b = begun (c .before .before .before .before .before .before) in
     let w = c .before .before .write-after-supply in
-    rw (sections (c .before .before .before .before .before .before .before .before .before .before .before .before .before)) (both-length b _ (w .ensures .0), both-written b _ (w .ensures .1))
+    rw (sections (c .before .before .before .before .before .before .before .before .before .before .before .before .before))
+    (both-length b _ (w .ensures .0), both-written b _ (w .ensures .1))
 
 pub write-text-spec : {M : Type 1} → statement M
 write-text-spec =

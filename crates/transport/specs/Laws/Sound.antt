@@ -1,5 +1,5 @@
--- What the theory of rounds asks of a balanced problem; and the problem of an accepted sheet has it. The bound on amounts is one on the total, and costs are bounded from
--- both sides, so that the theory serves problems that are more than a sheet's.
+-- What the theory of rounds asks of a balanced problem; and the problem of an accepted sheet has it. The bound on amounts is one on the total, and costs are
+-- bounded from both sides, so that the theory serves problems that are more than a sheet's.
 use Prim.Native.Nat.{ℕ, _*_, _≤_, _<_}
 use native.Mathlib.Omega.{arith}
 use native.Mathlib.Nat.{mul-le-mul-right}

@@ -22,8 +22,12 @@ abbrev μ-loop : tie.MeasureT-loop
 loop-holds : tie.Need-loop-holds Inv-loop μ-loop
 unfolding Priced
 loop-holds c =
-    let a = c .before .args in
-    (omega arith, refl, λ j p. getD-replicate nodeRoom j (pos 0) (pos 0) p ∙ rw (strikesFrom-nil (a .leaf .now) (a .other .now) (a .lane .now) (a .count), potentialBy-nil))
+    let a = c .before .args in (
+      omega arith,
+      refl,
+      λ j p. getD-replicate nodeRoom j (pos 0) (pos 0) p
+          ∙ rw (strikesFrom-nil (a .leaf .now) (a .other .now) (a .lane .now) (a .count), potentialBy-nil),
+    )
 
 sub-k : tie.Need-sub-k Inv-loop μ-loop
 sub-k c = omega arith
@@ -54,14 +58,16 @@ mul-price : tie.Need-mul-price Inv-loop μ-loop
 mul-price c = omega (arith, element-copy-out-price c)
 
 element-copy-out-price-2 : tie.Need-element-copy-out-price-2 Inv-loop μ-loop
-element-copy-out-price-2 c = c .before .before .before .before .before .before .before .pre .0 .otherIn (c .before .before .before .before .before .loop .k - 1) (omega arith)
+element-copy-out-price-2 c = c .before .before .before .before .before .before .before .pre .0 .otherIn
+    (c .before .before .before .before .before .loop .k - 1) (omega arith)
 
 mul-price-2 : tie.Need-mul-price-2 Inv-loop μ-loop
 mul-price-2 c = omega (arith, element-copy-out-price-2 c)
 
 element-set-from-price : tie.Need-element-set-from-price Inv-loop μ-loop
 element-set-from-price c =
-    c .before .before .before .before .before .before .before .before .pre .0 .leafIn (c .before .before .before .before .before .before .loop .k - 1) (omega arith)
+    c .before .before .before .before .before .before .before .before .pre .0 .leafIn (c .before .before .before .before .before .before .loop .k - 1)
+    (omega arith)
 
 mul-t27 : tie.Need-mul-t27 Inv-loop μ-loop
 mul-t27 c = omega (arith, element-set-from-price c)
@@ -77,7 +83,11 @@ room c =
     let a = s .args in
     let i = c .before .before .before .before .before .before .loop in
     let e : i .k ≡ suc (i .k - 1) = omega arith in
-    omega (arith, priced-room (a .cost .now) (a .leaf .now) (a .other .now) (a .lane .now) (a .count) (i .price) (i .k - 1) costAbove (s .pre .0) (s .pre .1) (omega arith) (rw e at (i .inv .2)))
+    omega (
+      arith,
+      priced-room (a .cost .now) (a .leaf .now) (a .other .now) (a .lane .now) (a .count) (i .price) (i .k - 1) costAbove (s .pre .0) (s .pre .1)
+          (omega arith) (rw e at (i .inv .2)),
+    )
 
 sub-price : tie.Need-sub-price Inv-loop μ-loop
 sub-price c = search (needs, diff-in, room c)
@@ -91,8 +101,13 @@ loop-again c =
     let a = s .args in
     let i = c .before .before .before .before .before .before .loop in
     let e : i .k ≡ suc (i .k - 1) = omega arith in
-    let v = diff-back w32 (getD (a .cost .now) (getD (a .lane .now) (i .k - 1) 0) (pos 0)) (getD (i .price) (getD (a .other .now) (i .k - 1) 0) (pos 0)) (room c) in
-    (omega arith, simp length-set (i .inv .1), rw v (priced-step (a .cost .now) (a .leaf .now) (a .other .now) (a .lane .now) (a .count) (i .price) (i .k - 1) (i .inv .1) (s .pre .0) (omega arith) (rw e at (i .inv .2))))
+    let v = diff-back w32 (getD (a .cost .now) (getD (a .lane .now) (i .k - 1) 0) (pos 0)) (getD (i .price) (getD (a .other .now) (i .k - 1) 0) (pos 0))
+    (room c) in (
+      omega arith,
+      simp length-set (i .inv .1),
+      rw v (priced-step (a .cost .now) (a .leaf .now) (a .other .now) (a .lane .now) (a .count) (i .price) (i .k - 1)
+          (i .inv .1) (s .pre .0) (omega arith) (rw e at (i .inv .2))),
+    )
 
 returns : tie.Need-returns Inv-loop μ-loop
 unfolding Priced

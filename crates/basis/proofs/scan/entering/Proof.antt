@@ -1,4 +1,5 @@
--- `basis::scan::entering` meets its contract. The loop's invariant: `best` is the lowest of the first i rows, and `row` its first place; the measure is what is left of the rows.
+-- `basis::scan::entering` meets its contract. The loop's invariant: `best` is the lowest of the first i rows, and `row` its first place; the measure is what
+-- is left of the rows.
 use Prim.Native.Nat.{_-_, _≤_, _<_}
 use mathlib.Core.Path.{_≡_, sym, ap, _∙_}
 use mathlib.Core.Bool.{true, false}
@@ -13,18 +14,21 @@ use mir.Val.{toZ, ofZ}
 use mir.Facts.{toZ-ofZ}
 use Rattle.transport.specs.Limits.{maxCost, costAbove}
 use Rattle.transport.specs.Laws.RangeLaws.{sum-fits}
-use Rattle.basis.specs.ScanLaws.{rowLeast, lowest, lowestPlace, lowest-zero, lowest-one, lowestPlace-zero, lowestPlace-one, scanned-row, scanned-room, scanned-yes, scanned-no}
+use Rattle.basis.specs.ScanLaws.{rowLeast, lowest, lowestPlace, lowest-zero, lowest-one, lowestPlace-zero, lowestPlace-one, scanned-row, scanned-room}
+use Rattle.basis.specs.ScanLaws.{scanned-yes, scanned-no}
 use Rattle.basis.proofs.scan.entering.Statement.{statement}
 use Rattle.basis.proofs.scan.entering.Tie as tie
 
 abbrev Inv-loop : tie.InvT-loop
-Inv-loop cost price m best₀ row₀ i₀ best row i = (i ≤ m) × (toZ w32 best ≡ lowest (pos 0) (rowLeast cost price m) i) × (row ≡ lowestPlace (pos 0) (rowLeast cost price m) i)
+Inv-loop cost price m best₀ row₀ i₀ best row i = (i ≤ m) × (toZ w32 best ≡ lowest (pos 0) (rowLeast cost price m) i)
+    × (row ≡ lowestPlace (pos 0) (rowLeast cost price m) i)
 
 abbrev μ-loop : tie.MeasureT-loop
 μ-loop cost price m best₀ row₀ i₀ best row i = m - i
 
 loop-holds : tie.Need-loop-holds Inv-loop μ-loop
-loop-holds c = let f = rowLeast (c .args .cost .now) (c .args .price .now) (c .args .m) in (omega arith, sym (lowest-zero (pos 0) f), sym (lowestPlace-zero (pos 0) f))
+loop-holds c = let f = rowLeast (c .args .cost .now) (c .args .price .now) (c .args .m) in
+    (omega arith, sym (lowest-zero (pos 0) f), sym (lowestPlace-zero (pos 0) f))
 
 least-in-row-requires : tie.Need-least-in-row-requires Inv-loop μ-loop
 least-in-row-requires c κs = (c .before .before .pre, omega arith)
@@ -65,7 +69,8 @@ inside : (c : tie.Then2 Inv-loop μ-loop) → c .before .before .loop .row < c .
 inside c =
     let s = c .before .before .before in
     let i = c .before .before .loop in
-    scanned-row (s .args .cost .now) (s .args .price .now) (s .args .m) (s .pre) (toZ w32 (i .best)) (best-is (c .before)) (i .row) (row-is (c .before)) (c .if2 .taken)
+    scanned-row (s .args .cost .now) (s .args .price .now) (s .args .m) (s .pre) (toZ w32 (i .best)) (best-is (c .before)) (i .row) (row-is (c .before))
+    (c .if2 .taken)
 
 mul-place-in-row : tie.Need-mul-place-in-row Inv-loop μ-loop
 mul-place-in-row c = omega (arith, inside c)
@@ -83,7 +88,12 @@ unfolding costAbove maxCost
 add-place-in-row c =
     let s = c .before .before .before .before in
     let i = c .before .before .before .loop in
-    rw (price-is c) (sum-fits w32 (toZ w32 (i .best)) (getD (s .args .price .now) (i .row) (pos 0)) (omega (arith, scanned-room (s .args .cost .now) (s .args .price .now) (s .args .m) (s .pre) (toZ w32 (i .best)) (best-is (c .before .before)) (i .row) (row-is (c .before .before)) (c .before .if2 .taken))))
+    rw (price-is c) (sum-fits w32 (toZ w32 (i .best)) (getD (s .args .price .now) (i .row) (pos 0))
+    (omega (
+      arith,
+      scanned-room (s .args .cost .now) (s .args .price .now) (s .args .m) (s .pre) (toZ w32 (i .best)) (best-is (c .before .before))
+          (i .row) (row-is (c .before .before)) (c .before .if2 .taken),
+    )))
 
 place-in-row-requires : tie.Need-place-in-row-requires Inv-loop μ-loop
 place-in-row-requires c κs = (c .before .before .before .before .pre, inside (c .before))
@@ -93,7 +103,8 @@ returns c =
     let s = c .before .before .before .before .before in
     let i = c .before .before .before .before .loop in
     let p = c .place-in-row .ensures in
-    scanned-yes (s .args .cost .now) (s .args .price .now) (s .args .m) (s .pre) (toZ w32 (i .best)) (best-is (c .before .before .before)) (i .row) (row-is (c .before .before .before)) (c .before .before .if2 .taken)
+    scanned-yes (s .args .cost .now) (s .args .price .now) (s .args .m) (s .pre) (toZ w32 (i .best)) (best-is (c .before .before .before)) (i .row)
+    (row-is (c .before .before .before)) (c .before .before .if2 .taken)
     _ (c .place-in-row .result) (toZ-ofZ {w = w32} (add-place-in-row (c .before)) ∙ rw (price-is (c .before))) (p .0) (p .1) (p .2)
 
 returns-2 : tie.Need-returns-2 Inv-loop μ-loop

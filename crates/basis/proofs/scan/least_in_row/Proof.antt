@@ -56,7 +56,11 @@ room : (c : tie.After-slack2 Inv-loop μ-loop)
 unfolding costAbove maxCost
 room c =
     let s = c .before .before .before .before in
-    omega (arith, slack-room (s .args .cost .now) (s .args .price .now) (s .args .m) (s .pre .0) (s .args .i) (s .pre .1) (c .before .before .before .loop .j) (omega arith))
+    omega (
+      arith,
+      slack-room (s .args .cost .now) (s .args .price .now) (s .args .m) (s .pre .0) (s .args .i) (s .pre .1) (c .before .before .before .loop .j)
+          (omega arith),
+    )
 
 sub-slack : tie.Need-sub-slack Inv-loop μ-loop
 sub-slack c = search (needs, diff-in, room c)
@@ -105,7 +109,8 @@ sub-result : tie.Need-sub-result Inv-loop μ-loop
 unfolding costAbove maxCost
 sub-result c =
     let a = c .before .before .before .args in
-    rw (best-is c, price-is c) (diff-fits w32 (lowest (pos far) (slackAt (a .cost .now) (a .price .now) (a .m) (a .i)) stride) (getD (a .price .now) (a .i) (pos 0)) (omega (arith, row-room (a .cost .now) (a .price .now) (a .m) (c .before .before .before .pre .0) (a .i) (c .before .before .before .pre .1))))
+    rw (best-is c, price-is c) (diff-fits w32 (lowest (pos far) (slackAt (a .cost .now) (a .price .now) (a .m) (a .i)) stride) (getD (a .price .now) (a .i)
+    (pos 0)) (omega (arith, row-room (a .cost .now) (a .price .now) (a .m) (c .before .before .before .pre .0) (a .i) (c .before .before .before .pre .1))))
 
 returns : tie.Need-returns Inv-loop μ-loop
 returns c = toZ-ofZ {w = w32} (sub-result c) ∙ rw (best-is c, price-is c)

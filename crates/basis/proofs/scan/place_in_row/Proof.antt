@@ -53,7 +53,11 @@ room : (c : tie.After-if13 Inv-loop μ-loop)
 unfolding costAbove maxCost
 room c =
     let s = c .before .before .before .before in
-    omega (arith, slack-room (s .args .cost .now) (s .args .price .now) (s .args .m) (s .pre .0) (s .args .i) (s .pre .1) (c .before .before .before .loop .j) (omega arith))
+    omega (
+      arith,
+      slack-room (s .args .cost .now) (s .args .price .now) (s .args .m) (s .pre .0) (s .args .i) (s .pre .1) (c .before .before .before .loop .j)
+          (omega arith),
+    )
 
 slack-is : (c : tie.After-if13 Inv-loop μ-loop)
     → let a = c .before .before .before .before .args in

@@ -11,12 +11,14 @@ use lib.Signed.{ltZ}
 use mir.Syntax.{w32}
 use Rattle.transport.specs.Laws.RangeLaws.{mag-abs, back, diff-in, diff-back}
 use Rattle.basis.specs.Layout.{nodeRoom, getD-all}
-use Rattle.basis.specs.SignLaws.{enterWeight, Needed, LoopLanes, counted-yes, counted-no, needed-starts, needed-step, needed-room, lanes-start, lanes-step}
+use Rattle.basis.specs.SignLaws.{enterWeight, Needed, LoopLanes, counted-yes, counted-no, needed-starts, needed-step, needed-room, lanes-start}
+use Rattle.basis.specs.SignLaws.{lanes-step}
 use Rattle.basis.proofs.signs.loop_signs.Statement.{statement}
 use Rattle.basis.proofs.signs.loop_signs.Tie as tie
 
 abbrev Inv-loop : tie.InvT-loop
-Inv-loop leaf other lane count row sink minus₀ plus₀ need₀ a₀ b₀ k₀ minus plus need a b k = Needed (enterWeight row sink) 2 leaf other lane count need k × LoopLanes leaf other lane count row sink minus plus a b k
+Inv-loop leaf other lane count row sink minus₀ plus₀ need₀ a₀ b₀ k₀ minus plus need a b k = Needed (enterWeight row sink) 2 leaf other lane count need k
+    × LoopLanes leaf other lane count row sink minus plus a b k
 
 abbrev μ-loop : tie.MeasureT-loop
 μ-loop leaf other lane count row sink minus₀ plus₀ need₀ a₀ b₀ k₀ minus plus need a b k = count - k
@@ -34,8 +36,10 @@ array-set-of-need-2 : tie.Need-array-set-of-need-2 Inv-loop μ-loop
 array-set-of-need-2 c = omega arith
 
 loop-holds : tie.Need-loop-holds Inv-loop μ-loop
-loop-holds c =
-    (needed-starts _ _ _ _ _ _ (replicate nodeRoom (pos 0)) (λ j. getD-all nodeRoom j (pos 0)) refl (c .pre .1 .1 .0 .0) (c .pre .1 .1 .0 .1), lanes-start _ _ _ _ _ _ _ _ (c .pre .1 .1 .1 .0) (c .pre .1 .1 .1 .1))
+loop-holds c = (
+  needed-starts _ _ _ _ _ _ (replicate nodeRoom (pos 0)) (λ j. getD-all nodeRoom j (pos 0)) refl (c .pre .1 .1 .0 .0) (c .pre .1 .1 .0 .1),
+  lanes-start _ _ _ _ _ _ _ _ (c .pre .1 .1 .1 .0) (c .pre .1 .1 .1 .1),
+)
 
 mul-p : tie.Need-mul-p Inv-loop μ-loop
 mul-p c = omega arith
@@ -77,7 +81,8 @@ mul-need-4 c = omega (arith, array-copy-out-need c)
 room : (c : tie.After-need Inv-loop μ-loop)
     → let a = c .before .before .before .before .before .before .before .args in
     let i = c .before .before .before .before .before .before .loop in
-    natAbs (getD (set (i .need) (getD (a .leaf .now) (i .k) 0) (pos 0)) (getD (a .other .now) (i .k) 0) (pos 0)) + natAbs (getD (i .need) (getD (a .leaf .now) (i .k) 0) (pos 0)) < 2 ^ 31
+    natAbs (getD (set (i .need) (getD (a .leaf .now) (i .k) 0) (pos 0)) (getD (a .other .now) (i .k) 0) (pos 0))
+    + natAbs (getD (i .need) (getD (a .leaf .now) (i .k) 0) (pos 0)) < 2 ^ 31
 room c =
     let i = c .before .before .before .before .before .before .loop in
     omega (arith, needed-room (c .before .before .before .before .before .before .before .pre .0) (omega arith) (i .inv .0))
@@ -86,7 +91,8 @@ sub-need : tie.Need-sub-need Inv-loop μ-loop
 sub-need c = search (needs, diff-in, room c)
 
 array-set-from-need : tie.Need-array-set-from-need Inv-loop μ-loop
-array-set-from-need c = c .before .before .before .before .before .before .before .pre .0 .otherIn (c .before .before .before .before .before .before .loop .k) (omega arith)
+array-set-from-need c = c .before .before .before .before .before .before .before .pre .0 .otherIn
+    (c .before .before .before .before .before .before .loop .k) (omega arith)
 
 mul-need-5 : tie.Need-mul-need-5 Inv-loop μ-loop
 mul-need-5 c = omega (arith, array-set-from-need c)
@@ -119,7 +125,8 @@ minus-count c =
     let i = c .before .before .before .before .before .before .before .loop in
     let y = getD (i .need) (getD (a .leaf .now) (i .k) 0) (pos 0) in
     let v = back w32 y (omega (arith, room (c .before), mag-abs y)) in
-    ⊎-elim (λ w. counted-yes (ltZ y (pos 0)) _ _ (rw v at (w .0 .taken)) (w .1)) (λ w. counted-no (ltZ y (pos 0)) _ _ (rw v at (w .0 .left)) (w .1)) (c .if1 .came)
+    ⊎-elim (λ w. counted-yes (ltZ y (pos 0)) _ _ (rw v at (w .0 .taken)) (w .1)) (λ w. counted-no (ltZ y (pos 0)) _ _ (rw v at (w .0 .left)) (w .1))
+    (c .if1 .came)
 
 plus-count : (c : tie.Joined2 Inv-loop μ-loop)
     → let a = c .before .before .before .before .before .before .before .before .before .args in
@@ -130,7 +137,8 @@ plus-count c =
     let i = c .before .before .before .before .before .before .before .before .loop in
     let y = getD (i .need) (getD (a .leaf .now) (i .k) 0) (pos 0) in
     let v = back w32 y (omega (arith, room (c .before .before), mag-abs y)) in
-    ⊎-elim (λ w. counted-yes (ltZ (pos 0) y) _ _ (rw v at (w .0 .taken)) (w .1)) (λ w. counted-no (ltZ (pos 0) y) _ _ (rw v at (w .0 .left)) (w .1)) (c .if2 .came)
+    ⊎-elim (λ w. counted-yes (ltZ (pos 0) y) _ _ (rw v at (w .0 .taken)) (w .1)) (λ w. counted-no (ltZ (pos 0) y) _ _ (rw v at (w .0 .left)) (w .1))
+    (c .if2 .came)
 
 add-k : tie.Need-add-k Inv-loop μ-loop
 add-k c = omega arith

@@ -42,7 +42,8 @@ still c =
     let s = c .before .before .before .before in
     let a = s .args in
     let i = c .before .before .before .loop in
-    changed-still (λ z. z +ℤ toZ w64 (ofZ w64 (a .x))) (a .q .now) (i .q) (a .lanes .now) (i .k) (a .count) (i .inv .1) (s .pre .0 .distinct) (omega arith) (omega arith) (s .pre .0 .inside (i .k) (omega arith))
+    changed-still (λ z. z +ℤ toZ w64 (ofZ w64 (a .x))) (a .q .now) (i .q) (a .lanes .now) (i .k) (a .count) (i .inv .1) (s .pre .0 .distinct) (omega arith)
+    (omega arith) (s .pre .0 .inside (i .k) (omega arith))
 
 room : (c : tie.After-q Inv-loop μ-loop)
     → let a = c .before .before .before .before .args in
@@ -73,7 +74,8 @@ loop-again c =
     let l = getD (a .lanes .now) (i .k) 0 in
     let v : toZ w64 (ofZ w64 (a .x)) ≡ a .x = search needs in
     let u = sum-back w64 (getD (i .q) l (pos 0)) (a .x) (room c) in
-    let m = changed-more (λ z. z +ℤ a .x) (a .q .now) (i .q) (a .lanes .now) (i .k) (a .count) (rw v at (i .inv .1)) (s .pre .0 .distinct) (omega arith) (omega arith) (s .pre .0 .inside (i .k) (omega arith)) in
+    let m = changed-more (λ z. z +ℤ a .x) (a .q .now) (i .q) (a .lanes .now) (i .k) (a .count) (rw v at (i .inv .1)) (s .pre .0 .distinct) (omega arith)
+    (omega arith) (s .pre .0 .inside (i .k) (omega arith)) in
     (omega arith, rw (u, v, still c) m)
 
 returns : tie.Need-returns Inv-loop μ-loop

@@ -60,13 +60,15 @@ returns c =
     sym (carries-false _ _ _ _ _ (i .k) p (λ e. c .if1 .taken (ap (ofZ w64) (e ∙ flow-now (s .pre .0) p (i .inv .needed)))))
 
 element-set-of-weight : tie.Need-element-set-of-weight Inv-loop μ-loop
-element-set-of-weight c = c .before .before .before .before .before .before .before .before .pre .0 .leafIn (c .before .before .before .before .before .before .before .loop .k) (omega arith)
+element-set-of-weight c = c .before .before .before .before .before .before .before .before .pre .0 .leafIn
+    (c .before .before .before .before .before .before .before .loop .k) (omega arith)
 
 mul-weight : tie.Need-mul-weight Inv-loop μ-loop
 mul-weight c = omega (arith, element-set-of-weight c)
 
 element-copy-out-weight : tie.Need-element-copy-out-weight Inv-loop μ-loop
-element-copy-out-weight c = c .before .before .before .before .before .before .before .before .pre .0 .otherIn (c .before .before .before .before .before .before .before .loop .k) (omega arith)
+element-copy-out-weight c = c .before .before .before .before .before .before .before .before .pre .0 .otherIn
+    (c .before .before .before .before .before .before .before .loop .k) (omega arith)
 
 mul-weight-2 : tie.Need-mul-weight-2 Inv-loop μ-loop
 mul-weight-2 c = omega (arith, element-copy-out-weight c)
@@ -75,7 +77,8 @@ mul-weight-2 c = omega (arith, element-copy-out-weight c)
 room : (c : tie.After-weight Inv-loop μ-loop)
     → let a = c .before .before .before .before .before .before .before .before .before .args in
     let i = c .before .before .before .before .before .before .before .before .loop in
-    natAbs (getD (set (i .weight) (getD (a .leaf .now) (i .k) 0) (pos 0)) (getD (a .other .now) (i .k) 0) (pos 0)) + natAbs (getD (i .weight) (getD (a .leaf .now) (i .k) 0) (pos 0)) < 2 ^ 63
+    natAbs (getD (set (i .weight) (getD (a .leaf .now) (i .k) 0) (pos 0)) (getD (a .other .now) (i .k) 0) (pos 0))
+    + natAbs (getD (i .weight) (getD (a .leaf .now) (i .k) 0) (pos 0)) < 2 ^ 63
 room c =
     let s = c .before .before .before .before .before .before .before .before .before in
     let i = c .before .before .before .before .before .before .before .before .loop in
@@ -103,7 +106,8 @@ loop-again c =
     let i = c .before .before .before .before .before .before .before .before .loop in
     let p : i .k < a .count = omega arith in
     let e : getD (a .amount .now) (getD (a .lane .now) (i .k) 0) (pos 0) ≡ getD (i .weight) (getD (a .leaf .now) (i .k) 0) (pos 0) = search (needs, eq-test) in
-    let v = diff-back w64 (getD (set (i .weight) (getD (a .leaf .now) (i .k) 0) (pos 0)) (getD (a .other .now) (i .k) 0) (pos 0)) (getD (i .weight) (getD (a .leaf .now) (i .k) 0) (pos 0)) (room c) in
+    let v = diff-back w64 (getD (set (i .weight) (getD (a .leaf .now) (i .k) 0) (pos 0)) (getD (a .other .now) (i .k) 0) (pos 0))
+    (getD (i .weight) (getD (a .leaf .now) (i .k) 0) (pos 0)) (room c) in
     rw v (passed-more (s .pre .0) p (i .inv) (s .pre .1 .0) e)
 
 returns-2 : tie.Need-returns-2 Inv-loop μ-loop

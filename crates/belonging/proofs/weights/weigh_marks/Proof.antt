@@ -1,4 +1,5 @@
--- `belonging::weights::weigh_marks` meets its contract: `marked-more` is a turn of the loop, and `marks-put` what follows it. The measure is what is left of the rows.
+-- `belonging::weights::weigh_marks` meets its contract: `marked-more` is a turn of the loop, and `marks-put` what follows it. The measure is what is left of
+-- the rows.
 use Prim.Native.Nat.{_-_, _≤_}
 use native.Mathlib.Omega.{arith}
 use mathlib.Core.Path.{_≡_, refl}

@@ -44,7 +44,8 @@ returns c =
     let d = getD (a .t1 .cells) (i .k) noCell in
     let l : length (a .t1 .cells) ≡ cellRoom = search (needs, long) in
     let e : fitsAt (a .m) (a .n) (i .least) d ≡ false = sym (c .before .cell-fits .ensures) ∙ not-true _ (c .if1 .taken) in
-    sym (sym (fits-all (a .m) (a .n) (cellsOf (a .t1))) ∙ i .inv .1 ∙ ap (fitsFrom (a .m) (a .n) (i .least)) (cells-from (a .t1) (i .k) (omega arith) (omega arith)) ∙ fitsFrom-no (a .m) (a .n) (i .least) d (drop (suc (i .k)) (cellsOf (a .t1))) e)
+    sym (sym (fits-all (a .m) (a .n) (cellsOf (a .t1))) ∙ i .inv .1 ∙ ap (fitsFrom (a .m) (a .n) (i .least))
+    (cells-from (a .t1) (i .k) (omega arith) (omega arith)) ∙ fitsFrom-no (a .m) (a .n) (i .least) d (drop (suc (i .k)) (cellsOf (a .t1))) e)
 
 -- Where the test is passed, the cell is on the board, and its place is small.
 fits : (c : tie.Else1 Inv-loop μ-loop)
@@ -61,8 +62,10 @@ small : (c : tie.Else1 Inv-loop μ-loop)
 small c =
     let a = c .before .before .before .before .before .args in
     let i = c .before .before .before .before .loop in
-    let d = getD (a .t1 .cells) (i .k) noCell in
-    (row-small (d .row) (a .n) (omega (arith, fits-row (a .m) (a .n) (i .least) d (fits c))) (omega arith), omega (arith, fits-column (a .m) (a .n) (i .least) d (fits c)))
+    let d = getD (a .t1 .cells) (i .k) noCell in (
+      row-small (d .row) (a .n) (omega (arith, fits-row (a .m) (a .n) (i .least) d (fits c))) (omega arith),
+      omega (arith, fits-column (a .m) (a .n) (i .least) d (fits c)),
+    )
 
 mul-least : tie.Need-mul-least Inv-loop μ-loop
 unfolding noCell nothing

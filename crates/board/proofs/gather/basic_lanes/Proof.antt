@@ -37,8 +37,11 @@ loop-less c = omega arith
 
 loop-again : tie.Need-loop-again Inv-loop μ-loop
 loop-again c =
-    let r = c .row-lanes in
-    (omega arith, lanes-more (c .before .before .before .before .before .pre .0) (omega arith) (c .before .before .before .before .loop .inv .1) (r .result) (r .last .1 .1 .0) (r .ensures .0) (r .ensures .1) (r .ensures .2))
+    let r = c .row-lanes in (
+      omega arith,
+      lanes-more (c .before .before .before .before .before .pre .0) (omega arith) (c .before .before .before .before .loop .inv .1) (r .result)
+          (r .last .1 .1 .0) (r .ensures .0) (r .ensures .1) (r .ensures .2),
+    )
 
 returns : tie.Need-returns Inv-loop μ-loop
 returns c =

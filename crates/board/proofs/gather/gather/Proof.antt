@@ -81,7 +81,8 @@ returns c =
     let b = c .before .before .basic-lanes in
     let i = c .before .loop in
     let e : i .k ≡ b .result = omega arith in
-    filled-all (b .last .1 .1 .0) (a .q .now) (a .e .now) (b .result) (a .adj .now) (a .m) (i .t) (b .ensures) (omega (arith, b .ensures .many, c .before .before .before .before .pre .few)) (rw e at (i .inv))
+    filled-all (b .last .1 .1 .0) (a .q .now) (a .e .now) (b .result) (a .adj .now) (a .m) (i .t) (b .ensures)
+    (omega (arith, b .ensures .many, c .before .before .before .before .pre .few)) (rw e at (i .inv))
 
 pub gather-spec : {M : Type 1} → statement M
 gather-spec =

@@ -1,5 +1,5 @@
--- `board::gather::row_lanes` meets its contract. The loop's invariant: the lanes listed so far, and those of the bits that are left, make up the list; the measure is
--- how many bits are left.
+-- `board::gather::row_lanes` meets its contract. The loop's invariant: the lanes listed so far, and those of the bits that are left, make up the list; the
+-- measure is how many bits are left.
 use Prim.Native.Nat.{_+_}
 use mathlib.Core.Path.{_≡_, refl, sym, ap, _∙_}
 use mathlib.Core.List.{[], _∷_, _++_, append-assoc, append-nil}
@@ -13,7 +13,8 @@ use Rattle.board.proofs.gather.row_lanes.Statement.{statement}
 use Rattle.board.proofs.gather.row_lanes.Tie as tie
 
 abbrev Inv-loop : tie.InvT-loop
-Inv-loop mask first lanes₀ count bits₀ k₀ lanes bits k = (length lanes ≡ nodeRoom) × (k + length (rowLanes first bits) ≡ count + length (rowLanes first bits₀)) × (take k lanes ++ rowLanes first bits ≡ take count lanes₀ ++ rowLanes first bits₀)
+Inv-loop mask first lanes₀ count bits₀ k₀ lanes bits k = (length lanes ≡ nodeRoom) × (k + length (rowLanes first bits) ≡ count
+    + length (rowLanes first bits₀)) × (take k lanes ++ rowLanes first bits ≡ take count lanes₀ ++ rowLanes first bits₀)
 
 abbrev μ-loop : tie.MeasureT-loop
 μ-loop mask first lanes₀ count bits₀ k₀ lanes bits k = length (rowLanes first bits)
@@ -33,7 +34,8 @@ next : (c : tie.After-clear-bit Inv-loop μ-loop)
     rowLanes first (c .before .before .before .loop .bits) ≡ (first + c .before .first-bit .result) ∷ rowLanes first (c .clear-bit .result)
 next c =
     let b = c .before .first-bit .ensures in
-    rw (c .clear-bit .ensures) (rowLanes-first (c .before .before .before .before .args .first) (c .before .before .before .loop .bits) (c .before .first-bit .result) (b .0) (b .1) (b .2))
+    rw (c .clear-bit .ensures) (rowLanes-first (c .before .before .before .before .args .first) (c .before .before .before .loop .bits)
+    (c .before .first-bit .result) (b .0) (b .1) (b .2))
 
 add-lanes : tie.Need-add-lanes Inv-loop μ-loop
 add-lanes c = omega arith

@@ -14,7 +14,8 @@ use Rattle.dealing.proofs.corner.first_tableau.Statement.{statement}
 use Rattle.dealing.proofs.corner.first_tableau.Tie as tie
 
 abbrev Inv-loop : tie.InvT-loop
-Inv-loop supply demand count t₀ at₀ k₀ t at k = (k ≡ at .row + at .col) × Standing (costless supply demand) at × (t .cells ≡ filled (start (costless supply demand)) k)
+Inv-loop supply demand count t₀ at₀ k₀ t at k = (k ≡ at .row + at .col) × Standing (costless supply demand) at
+    × (t .cells ≡ filled (start (costless supply demand)) k)
 
 abbrev μ-loop : tie.MeasureT-loop
 μ-loop supply demand count t₀ at₀ k₀ t at k = count - k
@@ -32,7 +33,8 @@ stored : (c : tie.At-loop Inv-loop μ-loop) → set (c .loop .t .cells) (c .loop
 unfolding maxCells maxSide
 stored c =
     rw (c .loop .inv .2)
-    (filled-one (start (sheetAt c)) (c .loop .k) (cellOf (c .loop .at)) (room c) (rw (c .loop .inv .0) (standing-cell (sheetAt c) (c .before .before .before .before .before .pre) (c .loop .at) (c .loop .inv .1))))
+    (filled-one (start (sheetAt c)) (c .loop .k) (cellOf (c .loop .at)) (room c)
+    (rw (c .loop .inv .0) (standing-cell (sheetAt c) (c .before .before .before .before .before .pre) (c .loop .at) (c .loop .inv .1))))
 
 add-count : tie.Need-add-count Inv-loop μ-loop
 unfolding sources sinks maxSide

@@ -34,7 +34,8 @@ element-copy-out-out : tie.Need-element-copy-out-out Inv-loop μ-loop
 element-copy-out-out c = omega arith
 
 -- The price is small, so it is read and written as it is.
-small : (c : tie.After-out Inv-loop μ-loop) → let a = c .before .before .before .args in natAbs (getD (a .price .now) (a .from + c .before .before .loop .k) (pos 0)) ≤ maxPotential
+small : (c : tie.After-out Inv-loop μ-loop) → let a = c .before .before .before .args in
+    natAbs (getD (a .price .now) (a .from + c .before .before .loop .k) (pos 0)) ≤ maxPotential
 small c = let s = c .before .before .before in s .pre .3 (s .args .from + c .before .before .loop .k) (omega arith)
 
 whole : (c : tie.After-out Inv-loop μ-loop)
@@ -73,7 +74,8 @@ loop-again c =
     let z = getD (a .price .now) (a .from + l .k) (pos 0) in (
       omega arith,
       simp length-set (l .inv .1),
-      rw (whole c, back w64 z (omega (arith, mag-abs z, small c)), l .inv .2) (fill-one (λ i. getD (a .price .now) (a .from + i) (pos 0)) (a .out .now) (l .k) (pos 0) (omega arith)),
+      rw (whole c, back w64 z (omega (arith, mag-abs z, small c)), l .inv .2)
+          (fill-one (λ i. getD (a .price .now) (a .from + i) (pos 0)) (a .out .now) (l .k) (pos 0) (omega arith)),
     )
 
 same-length : tie.Need-same-length Inv-loop μ-loop

@@ -47,14 +47,19 @@ loop-again c =
     let s = c .before .before .before .before .before .before .before in
     let a = s .args in
     let i = c .before .before .before .before .before .before .loop in
-    let e : i .k ≡ suc (i .k - 1) = omega arith in
-    (omega arith, rw (c .set-bit .ensures) (back-first (a .m) (a .leaf .now) (a .other .now) (a .lane .now) (a .count) (a .at) (s .pre .1) (i .k - 1) (omega arith) (i .nodes) (i .row) (rw e at (i .inv .1)) (c .before .if1 .taken)))
+    let e : i .k ≡ suc (i .k - 1) = omega arith in (
+      omega arith,
+      rw (c .set-bit .ensures) (back-first (a .m) (a .leaf .now) (a .other .now) (a .lane .now) (a .count) (a .at) (s .pre .1) (i .k - 1)
+          (omega arith) (i .nodes) (i .row) (rw e at (i .inv .1)) (c .before .if1 .taken)),
+    )
 
 has-bit-requires : tie.Need-has-bit-requires Inv-loop μ-loop
-has-bit-requires c κs = c .before .before .before .before .before .before .pre .0 .otherIn (c .before .before .before .before .before .loop .k - 1) (omega arith)
+has-bit-requires c κs = c .before .before .before .before .before .before .pre .0 .otherIn (c .before .before .before .before .before .loop .k - 1)
+    (omega arith)
 
 set-bit-requires-2 : tie.Need-set-bit-requires-2 Inv-loop μ-loop
-set-bit-requires-2 c κs = c .before .before .before .before .before .before .before .before .pre .0 .leafIn (c .before .before .before .before .before .before .before .loop .k - 1) (omega arith)
+set-bit-requires-2 c κs = c .before .before .before .before .before .before .before .before .pre .0 .leafIn
+    (c .before .before .before .before .before .before .before .loop .k - 1) (omega arith)
 
 loop-less-2 : tie.Need-loop-less-2 Inv-loop μ-loop
 loop-less-2 c = omega arith
@@ -64,8 +69,12 @@ loop-again-2 c =
     let s = c .before .before .before .before .before .before .before .before .before in
     let a = s .args in
     let i = c .before .before .before .before .before .before .before .before .loop in
-    let e : i .k ≡ suc (i .k - 1) = omega arith in
-    (omega arith, rw (c .set-bit2 .ensures) (back-more (a .m) (a .leaf .now) (a .other .now) (a .lane .now) (a .count) (a .at) (s .pre .1) (i .k - 1) (omega arith) (i .nodes) (i .row) (rw e at (i .inv .1)) (c .before .before .before .if1 .left) (sym (c .before .before .has-bit .ensures) ∙ c .before .if2 .taken)))
+    let e : i .k ≡ suc (i .k - 1) = omega arith in (
+      omega arith,
+      rw (c .set-bit2 .ensures) (back-more (a .m) (a .leaf .now) (a .other .now) (a .lane .now) (a .count) (a .at) (s .pre .1) (i .k - 1)
+          (omega arith) (i .nodes) (i .row) (rw e at (i .inv .1)) (c .before .before .before .if1 .left) (sym (c .before .before .has-bit .ensures)
+          ∙ c .before .if2 .taken)),
+    )
 
 loop-less-3 : tie.Need-loop-less-3 Inv-loop μ-loop
 loop-less-3 c = omega arith
@@ -75,8 +84,11 @@ loop-again-3 c =
     let s = c .before .before .before .before .before .before .before .before in
     let a = s .args in
     let i = c .before .before .before .before .before .before .before .loop in
-    let e : i .k ≡ suc (i .k - 1) = omega arith in
-    (omega arith, (back-none (a .m) (a .leaf .now) (a .other .now) (a .lane .now) (a .count) (a .at) (s .pre .1) (i .k - 1) (omega arith) (i .nodes) (i .row) (rw e at (i .inv .1)) (c .before .before .if1 .left) (sym (c .before .has-bit .ensures) ∙ c .if2 .left)))
+    let e : i .k ≡ suc (i .k - 1) = omega arith in (
+      omega arith,
+      (back-none (a .m) (a .leaf .now) (a .other .now) (a .lane .now) (a .count) (a .at) (s .pre .1) (i .k - 1) (omega arith) (i .nodes) (i .row)
+          (rw e at (i .inv .1)) (c .before .before .if1 .left) (sym (c .before .has-bit .ensures) ∙ c .if2 .left)),
+    )
 
 returns : tie.Need-returns Inv-loop μ-loop
 returns c = let e : c .before .loop .k ≡ 0 = omega arith in rw e at (c .before .loop .inv .1)

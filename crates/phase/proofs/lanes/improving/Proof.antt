@@ -33,8 +33,11 @@ first-bit-requires c κs = omega arith
 returns : tie.Need-returns Inv-loop μ-loop
 returns c =
     let a = c .before .before .before .before .before .before .before .before .args in
-    let i = c .before .before .before .before .before .before .before .loop .i in
-    (omega arith, gains-here (a .allowed .now) (a .cut .rows) (a .cut .cols) (i - 1) (c .first-bit .result) (sym (c .before .before .before .before .before .has-bit .ensures) ∙ c .before .before .before .before .if1 .taken) (c .first-bit .ensures .1))
+    let i = c .before .before .before .before .before .before .before .loop .i in (
+      omega arith,
+      gains-here (a .allowed .now) (a .cut .rows) (a .cut .cols) (i - 1) (c .first-bit .result)
+          (sym (c .before .before .before .before .before .has-bit .ensures) ∙ c .before .before .before .before .if1 .taken) (c .first-bit .ensures .1),
+    )
 
 loop-less : tie.Need-loop-less Inv-loop μ-loop
 loop-less c = omega arith
@@ -51,8 +54,11 @@ loop-less-2 c = omega arith
 loop-again-2 : tie.Need-loop-again-2 Inv-loop μ-loop
 loop-again-2 c =
     let a = c .before .before .before .before .args in
-    let i = c .before .before .before .loop in
-    (omega arith, none-before _ _ _ _ _ (i .inv .1) (gains-off (a .allowed .now) (a .cut .rows) (a .cut .cols) (i .i - 1) (sym (c .before .has-bit .ensures) ∙ c .if1 .left)))
+    let i = c .before .before .before .loop in (
+      omega arith,
+      none-before _ _ _ _ _ (i .inv .1)
+          (gains-off (a .allowed .now) (a .cut .rows) (a .cut .cols) (i .i - 1) (sym (c .before .has-bit .ensures) ∙ c .if1 .left)),
+    )
 
 returns-2 : tie.Need-returns-2 Inv-loop μ-loop
 returns-2 c = λ i. c .before .loop .inv .1 i (omega arith)

@@ -8,12 +8,12 @@ use borrow.Author.Needs.{needs}
 use borrow.Author.Tests.{not-true, not-false}
 use lib.IntN.{pos}
 use lib.ListN.{length}
-use Rattle.transport.specs.Sheet.{Sheet, roasteries, cafes, problemOf, refusal, sheetTests}
+use Rattle.transport.specs.Sheet.{Sheet, roasteries, cafes, problemOf, refusal, sheetTests, sheetOf}
 use Rattle.transport.specs.Laws.SheetLaws.{accepted}
 use Rattle.transport.specs.Laws.Sound.{accepted-sound}
 use Rattle.transport.specs.Tableau.{cellsOf}
 use Rattle.transport.specs.Belonging.{belongs}
-use Rattle.sheet.specs.Check.{sheetOf, accepted-none, refused-some}
+use Rattle.sheet.specs.Check.{accepted-none, refused-some}
 use Rattle.rounds.specs.Boards.{Board, board-laid}
 use Rattle.dealing.specs.Dealt.{Dealt, dealt-costs, dealt-board, dealt-loaded}
 use Rattle.plan_calls.specs.Finished.{Finished}
@@ -60,7 +60,8 @@ returns-2 c =
     let s = start a in
     let t = s .args .t in
     let room = length (s .args .plan .now) in
-    settle-refused (sheetAt s) t room _ 6 (tableau-refuses (sheetAt s) t room (passed a) (sym (c .before .load .ensures .0 (map pos (s .args .cost .now))) ∙ not-true _ (c .if1 .taken)))
+    settle-refused (sheetAt s) t room _ 6
+    (tableau-refuses (sheetAt s) t room (passed a) (sym (c .before .load .ensures .0 (map pos (s .args .cost .now))) ∙ not-true _ (c .if1 .taken)))
 
 -- ---- the tableau belongs to it
 
@@ -77,7 +78,8 @@ within c = sym (c .before .load .ensures .0 (map pos (startBefore c .args .cost 
 dealt : (c : tie.Else1)
     → let s = startBefore c in
     let l = c .before .load .last .1 .1 .1 in
-    Dealt (problemOf (sheetAt s)) (cellsOf (s .args .t)) (s .args .cost .now) (l .0) (l .1 .0) (l .1 .1 .0) (length (s .args .supply .now)) (length (s .args .demand .now))
+    Dealt (problemOf (sheetAt s)) (cellsOf (s .args .t)) (s .args .cost .now) (l .0) (l .1 .0) (l .1 .1 .0) (length (s .args .supply .now))
+    (length (s .args .demand .now))
 unfolding problemOf
 dealt c =
     let s = startBefore c in
@@ -89,7 +91,8 @@ spread-costs-requires c κs = dealt-costs (dealt (c .before))
 board : (c : tie.After-spread-costs)
     → let s = startBefore (c .before .before) in
     let l = c .before .before .before .load .last .1 .1 .1 in
-    Board (problemOf (sheetAt s)) (cellsOf (s .args .t)) (l .0) (l .1 .0) (l .1 .1 .0) (c .spread-costs .last .1 .1 .1 .0) (length (s .args .supply .now)) (length (s .args .demand .now))
+    Board (problemOf (sheetAt s)) (cellsOf (s .args .t)) (l .0) (l .1 .0) (l .1 .1 .0) (c .spread-costs .last .1 .1 .1 .0) (length (s .args .supply .now))
+    (length (s .args .demand .now))
 board c = dealt-board (dealt (c .before .before)) (c .spread-costs .ensures)
 
 is-finished-requires : tie.Need-is-finished-requires
@@ -106,7 +109,8 @@ returns-3 c =
     let t = s .args .t in
     let room = length (s .args .plan .now) in
     settle-refused (sheetAt s) t room _ 7
-    (unfinished-refuses (sheetAt s) t room (passed (toldBefore b)) (within b) (c .before .is-finished .ensures (problemOf (sheetAt s)) (cellsOf t) (board-laid (board a)) .0 ∙ not-true _ (c .if2 .taken)))
+    (unfinished-refuses (sheetAt s) t room (passed (toldBefore b)) (within b)
+    (c .before .is-finished .ensures (problemOf (sheetAt s)) (cellsOf t) (board-laid (board a)) .0 ∙ not-true _ (c .if2 .taken)))
 
 -- ---- and is finished
 
@@ -117,7 +121,8 @@ finished : (c : tie.Else2)
     → let a = boardBefore c in
     let s = startBefore (a .before .before) in
     let l = a .before .before .before .load .last .1 .1 .1 in
-    Finished (problemOf (sheetAt s)) (cellsOf (s .args .t)) (l .0) (l .1 .0) (l .1 .1 .0) (a .spread-costs .last .1 .1 .1 .0) (c .before .is-finished .last .1 .1 .0) (length (s .args .supply .now)) (length (s .args .demand .now))
+    Finished (problemOf (sheetAt s)) (cellsOf (s .args .t)) (l .0) (l .1 .0) (l .1 .1 .0) (a .spread-costs .last .1 .1 .1 .0)
+    (c .before .is-finished .last .1 .1 .0) (length (s .args .supply .now)) (length (s .args .demand .now))
 finished c =
     let a = boardBefore c in
     let s = startBefore (a .before .before) in
@@ -157,7 +162,8 @@ returns-5 c =
     let t = s .args .t in
     let old = s .args .plan .now in
     let clear = passed (toldBefore b) in
-    settle-given (sheetAt s) t (length old) old (accepted (sheetAt s) clear) (none-refuses (sheetAt s) t (length old) clear (within b) (finished a .done) (omega (arith, d .if3 .left))) (e .settle-board .ensures (sheetAt s) (cellsOf t) (finished a))
+    settle-given (sheetAt s) t (length old) old (accepted (sheetAt s) clear) (none-refuses (sheetAt s) t (length old) clear (within b) (finished a .done)
+    (omega (arith, d .if3 .left))) (e .settle-board .ensures (sheetAt s) (cellsOf t) (finished a))
 
 pub settle-spec : {M : Type 1} → statement M
 settle-spec =

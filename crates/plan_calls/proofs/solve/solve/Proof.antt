@@ -5,11 +5,11 @@ use Prim.Native.Nat.{_*_, _≤_}
 use native.Mathlib.Omega.{arith}
 use lib.ListN.{length}
 use borrow.Author.Needs.{needs}
-use Rattle.transport.specs.Sheet.{Sheet, roasteries, cafes, problemOf, refusal, sheetTests}
+use Rattle.transport.specs.Sheet.{Sheet, roasteries, cafes, problemOf, refusal, sheetTests, sheetOf}
 use Rattle.transport.specs.Laws.SheetLaws.{accepted}
 use Rattle.transport.specs.Laws.Sound.{accepted-sound, sources-room, sinks-room}
 use Rattle.basis.specs.Layout.{stride-is}
-use Rattle.sheet.specs.Check.{sheetOf, accepted-none, refused-some}
+use Rattle.sheet.specs.Check.{accepted-none, refused-some}
 use Rattle.dealing.specs.Corner.{sound-costless}
 use Rattle.plan_calls.specs.First.{first-fits, first-dealt}
 use Rattle.plan_calls.specs.Solve.{solve-early, solve-short, solve-given, told-refused, told-by, told-all, written-summable, told-written}
@@ -28,7 +28,8 @@ enum-known-check c = search needs
 returns : tie.Need-returns
 returns c =
     let s = c .before .before .before .before .before .before .before .before in
-    told-all (told-refused (solve-early (sheetAt s) _ _ _ _ (refused-some _ _ (sym (c .before .before .before .check-sheet .ensures) ∙ c .before .check .given .1))))
+    told-all (told-refused (solve-early (sheetAt s) _ _ _ _
+    (refused-some _ _ (sym (c .before .before .before .check-sheet .ensures) ∙ c .before .check .given .1))))
 
 enum-told : tie.Need-enum-told
 enum-told c = search needs
@@ -51,7 +52,8 @@ returns-2 c =
     told-all (told-refused (solve-short (sheetAt s) _ _ _ (passed a) (omega arith)))
 
 -- The next needs hold also where lists that lack nothing are refused.
-rooms : (c : tie.Else1) → let a = c .before .before .before .before .before .before .before .before .before .args in (length (a .supply .now) ≤ length (a .u .now)) × (length (a .demand .now) ≤ length (a .v .now)) × (length (a .supply .now) * length (a .demand .now) ≤ length (a .plan .now))
+rooms : (c : tie.Else1) → let a = c .before .before .before .before .before .before .before .before .before .args in (length (a .supply .now)
+    ≤ length (a .u .now)) × (length (a .demand .now) ≤ length (a .v .now)) × (length (a .supply .now) * length (a .demand .now) ≤ length (a .plan .now))
 rooms c = (omega arith, omega arith, omega arith)
 
 first-tableau-requires : tie.Need-first-tableau-requires

@@ -12,7 +12,8 @@ spread-costs-requires : tie.Need-spread-costs-requires
 spread-costs-requires c κs = dealt-costs (c .before .before .before .pre .0 .1)
 
 finish-requires : tie.Need-finish-requires
-finish-requires c κs = let (S, d) = c .before .before .before .before .before .before .before .before .before .pre .0 in (problemOf S, start (problemOf S), dealt-board d (c .before .before .before .before .before .spread-costs .ensures))
+finish-requires c κs = let (S, d) = c .before .before .before .before .before .before .before .before .before .pre .0 in
+    (problemOf S, start (problemOf S), dealt-board d (c .before .before .before .before .before .spread-costs .ensures))
 
 write-prices-requires : tie.Need-write-prices-requires
 write-prices-requires c κs =

@@ -7,10 +7,10 @@ use native.Mathlib.Nat.{mul-le-mul}
 use lib.ListN.{length, take, drop, length-drop}
 use lib.Seq.{length-take-le}
 use Rattle.transport.specs.Limits.{maxSources, maxSinks, maxText}
+use Rattle.transport.specs.Sheet.{sheetOf}
 use Rattle.transport.specs.Text.{bytes}
 use Rattle.transport.specs.SheetText.{stuck, sheetReader}
 use Rattle.transport.specs.PlanText.{printed}
-use Rattle.sheet.specs.Check.{sheetOf}
 use Rattle.sections.specs.Front.{front}
 use Rattle.sections.specs.Lines.{ended}
 use Rattle.sheet_reader.specs.SheetAnswer.{SheetIn, sheet-in, supply-length, demand-length, cost-length}
@@ -42,35 +42,51 @@ enum-known-answer : tie.Need-enum-known-answer
 enum-known-answer c = search needs
 
 -- What is read of the input.
-text-read : (c : tie.After-bytes-read) → take (c .bytes-read .result) (c .before .before .before .args .input .now) ≡ take (suc maxText) (c .before .before .before .args .input .now)
+text-read : (c : tie.After-bytes-read) → take (c .bytes-read .result) (c .before .before .before .args .input .now)
+    ≡ take (suc maxText) (c .before .before .before .args .input .now)
 text-read c = (rw (c .bytes-read .ensures)) ∙ take-min (c .before .before .before .args .input .now) (suc maxText)
 
 -- A sheet that was read.
 module _ (c : tie.After-answer) where
-  the-sheet : SheetIn (take (c .before .before .before .before .before .before .before .before .before .before .bytes-read .result) (c .before .before .before .before .before .before .before .before .before .before .before .before .before .args .input .now)) (c .before .before .before .before .before .read-sections .last .1 .0) (c .before .before .before .before .before .read-sections .last .1 .1 .0) (c .before .before .before .before .before .read-sections .last .1 .1 .1 .0) (c .answer .given .0 .0) (c .answer .given .0 .1 .0)
+  the-sheet : SheetIn (take (c .before .before .before .before .before .before .before .before .before .before .bytes-read .result)
+      (c .before .before .before .before .before .before .before .before .before .before .before .before .before .args .input .now))
+      (c .before .before .before .before .before .read-sections .last .1 .0) (c .before .before .before .before .before .read-sections .last .1 .1 .0)
+      (c .before .before .before .before .before .read-sections .last .1 .1 .1 .0) (c .answer .given .0 .0) (c .answer .given .0 .1 .0)
   unfolding maxSources maxSinks
-  the-sheet = sheet-in (c .before .before .before .before .before .read-sections .ensures .0) (c .before .before .before .before .before .read-sections .ensures .1) (c .answer .given .1) (omega arith) (omega arith) (omega arith)
+  the-sheet = sheet-in (c .before .before .before .before .before .read-sections .ensures .0)
+      (c .before .before .before .before .before .read-sections .ensures .1) (c .answer .given .1) (omega arith) (omega arith) (omega arith)
 
-  the-plan : printed (c .before .before .before .before .before .before .before .before .before .before .before .before .before .args .input .now) ≡ sheetShown (sheetOf (take (c .answer .given .0 .0) (c .before .before .before .before .before .read-sections .last .1 .0)) (take (c .answer .given .0 .1 .0) (c .before .before .before .before .before .read-sections .last .1 .1 .0)) (take (c .answer .given .0 .0 * c .answer .given .0 .1 .0) (c .before .before .before .before .before .read-sections .last .1 .1 .1 .0)))
+  the-plan : printed (c .before .before .before .before .before .before .before .before .before .before .before .before .before .args .input .now)
+      ≡ sheetShown (sheetOf (take (c .answer .given .0 .0) (c .before .before .before .before .before .read-sections .last .1 .0))
+      (take (c .answer .given .0 .1 .0) (c .before .before .before .before .before .read-sections .last .1 .1 .0))
+      (take (c .answer .given .0 .0 * c .answer .given .0 .1 .0) (c .before .before .before .before .before .read-sections .last .1 .1 .1 .0)))
   the-plan =
       let s = the-sheet in
       let m = supply-length s in
       let n = demand-length s in
-      printed-sheet (c .before .before .before .before .before .before .before .before .before .before .before .before .before .args .input .now) _ _ (rw (text-read (c .before .before .before .before .before .before .before .before .before .before)) at (s .reads))
-      (read-numbers _ (omega (arith, m, s .m-some), omega (arith, m, s .m-few)) (omega (arith, n, s .n-some), omega (arith, n, s .n-few)) (rw (m, n) (cost-length s)))
+      printed-sheet (c .before .before .before .before .before .before .before .before .before .before .before .before .before .args .input .now) _ _
+      (rw (text-read (c .before .before .before .before .before .before .before .before .before .before)) at (s .reads))
+      (read-numbers _ (omega (arith, m, s .m-some), omega (arith, m, s .m-few)) (omega (arith, n, s .n-some), omega (arith, n, s .n-few))
+      (rw (m, n) (cost-length s)))
 
 -- A text that is no sheet text, with its place.
-the-place : (c : tie.After-answer2) → printed (c .before .before .before .before .before .before .before .before .before .before .before .before .before .args .input .now) ≡ bytes "refused 9 " ++ ended (c .answer2 .given .0 .0) 10
+the-place : (c : tie.After-answer2)
+    → printed (c .before .before .before .before .before .before .before .before .before .before .before .before .before .args .input .now)
+    ≡ bytes "refused 9 " ++ ended (c .answer2 .given .0 .0) 10
 the-place c =
     let t = c .before .before .before .before .before .before .before .before .before .before in
     let place = c .answer2 .given .0 .0 in
-    let text = take (suc maxText) (c .before .before .before .before .before .before .before .before .before .before .before .before .before .args .input .now) in
-    let stands : sheetReader text ≡ stuck (drop place text) = rw (text-read t, c .answer2 .given .1) at (c .before .before .before .before .before .read-sections .ensures .0) in
+    let text = take (suc maxText) (c .before .before .before .before .before .before .before .before .before .before .before .before .before .args .input
+    .now) in
+    let stands : sheetReader text ≡ stuck (drop place text) =
+    rw (text-read t, c .answer2 .given .1) at (c .before .before .before .before .before .read-sections .ensures .0) in
     let inside : place ≤ length text = rw (text-read t, c .answer2 .given .1) at (c .before .before .before .before .before .read-sections .ensures .1) in
     let same : length text - length (drop place text) ≡ place = omega (arith, length-drop place text) in
-    printed-place (c .before .before .before .before .before .before .before .before .before .before .before .before .before .args .input .now) (drop place text) stands ∙ (rw same)
+    printed-place (c .before .before .before .before .before .before .before .before .before .before .before .before .before .args .input .now)
+    (drop place text) stands ∙ (rw same)
 
--- The next needs hold of any front of these lists that is no longer than a sheet's, so that a program that shows the plan of another sheet is refused by the contract.
+-- The next needs hold of any front of these lists that is no longer than a sheet's, so that a program that shows the plan of another sheet is refused by the
+-- contract.
 module _ (c : tie.After-answer) where
   m-few : c .answer .given .0 .0 ≤ 32
   unfolding maxSources maxSinks
@@ -127,14 +143,20 @@ same-length c = search needs
 
 returns : tie.Need-returns
 unfolding front
-returns c = rw (shown-is (c .before .before .before .before .before .before .before .before .before .before .before .before .before .before .before .before .before .before .before .before .before .args .input .now) (length (c .before .before .before .before .before .before .before .before .before .before .before .before .before .before .before .before .before .before .before .before .before .args .out .now)) _ (the-plan (c .before .before .before .before .before .before .before .before))) (c .before .before .show-plan .ensures)
+returns c = rw (shown-is (c .before .before .before .before .before .before .before .before .before .before .before .before .before .before .before .before
+    .before .before .before .before .before .args .input .now) (length (c .before .before .before .before .before .before .before .before .before .before
+    .before .before .before .before .before .before .before .before .before .before .before .args .out .now)) _
+    (the-plan (c .before .before .before .before .before .before .before .before))) (c .before .before .show-plan .ensures)
 
 same-length-2 : tie.Need-same-length-2
 same-length-2 c = search needs
 
 returns-2 : tie.Need-returns-2
 unfolding front bytes
-returns-2 c = rw (shown-is (c .before .before .before .before .before .before .before .before .before .before .before .before .before .before .before .before .before .before .before .args .input .now) (length (c .before .before .before .before .before .before .before .before .before .before .before .before .before .before .before .before .before .before .before .args .out .now)) _ (the-place (c .before .before .before .before .before .before))) (c .before .before .show-refusal .ensures)
+returns-2 c = rw (shown-is (c .before .before .before .before .before .before .before .before .before .before .before .before .before .before .before .before
+    .before .before .before .args .input .now) (length (c .before .before .before .before .before .before .before .before .before .before .before .before
+    .before .before .before .before .before .before .before .args .out .now)) _ (the-place (c .before .before .before .before .before .before)))
+    (c .before .before .show-refusal .ensures)
 
 returns-3 : tie.Need-returns-3
 returns-3 c = absurd (rw (c .enum-told .given .1) at (c .before .before .before .before .before .read-sections .ensures .1))

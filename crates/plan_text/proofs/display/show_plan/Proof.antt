@@ -2,8 +2,7 @@
 use mathlib.Core.Path.{sym, ap, _∙_}
 use Rattle.transport.specs.declared.WriteAnswer.the-variants.{Refused}
 use Rattle.transport.specs.Text.{bytes}
-use Rattle.transport.specs.Sheet.{Sheet}
-use Rattle.sheet.specs.Check.{sheetOf}
+use Rattle.transport.specs.Sheet.{Sheet, sheetOf}
 use Rattle.plan_text.specs.Shown.{shown-written, shown-short, shown-refused}
 use borrow.Author.Needs.{needs}
 use Rattle.plan_text.proofs.display.show_plan.Statement.{statement}
@@ -28,7 +27,8 @@ returns : tie.Need-returns
 returns c =
     let t = c .before .before .before .before .before .before .before .before .before .before .before .before in
     let w = c .before .before .before .before .before .before .write-plan in
-    shown-short (sheetAt t) (t .args .out .now) (w .last .1 .1 .1 .0) (ap Refused (sym (c .if1 .taken)) ∙ sym (c .before .before .answer2 .given .1) ∙ w .ensures .0) (w .ensures .1)
+    shown-short (sheetAt t) (t .args .out .now) (w .last .1 .1 .1 .0) (ap Refused (sym (c .if1 .taken)) ∙ sym (c .before .before .answer2 .given .1)
+    ∙ w .ensures .0) (w .ensures .1)
 
 slice-aggregate-show-refusal : tie.Need-slice-aggregate-show-refusal
 slice-aggregate-show-refusal c = search needs
@@ -56,7 +56,8 @@ unfolding bytes
 returns-3 c =
     let t = c .before .before .before .before .before .before .before .before .before .before .before .before .before .before .before .before .before in
     let w = c .before .before .before .before .before .before .before .before .before .before .before .write-plan in
-    let e = shown-refused (sheetAt t) (t .args .out .now) (w .last .1 .1 .1 .0) _ (c .before .before .before .before .before .if1 .left) (sym (c .before .before .before .before .before .before .before .answer2 .given .1) ∙ w .ensures .0) (w .ensures .1) in
+    let e = shown-refused (sheetAt t) (t .args .out .now) (w .last .1 .1 .1 .0) _ (c .before .before .before .before .before .if1 .left)
+    (sym (c .before .before .before .before .before .before .before .answer2 .given .1) ∙ w .ensures .0) (w .ensures .1) in
     rw (e .0, ← e .1) (c .before .before .show-refusal .ensures)
 
 pub show-plan-spec : {M : Type 1} → statement M

@@ -16,7 +16,10 @@ head-len-requires c κs = search needs
 returns : tie.Need-returns
 returns c =
     let a = c .before .before .before .before .args in
-    rw (fitting-short (length (a .out .now)) (a .words .now ++ ended (a .number) 10) (omega (arith, c .before .head-len .ensures))) (refl, sym (front-nil (a .out .now)))
+    rw (fitting-short (length (a .out .now)) (a .words .now ++ ended (a .number) 10) (omega (arith, c .before .head-len .ensures))) (
+      refl,
+      sym (front-nil (a .out .now)),
+    )
 
 write-head-requires : tie.Need-write-head-requires
 write-head-requires c κs = search needs
@@ -27,7 +30,8 @@ same-length c = search needs
 returns-2 : tie.Need-returns-2
 returns-2 c =
     let a = c .before .before .before .before .before .before .before .before .args in
-    rw (fitting-fits (length (a .out .now)) (a .words .now ++ ended (a .number) 10) (omega (arith, c .before .before .before .before .before .head-len .ensures))) (c .before .before .write-head .ensures)
+    rw (fitting-fits (length (a .out .now)) (a .words .now ++ ended (a .number) 10)
+    (omega (arith, c .before .before .before .before .before .head-len .ensures))) (c .before .before .write-head .ensures)
 
 pub show-refusal-spec : {M : Type 1} → statement M
 show-refusal-spec =

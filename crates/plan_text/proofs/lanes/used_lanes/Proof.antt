@@ -12,7 +12,8 @@ use Rattle.plan_text.proofs.lanes.used_lanes.Statement.{statement}
 use Rattle.plan_text.proofs.lanes.used_lanes.Tie as tie
 
 abbrev Inv-loop : tie.InvT-loop
-Inv-loop plan n list₀ at₀ l₀ list at l = (l ≤ length plan) × (length list ≡ length list₀) × (at ≡ length (usedNumbers n plan l)) × (list ≡ front (usedNumbers n plan l) list₀)
+Inv-loop plan n list₀ at₀ l₀ list at l = (l ≤ length plan) × (length list ≡ length list₀) × (at ≡ length (usedNumbers n plan l))
+    × (list ≡ front (usedNumbers n plan l) list₀)
 
 abbrev μ-loop : tie.MeasureT-loop
 μ-loop plan n list₀ at₀ l₀ list at l = length plan - l
@@ -32,7 +33,11 @@ mul-put-lane-2 : tie.Need-mul-put-lane-2 Inv-loop μ-loop
 unfolding maxSide
 mul-put-lane-2 c =
     let l = c .before .before .loop in
-    omega (arith, c .before .before .before .before .before .pre, used-most (c .before .before .before .before .before .args .n) (c .before .before .before .before .before .args .plan .now) (l .l))
+    omega (
+      arith,
+      c .before .before .before .before .before .pre,
+      used-most (c .before .before .before .before .before .args .n) (c .before .before .before .before .before .args .plan .now) (l .l),
+    )
 
 -- The numbers so far, and those of the next lane.
 begun : (c : tie.In-loop Inv-loop μ-loop) → let t = c .before .before .before .before .args in let l = c .before .loop in
@@ -59,8 +64,16 @@ put-lane-requires : tie.Need-put-lane-requires Inv-loop μ-loop
 put-lane-requires c κs =
     let t = c .before .before .before .before .before .before .args in
     let l = c .before .before .before .loop in
-    let b = begun (c .before .before) in
-    (omega (arith, c .before .before .before .before .before .before .pre), omega (arith, c .before .before .before .before .before .before .pre), omega (arith, c .before .before .before .before .before .before .pre, used-most (t .n) (t .plan .now) (l .l), lent-length (usedNumbers (t .n) (t .plan .now) (l .l)) (t .list .now) (l .list) (l .at) (b .ends) (b .holds)))
+    let b = begun (c .before .before) in (
+      omega (arith, c .before .before .before .before .before .before .pre),
+      omega (arith, c .before .before .before .before .before .before .pre),
+      omega (
+        arith,
+        c .before .before .before .before .before .before .pre,
+        used-most (t .n) (t .plan .now) (l .l),
+        lent-length (usedNumbers (t .n) (t .plan .now) (l .l)) (t .list .now) (l .list) (l .at) (b .ends) (b .holds),
+      ),
+    )
 
 add-at : tie.Need-add-at Inv-loop μ-loop
 unfolding at

@@ -17,7 +17,8 @@ slice-aggregate-write-section : tie.Need-slice-aggregate-write-section
 slice-aggregate-write-section c = search needs
 
 begun : (c : tie.After-write-price-sections) → let t = c .before .before .before .before in
-    FirstWritten (pricesText (t .args .u .now) (t .args .v .now)) (lanesText (t .args .count) (t .args .numbers .now)) (t .args .out .now) (c .write-price-sections .last .1 .1 .0) (c .write-price-sections .result)
+    FirstWritten (pricesText (t .args .u .now) (t .args .v .now)) (lanesText (t .args .count) (t .args .numbers .now)) (t .args .out .now)
+    (c .write-price-sections .last .1 .1 .0) (c .write-price-sections .result)
 unfolding lanesText bytes
 begun c = record { room = c .before .before .before .before .pre; ends = c .write-price-sections .ensures .0; holds = c .write-price-sections .ensures .1 }
 

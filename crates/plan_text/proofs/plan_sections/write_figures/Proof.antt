@@ -18,8 +18,11 @@ slice-aggregate-write-section-2 c = search needs
 write-section-requires : tie.Need-write-section-requires
 unfolding figuresText bytes
 write-section-requires c κs =
-    let t = c .before .before .before .before in
-    (omega arith, first-room (sectionText (bytes "total ") 1 1 (t .args .figures .total ∷ [])) (sectionText (bytes "rounds ") 1 1 (t .args .figures .rounds ∷ [])) (t .args .out .now) (t .pre))
+    let t = c .before .before .before .before in (
+      omega arith,
+      first-room (sectionText (bytes "total ") 1 1 (t .args .figures .total ∷ []))
+          (sectionText (bytes "rounds ") 1 1 (t .args .figures .rounds ∷ [])) (t .args .out .now) (t .pre),
+    )
 
 slice-aggregate-write-section-3 : tie.Need-slice-aggregate-write-section-3
 slice-aggregate-write-section-3 c = search needs
@@ -28,7 +31,8 @@ slice-aggregate-write-section-4 : tie.Need-slice-aggregate-write-section-4
 slice-aggregate-write-section-4 c = search needs
 
 begun : (c : tie.After-write-section) → let t = c .before .before .before .before .before in
-    FirstWritten (sectionText (bytes "total ") 1 1 (t .args .figures .total ∷ [])) (sectionText (bytes "rounds ") 1 1 (t .args .figures .rounds ∷ [])) (t .args .out .now) (c .write-section .last .1 .1 .1 .1 .0) (c .write-section .result)
+    FirstWritten (sectionText (bytes "total ") 1 1 (t .args .figures .total ∷ [])) (sectionText (bytes "rounds ") 1 1 (t .args .figures .rounds ∷ []))
+    (t .args .out .now) (c .write-section .last .1 .1 .1 .1 .0) (c .write-section .result)
 unfolding figuresText bytes
 begun c = record { room = c .before .before .before .before .before .pre; ends = c .write-section .ensures .0; holds = c .write-section .ensures .1 }
 

@@ -11,10 +11,12 @@ write-figures-requires : tie.Need-write-figures-requires
 unfolding planSections
 write-figures-requires c κs =
     let t = c .before .before .before in
-    first-room (figuresText (t .args .figures)) (pricesText (t .args .u .now) (t .args .v .now) ++ lanesText (t .args .figures .used) (t .args .numbers .now)) (t .args .out .now) (t .pre)
+    first-room (figuresText (t .args .figures)) (pricesText (t .args .u .now) (t .args .v .now) ++ lanesText (t .args .figures .used) (t .args .numbers .now))
+    (t .args .out .now) (t .pre)
 
 begun : (c : tie.After-write-figures) → let t = c .before .before .before .before in
-    FirstWritten (figuresText (t .args .figures)) (pricesText (t .args .u .now) (t .args .v .now) ++ lanesText (t .args .figures .used) (t .args .numbers .now)) (t .args .out .now) (c .write-figures .last .1 .0) (c .write-figures .result)
+    FirstWritten (figuresText (t .args .figures)) (pricesText (t .args .u .now) (t .args .v .now)
+    ++ lanesText (t .args .figures .used) (t .args .numbers .now)) (t .args .out .now) (c .write-figures .last .1 .0) (c .write-figures .result)
 unfolding planSections
 begun c = record { room = c .before .before .before .before .pre; ends = c .write-figures .ensures .0; holds = c .write-figures .ensures .1 }
 

@@ -21,7 +21,8 @@ slice-aggregate-write-whole-section-2 : tie.Need-slice-aggregate-write-whole-sec
 slice-aggregate-write-whole-section-2 c = search needs
 
 begun : (c : tie.After-write-whole-section) → let t = c .before .before .before .before in
-    FirstWritten (wholeSection (bytes "roasteries ") (t .args .u .now)) (wholeSection (bytes "cafes ") (t .args .v .now)) (t .args .out .now) (c .write-whole-section .last .1 .1 .0) (c .write-whole-section .result)
+    FirstWritten (wholeSection (bytes "roasteries ") (t .args .u .now)) (wholeSection (bytes "cafes ") (t .args .v .now)) (t .args .out .now)
+    (c .write-whole-section .last .1 .1 .0) (c .write-whole-section .result)
 unfolding pricesText bytes
 begun c = record { room = c .before .before .before .before .pre; ends = c .write-whole-section .ensures .0; holds = c .write-whole-section .ensures .1 }
 

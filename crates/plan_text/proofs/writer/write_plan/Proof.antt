@@ -7,11 +7,10 @@ use native.Mathlib.Nat.{mul-le-mul}
 use lib.ListN.{length, take}
 use lib.Seq.{length-take-le}
 use Rattle.transport.specs.Limits.{maxSources, maxSinks, maxSide}
-use Rattle.transport.specs.Sheet.{Sheet, roasteries, cafes}
+use Rattle.transport.specs.Sheet.{Sheet, roasteries, cafes, sheetOf}
 use Rattle.transport.specs.Laws.SheetLaws.{accepted}
 use Rattle.transport.specs.Statements.{Accepted}
 use Rattle.transport.specs.PlanText.{planText, writePlanCall}
-use Rattle.sheet.specs.Check.{sheetOf}
 use Rattle.sections.specs.Front.{front, front-take}
 use Rattle.sections.specs.WriteCall.{wrote-check, wrote-short, wrote-given}
 use Rattle.plan_text.specs.Lanes.{usedNumbers}
@@ -50,7 +49,9 @@ module _ (c : tie.After-answer2) where
   abbrev made : ℕ
   made = c .answer2 .given .0 .1 .0
 
-  plan-found : FoundPlan (sheetAt (c .before .before .before .before .before .before .before .before .before .before .before .before .before)) total made (c .before .before .before .before .before .solve .last .1 .1 .1 .0) (c .before .before .before .before .before .solve .last .1 .1 .1 .1 .0) (c .before .before .before .before .before .solve .last .1 .1 .1 .1 .1 .0)
+  plan-found : FoundPlan (sheetAt (c .before .before .before .before .before .before .before .before .before .before .before .before .before)) total made
+      (c .before .before .before .before .before .solve .last .1 .1 .1 .0) (c .before .before .before .before .before .solve .last .1 .1 .1 .1 .0)
+      (c .before .before .before .before .before .solve .last .1 .1 .1 .1 .1 .0)
   unfolding maxSide
   plan-found =
       let e = c .before .before .before .before .before .solve .ensures in
@@ -92,7 +93,12 @@ slice-aggregate-used-lanes-2 c = search needs
 
 used-lanes-requires : tie.Need-used-lanes-requires
 unfolding maxSide
-used-lanes-requires c κs = omega (arith, slice-aggregate-used-lanes (c .before), array-share-prefix-plan (c .before .before), n-some (c .before .before .before))
+used-lanes-requires c κs = omega (
+  arith,
+  slice-aggregate-used-lanes (c .before),
+  array-share-prefix-plan (c .before .before),
+  n-some (c .before .before .before),
+)
 
 array-share-prefix-u : tie.Need-array-share-prefix-u
 array-share-prefix-u c = omega (arith, m-few (c .before .before .before .before .before))
@@ -111,17 +117,28 @@ module _ (c : tie.After-used-lanes) where
   numbers-few = omega (arith, c .used-lanes .ensures .2, slice-aggregate-used-lanes (c .before .before), array-share-prefix-plan (c .before .before .before))
 
   abbrev plan : List ℕ
-  plan = take (length (c .before .before .before .before .before .before .before .before .before .before .before .before .before .before .before .before .before .args .supply .now) * length (c .before .before .before .before .before .before .before .before .before .before .before .before .before .before .before .before .before .args .demand .now)) (c .before .before .before .before .before .before .before .before .before .solve .last .1 .1 .1 .1 .1 .0)
+  plan = take (length (c .before .before .before .before .before .before .before .before .before .before .before .before .before .before .before .before
+      .before .args .supply .now) * length (c .before .before .before .before .before .before .before .before .before .before .before .before .before .before
+      .before .before .before .args .demand .now)) (c .before .before .before .before .before .before .before .before .before .solve .last .1 .1 .1 .1 .1 .0)
 
   abbrev numbers : List ℕ
-  numbers = usedNumbers (length (c .before .before .before .before .before .before .before .before .before .before .before .before .before .before .before .before .before .args .demand .now)) plan (length plan)
+  numbers = usedNumbers (length (c .before .before .before .before .before .before .before .before .before .before .before .before .before .before .before
+      .before .before .args .demand .now)) plan (length plan)
 
   -- If the list holds the numbers of the lanes that carry a bag, the sections are the plan text.
   the-text : (old : List ℕ) → c .used-lanes .result ≡ length numbers → c .used-lanes .last .1 .1 .0 ≡ front numbers old
-      → planText (sheetAt (c .before .before .before .before .before .before .before .before .before .before .before .before .before .before .before .before .before))
-      ≡ planSections (record { total = total (c .before .before .before .before); rounds = made (c .before .before .before .before); used = c .used-lanes .result / 3 })
-      (take (length (c .before .before .before .before .before .before .before .before .before .before .before .before .before .before .before .before .before .args .supply .now)) (c .before .before .before .before .before .before .before .before .before .solve .last .1 .1 .1 .0))
-      (take (length (c .before .before .before .before .before .before .before .before .before .before .before .before .before .before .before .before .before .args .demand .now)) (c .before .before .before .before .before .before .before .before .before .solve .last .1 .1 .1 .1 .0))
+      → planText (sheetAt (c .before .before .before .before .before .before .before .before .before .before .before .before .before .before .before .before
+      .before))
+      ≡ planSections (record {
+        total = total (c .before .before .before .before);
+        rounds = made (c .before .before .before .before);
+        used =
+            c .used-lanes .result / 3;
+      })
+      (take (length (c .before .before .before .before .before .before .before .before .before .before .before .before .before .before .before .before .before
+      .args .supply .now)) (c .before .before .before .before .before .before .before .before .before .solve .last .1 .1 .1 .0))
+      (take (length (c .before .before .before .before .before .before .before .before .before .before .before .before .before .before .before .before .before
+      .args .demand .now)) (c .before .before .before .before .before .before .before .before .before .solve .last .1 .1 .1 .1 .0))
       (take (c .used-lanes .result) (c .used-lanes .last .1 .1 .0))
   unfolding roasteries cafes
   the-text old count holds =
@@ -137,15 +154,25 @@ slice-aggregate-plan-sections-len-3 c = sym (length-take-le _ _ (array-share-pre
 plan-sections-len-requires : tie.Need-plan-sections-len-requires
 unfolding maxSide
 plan-sections-len-requires c κs =
-    omega (arith, slice-aggregate-plan-sections-len (c .before .before), slice-aggregate-plan-sections-len-2 (c .before), slice-aggregate-plan-sections-len-3 c, m-few (c .before .before .before .before .before .before .before .before), n-few (c .before .before .before .before .before .before .before .before), numbers-few (c .before .before .before .before))
+    omega (
+      arith,
+      slice-aggregate-plan-sections-len (c .before .before),
+      slice-aggregate-plan-sections-len-2 (c .before),
+      slice-aggregate-plan-sections-len-3 c,
+      m-few (c .before .before .before .before .before .before .before .before),
+      n-few (c .before .before .before .before .before .before .before .before),
+      numbers-few (c .before .before .before .before),
+    )
 
 returns : tie.Need-returns
 unfolding writePlanCall
 returns c =
-    let t = c .before .before .before .before .before .before .before .before .before .before .before .before .before .before .before .before .before .before .before .before .before .before .before in
+    let t = c .before .before .before .before .before .before .before .before .before .before .before .before .before .before .before .before .before .before
+    .before .before .before .before .before in
     let u = c .before .before .before .before .before .before in
     let l = u .used-lanes in
-    wrote-short (sheetAt t) (planText (sheetAt t)) (t .args .out .now) (plan-found (u .before .before .before .before) .passes) (omega (arith, c .before .plan-sections-len .ensures, ap length (the-text u _ (l .ensures .0) (l .ensures .1))))
+    wrote-short (sheetAt t) (planText (sheetAt t)) (t .args .out .now) (plan-found (u .before .before .before .before) .passes)
+    (omega (arith, c .before .plan-sections-len .ensures, ap length (the-text u _ (l .ensures .0) (l .ensures .1))))
 
 array-share-prefix-u-2 : tie.Need-array-share-prefix-u-2
 array-share-prefix-u-2 c = array-share-prefix-u (c .before .before .before .before .before)
@@ -172,7 +199,8 @@ returns-2 : tie.Need-returns-2
 unfolding writePlanCall maxSide
 returns-2 c =
     let t = c .before .before .before .before .before .before .before .before .before .before .before .before .before .before in
-    wrote-check (sheetAt t) (planText (sheetAt t)) (t .args .out .now) _ (refused-check (sheetAt t) _ (sym (c .before .answer .given .1) ∙ c .before .before .before .before .before .before .solve .ensures .0))
+    wrote-check (sheetAt t) (planText (sheetAt t)) (t .args .out .now) _
+    (refused-check (sheetAt t) _ (sym (c .before .answer .given .1) ∙ c .before .before .before .before .before .before .solve .ensures .0))
 
 same-length : tie.Need-same-length
 same-length c = search needs
@@ -180,12 +208,19 @@ same-length c = search needs
 returns-3 : tie.Need-returns-3
 unfolding writePlanCall
 returns-3 c =
-    let t = c .before .before .before .before .before .before .before .before .before .before .before .before .before .before .before .before .before .before .before .before .before .before .before .before .before .before .before .before .before .before in
+    let t = c .before .before .before .before .before .before .before .before .before .before .before .before .before .before .before .before .before .before
+    .before .before .before .before .before .before .before .before .before .before .before .before in
     let u = c .before .before .before .before .before .before .before .before .before .before .before .before .before in
     let w = c .before .before .write-plan-sections in
     let text = the-text u _ (u .used-lanes .ensures .0) (u .used-lanes .ensures .1) in
     rw (w .ensures .0, w .ensures .1, ← text)
-    (wrote-given (sheetAt t) (planText (sheetAt t)) (t .args .out .now) (plan-found (u .before .before .before .before) .passes) (omega (arith, c .before .before .before .before .before .before .before .before .plan-sections-len .ensures, ap length text, c .before .before .before .before .before .before .before .if1 .left)))
+    (wrote-given (sheetAt t) (planText (sheetAt t)) (t .args .out .now) (plan-found (u .before .before .before .before) .passes)
+    (omega (
+      arith,
+      c .before .before .before .before .before .before .before .before .plan-sections-len .ensures,
+      ap length text,
+      c .before .before .before .before .before .before .before .if1 .left,
+    )))
 
 pub write-plan-spec : {M : Type 1} → statement M
 write-plan-spec =

@@ -86,8 +86,11 @@ unfolding at place
 loop2-again c =
     let a = c .before .before .before .before .before .before in
     let i = c .before .before .before .before .loop .i in
-    let l = c .before .before .loop2 in
-    (omega arith, rw (toZ-pos w32 (cast-out c .sfits)) (part-one (a .args .cost .now) (a .args .n) i (l .j) (l .out) (l .inv .1) (a .pre .1) (omega arith) (omega arith)))
+    let l = c .before .before .loop2 in (
+      omega arith,
+      rw (toZ-pos w32 (cast-out c .sfits))
+          (part-one (a .args .cost .now) (a .args .n) i (l .j) (l .out) (l .inv .1) (a .pre .1) (omega arith) (omega arith)),
+    )
 
 add-i : tie.Need-add-i Inv-loop2 μ-loop2 Inv-loop μ-loop
 add-i c = omega arith

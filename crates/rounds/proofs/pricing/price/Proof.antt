@@ -30,8 +30,11 @@ potentials-requires c κs =
     let s = a .before .before .before .before in
     let h = s .pre .0 .2 in
     let l = a .strike .last in
-    let w = struck a (s .pre .0 .0) (s .pre .0 .1) h .1 in
-    (strikes-room (s .args .m) (s .args .n) (l .1 .0) (l .1 .1 .0) (l .1 .1 .1 .0) (a .strike .result) (laid-sides h .1) (laid-sides h .3) (a .strike .ensures .0 .2) w, lane-costs h (l .1 .0) (l .1 .1 .0) (l .1 .1 .1 .0) (a .strike .result) w)
+    let w = struck a (s .pre .0 .0) (s .pre .0 .1) h .1 in (
+      strikes-room (s .args .m) (s .args .n) (l .1 .0) (l .1 .1 .0) (l .1 .1 .1 .0) (a .strike .result) (laid-sides h .1) (laid-sides h .3)
+          (a .strike .ensures .0 .2) w,
+      lane-costs h (l .1 .0) (l .1 .1 .0) (l .1 .1 .1 .0) (a .strike .result) w,
+    )
 
 entering-requires : tie.Need-entering-requires
 entering-requires c κs =

@@ -20,8 +20,13 @@ returns c =
     let a = c .before .before .before in
     let r = a .price .result .reduced in
     let fits : mag r < 2 ^ 31 = search needs in
-    let t : ltZ r (pos 0) ≡ false = not-true _ (sym (sign-is r fits) ∙ c .if1 .taken) in
-    (a .price .ensures .0, (a .before .before .before .before .before .before .pre .1 .1, λ S T b. advanced-stays b (a .price .ensures .1 S T (board-laid b)) t))
+    let t : ltZ r (pos 0) ≡ false = not-true _ (sym (sign-is r fits) ∙ c .if1 .taken) in (
+      a .price .ensures .0,
+      (
+        a .before .before .before .before .before .before .pre .1 .1,
+        λ S T b. advanced-stays b (a .price .ensures .1 S T (board-laid b)) t,
+      ),
+    )
 
 -- The reduced cost is negative.
 falls : (c : tie.Else1) → ltZ (c .before .before .before .price .result .reduced) (pos 0) ≡ true
@@ -31,7 +36,11 @@ falls c =
     not-false _ (sym (sign-is r fits) ∙ c .if1 .left)
 
 add-pivot : tie.Need-add-pivot
-add-pivot c = omega (arith, laid-sides (board-laid (c .before .before .before .before .before .before .before .before .before .before .before .before .before .before .before .pre .0 .2)))
+add-pivot c = omega (
+  arith,
+  laid-sides
+      (board-laid (c .before .before .before .before .before .before .before .before .before .before .before .before .before .before .before .pre .0 .2)),
+)
 
 sub-pivot : tie.Need-sub-pivot
 sub-pivot c = search needs
@@ -40,8 +49,15 @@ pivot-requires : tie.Need-pivot-requires
 pivot-requires c κs =
     let a = c .before .before .before .before .before .before .before .before .before .before .before in
     let s = a .before .before .before .before .before .before in
-    let (S, T, b) = s .pre .0 in
-    ((S, T, board-ready b (a .price .ensures .1 S T (board-laid b)) (falls (c .before .before .before .before .before .before .before .before)) (a .price .ensures .0 .2)), s .pre .1 .1)
+    let (S, T, b) = s .pre .0 in (
+      (
+        S,
+        T,
+        board-ready b (a .price .ensures .1 S T (board-laid b)) (falls (c .before .before .before .before .before .before .before .before))
+            (a .price .ensures .0 .2),
+      ),
+      s .pre .1 .1,
+    )
 
 returns-2 : tie.Need-returns-2
 returns-2 c =

@@ -30,7 +30,12 @@ counted c = c .digit-count .ensures ∙ (rw (sized (c .before)))
 
 add-result : tie.Need-add-result
 add-result c =
-    omega (arith, counted (c .before), digits-length 19 (natAbs (c .before .before .before .args .z)) .1 (omega (arith, magnitude-le (c .before .before .before .args .z) (in-range (c .before .before .before)))))
+    omega (
+      arith,
+      counted (c .before),
+      digits-length 19 (natAbs (c .before .before .before .args .z)) .1
+          (omega (arith, magnitude-le (c .before .before .before .args .z) (in-range (c .before .before .before)))),
+    )
 
 returns : tie.Need-returns
 returns c =

@@ -13,7 +13,8 @@ use Rattle.sections.proofs.number.write_number.Statement.{statement}
 use Rattle.sections.proofs.number.write_number.Tie as tie
 
 abbrev Inv-loop : tie.InvT-loop
-Inv-loop n out₀ count at₀ rest₀ out at rest = (at ≤ count) × (length out ≡ length out₀) × (0 < at → take at (digits n) ≡ digits rest) × (drop at out ≡ drop at (digits n) ++ drop count out₀)
+Inv-loop n out₀ count at₀ rest₀ out at rest = (at ≤ count) × (length out ≡ length out₀) × (0 < at → take at (digits n) ≡ digits rest)
+    × (drop at out ≡ drop at (digits n) ++ drop count out₀)
 
 abbrev μ-loop : tie.MeasureT-loop
 μ-loop n out₀ count at₀ rest₀ out at rest = at

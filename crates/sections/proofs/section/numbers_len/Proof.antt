@@ -45,7 +45,12 @@ loop-less : tie.Need-loop-less Inv-loop μ-loop
 loop-less c = search needs
 
 loop-again : tie.Need-loop-again Inv-loop μ-loop
-loop-again c = omega (arith, few c, c .digit-count .ensures, numbers-next (c .before .before .before .before .before .args .numbers .now) (c .before .before .before .loop .i) (omega arith))
+loop-again c = omega (
+  arith,
+  few c,
+  c .digit-count .ensures,
+  numbers-next (c .before .before .before .before .before .args .numbers .now) (c .before .before .before .loop .i) (omega arith),
+)
 
 returns : tie.Need-returns Inv-loop μ-loop
 returns c = omega (arith, numbers-end (c .before .before .before .args .numbers .now) (c .before .loop .i) (omega arith))

@@ -38,7 +38,12 @@ loop-again c =
     let n : length (take (l .i) (a .bytes .now)) ≡ l .i = length-take-le (l .i) (a .bytes .now) (omega arith) in (
       omega arith,
       simp length-set (l .inv .1),
-      rw (l .inv .2, front-byte (take (l .i) (a .bytes .now)) (a .out .now) (l .i) (getD (a .bytes .now) (l .i) 0) (sym n) (omega arith), add-one, take-suc (a .bytes .now) (l .i) 0 (omega arith)),
+      rw (
+        l .inv .2,
+        front-byte (take (l .i) (a .bytes .now)) (a .out .now) (l .i) (getD (a .bytes .now) (l .i) 0) (sym n) (omega arith),
+        add-one,
+        take-suc (a .bytes .now) (l .i) 0 (omega arith),
+      ),
     )
 
 same-length : tie.Need-same-length Inv-loop μ-loop

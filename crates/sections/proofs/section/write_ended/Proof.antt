@@ -12,8 +12,13 @@ use Rattle.sections.proofs.section.write_ended.Tie as tie
 write-number-requires : tie.Need-write-number-requires
 write-number-requires c κs = omega (arith, c .before .before .pre, length-ended (c .before .before .args .n) (c .before .before .args .end))
 
-room : (c : tie.After-slice-known2) → length (digits (c .before .before .before .before .before .args .n)) < length (c .before .before .before .before .before .args .out .now)
-room c = omega (arith, c .before .before .before .before .before .pre, length-ended (c .before .before .before .before .before .args .n) (c .before .before .before .before .before .args .end))
+room : (c : tie.After-slice-known2) → length (digits (c .before .before .before .before .before .args .n))
+    < length (c .before .before .before .before .before .args .out .now)
+room c = omega (
+  arith,
+  c .before .before .before .before .before .pre,
+  length-ended (c .before .before .before .before .before .args .n) (c .before .before .before .before .before .args .end),
+)
 
 slice-write-out : tie.Need-slice-write-out
 slice-write-out c = omega (arith, room c, c .before .before .write-number .ensures .0)

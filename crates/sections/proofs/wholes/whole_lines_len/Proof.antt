@@ -35,11 +35,17 @@ whole-count-requires : tie.Need-whole-count-requires Inv-loop μ-loop
 whole-count-requires c κs = search needs
 
 -- The count is that of the number in the list.
-counted : (c : tie.After-whole-count Inv-loop μ-loop) → c .whole-count .result ≡ length (wholeDigits (getD (c .before .before .before .before .args .wholes .now) (c .before .before .before .loop .i) (pos 0)))
-counted c = rw (bits-back (getD (c .before .before .before .before .args .wholes .now) (c .before .before .before .loop .i) (pos 0)) (search needs)) at (c .whole-count .ensures)
+counted : (c : tie.After-whole-count Inv-loop μ-loop) → c .whole-count .result
+    ≡ length (wholeDigits (getD (c .before .before .before .before .args .wholes .now) (c .before .before .before .loop .i) (pos 0)))
+counted c = rw (bits-back (getD (c .before .before .before .before .args .wholes .now) (c .before .before .before .loop .i) (pos 0)) (search needs)) at
+    (c .whole-count .ensures)
 
 few : (c : tie.After-whole-count Inv-loop μ-loop) → c .whole-count .result ≤ 20
-few c = omega (arith, counted c, whole-few (getD (c .before .before .before .before .args .wholes .now) (c .before .before .before .loop .i) (pos 0)) (search needs))
+few c = omega (
+  arith,
+  counted c,
+  whole-few (getD (c .before .before .before .before .args .wholes .now) (c .before .before .before .loop .i) (pos 0)) (search needs),
+)
 
 add-len : tie.Need-add-len Inv-loop μ-loop
 add-len c = omega (arith, few c)

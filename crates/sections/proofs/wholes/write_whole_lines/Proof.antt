@@ -10,13 +10,15 @@ use lib.ListN.{length, take, getD}
 use mir.Syntax.{w64}
 use mir.Val.{toZ, ofZ}
 use Rattle.transport.specs.PlanText.{wholeLine}
-use Rattle.sections.specs.Front.{front, front-nil, length-front, FirstWritten, second-start, second-room, both-length, both-written, pieces-next, pieces-within, pieces-end}
+use Rattle.sections.specs.Front.{front, front-nil, length-front, FirstWritten, second-start, second-room, both-length, both-written, pieces-next}
+use Rattle.sections.specs.Front.{pieces-within, pieces-end}
 use Rattle.sections.specs.Whole.{bits-back}
 use Rattle.sections.proofs.wholes.write_whole_lines.Statement.{statement}
 use Rattle.sections.proofs.wholes.write_whole_lines.Tie as tie
 
 abbrev Inv-loop : tie.InvT-loop
-Inv-loop wholes out₀ at₀ i₀ out at i = (i ≤ length wholes) × (length out ≡ length out₀) × (at ≡ length (flatMap wholeLine (take i wholes))) × (out ≡ front (flatMap wholeLine (take i wholes)) out₀)
+Inv-loop wholes out₀ at₀ i₀ out at i = (i ≤ length wholes) × (length out ≡ length out₀) × (at ≡ length (flatMap wholeLine (take i wholes)))
+    × (out ≡ front (flatMap wholeLine (take i wholes)) out₀)
 
 abbrev μ-loop : tie.MeasureT-loop
 μ-loop wholes out₀ at₀ i₀ out at i = length wholes - i
@@ -33,18 +35,21 @@ shared-slice-copy-out-write-whole-line c = search needs
 
 -- The lines so far, and the next one.
 begun : (c : tie.In-loop Inv-loop μ-loop) → let t = c .before .before .before in let l = c .before .loop in
-    FirstWritten (flatMap wholeLine (take (l .i) (t .args .wholes .now))) (wholeLine (getD (t .args .wholes .now) (l .i) (pos 0))) (t .args .out .now) (l .out) (l .at)
+    FirstWritten (flatMap wholeLine (take (l .i) (t .args .wholes .now))) (wholeLine (getD (t .args .wholes .now) (l .i) (pos 0))) (t .args .out .now)
+    (l .out) (l .at)
 begun c =
     let t = c .before .before .before in
     let l = c .before .loop in
     record {
-      room = rw (← pieces-next wholeLine (t .args .wholes .now) (l .i) (pos 0) (omega arith)) (omega (arith, t .pre, pieces-within wholeLine (t .args .wholes .now) (l .i + 1)));
+      room = rw (← pieces-next wholeLine (t .args .wholes .now) (l .i) (pos 0) (omega arith))
+          (omega (arith, t .pre, pieces-within wholeLine (t .args .wholes .now) (l .i + 1)));
       ends = l .inv .2;
       holds = l .inv .3;
     }
 
 -- The number that is passed on is the one in the list.
-as-it-is : (c : tie.After-write-whole-line-arg Inv-loop μ-loop) → toZ w64 (ofZ w64 (getD (c .before .before .before .before .args .wholes .now) (c .before .before .loop .i) (pos 0))) ≡ getD (c .before .before .before .before .args .wholes .now) (c .before .before .loop .i) (pos 0)
+as-it-is : (c : tie.After-write-whole-line-arg Inv-loop μ-loop) → toZ w64 (ofZ w64 (getD (c .before .before .before .before .args .wholes .now)
+    (c .before .before .loop .i) (pos 0))) ≡ getD (c .before .before .before .before .args .wholes .now) (c .before .before .loop .i) (pos 0)
 as-it-is c = bits-back _ (search needs)
 
 sub-write-whole-line : tie.Need-sub-write-whole-line Inv-loop μ-loop
@@ -60,10 +65,13 @@ write-whole-line-requires : tie.Need-write-whole-line-requires Inv-loop μ-loop
 write-whole-line-requires c κs = rw (as-it-is (c .before)) (second-room (begun (c .before .before)))
 
 module _ (c : tie.After-write-whole-line Inv-loop μ-loop) where
-  counted : c .write-whole-line .result ≡ length (wholeLine (getD (c .before .before .before .before .before .before .args .wholes .now) (c .before .before .before .before .loop .i) (pos 0)))
+  counted : c .write-whole-line .result
+      ≡ length (wholeLine (getD (c .before .before .before .before .before .before .args .wholes .now) (c .before .before .before .before .loop .i) (pos 0)))
   counted = rw (as-it-is (c .before .before)) at (c .write-whole-line .ensures .0)
 
-  held : c .write-whole-line .last .1 .0 ≡ front (wholeLine (getD (c .before .before .before .before .before .before .args .wholes .now) (c .before .before .before .before .loop .i) (pos 0))) (midOf (c .before .before .before .before .loop .at) (length (c .before .before .before .before .loop .out) - c .before .before .before .before .loop .at) (c .before .before .before .before .loop .out))
+  held : c .write-whole-line .last .1 .0 ≡ front (wholeLine (getD (c .before .before .before .before .before .before .args .wholes .now)
+      (c .before .before .before .before .loop .i) (pos 0))) (midOf (c .before .before .before .before .loop .at)
+      (length (c .before .before .before .before .loop .out) - c .before .before .before .before .loop .at) (c .before .before .before .before .loop .out))
   held = rw (as-it-is (c .before .before)) at (c .write-whole-line .ensures .1)
 
 add-at : tie.Need-add-at Inv-loop μ-loop

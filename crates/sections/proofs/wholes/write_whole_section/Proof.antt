@@ -17,7 +17,8 @@ write-head-requires c κs =
     first-room (t .args .name .now ++ ended (length (t .args .wholes .now)) 10) (flatMap wholeLine (t .args .wholes .now)) (t .args .out .now) (t .pre)
 
 begun : (c : tie.After-write-head) → let t = c .before .before .before .before in
-    FirstWritten (t .args .name .now ++ ended (length (t .args .wholes .now)) 10) (flatMap wholeLine (t .args .wholes .now)) (t .args .out .now) (c .write-head .last .1 .1 .0) (c .write-head .result)
+    FirstWritten (t .args .name .now ++ ended (length (t .args .wholes .now)) 10) (flatMap wholeLine (t .args .wholes .now)) (t .args .out .now)
+    (c .write-head .last .1 .1 .0) (c .write-head .result)
 unfolding wholeSection
 begun c = record { room = c .before .before .before .before .pre; ends = c .write-head .ensures .0; holds = c .write-head .ensures .1 }
 

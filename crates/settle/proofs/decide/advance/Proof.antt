@@ -60,13 +60,16 @@ returns : tie.Need-returns
 returns c =
     let s = c .before .before .before .before .before .before .before .before .before .before .before .before .before in
     let cut = c .before .before .before .before .before .before .cut-at in
-    let none = subst (λ (r : Found). Finds (s .args .allowed .now) (cut .result .rows) (cut .result .cols) (s .args .m) r) (c .before .before .enum-told .given .1) (c .before .before .before .before .improving .ensures) in
-    let on = sym (c .before .before .before .before .before .before .before .before .before .before .before .has-bit .ensures) ∙ c .before .before .before .before .before .before .before .before .before .before .if1 .taken in
+    let none = subst (λ (r : Found). Finds (s .args .allowed .now) (cut .result .rows) (cut .result .cols) (s .args .m) r)
+    (c .before .before .enum-told .given .1) (c .before .before .before .before .improving .ensures) in
+    let on = sym (c .before .before .before .before .before .before .before .before .before .before .before .has-bit .ensures)
+    ∙ c .before .before .before .before .before .before .before .before .before .before .if1 .taken in
     let (hp, hc, allowed) = s .pre .1 .1 .0 in
     (s .pre .1 .0, (s .pre .1 .1 .1, λ P T l. none-over l hp hc (s .pre .1 .0) (cut .ensures) on allowed none (c .keep .ensures)))
 
 -- Whichever way the lane was found, it improves.
-improves : (c : tie.Joined1) → let a = c .before .before .before .args in (P : Problem) (T : List Cell) → Laid P (a .m) (a .n) (a .adj .now) (a .q .now) (a .e .now) (a .allowed .now) T
+improves : (c : tie.Joined1) → let a = c .before .before .before .args in
+    (P : Problem) (T : List Cell) → Laid P (a .m) (a .n) (a .adj .now) (a .q .now) (a .e .now) (a .allowed .now) T
     → Improving P (allows (a .allowed .now)) (a .p) (a .col) T (c .if1 .row) (c .if1 .to)
 improves c P T l =
     let s = c .before .before .before in
@@ -79,7 +82,8 @@ improves c P T l =
     (c .if1 .came)
 
 -- So it may enter.
-ready : (c : tie.Joined1) → let a = c .before .before .before .args in (P : Problem) (T : List Cell) → Laid P (a .m) (a .n) (a .adj .now) (a .q .now) (a .e .now) (a .allowed .now) T
+ready : (c : tie.Joined1) → let a = c .before .before .before .args in
+    (P : Problem) (T : List Cell) → Laid P (a .m) (a .n) (a .adj .now) (a .q .now) (a .e .now) (a .allowed .now) T
     → Ready P T (a .adj .now) (a .q .now) (a .e .now) (a .leaf .now) (a .other .now) (a .lane .now) (a .m + a .n - 1) (a .m) (c .if1 .row) (c .if1 .to)
 ready c P T l = let s = c .before .before .before in laid-ready l (s .pre .1 .0) (s .pre .1 .1 .0 .0) (s .pre .1 .1 .0 .1) (improves c P T l)
 
@@ -90,7 +94,8 @@ pivot-requires c κs =
     ((P, T, ready (c .before .before .before .before .before .before .before .before) P T l), s .pre .1 .1 .1)
 
 -- Then a step is made.
-moves : (c : tie.After-pivot) → let a = c .before .before .before .before .before .before .before .before .before .before .before .before .args in let r = c .pivot .last in (P : Problem) (T : List Cell) → Laid P (a .m) (a .n) (a .adj .now) (a .q .now) (a .e .now) (a .allowed .now) T
+moves : (c : tie.After-pivot) → let a = c .before .before .before .before .before .before .before .before .before .before .before .before .args in
+    let r = c .pivot .last in (P : Problem) (T : List Cell) → Laid P (a .m) (a .n) (a .adj .now) (a .q .now) (a .e .now) (a .allowed .now) T
     → Advanced true P (a .m) (a .n) (a .p) (a .col) (a .q .now) (a .e .now) (a .allowed .now) T (r .0) (r .1 .0) (r .1 .1 .0) (a .allowed .now)
 moves c P T l =
     let s = c .before .before .before .before .before .before .before .before .before .before .before .before in
@@ -107,7 +112,8 @@ strike-requires c κs =
 
 returns-2 : tie.Need-returns-2
 returns-2 c =
-    let (P, T, l) = c .before .before .before .before .before .before .before .before .before .before .before .before .before .before .before .before .before .pre .0 in
+    let (P, T, l) = c .before .before .before .before .before .before .before .before .before .before .before .before .before .before .before .before .before
+    .pre .0 in
     let f = moves (c .before .before .before .before .before) in
     (laid-strikes (f P T l .yes refl .laid) (c .strike .ensures .0) (c .strike .ensures .1), (c .before .before .before .before .before .pivot .ensures .1, f))
 

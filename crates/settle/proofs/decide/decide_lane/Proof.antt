@@ -1,5 +1,5 @@
--- `settle::decide::decide_lane` meets its contract. The loop's invariant: the arrays hold some tableau of the phase, and its strikes; the measure is how far the value
--- on the lane is below its bound.
+-- `settle::decide::decide_lane` meets its contract. The loop's invariant: the arrays hold some tableau of the phase, and its strikes; the measure is how far
+-- the value on the lane is below its bound.
 use mathlib.Core.Path.{_≡_}
 use Prim.Native.Nat.{_+_, _*_}
 use lib.ListN.{length}
@@ -33,11 +33,13 @@ advance-requires c κs =
     ((v .problem, T, l), (i .inv .1, ((hp, hc, rw (i .inv .0 .same) allowed), i .inv .2)))
 
 -- What the step made of the tableau that the arrays hold.
-moved : (c : tie.Then1 Inv-loop μ-loop) → let s = c .before .before .before .before .before .before .before .before .before .before .before .before in let i = c .before .before .before .before .before .before .before .before .before .before .before .loop in let r = c .before .advance .last in
+moved : (c : tie.Then1 Inv-loop μ-loop) → let s = c .before .before .before .before .before .before .before .before .before .before .before .before in
+    let i = c .before .before .before .before .before .before .before .before .before .before .before .loop in let r = c .before .advance .last in
     Moved (s .pre .0 .problem) (s .args .m) (s .args .n) (s .args .p) (s .args .col) (i .q) (i .e) (i .allowed) (r .0) (r .1 .0) (r .1 .1 .0) (r .1 .1 .1 .0)
 moved c =
     let v = c .before .before .before .before .before .before .before .before .before .before .before .before .pre .0 in
-    let (T, l) = c .before .before .before .before .before .before .before .before .before .before .before .loop .inv .0 .laid (v .problem) (v .tableau) (v .stage .laid) in
+    let (T, l) = c .before .before .before .before .before .before .before .before .before .before .before .loop .inv .0 .laid (v .problem) (v .tableau)
+    (v .stage .laid) in
     c .before .advance .ensures .1 .1 (v .problem) T l .yes (c .if1 .taken)
 
 loop-less : tie.Need-loop-less Inv-loop μ-loop
@@ -52,8 +54,14 @@ loop-again c =
 returns : tie.Need-returns Inv-loop μ-loop
 returns c =
     let (hp, hc, allowed) = c .before .before .before .before .before .before .before .before .before .before .before .before .pre .1 .1 .0 in
-    let r = c .before .advance in
-    (r .ensures .0, (r .ensures .1 .0, stepped-over (c .before .before .before .before .before .before .before .before .before .before .before .loop .inv .0) (r .ensures .1 .1) hp hc (c .if1 .left)))
+    let r = c .before .advance in (
+      r .ensures .0,
+      (
+        r .ensures .1 .0,
+        stepped-over (c .before .before .before .before .before .before .before .before .before .before .before .loop .inv .0)
+            (r .ensures .1 .1) hp hc (c .if1 .left),
+      ),
+    )
 
 pub decide-lane-spec : {M : Type 1} → statement M
 decide-lane-spec =

@@ -1,4 +1,5 @@
--- `settle::decide::settle_lanes` meets its contract. The loops' invariants: the lanes before row i and column j are decided, and the strikes are those of the tree.
+-- `settle::decide::settle_lanes` meets its contract. The loops' invariants: the lanes before row i and column j are decided, and the strikes are those of the
+-- tree.
 use Prim.Native.Nat.{_-_, _≤_}
 use native.Mathlib.Omega.{arith}
 use mathlib.Core.Path.{_≡_, refl, sym, _∙_}
@@ -8,7 +9,8 @@ use Rattle.transport.specs.Problem.{place}
 use Rattle.transport.specs.Laws.ProblemLaws.{place-below}
 use Rattle.basis.specs.Layout.{stride, nodeRoom}
 use Rattle.settle.specs.Laid.{StruckOff, laid-sides, laid-links, laid-strikes}
-use Rattle.settle.specs.Reach.{AtStage, Reaches, reaches-none, at-on, reaches-on, reaches-rest, reaches-skip, place-first, place-next, place-row, place-end}
+use Rattle.settle.specs.Reach.{AtStage, Reaches, reaches-none, at-on, reaches-on, reaches-rest, reaches-skip, place-first, place-next, place-row}
+use Rattle.settle.specs.Reach.{place-end}
 use Rattle.settle.proofs.decide.settle_lanes.Statement.{statement}
 use Rattle.settle.proofs.decide.settle_lanes.Tie as tie
 
@@ -39,21 +41,31 @@ returns : tie.Need-returns Inv-loop2 μ-loop2 Inv-loop μ-loop
 returns c = reaches-rest reaches-none (omega arith) (c .before .is-decided .ensures .0 (c .if1 .taken))
 
 strike-requires : tie.Need-strike-requires Inv-loop2 μ-loop2 Inv-loop μ-loop
-strike-requires c κs = let l = c .before .before .before .before .before .before .before .before .pre .stage .laid in (laid-links l, (l .held .adjLong, refl, refl, refl))
+strike-requires c κs = let l = c .before .before .before .before .before .before .before .before .pre .stage .laid in
+    (laid-links l, (l .held .adjLong, refl, refl, refl))
 
 loop-holds : tie.Need-loop-holds Inv-loop2 μ-loop2 Inv-loop μ-loop
 loop-holds c =
-    let s = c .before .before .before .before .before .before .before .before .before in
-    (omega arith, rw (place-first (s .args .n) 0) reaches-none, laid-strikes (s .pre .stage .laid) (c .strike .ensures .0) (c .strike .ensures .1), (refl, refl))
+    let s = c .before .before .before .before .before .before .before .before .before in (
+      omega arith,
+      rw (place-first (s .args .n) 0) reaches-none,
+      laid-strikes (s .pre .stage .laid) (c .strike .ensures .0) (c .strike .ensures .1),
+      (refl, refl),
+    )
 
 loop2-holds : tie.Need-loop2-holds Inv-loop2 μ-loop2 Inv-loop μ-loop
 loop2-holds c = (omega arith, reaches-none, c .before .loop .inv .2, c .before .loop .inv .3)
 
 -- The stage before lane (i, j).
-here : (c : tie.In-loop2 Inv-loop2 μ-loop2 Inv-loop μ-loop) → let a = c .before .before .before .before .before .before .before .before .before .before .before .before .before .args in let l = c .before .loop2 in AtStage (place (a .n) (c .before .before .before .loop .i) (l .j)) (a .m) (a .n) (l .adj) (l .q) (l .e) (l .allowed)
-here c = at-on (c .before .loop2 .inv .1) (at-on (c .before .before .before .loop .inv .1) (c .before .before .before .before .before .before .before .before .before .before .before .before .before .pre))
+here : (c : tie.In-loop2 Inv-loop2 μ-loop2 Inv-loop μ-loop) → let a =
+    c .before .before .before .before .before .before .before .before .before .before .before .before .before .args in let l = c .before .loop2 in
+    AtStage (place (a .n) (c .before .before .before .loop .i) (l .j)) (a .m) (a .n) (l .adj) (l .q) (l .e) (l .allowed)
+here c = at-on (c .before .loop2 .inv .1) (at-on (c .before .before .before .loop .inv .1)
+    (c .before .before .before .before .before .before .before .before .before .before .before .before .before .pre))
 
-sides : (c : tie.In-loop2 Inv-loop2 μ-loop2 Inv-loop μ-loop) → let a = c .before .before .before .before .before .before .before .before .before .before .before .before .before .args in (a .m ≤ stride) × (a .n ≤ stride) × (length (c .before .loop2 .allowed) ≡ stride)
+sides : (c : tie.In-loop2 Inv-loop2 μ-loop2 Inv-loop μ-loop) → let a =
+    c .before .before .before .before .before .before .before .before .before .before .before .before .before .args in
+    (a .m ≤ stride) × (a .n ≤ stride) × (length (c .before .loop2 .allowed) ≡ stride)
 sides c = let l = here c .stage .laid in (laid-sides l .1, laid-sides l .3, l .long)
 
 mul-has-bit : tie.Need-mul-has-bit Inv-loop2 μ-loop2 Inv-loop μ-loop
@@ -68,18 +80,25 @@ has-bit-requires c κs = omega (arith, sides (c .before))
 decide-lane-requires : tie.Need-decide-lane-requires Inv-loop2 μ-loop2 Inv-loop μ-loop
 decide-lane-requires c κs =
     let t = c .before .before .before .before .before .before .before .before .before in
-    let l = c .before .before .before .before .before .before .before .before .before .before .before .before .before .loop2 in
-    (here (c .before .before .before .before .before .before .before .before .before .before .before .before), (l .inv .2, ((omega arith, omega arith, sym (t .before .has-bit .ensures) ∙ t .if2 .taken), l .inv .3)))
+    let l = c .before .before .before .before .before .before .before .before .before .before .before .before .before .loop2 in (
+      here (c .before .before .before .before .before .before .before .before .before .before .before .before),
+      (l .inv .2, ((omega arith, omega arith, sym (t .before .has-bit .ensures) ∙ t .if2 .taken), l .inv .3)),
+    )
 
 is-decided-requires-2 : tie.Need-is-decided-requires-2 Inv-loop2 μ-loop2 Inv-loop μ-loop
-is-decided-requires-2 c κs = sides (c .before .before .before .before .before .before .before .before .before .before .before .before .before .before .before) .0
+is-decided-requires-2 c κs = sides
+    (c .before .before .before .before .before .before .before .before .before .before .before .before .before .before .before) .0
 
 returns-2 : tie.Need-returns-2 Inv-loop2 μ-loop2 Inv-loop μ-loop
 returns-2 c =
-    let a = c .before .before .before .before .before .before .before .before .before .before .before .before .before .before .before .before .before .before .before .before .before .before .before .before .before .before .before .before .before .before .args in
-    let o = c .before .before .before .before .before .before .before .before .before .before .before .before .before .before .before .before .before .before .before .before .loop in
-    let l = c .before .before .before .before .before .before .before .before .before .before .before .before .before .before .before .before .before .before .loop2 in
-    reaches-rest (reaches-on (reaches-on (o .inv .1) (l .inv .1)) (c .before .before .before .before .decide-lane .ensures .1 .1)) (omega (arith, place-below (a .m) (a .n) (o .i) (l .j) (omega arith) (omega arith))) (c .before .is-decided2 .ensures .0 (c .if3 .taken))
+    let a = c .before .before .before .before .before .before .before .before .before .before .before .before .before .before .before .before .before .before
+    .before .before .before .before .before .before .before .before .before .before .before .before .args in
+    let o = c .before .before .before .before .before .before .before .before .before .before .before .before .before .before .before .before .before .before
+    .before .before .loop in
+    let l = c .before .before .before .before .before .before .before .before .before .before .before .before .before .before .before .before .before .before
+    .loop2 in
+    reaches-rest (reaches-on (reaches-on (o .inv .1) (l .inv .1)) (c .before .before .before .before .decide-lane .ensures .1 .1))
+    (omega (arith, place-below (a .m) (a .n) (o .i) (l .j) (omega arith) (omega arith))) (c .before .is-decided2 .ensures .0 (c .if3 .taken))
 
 add-j : tie.Need-add-j Inv-loop2 μ-loop2 Inv-loop μ-loop
 add-j c = omega arith
@@ -95,7 +114,12 @@ loop2-again c =
     ⊎-elim
     (λ w.
     let r = w .10 .ensures in
-    rw (place-next (a .n) i (l .j), w .15, w .16, w .17, w .18, w .19, w .20, w .21, w .22, w .23) (omega arith, reaches-on (l .inv .1) (r .1 .1), r .0, r .1 .0))
+    rw (place-next (a .n) i (l .j), w .15, w .16, w .17, w .18, w .19, w .20, w .21, w .22, w .23) (
+      omega arith,
+      reaches-on (l .inv .1) (r .1 .1),
+      r .0,
+      r .1 .0,
+    ))
     (λ w.
     let skip = reaches-skip (omega arith) (omega arith) (sym (c .before .has-bit .ensures) ∙ w .0 .left) in
     rw (place-next (a .n) i (l .j), w .1, w .2, w .3, w .4, w .5, w .6, w .7, w .8, w .9) (omega arith, reaches-on (l .inv .1) skip, l .inv .2, l .inv .3))

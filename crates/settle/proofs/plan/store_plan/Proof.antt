@@ -41,13 +41,22 @@ loop2-holds c =
 -- The place of row i and column j is in the list.
 inside : (c : tie.In-loop2 Inv-loop2 μ-loop2 Inv-loop μ-loop)
     → let a = c .before .before .before .before .args in
-    (c .before .before .before .loop .i * a .n + c .before .loop2 .j < length (c .before .loop2 .plan)) × (length (c .before .before .before .loop .plan) ≡ length (a .plan .now)) × (a .m * a .n ≤ laneRoom)
+    (c .before .before .before .loop .i * a .n + c .before .loop2 .j < length (c .before .loop2 .plan))
+    × (length (c .before .before .before .loop .plan) ≡ length (a .plan .now)) × (a .m * a .n ≤ laneRoom)
 unfolding place
 inside c =
     let a = c .before .before .before .before in
     let i = c .before .before .before .loop in
-    let size : a .args .m * a .args .n ≤ stride * a .args .n = mul-le-mul-right (a .args .n) (a .pre .0) in
-    (omega (arith, i .inv .1 .long, c .before .loop2 .inv .1 .long, place-below (a .args .m) (a .args .n) (i .i) (c .before .loop2 .j) (omega arith) (omega arith)), i .inv .1 .long, omega arith)
+    let size : a .args .m * a .args .n ≤ stride * a .args .n = mul-le-mul-right (a .args .n) (a .pre .0) in (
+      omega (
+        arith,
+        i .inv .1 .long,
+        c .before .loop2 .inv .1 .long,
+        place-below (a .args .m) (a .args .n) (i .i) (c .before .loop2 .j) (omega arith) (omega arith),
+      ),
+      i .inv .1 .long,
+      omega arith,
+    )
 
 mul-plan : tie.Need-mul-plan Inv-loop2 μ-loop2 Inv-loop μ-loop
 mul-plan c = omega arith
@@ -63,7 +72,8 @@ element-copy-out-plan c = omega arith
 
 -- The bags on the lane, as a number.
 lies : (c : tie.After-plan Inv-loop2 μ-loop2 Inv-loop μ-loop)
-    → let x = getD (c .before .before .before .before .before .args .q .now) (c .before .before .before .before .loop .i * stride + c .before .before .loop2 .j) (pos 0) in
+    → let x = getD (c .before .before .before .before .before .args .q .now) (c .before .before .before .before .loop .i * stride
+    + c .before .before .loop2 .j) (pos 0) in
     (toZ w64 (ofZ w64 x) ≡ pos (natAbs x)) × (natAbs x < 2 ^ 63)
 lies c =
     let a = c .before .before .before .before .before in
@@ -104,7 +114,8 @@ loop2-again c =
     let i = c .before .before .before .before .loop .i in
     let l = c .before .before .loop2 in
     let k : i * a .n + (l .j + 1) ≡ (i * a .n + l .j) + 1 = omega arith in
-    let b : bagsIn (a .n) (a .q .now) (i * a .n + l .j) ≡ natAbs (getD (a .q .now) (i * stride + l .j) (pos 0)) = bagsIn-place (a .n) i (l .j) (a .q .now) (omega arith) in
+    let b : bagsIn (a .n) (a .q .now) (i * a .n + l .j) ≡ natAbs (getD (a .q .now) (i * stride + l .j) (pos 0)) =
+    bagsIn-place (a .n) i (l .j) (a .q .now) (omega arith) in
     (omega arith, rw (k, lies c .0, ← b) (written-one (l .inv .1) (omega (arith, inside (c .before), l .inv .1 .long))))
 
 add-i : tie.Need-add-i Inv-loop2 μ-loop2 Inv-loop μ-loop

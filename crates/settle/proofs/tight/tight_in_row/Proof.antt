@@ -1,4 +1,5 @@
--- `settle::tight::tight_in_row` meets its contract. The loop's invariant: of the columns before j just the tight ones are in; the measure is what is left of them.
+-- `settle::tight::tight_in_row` meets its contract. The loop's invariant: of the columns before j just the tight ones are in; the measure is what is left of
+-- them.
 use Prim.Native.Nat.{_+_, _-_, _*_, _≤_, _<_, _^_}
 use native.Mathlib.Omega.{arith}
 use borrow.Author.Needs.{needs}
@@ -60,7 +61,11 @@ room : (c : tie.After-if13 Inv-loop μ-loop)
 unfolding costAbove maxCost
 room c =
     let s = c .before .before .before .before .before in
-    omega (arith, s .pre .0 .costs (s .args .i) (c .before .before .before .loop .j) (omega arith) (omega arith), s .pre .0 .prices (s .args .m + c .before .before .before .loop .j) (omega arith))
+    omega (
+      arith,
+      s .pre .0 .costs (s .args .i) (c .before .before .before .loop .j) (omega arith) (omega arith),
+      s .pre .0 .prices (s .args .m + c .before .before .before .loop .j) (omega arith),
+    )
 
 sub-if1 : tie.Need-sub-if1 Inv-loop μ-loop
 sub-if1 c = search (needs, diff-in, room c)

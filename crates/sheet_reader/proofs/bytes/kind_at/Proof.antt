@@ -15,7 +15,8 @@ kind-of-requires : tie.Need-kind-of-requires
 kind-of-requires c κs = search needs
 
 returns-2 : tie.Need-returns-2
-returns-2 c = c .kind-of .ensures ∙ sym (kind-here (c .before .before .before .before .args .text .now) (c .before .before .before .before .args .at) (c .before .before .if1 .left))
+returns-2 c = c .kind-of .ensures
+    ∙ sym (kind-here (c .before .before .before .before .args .text .now) (c .before .before .before .before .args .at) (c .before .before .if1 .left))
 
 pub kind-at-spec : {M : Type 1} → statement M
 kind-at-spec = tie.close (tie.spec returns shared-slice-read-kind-of kind-of-requires returns-2)

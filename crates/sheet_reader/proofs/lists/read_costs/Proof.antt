@@ -35,7 +35,13 @@ write-head-requires c κs = omega (arith, heads-short (c .before .before .before
 
 module _ (c : tie.After-write-head) where
   fits : c .write-head .result ≤ length (c .write-head .last .1 .1 .0)
-  fits = omega (arith, c .write-head .ensures .0, ap length (c .write-head .ensures .1) ∙ length-front _ _ (omega (arith, heads-short (c .before .before .before .before .before))), heads-short (c .before .before .before .before .before))
+  fits = omega (
+    arith,
+    c .write-head .ensures .0,
+    ap length (c .write-head .ensures .1)
+        ∙ length-front _ _ (omega (arith, heads-short (c .before .before .before .before .before))),
+    heads-short (c .before .before .before .before .before),
+  )
 
 array-share-prefix-line : tie.Need-array-share-prefix-line
 array-share-prefix-line c = fits (c .before)
@@ -64,12 +70,18 @@ returns c =
     (rw stopped (cost-unnamed (a .m) (a .n) rest _ (head ∙ (rw stopped))), w .ensures .1, rw stopped tt)
 
 mul-read-lines : tie.Need-mul-read-lines
-mul-read-lines c = record { fits = sides-product _ _ (c .before .before .before .before .before .before .before .before .before .before .before .pre .1) (c .before .before .before .before .before .before .before .before .before .before .before .pre .3) }
+mul-read-lines c = record {
+  fits = sides-product _ _ (c .before .before .before .before .before .before .before .before .before .before .before .pre .1)
+      (c .before .before .before .before .before .before .before .before .before .before .before .pre .3);
+}
 
 read-lines-requires : tie.Need-read-lines-requires
 read-lines-requires c κs =
-    let k = c .before .before .head .given in
-    (rw (k .1) at (c .before .before .before .before .read-word .ensures .1), c .before .before .before .before .before .before .before .before .before .before .before .before .pre .2, c .before .before .before .before .before .before .before .before .before .before .before .before .pre .4)
+    let k = c .before .before .head .given in (
+      rw (k .1) at (c .before .before .before .before .read-word .ensures .1),
+      c .before .before .before .before .before .before .before .before .before .before .before .before .pre .2,
+      c .before .before .before .before .before .before .before .before .before .before .before .before .pre .4,
+    )
 
 same-length : tie.Need-same-length
 same-length c = search needs

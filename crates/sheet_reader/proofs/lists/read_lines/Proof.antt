@@ -15,7 +15,8 @@ use Rattle.sheet_reader.proofs.lists.read_lines.Statement.{statement}
 use Rattle.sheet_reader.proofs.lists.read_lines.Tie as tie
 
 abbrev Inv-loop : tie.InvT-loop
-Inv-loop text at width count list₀ next₀ left₀ i₀ list next left i = (i ≤ count) × (1 ≤ left) × (length list ≡ length list₀) × (next ≤ length text) × (readLines width width count (drop at text) ≡ after (take i list) (readLines width left (count - i) (drop next text)))
+Inv-loop text at width count list₀ next₀ left₀ i₀ list next left i = (i ≤ count) × (1 ≤ left) × (length list ≡ length list₀) × (next ≤ length text)
+    × (readLines width width count (drop at text) ≡ after (take i list) (readLines width left (count - i) (drop next text)))
 
 abbrev μ-loop : tie.MeasureT-loop
 μ-loop text at width count list₀ next₀ left₀ i₀ list next left i = count - i
@@ -40,7 +41,9 @@ enum-told c = search needs
 same-length : tie.Need-same-length Inv-loop μ-loop
 same-length c = search needs
 
-found : (c : tie.After-read-end Inv-loop μ-loop) → endReading (ending (c .before .before .before .loop .left)) (number (drop (c .before .before .before .loop .next) (c .before .before .before .before .before .before .args .text .now))) ≡ readingOf (c .before .before .before .before .before .before .args .text .now) (λ v. v) (c .read-end .result)
+found : (c : tie.After-read-end Inv-loop μ-loop) → endReading (ending (c .before .before .before .loop .left))
+    (number (drop (c .before .before .before .loop .next) (c .before .before .before .before .before .before .args .text .now)))
+    ≡ readingOf (c .before .before .before .before .before .before .args .text .now) (λ v. v) (c .read-end .result)
 found c = rw (c .before .read-number .ensures .0) (c .read-end .ensures .0)
 
 returns : tie.Need-returns Inv-loop μ-loop
@@ -50,8 +53,10 @@ returns c =
     let a = c .before .before .before .before .before .before .before .before .args in
     let stopped = c .enum-told .given .1 in
     let e : a .count - l .i ≡ suc (a .count - (l .i + 1)) = omega arith in
-    let n : endReading (ending (l .left)) (number (drop (l .next) (a .text .now))) ≡ stuck (drop (c .enum-told .given .0 .0) (a .text .now)) = found t ∙ (rw stopped) in (
-      rw stopped (l .inv .4 ∙ (rw (e, read-stuck (a .width) (l .left) (a .count - (l .i + 1)) (drop (l .next) (a .text .now)) _ n) (after-stuck (take (l .i) (l .list)) _))),
+    let n : endReading (ending (l .left)) (number (drop (l .next) (a .text .now))) ≡ stuck (drop (c .enum-told .given .0 .0) (a .text .now)) = found t
+    ∙ (rw stopped) in (
+      rw stopped (l .inv .4 ∙ (rw (e, read-stuck (a .width) (l .left) (a .count - (l .i + 1)) (drop (l .next) (a .text .now)) _ n)
+          (after-stuck (take (l .i) (l .list)) _))),
       t .read-end .ensures .1,
       rw stopped tt,
     )
@@ -78,13 +83,22 @@ loop-again c =
     let a = c .before .before .before .before .before .before .before .before .before .before .args in
     let g = c .before .before .number .given in
     let e : a .count - l .i ≡ suc (a .count - (l .i + 1)) = omega arith in
-    let n : endReading (ending (l .left)) (number (drop (l .next) (a .text .now))) ≡ got (g .0 .0) (drop (g .0 .1 .0) (a .text .now)) = found t ∙ (rw (g .1)) in (
+    let n : endReading (ending (l .left)) (number (drop (l .next) (a .text .now))) ≡ got (g .0 .0) (drop (g .0 .1 .0) (a .text .now)) = found t
+    ∙ (rw (g .1)) in (
       omega arith,
-      rw (c .left-after .ensures) (left-pos (a .width) (l .left) (c .before .before .before .before .before .before .before .before .before .before .pre .1) (l .inv .1)),
+      rw (c .left-after .ensures) (left-pos (a .width) (l .left) (c .before .before .before .before .before .before .before .before .before .before .pre .1)
+          (l .inv .1)),
       simp length-set (l .inv .2),
       rw (g .1) at (t .read-end .ensures .1),
       l .inv .4
-          ∙ (rw (e, read-got (a .width) (l .left) (a .count - (l .i + 1)) (drop (l .next) (a .text .now)) (g .0 .0) _ n, after-after, add-one (l .i), take-suc-set (l .list) (l .i) (g .0 .0) (omega arith), c .left-after .ensures)),
+          ∙ (rw (
+            e,
+            read-got (a .width) (l .left) (a .count - (l .i + 1)) (drop (l .next) (a .text .now)) (g .0 .0) _ n,
+            after-after,
+            add-one (l .i),
+            take-suc-set (l .list) (l .i) (g .0 .0) (omega arith),
+            c .left-after .ensures,
+          )),
     )
 
 same-length-2 : tie.Need-same-length-2 Inv-loop μ-loop

@@ -32,8 +32,12 @@ module _ (c : tie.After-known-told) where
   abbrev next : ℕ
   next = c .before .head .given .0 .1 .0
 
-  named : word (c .before .before .before .before .before .before .before .args .name .now) (drop (c .before .before .before .before .before .before .before .args .at) (c .before .before .before .before .before .before .before .args .text .now)) ≡ got tt (drop next (c .before .before .before .before .before .before .before .args .text .now))
-  named = c .before .before .before .read-word .ensures .0 ∙ ap (readingOf (c .before .before .before .before .before .before .before .args .text .now) (λ v. tt)) (c .before .head .given .1)
+  named : word (c .before .before .before .before .before .before .before .args .name .now)
+      (drop (c .before .before .before .before .before .before .before .args .at)
+      (c .before .before .before .before .before .before .before .args .text .now))
+      ≡ got tt (drop next (c .before .before .before .before .before .before .before .args .text .now))
+  named = c .before .before .before .read-word .ensures .0
+      ∙ ap (readingOf (c .before .before .before .before .before .before .before .args .text .now) (λ v. tt)) (c .before .head .given .1)
 
   next-inside : next ≤ length (c .before .before .before .before .before .before .before .args .text .now)
   next-inside = rw (c .before .head .given .1) at (c .before .before .before .read-word .ensures .1)
@@ -50,16 +54,23 @@ enum-known-count c = search needs
 enum-told-2 : tie.Need-enum-told-2
 enum-told-2 c = search needs
 
-counted : (c : tie.After-read-end) → line (side (c .before .before .before .before .before .before .before .before .before .args .most)) (drop (next (c .before .before)) (c .before .before .before .before .before .before .before .before .before .args .text .now)) ≡ readingOf (c .before .before .before .before .before .before .before .before .before .args .text .now) (λ v. v) (c .read-end .result)
-counted c = line-end (side (c .before .before .before .before .before .before .before .before .before .args .most)) _ ∙ (rw (← ending-last, c .before .read-side .ensures .0) (c .read-end .ensures .0))
+counted : (c : tie.After-read-end) → line (side (c .before .before .before .before .before .before .before .before .before .args .most))
+    (drop (next (c .before .before)) (c .before .before .before .before .before .before .before .before .before .args .text .now))
+    ≡ readingOf (c .before .before .before .before .before .before .before .before .before .args .text .now) (λ v. v) (c .read-end .result)
+counted c = line-end (side (c .before .before .before .before .before .before .before .before .before .args .most)) _
+    ∙ (rw (← ending-last, c .before .read-side .ensures .0) (c .read-end .ensures .0))
 
 returns-2 : tie.Need-returns-2
 returns-2 c =
     let w = c .before .before .read-end in
     let a = c .before .before .before .before .before .before .before .before .before .before .before .args in
     let k = c .before .before .before .before in
-    let stopped = c .enum-told2 .given .1 in
-    (rw stopped (list-uncounted (a .name .now) (a .most) (drop (a .at) (a .text .now)) (drop (next k) (a .text .now)) (named k) _ (counted (c .before .before) ∙ (rw stopped))), w .ensures .1, rw stopped tt)
+    let stopped = c .enum-told2 .given .1 in (
+      rw stopped (list-uncounted (a .name .now) (a .most) (drop (a .at) (a .text .now)) (drop (next k) (a .text .now)) (named k) _ (counted (c .before .before)
+          ∙ (rw stopped))),
+      w .ensures .1,
+      rw stopped tt,
+    )
 
 module _ (c : tie.After-known-told2) where
   abbrev count : ℕ
@@ -68,8 +79,13 @@ module _ (c : tie.After-known-told2) where
   abbrev after : ℕ
   after = c .before .count .given .0 .1 .0
 
-  counted-as : line (side (c .before .before .before .before .before .before .before .before .before .before .before .before .args .most)) (drop (next (c .before .before .before .before .before)) (c .before .before .before .before .before .before .before .before .before .before .before .before .args .text .now)) ≡ got count (drop after (c .before .before .before .before .before .before .before .before .before .before .before .before .args .text .now))
-  counted-as = counted (c .before .before .before) ∙ ap (readingOf (c .before .before .before .before .before .before .before .before .before .before .before .before .args .text .now) (λ v. v)) (c .before .count .given .1)
+  counted-as : line (side (c .before .before .before .before .before .before .before .before .before .before .before .before .args .most))
+      (drop (next (c .before .before .before .before .before))
+      (c .before .before .before .before .before .before .before .before .before .before .before .before .args .text .now))
+      ≡ got count (drop after (c .before .before .before .before .before .before .before .before .before .before .before .before .args .text .now))
+  counted-as = counted (c .before .before .before)
+      ∙ ap (readingOf (c .before .before .before .before .before .before .before .before .before .before .before .before .args .text .now) (λ v. v))
+      (c .before .count .given .1)
 
   sided : (1 ≤ count) × (count ≤ c .before .before .before .before .before .before .before .before .before .before .before .before .args .most)
   sided = within-true 1 _ count (line-side-within _ count _ _ counted-as)
@@ -78,7 +94,11 @@ module _ (c : tie.After-known-told2) where
   after-inside = rw (c .before .count .given .1) at (c .before .before .before .read-end .ensures .1)
 
 read-lines-requires : tie.Need-read-lines-requires
-read-lines-requires c κs = (after-inside (c .before), omega arith, omega (arith, sided (c .before), c .before .before .before .before .before .before .before .before .before .before .before .before .before .pre .2))
+read-lines-requires c κs = (
+  after-inside (c .before),
+  omega arith,
+  omega (arith, sided (c .before), c .before .before .before .before .before .before .before .before .before .before .before .before .before .pre .2),
+)
 
 same-length : tie.Need-same-length
 same-length c = search needs
@@ -88,7 +108,8 @@ returns-3 c =
     let w = c .before .before .read-lines in
     let a = c .before .before .before .before .before .before .before .before .before .before .before .before .before .before .before .before .args in
     let k = c .before .before .before .before in (
-      list-counted (a .name .now) (a .most) (drop (a .at) (a .text .now)) (drop (next (k .before .before .before .before .before)) (a .text .now)) (named (k .before .before .before .before .before)) (count k) _ (counted-as k) ∙ w .ensures .0,
+      list-counted (a .name .now) (a .most) (drop (a .at) (a .text .now)) (drop (next (k .before .before .before .before .before)) (a .text .now))
+          (named (k .before .before .before .before .before)) (count k) _ (counted-as k) ∙ w .ensures .0,
       w .ensures .1,
       side-value (a .most) (count k) (w .result) (sided k .0) (sided k .1) (w .ensures .2),
     )

@@ -11,7 +11,8 @@ use Rattle.sheet_reader.proofs.numbers.more_digits.Statement.{statement
 use Rattle.sheet_reader.proofs.numbers.more_digits.Tie as tie
 
 abbrev Inv-loop : tie.InvT-loop
-Inv-loop text at first most value₀ next₀ count₀ value next count = (count ≤ most) × (value < 10 ^ count) × (next ≤ length text) × (moreDigits always (most - 1) first (drop at text) ≡ moreDigits always (most - count) value (drop next text))
+Inv-loop text at first most value₀ next₀ count₀ value next count = (count ≤ most) × (value < 10 ^ count) × (next ≤ length text)
+    × (moreDigits always (most - 1) first (drop at text) ≡ moreDigits always (most - count) value (drop next text))
 
 abbrev μ-loop : tie.MeasureT-loop
 μ-loop text at first most value₀ next₀ count₀ value next count = most - count
@@ -24,16 +25,22 @@ digit-at-requires c κs = search needs
 
 returns : tie.Need-returns Inv-loop μ-loop
 returns c =
-    let l = c .before .before .before .loop in
-    (l .inv .3 ∙ more-stop always (l .value) (c .before .before .before .before .before .args .most - l .count) _ (sym (c .before .digit-at .ensures) ∙ not-true _ (c .if1 .taken)), l .inv .2)
+    let l = c .before .before .before .loop in (
+      l .inv .3 ∙ more-stop always (l .value) (c .before .before .before .before .before .args .most - l .count) _ (sym (c .before .digit-at .ensures)
+          ∙ not-true _ (c .if1 .taken)),
+      l .inv .2,
+    )
 
 digit : (c : tie.Else1 Inv-loop μ-loop) → DigitAt (c .before .before .before .before .before .args .text .now) (c .before .before .before .loop .next)
 digit c = digit-at _ _ (sym (c .before .digit-at .ensures) ∙ not-false _ (c .if1 .left))
 
-value-after : (c : tie.Else1 Inv-loop μ-loop) → c .before .before .before .loop .value * 10 + (getD (c .before .before .before .before .before .args .text .now) (c .before .before .before .loop .next) 0 - 48) < 10 ^ (c .before .before .before .loop .count + 1)
+value-after : (c : tie.Else1 Inv-loop μ-loop) → c .before .before .before .loop .value * 10
+    + (getD (c .before .before .before .before .before .args .text .now) (c .before .before .before .loop .next) 0 - 48)
+    < 10 ^ (c .before .before .before .loop .count + 1)
 value-after c = value-next _ _ (c .before .before .before .loop .count) (c .before .before .before .loop .inv .1) (omega (arith, digit c .high))
 
-small : (c : tie.Else1 Inv-loop μ-loop) → c .before .before .before .loop .value * 10 + (getD (c .before .before .before .before .before .args .text .now) (c .before .before .before .loop .next) 0 - 48) < 10 ^ 19
+small : (c : tie.Else1 Inv-loop μ-loop) → c .before .before .before .loop .value * 10
+    + (getD (c .before .before .before .before .before .args .text .now) (c .before .before .before .loop .next) 0 - 48) < 10 ^ 19
 small c = value-fits _ (c .before .before .before .loop .count + 1) (value-after c) (omega arith)
 
 mul-value : tie.Need-mul-value Inv-loop μ-loop

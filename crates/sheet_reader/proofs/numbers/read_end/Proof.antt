@@ -25,7 +25,8 @@ returns c =
 end-at-requires : tie.Need-end-at-requires
 end-at-requires c κs = search needs
 
-got-is : (c : tie.After-end-at) → c .before .before .before .before .before .args .number ≡ Got (c .before .before .number .given .0 .0) (c .before .before .number .given .0 .1 .0)
+got-is : (c : tie.After-end-at) → c .before .before .before .before .before .args .number
+    ≡ Got (c .before .before .number .given .0 .0) (c .before .before .number .given .0 .1 .0)
 got-is c = c .before .before .number .given .1
 
 inside : (c : tie.After-end-at) → c .before .before .number .given .0 .1 .0 ≤ length (c .before .before .before .before .before .args .text .now)
@@ -33,14 +34,22 @@ inside c = rw (got-is c) at (c .before .before .before .before .before .pre)
 
 returns-2 : tie.Need-returns-2
 returns-2 c =
-    let e = got-is (c .before) in
-    (rw e (end-no (ending (c .before .before .before .before .before .before .args .left)) _ _ (sym (c .before .end-at .ensures) ∙ not-true _ (c .if1 .taken))), inside (c .before))
+    let e = got-is (c .before) in (
+      rw e (end-no (ending (c .before .before .before .before .before .before .args .left)) _ _ (sym (c .before .end-at .ensures)
+          ∙ not-true _ (c .if1 .taken))),
+      inside (c .before),
+    )
 
-next-end : (c : tie.Else1) → byteNext (ending (c .before .before .before .before .before .before .args .left)) (drop (c .before .before .before .number .given .0 .1 .0) (c .before .before .before .before .before .before .args .text .now)) ≡ true
+next-end : (c : tie.Else1) → byteNext (ending (c .before .before .before .before .before .before .args .left))
+    (drop (c .before .before .before .number .given .0 .1 .0) (c .before .before .before .before .before .before .args .text .now)) ≡ true
 next-end c = sym (c .before .end-at .ensures) ∙ not-false _ (c .if1 .left)
 
 add-after : tie.Need-add-after
-add-after c = omega (arith, byte-inside (c .before .before .before .before .before .before .args .text .now) (c .before .before .before .number .given .0 .1 .0) _ (next-end c))
+add-after c = omega (
+  arith,
+  byte-inside (c .before .before .before .before .before .before .args .text .now)
+      (c .before .before .before .number .given .0 .1 .0) _ (next-end c),
+)
 
 returns-3 : tie.Need-returns-3
 returns-3 c =

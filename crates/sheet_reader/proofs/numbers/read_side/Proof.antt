@@ -39,7 +39,8 @@ digit-at-requires-2 c κs = search needs
 returns-3 : tie.Need-returns-3
 returns-3 c =
     let e = c .before .before .before .before in (
-      side-more _ (first e) (e .before .before .before .pre .1) (c .before .before .if2 .left) ∙ more-stop _ _ 1 _ (sym (c .before .digit-at2 .ensures) ∙ not-true _ (c .if3 .taken)),
+      side-more _ (first e) (e .before .before .before .pre .1) (c .before .before .if2 .left)
+          ∙ more-stop _ _ 1 _ (sym (c .before .digit-at2 .ensures) ∙ not-true _ (c .if3 .taken)),
       omega (arith, first e .inside),
     )
 

@@ -44,7 +44,12 @@ loop-again c =
     let n : length (take (l .i) (a .from .now)) ≡ l .i = length-take-le (l .i) (a .from .now) (omega arith) in (
       omega arith,
       simp length-set (l .inv .1),
-      rw (l .inv .2, front-byte (take (l .i) (a .from .now)) (a .list .now) (l .i) (getD (a .from .now) (l .i) 0) (sym n) (omega arith), add-one, take-suc (a .from .now) (l .i) 0 (omega arith)),
+      rw (
+        l .inv .2,
+        front-byte (take (l .i) (a .from .now)) (a .list .now) (l .i) (getD (a .from .now) (l .i) 0) (sym n) (omega arith),
+        add-one,
+        take-suc (a .from .now) (l .i) 0 (omega arith),
+      ),
     )
 
 same-length : tie.Need-same-length Inv-loop μ-loop

@@ -1,5 +1,6 @@
--- A number that is refused is one case of the call. Past that, a flag is the verdict on the three rooms: by it each list is stored or kept, and the sheet is given or refused.
--- Where the first copy's flag has to be set, `search` also takes the flag of its own room alone: a program that copies by that one (must-fail/refusal_after_store) fails only at the return that refuses.
+-- A number that is refused is one case of the call. Past that, a flag is the verdict on the three rooms: by it each list is stored or kept, and the sheet is
+-- given or refused. Where the first copy's flag has to be set, `search` also takes the flag of its own room alone: a program that copies by that one
+-- (must-fail/refusal_after_store) fails only at the return that refuses.
 use mathlib.Core.Path.{_≡_, sym, _∙_}
 use mathlib.Core.Bool.{Bool, true, false, _&&_}
 use mathlib.Core.Logic.{⊎-elim}
@@ -10,8 +11,8 @@ use lib.Dec.{leb}
 use lib.ListN.{length}
 use native.Mathlib.Nat.{le-trans}
 use Rattle.transport.specs.Laws.Sound.{sources-room, sinks-room}
-use Rattle.transport.specs.Sheet.{Sheet, refusal, numberTests}
-use Rattle.sheet.specs.Check.{sheetOf, accepted-none, refused-some}
+use Rattle.transport.specs.Sheet.{Sheet, refusal, numberTests, sheetOf}
+use Rattle.sheet.specs.Check.{accepted-none, refused-some}
 use Rattle.sheet_reader.specs.ReadCall.{all-fit, stored-number, stored-tight, stored-given}
 use Rattle.sheet_reader.proofs.storing.store_sheet.Statement.{statement}
 use Rattle.sheet_reader.proofs.storing.store_sheet.Tie as tie
@@ -40,7 +41,9 @@ enum-known-check : tie.Need-enum-known-check
 enum-known-check c = search needs
 
 returns : tie.Need-returns
-returns c = let s = c .before .before .before .before .before .before .before .before .before .before in stored-number (s .args .supply .now) (s .args .demand .now) (s .args .cost .now) (sheetAt s) _ (refused-some _ _ (sym (c .before .before .before .check-numbers .ensures) ∙ c .before .check .given .1))
+returns c = let s = c .before .before .before .before .before .before .before .before .before .before in
+    stored-number (s .args .supply .now) (s .args .demand .now) (s .args .cost .now) (sheetAt s) _
+    (refused-some _ _ (sym (c .before .before .before .check-numbers .ensures) ∙ c .before .check .given .1))
 
 enum-told : tie.Need-enum-told
 enum-told c = search needs
@@ -52,7 +55,8 @@ accepted c = accepted-none _ (sym (c .before .before .check-numbers .ensures) �
 verdict : (c : tie.Joined2) → let s = startOf (c .before .before) in c .if2 .fits ≡ supplyFits s && demandFits s && costFits s
 verdict c =
     let s = startOf (c .before .before) in
-    let both : c .before .if1 .if2 ≡ supplyFits s && demandFits s = ⊎-elim (λ w. w .1 ∙ (rw (w .0 .taken))) (λ w. w .1 ∙ (rw (w .0 .left))) (c .before .if1 .came) in
+    let both : c .before .if1 .if2 ≡ supplyFits s && demandFits s =
+    ⊎-elim (λ w. w .1 ∙ (rw (w .0 .taken))) (λ w. w .1 ∙ (rw (w .0 .left))) (c .before .if1 .came) in
     ⊎-elim (λ w. w .1 ∙ (rw (sym both, w .0 .taken))) (λ w. w .1 ∙ (rw (sym both, w .0 .left))) (c .if2 .came)
 
 -- .. and if it is set, so is each of theirs.
@@ -85,8 +89,13 @@ returns-2 c =
     let j = c .before .before .before .before .before .before .before .before .before .before .before .before .before in
     let s = startOf (j .before .before) in
     let off : j .if2 .fits ≡ false = not-true (j .if2 .fits) (c .if3 .taken) in
-    rw (c .before .before .before .before .before .before .before .before .before .before .before .store-list .ensures .1 off, c .before .before .before .before .before .before .before .store-list2 .ensures .1 off, c .before .before .before .store-list3 .ensures .1 off)
-    (stored-tight (s .args .supply .now) (s .args .demand .now) (s .args .cost .now) (sheetAt s) (accepted (j .before .before)) (s .pre .2) (sym (verdict j) ∙ off))
+    rw (
+      c .before .before .before .before .before .before .before .before .before .before .before .store-list .ensures .1 off,
+      c .before .before .before .before .before .before .before .store-list2 .ensures .1 off,
+      c .before .before .before .store-list3 .ensures .1 off,
+    )
+    (stored-tight (s .args .supply .now) (s .args .demand .now) (s .args .cost .now) (sheetAt s) (accepted (j .before .before)) (s .pre .2) (sym (verdict j)
+    ∙ off))
 
 same-length-4 : tie.Need-same-length-4
 same-length-4 c = search needs
@@ -103,8 +112,13 @@ returns-3 c =
     let s = startOf (j .before .before) in
     let on : j .if2 .fits ≡ true = not-false (j .if2 .fits) (c .if3 .left) in
     let set = each j on in
-    rw (c .before .before .before .before .before .before .before .before .before .before .before .store-list .ensures .0 (search needs), c .before .before .before .before .before .before .before .store-list2 .ensures .0 on, c .before .before .before .store-list3 .ensures .0 on)
-    (stored-given (s .args .supply .now) (s .args .demand .now) (s .args .cost .now) (sheetAt s) (accepted (j .before .before)) (s .pre .2) (sym (verdict j) ∙ on))
+    rw (
+      c .before .before .before .before .before .before .before .before .before .before .before .store-list .ensures .0 (search needs),
+      c .before .before .before .before .before .before .before .store-list2 .ensures .0 on,
+      c .before .before .before .store-list3 .ensures .0 on,
+    )
+    (stored-given (s .args .supply .now) (s .args .demand .now) (s .args .cost .now) (sheetAt s) (accepted (j .before .before)) (s .pre .2) (sym (verdict j)
+    ∙ on))
 
 pub store-sheet-spec : {M : Type 1} → statement M
 store-sheet-spec =

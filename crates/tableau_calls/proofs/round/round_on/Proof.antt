@@ -8,7 +8,8 @@ spread-costs-requires : tie.Need-spread-costs-requires
 spread-costs-requires c κs = dealt-costs (c .before .before .pre .2)
 
 make-round-requires : tie.Need-make-round-requires
-make-round-requires c κs = let (S, T, d) = c .before .before .before .before .before .before .before .before .pre in (S, T, dealt-board d (c .before .before .before .before .before .spread-costs .ensures))
+make-round-requires c κs = let (S, T, d) = c .before .before .before .before .before .before .before .before .pre in
+    (S, T, dealt-board d (c .before .before .before .before .before .spread-costs .ensures))
 
 returns : tie.Need-returns
 returns c = λ S T d.

@@ -8,13 +8,13 @@ use borrow.Author.Tests.{not-true, not-false}
 use lib.IntN.{pos}
 use lib.ListN.{length}
 use Rattle.transport.specs.Laws.Sound.{accepted-sound}
-use Rattle.transport.specs.Sheet.{Sheet, problemOf, refusal, sheetTests}
+use Rattle.transport.specs.Sheet.{Sheet, problemOf, refusal, sheetTests, sheetOf}
 use Rattle.transport.specs.Laws.SheetLaws.{accepted}
 use Rattle.transport.specs.Tableau.{cellsOf}
 use Rattle.transport.specs.Belonging.{belongs}
 use Rattle.transport.specs.Round.{run}
 use Rattle.transport.specs.Answers.{runAnswer}
-use Rattle.sheet.specs.Check.{sheetOf, accepted-none, refused-some}
+use Rattle.sheet.specs.Check.{accepted-none, refused-some}
 use Rattle.dealing.specs.Dealt.{Dealt, dealt-loaded}
 use Rattle.tableau_calls.specs.CallCases.{run-early, run-astray, run-given, run-finished, run-spent}
 use Rattle.tableau_calls.proofs.run.run.Statement.{statement}
@@ -36,7 +36,8 @@ returns : tie.Need-returns
 returns c =
     let s = c .before .before .before .before .before .before .before .before in
     c .refused-run .ensures
-    ∙ ap runAnswer (sym (run-early (sheetAt s) (s .args .t) (s .args .allowance) _ (refused-some _ _ (sym (c .before .before .before .before .check-sheet .ensures) ∙ c .before .before .check .given .1))))
+    ∙ ap runAnswer (sym (run-early (sheetAt s) (s .args .t) (s .args .allowance) _
+    (refused-some _ _ (sym (c .before .before .before .before .check-sheet .ensures) ∙ c .before .before .check .given .1))))
 
 enum-told : tie.Need-enum-told
 enum-told c = search needs
@@ -46,7 +47,8 @@ passed c = accepted-none _ (sym (c .before .before .check-sheet .ensures) ∙ c 
 
 load-requires : tie.Need-load-requires
 unfolding problemOf
-load-requires c κs = let s = c .before .before .before .before .before .before .before .before .before in (map pos (s .args .cost .now), accepted-sound (sheetAt s) (passed (c .before .before .before)))
+load-requires c κs = let s = c .before .before .before .before .before .before .before .before .before in
+    (map pos (s .args .cost .now), accepted-sound (sheetAt s) (passed (c .before .before .before)))
 
 refused-run-requires-2 : tie.Need-refused-run-requires-2
 refused-run-requires-2 c κs = tt
@@ -57,7 +59,8 @@ returns-2 c =
     let a = c .before .before in
     let s = a .before .before .before .before .before .before .before .before .before .before in
     c .refused-run2 .ensures
-    ∙ ap runAnswer (sym (run-astray (sheetAt s) (s .args .t) (s .args .allowance) (passed (a .before .before .before .before)) (sym (a .load .ensures .0 (map pos (s .args .cost .now))) ∙ not-true _ (c .before .if1 .taken))))
+    ∙ ap runAnswer (sym (run-astray (sheetAt s) (s .args .t) (s .args .allowance) (passed (a .before .before .before .before))
+    (sym (a .load .ensures .0 (map pos (s .args .cost .now))) ∙ not-true _ (c .before .if1 .taken))))
 
 -- ---- the tableau belongs to the sheet
 
@@ -74,7 +77,8 @@ within c = sym (c .before .load .ensures .0 (map pos (startBefore c .args .cost 
 dealt : (c : tie.Else1)
     → let s = startBefore c in
     let l = c .before .load .last .1 .1 .1 in
-    Dealt (problemOf (sheetAt s)) (cellsOf (s .args .t)) (s .args .cost .now) (l .0) (l .1 .0) (l .1 .1 .0) (length (s .args .supply .now)) (length (s .args .demand .now))
+    Dealt (problemOf (sheetAt s)) (cellsOf (s .args .t)) (s .args .cost .now) (l .0) (l .1 .0) (l .1 .1 .0) (length (s .args .supply .now))
+    (length (s .args .demand .now))
 unfolding problemOf
 dealt c =
     let s = startBefore c in

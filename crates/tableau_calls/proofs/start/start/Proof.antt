@@ -2,8 +2,8 @@
 use mathlib.Core.Path.{_≡_, sym, _∙_}
 use mathlib.Core.Option.{none}
 use Rattle.transport.specs.Laws.Sound.{accepted-sound}
-use Rattle.transport.specs.Sheet.{Sheet, problemOf, refusal, sheetTests}
-use Rattle.sheet.specs.Check.{sheetOf, accepted-none, refused-some}
+use Rattle.transport.specs.Sheet.{Sheet, problemOf, refusal, sheetTests, sheetOf}
+use Rattle.sheet.specs.Check.{accepted-none, refused-some}
 use Rattle.dealing.specs.Corner.{sound-costless, sound-turned, start-costless}
 use Rattle.tableau_calls.specs.Start.{start-refused, start-given}
 use borrow.Author.Needs.{needs}
@@ -25,7 +25,8 @@ empty-tableau-requires c κs = search needs
 returns : tie.Need-returns
 returns c =
     rw (c .empty-tableau .ensures)
-    (start-refused (sheetAt (c .before .before .before .before .before .before .before .before)) _ (refused-some _ _ (sym (c .before .before .before .before .check-sheet .ensures) ∙ c .before .before .check .given .1)))
+    (start-refused (sheetAt (c .before .before .before .before .before .before .before .before)) _
+    (refused-some _ _ (sym (c .before .before .before .before .check-sheet .ensures) ∙ c .before .before .check .given .1)))
 
 enum-told : tie.Need-enum-told
 enum-told c = search needs

@@ -13,10 +13,12 @@ use Rattle.dealing.proofs.corner.Corner.next.Statement.{statement}
 use Rattle.dealing.proofs.corner.Corner.next.Tie as tie
 
 -- What the test says where the first, and where the second pair has been taken.
-more : (c : tie.After-subtract) → less (c .before .before .before .before .before .before .before .args .self .demand) (c .before .before .before .before .before .before .before .args .self .supply) ≡ true
+more : (c : tie.After-subtract) → less (c .before .before .before .before .before .before .before .args .self .demand)
+    (c .before .before .before .before .before .before .before .args .self .supply) ≡ true
 more c = sym (c .before .before .less .ensures) ∙ c .before .if1 .taken
 
-fewer : (c : tie.After-subtract2) → less (c .before .before .before .before .before .before .before .args .self .demand) (c .before .before .before .before .before .before .before .args .self .supply) ≡ false
+fewer : (c : tie.After-subtract2) → less (c .before .before .before .before .before .before .before .args .self .demand)
+    (c .before .before .before .before .before .before .before .args .self .supply) ≡ false
 fewer c = sym (c .before .before .less .ensures) ∙ c .before .if1 .left
 
 less-requires : tie.Need-less-requires
