@@ -24,13 +24,13 @@ use Rattle.transport.specs.Laws.ProblemLaws.{problem}
 use Rattle.tableaux.specs.View.{Distinct, Inside, rowOf, colOf, amountAt}
 use Rattle.tableaux.specs.Belonging.{fits-inside, order-true}
 use Rattle.tableaux.specs.Order.{ordered-by, ordered-distinct}
-use Rattle.basis.specs.Layout.{stride, laneAt, placeOf, place-laneAt, strikeOf, strikesOf}
-use Rattle.basis.specs.SignLaws.{weightsOf}
+use Rattle.tree.specs.Layout.{stride, laneAt, placeOf, place-laneAt, strikeOf, strikesOf}
+use Rattle.tree.specs.SignLaws.{weightsOf}
 use Rattle.board.specs.CellTests.{onBoard, cellsFit}
 use Rattle.board.specs.Held.{Held, row-lanes, column-lanes, lanes-apart}
-use Rattle.elimination.specs.Links.{Links, Masks, iff-same}
-use Rattle.elimination.specs.Drawn.{Drawn, drawn-links, drawn-masks}
-use Rattle.elimination.specs.Strip.{Stripped}
+use Rattle.tree.specs.Links.{Links, Masks, iff-same}
+use Rattle.tree.specs.Drawn.{Drawn, drawn-links, drawn-masks}
+use Rattle.tree.specs.Strip.{Stripped}
 use Rattle.belonging.specs.Carried.{carries, carries-true, carries-at}
 use Rattle.belonging.specs.Balance.{Tree, Carry, Weights, markOf, balanced-iff}
 use Rattle.belonging.specs.Weighing.{Modest}

@@ -13,8 +13,8 @@ use borrow.Author.Tests.{eq-eqb, ne-eqb}
 use Rattle.transport.specs.Lists.{at}
 use Rattle.transport.specs.Laws.ListLaws.{sumTo-bound}
 use Rattle.transport.specs.Limits.{maxAmount, maxBags, maxSide}
-use Rattle.basis.specs.Layout.{stride, nodeRoom}
-use Rattle.basis.specs.SignLaws.{size}
+use Rattle.tree.specs.Layout.{stride, nodeRoom}
+use Rattle.tree.specs.SignLaws.{size}
 use Rattle.belonging.specs.Carried.{Light}
 use Rattle.belonging.specs.Balance.{Weights, markOf}
 

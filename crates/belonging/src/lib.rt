@@ -2,11 +2,11 @@
 pub mod flows;
 pub mod weights;
 
-use basis::LANES;
-use basis::NODES;
 use board::fit;
 use board::spread;
 use transport::Tableau;
+use tree::LANES;
+use tree::NODES;
 ghost use mathlib.Core.Path.{_≡_};
 ghost use mathlib.Core.Bool.{true, _&&_};
 ghost use mathlib.Core.List.{List};
@@ -44,7 +44,7 @@ fn spans_and_balances(
     let mut leaf = [0; NODES];
     let mut other = [0; NODES];
     let mut lane = [0; NODES];
-    let count = elimination::strike(adj, &mut leaf, &mut other, &mut lane, m, n);
+    let count = tree::strike::strike(adj, &mut leaf, &mut other, &mut lane, m, n);
     if count != m + n - 1 {
         return false;
     }

@@ -1,10 +1,10 @@
 // The weights at the nodes whose flows the bags and the marks of a tableau are.
-use basis::NODES;
+use tree::NODES;
 ghost use mathlib.Core.Path.{_≡_};
 ghost use Prim.Native.Nat.{_+_, _<_, _≤_};
 ghost use lib.ListN.{length};
 ghost use Rattle.transport.specs.Lists.{at};
-ghost use Rattle.basis.specs.Layout.{stride, nodeRoom};
+ghost use Rattle.tree.specs.Layout.{stride, nodeRoom};
 ghost use Rattle.belonging.specs.Balance.{Weights, markOf};
 ghost use Rattle.belonging.specs.Weighing.{Modest, Put};
 

@@ -12,7 +12,7 @@ use Rattle.transport.specs.Laws.ListLaws.{and-left, and-right}
 use Rattle.transport.specs.Problem.{place}
 use Rattle.transport.specs.Belonging.{inOrder, aboveZero}
 use Rattle.transport.specs.declared.Cell.{Cell}
-use Rattle.basis.specs.Layout.{stride, laneRoom}
+use Rattle.tree.specs.Layout.{stride, laneRoom}
 
 -- A cell of m rows and n columns.
 unfoldable pub onBoard : ℕ → ℕ → Cell → Bool

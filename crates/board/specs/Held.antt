@@ -20,8 +20,8 @@ use Rattle.transport.specs.declared.Pair.{Pair}
 use Rattle.transport.specs.declared.Cell.{Cell}
 use Rattle.tableaux.specs.View.{Distinct, Inside, rowOf, colOf, amountAt, basic-later}
 use Rattle.tableaux.specs.Lanes.{Has, has-basic}
-use Rattle.basis.specs.Layout.{stride, nodeRoom, laneRoom, getD-set}
-use Rattle.basis.specs.Mask.{has, put, has-put, has-zero}
+use Rattle.tree.specs.Layout.{stride, nodeRoom, laneRoom, getD-set}
+use Rattle.tree.specs.Mask.{has, put, has-put, has-zero}
 
 -- ---- basic lanes, as a test
 

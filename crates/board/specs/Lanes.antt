@@ -21,8 +21,8 @@ use Rattle.transport.specs.declared.Cell.{Cell}
 use Rattle.transport.specs.declared.Tableau.{Tableau}
 use Rattle.tableaux.specs.View.{Inside}
 use Rattle.tableaux.specs.Order.{Ordered, basic-member, CellAt, cell-at, amount-member, ordered-distinct}
-use Rattle.basis.specs.Layout.{stride, nodeRoom, laneRoom}
-use Rattle.basis.specs.Mask.{bit, has, cut, cut-here, cut-there, has-zero}
+use Rattle.tree.specs.Layout.{stride, nodeRoom, laneRoom}
+use Rattle.tree.specs.Mask.{bit, has, cut, cut-here, cut-there, has-zero}
 use Rattle.board.specs.Cells.{cellRoom, cellRoom-is}
 use Rattle.board.specs.Held.{isBasic, isBasic-true, true-isBasic, Held, inside-basic}
 

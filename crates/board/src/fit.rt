@@ -5,7 +5,7 @@ use transport::Tableau;
 ghost use mathlib.Core.Path.{_≡_};
 ghost use Prim.Native.Nat.{_≤_};
 ghost use Rattle.transport.specs.Tableau.{cellsOf};
-ghost use Rattle.basis.specs.Layout.{stride};
+ghost use Rattle.tree.specs.Layout.{stride};
 ghost use Rattle.board.specs.Cells.{cellRoom};
 ghost use Rattle.board.specs.CellTests.{cellsFit, fitsAt};
 

@@ -1,18 +1,18 @@
 // A tableau gathered from flat arrays: its lanes from the masks of the rows, in sheet order, and their amounts.
-use basis::LANES;
-use basis::NODES;
-use basis::mask;
 use transport::Cell;
 use transport::MAX_CELLS;
 use transport::MAX_SIDE;
 use transport::Pair;
 use transport::Tableau;
+use tree::LANES;
+use tree::NODES;
+use tree::mask;
 ghost use mathlib.Core.Path.{_≡_};
 ghost use mathlib.Core.List.{_++_};
 ghost use Prim.Native.Nat.{_+_, _≤_};
 ghost use lib.ListN.{length, take};
 ghost use Rattle.transport.specs.Tableau.{tableauOf};
-ghost use Rattle.basis.specs.Layout.{nodeRoom, laneRoom};
+ghost use Rattle.tree.specs.Layout.{nodeRoom, laneRoom};
 ghost use Rattle.board.specs.Lanes.{rowLanes, RowMasks, Lanes, gathered};
 
 // Behind the first `count` lanes come those of one more row, which begins at the lane `first`; the count then.

@@ -1,16 +1,16 @@
 // A tableau spread over flat arrays: a mask of basic lanes for each node, and the amounts by lane.
-use basis::LANES;
-use basis::NODES;
-use basis::mask;
 use transport::Cell;
 use transport::MAX_SIDE;
 use transport::Tableau;
+use tree::LANES;
+use tree::NODES;
+use tree::mask;
 ghost use mathlib.Core.Path.{_≡_};
 ghost use Prim.Native.Nat.{ℕ, _+_, _*_, _<_, _≤_};
 ghost use lib.ListN.{set};
 ghost use Rattle.transport.specs.Tableau.{cellsOf};
 ghost use Rattle.tableaux.specs.View.{Inside};
-ghost use Rattle.basis.specs.Layout.{stride};
+ghost use Rattle.tree.specs.Layout.{stride};
 ghost use Rattle.board.specs.Cells.{cellRoom};
 ghost use Rattle.board.specs.Held.{Held, linked, Cleared};
 

@@ -23,7 +23,7 @@ use Rattle.transport.specs.Answers.{prices}
 use Rattle.integers.specs.Bridge.{z-eq, z-le}
 use Rattle.tableaux.specs.Belonging.{belongs-iff, fits-of, spans-of}
 use Rattle.tableaux.specs.Potentials.{price-size, price-limit}
-use Rattle.basis.specs.Layout.{stride, stride-is, maxPotential}
+use Rattle.tree.specs.Layout.{stride, stride-is, maxPotential}
 use Rattle.board.specs.Held.{Held}
 use Rattle.rounds.specs.Costs.{Spread, spread-costed}
 use Rattle.rounds.specs.Boards.{Board}

@@ -1,13 +1,13 @@
 // Prices as calls give them.
-use basis::NODES;
-use basis::Price;
+use tree::NODES;
+use tree::Price;
 ghost use mathlib.Core.Path.{_≡_};
 ghost use mathlib.Core.List.{_++_};
 ghost use Prim.Native.Nat.{ℕ, _+_, _<_, _≤_};
 ghost use lib.IntN.{pos, natAbs};
 ghost use lib.ListN.{length, drop, getD};
 ghost use Rattle.transport.specs.Lists.{table};
-ghost use Rattle.basis.specs.Layout.{stride, maxPotential};
+ghost use Rattle.tree.specs.Layout.{stride, maxPotential};
 
 // Writes the prices of `count` nodes, from the node `from` on, and leaves the rest of the list as it is.
 pub fn write_prices(price: &[Price; NODES], from: usize, count: usize, out: &mut [i64])

@@ -20,10 +20,10 @@ use Rattle.tableaux.specs.Leaves.{Ends, row-struck, column-struck}
 use Rattle.tableaux.specs.Striking.{Step, Peeled, bare, peel, lane-once, root-no-leaf}
 use Rattle.tableaux.specs.Potentials.{potential-off}
 use Rattle.optimality.specs.Phases.{mostOn}
-use Rattle.basis.specs.Layout.{laneAt, placeOf, place-laneAt, strikeOf, strikesOf, strikesFrom, strikesFrom-cons, strikesFrom-nil}
-use Rattle.basis.specs.Mask.{bit, has, put, has-put, has-zero, bit-and}
-use Rattle.phase.specs.MaskLaws.{firstBits, first-below, first-above, minus, bit-minus, bit-shift}
-use Rattle.basis.specs.PotentialLaws.{potentialBy-nil, potentialBy-cons}
+use Rattle.tree.specs.Layout.{laneAt, placeOf, place-laneAt, strikeOf, strikesOf, strikesFrom, strikesFrom-cons, strikesFrom-nil}
+use Rattle.tree.specs.Mask.{bit, has, put, has-put, has-zero, bit-and}
+use Rattle.tree.specs.MaskLaws.{firstBits, first-below, first-above, minus, bit-minus, bit-shift}
+use Rattle.tree.specs.PotentialLaws.{potentialBy-nil, potentialBy-cons}
 
 -- ---- the cost of a phase
 

@@ -12,10 +12,10 @@ use lib.Bits.{bitAnd}
 use lib.Dec.{eqb}
 use lib.ListN.{length, getD, set, length-set}
 use lib.Seq.{getD-set-same, getD-set-other}
-use Rattle.basis.specs.Mask.{bit, has, put, has-put, bit-and}
+use Rattle.tree.specs.Mask.{bit, has, put, has-put, bit-and}
 use Rattle.phase.specs.declared.lanes.Found.{Found}
 use Rattle.phase.specs.declared.lanes.Found.the-variants.{Lane, Nothing}
-use Rattle.phase.specs.MaskLaws.{minus, bit-minus, bit-zero, some-bit}
+use Rattle.tree.specs.MaskLaws.{minus, bit-minus, bit-zero, some-bit}
 
 -- ---- a lane that improves
 

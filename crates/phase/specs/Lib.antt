@@ -1,4 +1,3 @@
-pub mod MaskLaws
 pub mod Cut
 pub mod Lanes
 pub mod PhaseLaws

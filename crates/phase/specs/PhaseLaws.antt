@@ -32,7 +32,7 @@ use Rattle.tableaux.specs.Potentials.{potential-tight, potential-any}
 use Rattle.tableaux.specs.Belonging.{fits-of, spans-of}
 use Rattle.optimality.specs.Phases.{mostOn, most-on, eqZ-zero, Allowed, phasePotential, phaseRow, phaseColumn, phaseReduced, phase-reduced, Improving, Ended}
 use Rattle.optimality.specs.Phases.{keptLanes}
-use Rattle.basis.specs.Mask.{bit, has}
+use Rattle.tree.specs.Mask.{bit, has}
 use Rattle.phase.specs.declared.lanes.Found.the-variants as found
 use Rattle.phase.specs.Cut.{most-here, most-off, none-beyond, Peels, Cuts}
 use Rattle.phase.specs.Lanes.{Finds, Keeps, keptBit}

@@ -1,13 +1,13 @@
 // The cut that a basic lane makes in the tree of basic lanes. In the phase for a lane only this lane has a cost, −1, so the potentials are 0 on the root's side
 // of the cut, and −1 or 1 beyond it.
-use crate::mask::first_bits;
-use crate::mask::without;
-use basis::NODES;
-use basis::mask::has_bit;
-use basis::mask::set_bit;
 use transport::MAX_SIDE;
+use tree::NODES;
+use tree::mask::first_bits;
+use tree::mask::has_bit;
+use tree::mask::set_bit;
+use tree::mask::without;
 ghost use Prim.Native.Nat.{_<_, _≤_};
-ghost use Rattle.basis.specs.Layout.{stride, laneAt, strikesOf, Struck};
+ghost use Rattle.tree.specs.Layout.{stride, laneAt, strikesOf, Struck};
 ghost use Rattle.phase.specs.Cut.{Peels, Beyond, Cuts};
 
 // The nodes beyond a lane, as bits, and whether the one of them at the lane is a row.

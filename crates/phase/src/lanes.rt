@@ -1,17 +1,17 @@
 // The allowed lanes of settling, a mask of columns for each row, in the phase for a lane: one that improves, those that are kept, and whether all is decided.
 use crate::cut::Cut;
-use crate::mask::without;
-use basis::NODES;
-use basis::mask::first_bit;
-use basis::mask::has_bit;
-use basis::mask::set_bit;
 use transport::MAX_SIDE;
+use tree::NODES;
+use tree::mask::first_bit;
+use tree::mask::has_bit;
+use tree::mask::set_bit;
+use tree::mask::without;
 ghost use mathlib.Core.Path.{_≡_};
 ghost use mathlib.Core.Logic.{_↔_};
 ghost use mathlib.Core.Bool.{true};
 ghost use Prim.Native.Nat.{_<_, _≤_};
 ghost use lib.ListN.{length};
-ghost use Rattle.basis.specs.Layout.{stride};
+ghost use Rattle.tree.specs.Layout.{stride};
 ghost use Rattle.phase.specs.Lanes.{Finds, Keeps, Decided};
 
 // A lane by its row and column.

@@ -2,4 +2,3 @@
 // Lanes, nodes and strikes lie as in the crate basis.
 pub mod cut;
 pub mod lanes;
-pub mod mask;

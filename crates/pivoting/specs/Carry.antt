@@ -15,8 +15,8 @@ use Rattle.transport.specs.Laws.RangeLaws.{mag-abs, back}
 use Rattle.transport.specs.Laws.AmountLaws.{less-weak}
 use mir.Syntax.{w64}
 use mir.Val.{toZ, ofZ}
-use Rattle.basis.specs.Layout.{laneRoom}
-use Rattle.basis.specs.StepLaws.{pairAt, lessAt, among, LaneList, Changed}
+use Rattle.tree.specs.Layout.{laneRoom}
+use Rattle.tree.specs.StepLaws.{pairAt, lessAt, among, LaneList, Changed}
 
 -- ---- what stands among the first numbers of an array
 

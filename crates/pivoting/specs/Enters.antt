@@ -27,11 +27,11 @@ use Rattle.tableaux.specs.Belonging.{belongs-iff, inside-of, fits-of, spans-of}
 use Rattle.tableaux.specs.Order.{basic-dec}
 use Rattle.tableaux.specs.PivotView.{signs}
 use Rattle.board.specs.Held.{inside-basic}
-use Rattle.elimination.specs.Strikes.{strikes-room, strikes-distinct}
-use Rattle.basis.specs.Layout as layout
-use Rattle.basis.specs.Layout.{stride, stride-is, nodeRoom, laneAt, placeOf, place-laneAt, laneAt-place, strikeOf, strikesOf, Distinct}
-use Rattle.basis.specs.SignLaws.{enterWeight, sign-is}
-use Rattle.basis.specs.StepLaws.{among, among-keep}
+use Rattle.tree.specs.Strikes.{strikes-room, strikes-distinct}
+use Rattle.tree.specs.Layout as layout
+use Rattle.tree.specs.Layout.{stride, stride-is, nodeRoom, laneAt, placeOf, place-laneAt, laneAt-place, strikeOf, strikesOf, Distinct}
+use Rattle.tree.specs.SignLaws.{enterWeight, sign-is}
+use Rattle.tree.specs.StepLaws.{among, among-keep}
 use Rattle.pivoting.specs.Carry.{member-among, no-member-among, member-first}
 
 -- The lane e, on the sheet and not basic, enters the tableau T of the sheet P, and the strikes in the arrays strike off the basis of T.

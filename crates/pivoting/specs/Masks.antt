@@ -16,7 +16,7 @@ use Rattle.transport.specs.Statements.{Basic}
 use Rattle.transport.specs.declared.Cell.{Cell}
 use Rattle.tableaux.specs.Order.{basic-dec}
 use Rattle.tableaux.specs.PivotView.{Stands, stands-dec, leaver, pivot-basic}
-use Rattle.basis.specs.Mask.{has, cut, has-cut}
+use Rattle.tree.specs.Mask.{has, cut, has-cut}
 use Rattle.board.specs.Held.{isBasic, isBasic-true, true-isBasic, linked, linked-row, linked-column}
 
 -- ---- tests of two numbers

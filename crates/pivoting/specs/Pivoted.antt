@@ -28,8 +28,8 @@ use Rattle.tableaux.specs.Order.{Ordered, ordered-by, cell-at, basic-dec, amoun
 use Rattle.tableaux.specs.PivotView.{Stands, stands-dec, signs, leaver, step, Leaves, inside-member, amount-enters, amount-stays, amount-leaves}
 use Rattle.tableaux.specs.PivotView.{amount-elsewhere}
 use Rattle.tableaux.specs.Pivoting.{pivot-leaves, pivot-no-tie}
-use Rattle.basis.specs.Layout.{stride, laneAt, place-laneAt}
-use Rattle.basis.specs.StepLaws.{pairAt, lessAt}
+use Rattle.tree.specs.Layout.{stride, laneAt, place-laneAt}
+use Rattle.tree.specs.StepLaws.{pairAt, lessAt}
 use Rattle.pivoting.specs.Carry.{among-member, moved, Carried}
 use Rattle.pivoting.specs.Enters.{Enters, enters-belongs, sides, sign-none, signed, signed-among, signed-basic}
 

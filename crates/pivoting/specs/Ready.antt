@@ -23,9 +23,9 @@ use Rattle.tableaux.specs.Order.{cell-at, amount-member}
 use Rattle.tableaux.specs.Belonging.{inside-of, distinct-of}
 use Rattle.tableaux.specs.TableauView.{cell-bounded}
 use Rattle.tableaux.specs.PivotView.{leaver, step}
-use Rattle.basis.specs.Layout.{stride, place-laneAt}
-use Rattle.basis.specs.SignLaws.{LoopLanes}
-use Rattle.basis.specs.StepLaws.{pairAt, minus-lanes, plus-lanes}
+use Rattle.tree.specs.Layout.{stride, place-laneAt}
+use Rattle.tree.specs.SignLaws.{LoopLanes}
+use Rattle.tree.specs.StepLaws.{pairAt, minus-lanes, plus-lanes}
 use Rattle.board.specs.Held.{Held, inside-basic, length-linked}
 use Rattle.pivoting.specs.Carry.{Light, Carried, Turns, Turned}
 use Rattle.pivoting.specs.Enters.{Enters, enters-belongs, sides, enters-struck, enters-distinct, signed, signed-basic}

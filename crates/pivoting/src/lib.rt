@@ -1,11 +1,11 @@
 // The pivot of a round on flat arrays: a lane enters the basis, the step goes round the loop that it closes, and the lane that held the step leaves.
-use basis::LANES;
-use basis::NODES;
-use basis::mask;
-use basis::signs;
-use basis::step;
 use board::spread;
 use transport::MAX_SIDE;
+use tree::LANES;
+use tree::NODES;
+use tree::mask;
+use tree::signs;
+use tree::step;
 ghost use mathlib.Core.Path.{_≡_};
 ghost use mathlib.Core.List.{List};
 ghost use Prim.Native.Nat.{_<_, _≤_, _^_};
@@ -14,8 +14,8 @@ ghost use lib.ListN.{length, take};
 ghost use Rattle.transport.specs.Problem.{Problem, sinks};
 ghost use Rattle.transport.specs.declared.Cell.{Cell};
 ghost use Rattle.transport.specs.Round as round;
-ghost use Rattle.basis.specs.Layout.{stride, nodeRoom, laneRoom};
-ghost use Rattle.basis.specs.StepLaws.{LaneList};
+ghost use Rattle.tree.specs.Layout.{stride, nodeRoom, laneRoom};
+ghost use Rattle.tree.specs.StepLaws.{LaneList};
 ghost use Rattle.board.specs.Held.{Held};
 ghost use Rattle.pivoting.specs.Carry.{Light, Carried, Turns, Turned};
 ghost use Rattle.pivoting.specs.Masks.{unlinked};

@@ -15,7 +15,7 @@ use Rattle.tableaux.specs.View.{Inside}
 use Rattle.tableaux.specs.Starting.{start-belongs}
 use Rattle.tableaux.specs.Belonging.{belongs-iff}
 use Rattle.demands.specs.Says.{cells-of}
-use Rattle.basis.specs.Layout.{stride, stride-is}
+use Rattle.tree.specs.Layout.{stride, stride-is}
 use Rattle.board.specs.Cells.{cellRoom}
 use Rattle.board.specs.Held.{Held}
 use Rattle.dealing.specs.Corner.{costless, start-costless, length-start}

@@ -1,11 +1,11 @@
 // The settled plan from the board of a finished tableau.
-use basis::LANES;
-use basis::NODES;
-use basis::Price;
 use settle::decide::settle_lanes;
 use settle::plan::store_plan;
 use settle::tight::tight_lanes;
 use transport::MAX_SIDE;
+use tree::LANES;
+use tree::NODES;
+use tree::Price;
 ghost use mathlib.Core.Path.{_≡_};
 ghost use mathlib.Core.List.{List, _++_};
 ghost use Prim.Native.Nat.{_*_, _≤_};

@@ -1,13 +1,13 @@
 // Settle: from a finished tableau of a sheet to its settled plan.
 use crate::finished::settle_board;
-use basis::LANES;
-use basis::NODES;
-use basis::Price;
 use rounds::costs;
 use rounds::pricing;
 use sheet::SheetCheck;
 use transport::SettleAnswer;
 use transport::Tableau;
+use tree::LANES;
+use tree::NODES;
+use tree::Price;
 ghost use mathlib.Core.Path.{_≡_};
 ghost use mathlib.Core.List.{List};
 ghost use Prim.Native.Nat.{ℕ, _+_, _<_};

@@ -1,9 +1,6 @@
 // Solve: from a sheet to its cheapest plan, the settled one, with its prices.
 use crate::cost::plan_cost;
 use crate::finished::settle_board;
-use basis::LANES;
-use basis::NODES;
-use basis::Price;
 use board::spread::spread;
 use dealing::corner::first_tableau;
 use dealing::prices::write_prices;
@@ -11,6 +8,9 @@ use rounds::costs::spread_costs;
 use rounds::run::finish;
 use sheet::SheetCheck;
 use transport::SolveAnswer;
+use tree::LANES;
+use tree::NODES;
+use tree::Price;
 ghost use mathlib.Core.Path.{_≡_};
 ghost use Prim.Native.Nat.{_+_, _*_, _-_, _≤_};
 ghost use lib.ListN.{length};
@@ -19,7 +19,7 @@ ghost use Rattle.transport.specs.Tableau.{start};
 ghost use Rattle.transport.specs.Calls.{lentAfter, solveCall};
 ghost use Rattle.transport.specs.Answers.{solveAnswer};
 ghost use Rattle.transport.specs.Statements.{Bought};
-ghost use Rattle.basis.specs.Layout.{stride};
+ghost use Rattle.tree.specs.Layout.{stride};
 ghost use Rattle.dealing.specs.Dealt.{Dealt};
 ghost use Rattle.plan_calls.specs.Solve.{Written};
 

@@ -33,7 +33,7 @@ use Rattle.tableaux.specs.Belonging.{belongs-iff, inside-of}
 use Rattle.tableaux.specs.Entering.{entering-inside, entering-new}
 use Rattle.tableaux.specs.Running.{run-done, run-none, run-more}
 use Rattle.tableaux.specs.Ending.{mostValue, allValue-high, raised, raised-nonneg, next-belongs, next-falls, run-ends}
-use Rattle.basis.specs.Layout.{stride, nodeRoom, strikesOf}
+use Rattle.tree.specs.Layout.{stride, nodeRoom, strikesOf}
 use Rattle.board.specs.Held.{Held}
 use Rattle.board.specs.Lanes.{RowMasks, gathered, gathered-is, held-masks}
 use Rattle.pivoting.specs.Ready.{Ready}

@@ -11,8 +11,8 @@ use lib.Seq.{getD-set-same, getD-set-other}
 use Rattle.transport.specs.Lists.{at, atZ}
 use Rattle.transport.specs.Problem.{Problem, sources, sinks, place, laneCost}
 use Rattle.transport.specs.Laws.ProblemLaws.{lane}
-use Rattle.basis.specs.Layout.{stride, laneRoom}
-use Rattle.basis.specs.ScanLaws.{padCost}
+use Rattle.tree.specs.Layout.{stride, laneRoom}
+use Rattle.tree.specs.ScanLaws.{padCost}
 
 -- ---- filled in
 

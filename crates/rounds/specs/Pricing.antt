@@ -32,13 +32,13 @@ use Rattle.tableaux.specs.Lanes.{Fits}
 use Rattle.tableaux.specs.Striking.{Struck}
 use Rattle.tableaux.specs.Potentials.{cost-size, potential-root, potential-tight, potential-only, potential-any}
 use Rattle.tableaux.specs.Belonging.{belongs-iff, fits-of, spans-of, distinct-of}
-use Rattle.basis.specs.Layout.{stride, stride-is, nodeRoom, maxPotential, laneAt, costOf, costOf-at, strikeOf, strikesOf}
-use Rattle.basis.specs.PotentialLaws.{potentialBy-abs}
-use Rattle.basis.specs.ScanLaws.{padCost, reducedAt, InRange, Found, Scanned}
+use Rattle.tree.specs.Layout.{stride, stride-is, nodeRoom, maxPotential, laneAt, costOf, costOf-at, strikeOf, strikesOf}
+use Rattle.tree.specs.PotentialLaws.{potentialBy-abs}
+use Rattle.tree.specs.ScanLaws.{padCost, reducedAt, InRange, Found, Scanned}
 use Rattle.board.specs.Held.{Held, row-lanes, column-lanes, lanes-apart}
 use Rattle.board.specs.Lanes.{place-order}
-use Rattle.elimination.specs.Links.{Links, Masks}
-use Rattle.elimination.specs.Drawn.{Drawn, drawn-links, drawn-masks}
+use Rattle.tree.specs.Links.{Links, Masks}
+use Rattle.tree.specs.Drawn.{Drawn, drawn-links, drawn-masks}
 use Rattle.rounds.specs.Costs.{Costed}
 
 -- The sheet P has m sources and n sinks, its costs lie by lane, and the masks are those of its tableau T.

@@ -1,14 +1,14 @@
 // The costs of a sheet, spread by lane: that of row i and column j lies at i * MAX_SIDE + j.
-use basis::LANES;
-use basis::Price;
-use basis::scan::PAD;
 use transport::MAX_SIDE;
+use tree::LANES;
+use tree::Price;
+use tree::scan::PAD;
 ghost use mathlib.Core.Path.{_≡_};
 ghost use Prim.Native.Nat.{ℕ, _*_, _≤_};
 ghost use lib.ListN.{length};
 ghost use Rattle.transport.specs.Lists.{at};
 ghost use Rattle.transport.specs.Limits.{maxCost};
-ghost use Rattle.basis.specs.Layout.{stride};
+ghost use Rattle.tree.specs.Layout.{stride};
 ghost use Rattle.rounds.specs.Costs.{Spread};
 
 // Columns past the sheet, and rows past it, cost PAD.

@@ -1,16 +1,16 @@
 // Pricing: the prices of a basis, and the lane that enters it.
-use basis::LANES;
-use basis::NODES;
-use basis::Price;
-use basis::potential;
-use basis::scan;
-use basis::scan::PricedLane;
+use tree::LANES;
+use tree::NODES;
+use tree::Price;
+use tree::potential;
+use tree::scan;
+use tree::scan::PricedLane;
 ghost use mathlib.Core.Path.{_≡_};
 ghost use mathlib.Core.List.{List};
 ghost use lib.ListN.{length};
 ghost use Rattle.transport.specs.Problem.{Problem};
 ghost use Rattle.transport.specs.declared.Cell.{Cell};
-ghost use Rattle.basis.specs.Layout.{nodeRoom};
+ghost use Rattle.tree.specs.Layout.{nodeRoom};
 ghost use Rattle.rounds.specs.Pricing.{Laid, Priced};
 
 // Strikes off the basis, and prices it back through the strikes. The lane that enters has the least reduced cost;
@@ -33,7 +33,7 @@ pub fn price(
         → Priced P T (now (leaf .exit)) (now (other .exit)) (now (lane .exit)) (now (price .exit)) m n (r .row) (r .col) (r .reduced))
         ⌝ }
 {
-    let count = elimination::strike(adj, leaf, other, lane, m, n);
+    let count = tree::strike::strike(adj, leaf, other, lane, m, n);
     potential::potentials(cost, leaf, other, lane, count, price);
     scan::entering(cost, price, m)
 }

@@ -1,8 +1,8 @@
 // Runs: rounds made on the board until a tableau is finished, or an allowance is spent.
 use crate::pricing;
-use basis::LANES;
-use basis::NODES;
-use basis::Price;
+use tree::LANES;
+use tree::NODES;
+use tree::Price;
 ghost use mathlib.Core.Path.{_≡_};
 ghost use mathlib.Core.Bool.{true};
 ghost use mathlib.Core.List.{List};
@@ -10,7 +10,7 @@ ghost use lib.ListN.{length};
 ghost use Rattle.transport.specs.Problem.{Problem};
 ghost use Rattle.transport.specs.Round.{roundBound};
 ghost use Rattle.transport.specs.declared.Cell.{Cell};
-ghost use Rattle.basis.specs.Layout.{nodeRoom};
+ghost use Rattle.tree.specs.Layout.{nodeRoom};
 ghost use Rattle.rounds.specs.Boards.{Board, Advanced, Ran};
 
 // A round: whether the tableau is finished; if not, the board then holds the next one. The rest of the arrays is room to work in.

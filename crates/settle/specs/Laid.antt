@@ -23,12 +23,12 @@ use Rattle.tableaux.specs.Striking.{Struck}
 use Rattle.tableaux.specs.Belonging.{belongs-iff, fits-of, spans-of, distinct-of}
 use Rattle.tableaux.specs.TableauView.{belongs-seen}
 use Rattle.optimality.specs.Phases.{Restricted, Improving, improving-new}
-use Rattle.basis.specs.Layout as layout
-use Rattle.basis.specs.Layout.{stride, stride-is, nodeRoom, strikesOf}
-use Rattle.elimination.specs.Links.{Links, Masks}
-use Rattle.elimination.specs.Drawn.{Drawn, drawn-links, drawn-masks}
-use Rattle.elimination.specs.Strip.{Stripped}
-use Rattle.elimination.specs.Strikes.{strikes-room}
+use Rattle.tree.specs.Layout as layout
+use Rattle.tree.specs.Layout.{stride, stride-is, nodeRoom, strikesOf}
+use Rattle.tree.specs.Links.{Links, Masks}
+use Rattle.tree.specs.Drawn.{Drawn, drawn-links, drawn-masks}
+use Rattle.tree.specs.Strip.{Stripped}
+use Rattle.tree.specs.Strikes.{strikes-room}
 use Rattle.board.specs.Held.{Held, row-lanes, column-lanes, lanes-apart}
 use Rattle.phase.specs.Cut.{Peels}
 use Rattle.phase.specs.PhaseLaws.{allows, peels-of}

@@ -13,7 +13,7 @@ use Rattle.transport.specs.Problem.{Problem, sources, sinks, lanes, place}
 use Rattle.transport.specs.Laws.ProblemLaws.{lane, place-injective, place-below, place-of, length-lanes, getD-lanes}
 use Rattle.transport.specs.declared.Cell.{Cell}
 use Rattle.tableaux.specs.Least.{bagsOn, bagsOf}
-use Rattle.basis.specs.Layout.{stride}
+use Rattle.tree.specs.Layout.{stride}
 use Rattle.board.specs.Held.{Held}
 
 -- The bags on the lane at place k in sheet order, among n columns.

@@ -23,7 +23,7 @@ use Rattle.tableaux.specs.ProblemPlans.{flowCost, Optimal}
 use Rattle.tableaux.specs.Least.{bagsOf, rowPotential, columnPotential}
 use Rattle.optimality.specs.Phases.{keptLanes}
 use Rattle.optimality.specs.Settling.{tightLanes, DecidedTo, decidedTo-cong, settling-start, settling-phase, settling-skip, settling-rest, decided-optimal}
-use Rattle.basis.specs.Layout.{stride}
+use Rattle.tree.specs.Layout.{stride}
 use Rattle.board.specs.Held.{Held, row-basic}
 use Rattle.phase.specs.Lanes as masked
 use Rattle.phase.specs.PhaseLaws.{allows}

@@ -22,8 +22,8 @@ use Rattle.tableaux.specs.TableauView.{bagsAt, marksAt}
 use Rattle.tableaux.specs.Pivoting.{measure}
 use Rattle.tableaux.specs.Ending.{allValue, mostValue, allValue-high}
 use Rattle.optimality.specs.Phases.{Restricted, Improving, Ended, keptLanes, phaseLeft, step-restricted, step-falls}
-use Rattle.basis.specs.Layout.{stride, strikesOf}
-use Rattle.basis.specs.Mask.{has}
+use Rattle.tree.specs.Layout.{stride, strikesOf}
+use Rattle.tree.specs.Mask.{has}
 use Rattle.board.specs.Held.{Held, row-basic, basic-row}
 use Rattle.phase.specs.Cut.{Cuts}
 use Rattle.phase.specs.declared.lanes.Found.the-variants as found

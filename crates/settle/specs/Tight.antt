@@ -24,9 +24,9 @@ use Rattle.transport.specs.declared.Cell.{Cell}
 use Rattle.tableaux.specs.Belonging.{belongs-iff, fits-of, spans-of}
 use Rattle.tableaux.specs.Potentials.{cost-size, price-size, price-limit}
 use Rattle.optimality.specs.Settling.{tightLanes}
-use Rattle.basis.specs.Layout.{stride, stride-is, maxPotential}
-use Rattle.basis.specs.Mask.{has, put, has-put, has-zero}
-use Rattle.basis.specs.ScanLaws.{slackAt, reducedAt}
+use Rattle.tree.specs.Layout.{stride, stride-is, maxPotential}
+use Rattle.tree.specs.Mask.{has, put, has-put, has-zero}
+use Rattle.tree.specs.ScanLaws.{slackAt, reducedAt}
 
 abbrev isTight : List ℤ → List ℤ → ℕ → ℕ → ℕ → Bool
 isTight cost price m i j = eqZ (reducedAt cost price m i j) (pos 0)

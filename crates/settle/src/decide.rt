@@ -1,14 +1,14 @@
 // Lanes decided in sheet order. The phase for a lane puts as many bags on it as the allowed lanes can carry there, and keeps of them those of the plans that
 // carry as many; the crate phase says how.
-use basis::LANES;
-use basis::NODES;
-use basis::mask::has_bit;
 use phase::cut::cut_at;
 use phase::lanes::Found;
 use phase::lanes::improving;
 use phase::lanes::is_decided;
 use phase::lanes::keep;
 use transport::MAX_SIDE;
+use tree::LANES;
+use tree::NODES;
+use tree::mask::has_bit;
 ghost use mathlib.Core.Path.{_≡_};
 ghost use mathlib.Core.Bool.{true};
 ghost use mathlib.Core.List.{List};
@@ -16,7 +16,7 @@ ghost use Prim.Native.Nat.{suc, _*_, _<_};
 ghost use lib.ListN.{length};
 ghost use Rattle.transport.specs.Problem.{Problem, place};
 ghost use Rattle.transport.specs.declared.Cell.{Cell};
-ghost use Rattle.basis.specs.Layout.{nodeRoom};
+ghost use Rattle.tree.specs.Layout.{nodeRoom};
 ghost use Rattle.phase.specs.PhaseLaws.{allows};
 ghost use Rattle.settle.specs.Laid.{Laid, StruckOff};
 ghost use Rattle.settle.specs.Step.{Advanced};
@@ -66,7 +66,7 @@ fn advance(
         to = j;
     }
     pivoting::pivot(adj, q, e, leaf, other, lane, count, m, row, to, minus, plus);
-    elimination::strike(adj, leaf, other, lane, m, n);
+    tree::strike::strike(adj, leaf, other, lane, m, n);
     true
 }
 
@@ -140,7 +140,7 @@ pub fn settle_lanes(
     let mut lane = [0usize; NODES];
     let mut minus = [0usize; NODES];
     let mut plus = [0usize; NODES];
-    elimination::strike(adj, &mut leaf, &mut other, &mut lane, m, n);
+    tree::strike::strike(adj, &mut leaf, &mut other, &mut lane, m, n);
     let mut i = 0;
     while i < m {
         let mut j = 0;

@@ -1,9 +1,9 @@
 // The plan that the bags of a tableau make.
-use basis::LANES;
 use transport::MAX_SIDE;
+use tree::LANES;
 ghost use Prim.Native.Nat.{_*_, _≤_};
 ghost use lib.ListN.{length};
-ghost use Rattle.basis.specs.Layout.{stride};
+ghost use Rattle.tree.specs.Layout.{stride};
 ghost use Rattle.settle.specs.Plan.{NoDebt, Written};
 
 // Writes the bags of m rows and n columns in sheet order, and leaves the rest of the list as it is.

@@ -1,9 +1,9 @@
 // The first allowed lanes of settling: those of least cost.
-use basis::LANES;
-use basis::NODES;
-use basis::Price;
-use basis::mask::set_bit;
 use transport::MAX_SIDE;
+use tree::LANES;
+use tree::NODES;
+use tree::Price;
+use tree::mask::set_bit;
 ghost use Prim.Native.Nat.{_<_};
 ghost use Rattle.settle.specs.Tight.{Ranged, TightRow, TightLanes};
 

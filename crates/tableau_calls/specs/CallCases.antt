@@ -20,7 +20,7 @@ use Rattle.transport.specs.Round.{finished, moved, round, next, Run, run}
 use Rattle.transport.specs.Calls.{given, refusedBy, tableauTests, roundCall, runCall}
 use Rattle.transport.specs.Laws.CallLaws.{unless-before, unless-last, unless-none}
 use Rattle.transport.specs.Answers.{prices, noPrices, roundAnswer, runAnswer, runOutcome}
-use Rattle.basis.specs.Layout.{maxPotential}
+use Rattle.tree.specs.Layout.{maxPotential}
 use Rattle.board.specs.Lanes.{RowMasks, gathered}
 use Rattle.rounds.specs.Boards.{Board, Advanced, Ran, board-masks, board-gathered}
 use Rattle.dealing.specs.Dealt.{prices-small, source-prices, sink-prices}

@@ -1,7 +1,4 @@
 // Round: the next tableau of a sheet, or the prices of a finished one.
-use basis::LANES;
-use basis::NODES;
-use basis::Price;
 use board::gather;
 use dealing::prices::write_prices;
 use dealing::tableau;
@@ -11,6 +8,9 @@ use transport::MAX_SIDE;
 use transport::RoundAnswer;
 use transport::RoundOutcome;
 use transport::Tableau;
+use tree::LANES;
+use tree::NODES;
+use tree::Price;
 ghost use mathlib.Core.Path.{_≡_};
 ghost use mathlib.Core.List.{List};
 ghost use Prim.Native.Nat.{ℕ, _+_, _<_, _≤_};
@@ -22,7 +22,7 @@ ghost use Rattle.transport.specs.Sheet.{sheetOf};
 ghost use Rattle.transport.specs.Calls.{refusedBy, roundCall};
 ghost use Rattle.transport.specs.Answers.{prices, roundAnswer};
 ghost use Rattle.transport.specs.declared.Cell.{Cell};
-ghost use Rattle.basis.specs.Layout.{stride, maxPotential};
+ghost use Rattle.tree.specs.Layout.{stride, maxPotential};
 ghost use Rattle.dealing.specs.Dealt.{Dealt};
 ghost use Rattle.tableau_calls.specs.CallCases.{Rounded};
 

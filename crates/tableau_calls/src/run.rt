@@ -1,7 +1,4 @@
 // Run: rounds within an allowance.
-use basis::LANES;
-use basis::NODES;
-use basis::Price;
 use board::gather;
 use dealing::tableau;
 use rounds::costs;
@@ -10,6 +7,9 @@ use sheet::SheetCheck;
 use transport::RunAnswer;
 use transport::RunOutcome;
 use transport::Tableau;
+use tree::LANES;
+use tree::NODES;
+use tree::Price;
 ghost use mathlib.Core.Path.{_≡_};
 ghost use mathlib.Core.List.{List};
 ghost use Rattle.transport.specs.Problem.{Problem};

@@ -12,10 +12,10 @@ use Rattle.transport.specs.declared.Cell.{Cell}
 use Rattle.transport.specs.Tableau.{basisOf, basisSize}
 use Rattle.transport.specs.Belonging.{balanced, spans}
 use Rattle.transport.specs.Laws.ProblemLaws.{problem}
-use Rattle.basis.specs.Layout as layout
-use Rattle.basis.specs.Layout.{strikesOf, Distinct}
-use Rattle.basis.specs.SignLaws.{weightsOf}
-use Rattle.elimination.specs.Strikes.{strikes-room, strikes-distinct}
+use Rattle.tree.specs.Layout as layout
+use Rattle.tree.specs.Layout.{strikesOf, Distinct}
+use Rattle.tree.specs.SignLaws.{weightsOf}
+use Rattle.tree.specs.Strikes.{strikes-room, strikes-distinct}
 use Rattle.belonging.specs.Carried.{carries}
 use Rattle.belonging.specs.Balance.{Tree}
 use Rattle.belonging.specs.Spread.{Sides, sound-sides, sound-modest, Laid, laid-links, laid-masks, laid-apart, laid-tree, balanced-is}

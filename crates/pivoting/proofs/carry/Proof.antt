@@ -8,7 +8,7 @@ use lib.ListN.{getD}
 use mir.Syntax.{w64}
 use mir.Val.{toZ, ofZ}
 use Rattle.transport.specs.Laws.RangeLaws.{abs-neg, diff-in, diff-back}
-use Rattle.basis.specs.StepLaws.{changed-abs}
+use Rattle.tree.specs.StepLaws.{changed-abs}
 use Rattle.pivoting.specs.Carry.{same-is, light-at, carried-by}
 use Rattle.pivoting.proofs.carry.Statement.{statement}
 use Rattle.pivoting.proofs.carry.Tie as tie

@@ -3,7 +3,7 @@ use Prim.Native.Nat.{_<_}
 use native.Mathlib.Omega.{arith}
 use mathlib.Core.List.{List·Memᴰ}
 use lib.ListN.{take}
-use Rattle.basis.specs.Layout.{laneRoom}
+use Rattle.tree.specs.Layout.{laneRoom}
 use Rattle.pivoting.specs.Carry.{same-is, least-member, member-inside}
 use borrow.Author.Needs.{needs}
 use Rattle.pivoting.proofs.turn.Statement.{statement}

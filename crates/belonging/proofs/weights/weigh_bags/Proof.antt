@@ -1,7 +1,7 @@
 -- `belonging::weights::weigh_bags` meets its contract: `bags-put`, over an array of zeros.
 use lib.IntN.{pos}
 use borrow.Author.Needs.{needs}
-use Rattle.basis.specs.Layout.{nodeRoom, getD-all}
+use Rattle.tree.specs.Layout.{nodeRoom, getD-all}
 use Rattle.belonging.specs.Weighing.{bags-put}
 use Rattle.belonging.proofs.weights.weigh_bags.Statement.{statement}
 use Rattle.belonging.proofs.weights.weigh_bags.Tie as tie

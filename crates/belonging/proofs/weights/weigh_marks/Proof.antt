@@ -7,7 +7,7 @@ use lib.IntN.{pos}
 use lib.ListN.{replicate}
 use mir.Syntax.{w64}
 use mir.Facts.{toZ-pos}
-use Rattle.basis.specs.Layout.{nodeRoom, getD-all}
+use Rattle.tree.specs.Layout.{nodeRoom, getD-all}
 use Rattle.belonging.specs.Weighing.{Marked, marked-none, marked-more, marks-put}
 use Rattle.belonging.proofs.weights.weigh_marks.Statement.{statement}
 use Rattle.belonging.proofs.weights.weigh_marks.Tie as tie

@@ -12,7 +12,7 @@ use lib.ListN.{length, drop, getD, drop-of-length-le}
 use Rattle.transport.specs.Amount.{nothing}
 use Rattle.transport.specs.Problem.{place}
 use Rattle.transport.specs.Tableau.{noCell, cellsOf}
-use Rattle.basis.specs.Layout.{stride, laneRoom}
+use Rattle.tree.specs.Layout.{stride, laneRoom}
 use Rattle.board.specs.Cells.{cellRoom, long, length-cells, cells-from}
 use Rattle.board.specs.CellTests.{fitsAt, fits-row, fits-column, row-small, fitsFrom, fitsFrom-nil, fitsFrom-yes, fitsFrom-no, fits-all}
 use Rattle.board.proofs.fit.cells_fit.Statement.{statement}

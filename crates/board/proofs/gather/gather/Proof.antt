@@ -9,7 +9,7 @@ use mir.Syntax.{w64}
 use mir.Val.{toZ, ofZ}
 use Rattle.transport.specs.Amount.{nothing}
 use Rattle.transport.specs.Tableau.{noCell}
-use Rattle.basis.specs.Layout.{laneRoom}
+use Rattle.tree.specs.Layout.{laneRoom}
 use Rattle.board.specs.Cells.{cellRoom}
 use Rattle.board.specs.Lanes.{Filled, lane-in, filled-none, filled-one, filled-all}
 use Rattle.board.proofs.gather.gather.Statement.{statement}

@@ -7,7 +7,7 @@ use native.Mathlib.Omega.{arith}
 use native.Mathlib.Numerals.{add-one}
 use lib.Seq.{take-suc-set}
 use lib.ListN.{length, take, length-set}
-use Rattle.basis.specs.Layout.{nodeRoom}
+use Rattle.tree.specs.Layout.{nodeRoom}
 use Rattle.board.specs.Lanes.{rowLanes, rowLanes-zero, rowLanes-first}
 use Rattle.board.proofs.gather.row_lanes.Statement.{statement}
 use Rattle.board.proofs.gather.row_lanes.Tie as tie

@@ -2,7 +2,7 @@
 use mathlib.Core.Path.{refl}
 use lib.IntN.{pos}
 use lib.ListN.{length-replicate}
-use Rattle.basis.specs.Layout.{nodeRoom, laneRoom, getD-all}
+use Rattle.tree.specs.Layout.{nodeRoom, laneRoom, getD-all}
 use Rattle.board.proofs.spread.clear.Statement.{statement}
 use Rattle.board.proofs.spread.clear.Tie as tie
 

@@ -6,7 +6,7 @@ use borrow.Author.Needs.{needs}
 use lib.ListN.{length, drop, getD, drop-of-length-le}
 use Rattle.transport.specs.Amount.{nothing}
 use Rattle.transport.specs.Tableau.{noCell, cellsOf}
-use Rattle.basis.specs.Layout.{stride}
+use Rattle.tree.specs.Layout.{stride}
 use Rattle.board.specs.Cells.{cellRoom, long, length-cells, cells-from, cell-inside}
 use Rattle.board.specs.Held.{Held, held-fewer, held-more, held-none}
 use Rattle.board.proofs.spread.spread.Statement.{statement}

@@ -11,7 +11,7 @@ use Rattle.transport.specs.Limits.{maxCost, costAbove}
 use Rattle.transport.specs.Laws.RangeLaws.{mag-abs, abs-fits, back}
 use Rattle.transport.specs.Lists.{table}
 use Rattle.transport.specs.Laws.ListLaws.{table-zero, fill-one}
-use Rattle.basis.specs.Layout.{maxPotential}
+use Rattle.tree.specs.Layout.{maxPotential}
 use Rattle.dealing.proofs.prices.write_prices.Statement.{statement}
 use Rattle.dealing.proofs.prices.write_prices.Tie as tie
 

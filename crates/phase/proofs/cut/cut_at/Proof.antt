@@ -1,6 +1,6 @@
 -- `phase::cut::cut_at` meets its contract: the nodes beyond the lane, as the two sides of its cut.
 use native.Mathlib.Omega.{arith}
-use Rattle.basis.specs.Layout.{laneAt-place}
+use Rattle.tree.specs.Layout.{laneAt-place}
 use Rattle.phase.specs.Cut.{cuts-row, cuts-col}
 use borrow.Author.Needs.{needs}
 use Rattle.phase.proofs.cut.cut_at.Statement.{statement}

@@ -5,7 +5,7 @@ use borrow.Author.Count.{below-more}
 use borrow.Author.Needs.{needs}
 use lib.ListN.{getD}
 use Prim.Native.Nat.{_<_}
-use Rattle.phase.specs.MaskLaws.{minus}
+use Rattle.tree.specs.MaskLaws.{minus}
 use Prim.Native.Nat.{_-_, _≤_}
 use native.Mathlib.Omega.{arith}
 use Rattle.phase.specs.Lanes.{Decided, row-decided, row-undecided}

@@ -8,7 +8,7 @@ use borrow.Author.Needs.{needs}
 use Rattle.transport.specs.Sheet.{Sheet, roasteries, cafes, problemOf, refusal, sheetTests, sheetOf}
 use Rattle.transport.specs.Laws.SheetLaws.{accepted}
 use Rattle.transport.specs.Laws.Sound.{accepted-sound, sources-room, sinks-room}
-use Rattle.basis.specs.Layout.{stride-is}
+use Rattle.tree.specs.Layout.{stride-is}
 use Rattle.sheet.specs.Check.{accepted-none, refused-some}
 use Rattle.dealing.specs.Corner.{sound-costless}
 use Rattle.plan_calls.specs.First.{first-fits, first-dealt}

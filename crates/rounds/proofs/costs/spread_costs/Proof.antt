@@ -10,7 +10,7 @@ use Rattle.transport.specs.Lists.{at}
 use Rattle.transport.specs.Limits.{maxCost, costAbove}
 use Rattle.transport.specs.Problem.{place}
 use Rattle.transport.specs.Laws.ProblemLaws.{place-below}
-use Rattle.basis.specs.Layout.{stride, laneRoom}
+use Rattle.tree.specs.Layout.{stride, laneRoom}
 use Rattle.rounds.specs.Costs.{Part, part-none, part-one, part-row, part-all}
 use Rattle.rounds.proofs.costs.spread_costs.Statement.{statement}
 use Rattle.rounds.proofs.costs.spread_costs.Tie as tie

@@ -5,8 +5,8 @@ use Rattle.transport.specs.Problem.{Problem}
 use Rattle.transport.specs.Tableau.{basisOf, basisSize}
 use Rattle.transport.specs.declared.Cell.{Cell}
 use Rattle.tableaux.specs.Striking.{Struck}
-use Rattle.basis.specs.Layout.{strikesOf}
-use Rattle.elimination.specs.Strikes.{strikes-room}
+use Rattle.tree.specs.Layout.{strikesOf}
+use Rattle.tree.specs.Strikes.{strikes-room}
 use Rattle.rounds.specs.Pricing.{Laid, laid-sides, laid-spans, laid-links, laid-masks, lane-costs, in-range, laid-priced}
 use Rattle.rounds.proofs.pricing.price.Statement.{statement}
 use Rattle.rounds.proofs.pricing.price.Tie as tie

@@ -12,7 +12,7 @@ use Rattle.transport.specs.Problem.{Problem}
 use Rattle.transport.specs.Round.{roundBound}
 use Rattle.transport.specs.declared.Cell.{Cell}
 use Rattle.tableaux.specs.Ending.{roundBound-fits}
-use Rattle.basis.specs.Layout.{nodeRoom}
+use Rattle.tree.specs.Layout.{nodeRoom}
 use Rattle.rounds.specs.Boards.{Board, board-ends, boardValue, board-falls, Going, going-start, going-next, going-left, ran-done}
 use Rattle.rounds.proofs.run.finish.Statement.{statement}
 use Rattle.rounds.proofs.run.finish.Tie as tie

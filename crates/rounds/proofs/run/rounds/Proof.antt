@@ -8,7 +8,7 @@ use lib.Signed.{mag}
 use lib.ListN.{length}
 use Rattle.transport.specs.Problem.{Problem}
 use Rattle.transport.specs.declared.Cell.{Cell}
-use Rattle.basis.specs.Layout.{nodeRoom}
+use Rattle.tree.specs.Layout.{nodeRoom}
 use Rattle.rounds.specs.Pricing.{sign-is}
 use Rattle.rounds.specs.Boards.{Board, board-laid, Going, going-start, going-next, ran-done, ran-out}
 use Rattle.rounds.proofs.run.rounds.Statement.{statement}

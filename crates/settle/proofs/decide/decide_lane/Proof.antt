@@ -3,7 +3,7 @@
 use mathlib.Core.Path.{_≡_}
 use Prim.Native.Nat.{_+_, _*_}
 use lib.ListN.{length}
-use Rattle.basis.specs.Layout.{stride, nodeRoom}
+use Rattle.tree.specs.Layout.{stride, nodeRoom}
 use Rattle.settle.specs.Laid.{StruckOff}
 use Rattle.settle.specs.Step.{leftOn, Moved}
 use Rattle.settle.specs.Reach.{Stepped, stepped-none, stepped-more, stepped-over}

@@ -7,7 +7,7 @@ use mathlib.Core.Logic.{⊎-elim}
 use lib.ListN.{length}
 use Rattle.transport.specs.Problem.{place}
 use Rattle.transport.specs.Laws.ProblemLaws.{place-below}
-use Rattle.basis.specs.Layout.{stride, nodeRoom}
+use Rattle.tree.specs.Layout.{stride, nodeRoom}
 use Rattle.settle.specs.Laid.{StruckOff, laid-sides, laid-links, laid-strikes}
 use Rattle.settle.specs.Reach.{AtStage, Reaches, reaches-none, at-on, reaches-on, reaches-rest, reaches-skip, place-first, place-next, place-row}
 use Rattle.settle.specs.Reach.{place-end}

@@ -11,7 +11,7 @@ use mir.Syntax.{w64}
 use mir.Val.{toZ, ofZ}
 use Rattle.transport.specs.Problem.{place}
 use Rattle.transport.specs.Laws.ProblemLaws.{place-below}
-use Rattle.basis.specs.Layout.{stride, laneRoom}
+use Rattle.tree.specs.Layout.{stride, laneRoom}
 use Rattle.settle.specs.Plan.{bagsIn, bagsIn-place, Written, written-none, written-one, written-again, written-on}
 use Rattle.settle.proofs.plan.store_plan.Statement.{statement}
 use Rattle.settle.proofs.plan.store_plan.Tie as tie

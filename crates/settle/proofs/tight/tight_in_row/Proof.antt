@@ -12,8 +12,8 @@ use mir.Val.{toZ, ofZ}
 use mir.Facts.{toZ-ofZ}
 use Rattle.transport.specs.Limits.{maxCost, costAbove}
 use Rattle.transport.specs.Laws.RangeLaws.{diff-in, diff-back}
-use Rattle.basis.specs.Layout.{stride}
-use Rattle.basis.specs.ScanLaws.{slackAt}
+use Rattle.tree.specs.Layout.{stride}
+use Rattle.tree.specs.ScanLaws.{slackAt}
 use Rattle.settle.specs.Tight.{TightRow, tight-none, tight-in, tight-out}
 use Rattle.settle.proofs.tight.tight_in_row.Statement.{statement}
 use Rattle.settle.proofs.tight.tight_in_row.Tie as tie

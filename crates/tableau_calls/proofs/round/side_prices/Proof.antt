@@ -6,7 +6,7 @@ use lib.IntN.{pos}
 use lib.ListN.{getD}
 use Rattle.transport.specs.Limits.{maxSide}
 use Rattle.transport.specs.Answers.{prices}
-use Rattle.basis.specs.Layout.{stride}
+use Rattle.tree.specs.Layout.{stride}
 use Rattle.dealing.specs.Filling.{padded-fill}
 use Rattle.tableau_calls.proofs.round.side_prices.Statement.{statement}
 use Rattle.tableau_calls.proofs.round.side_prices.Tie as tie

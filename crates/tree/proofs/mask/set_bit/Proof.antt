@@ -1,0 +1,14 @@
+-- `tree::mask::set_bit` meets its contract: `put-shl`. Assumes nothing.
+use borrow.Author.Needs.{needs}
+use Rattle.tree.specs.Mask.{put-shl}
+use Rattle.tree.proofs.mask.set_bit.Statement.{statement}
+use Rattle.tree.proofs.mask.set_bit.Tie as tie
+
+shl-result : tie.Need-shl-result
+shl-result c = search needs
+
+returns : tie.Need-returns
+returns c = put-shl (c .args .mask) (c .args .k) (c .pre)
+
+pub set-bit-spec : {M : Type 1} → statement M
+set-bit-spec = tie.close (tie.spec shl-result returns)

@@ -1,0 +1,91 @@
+-- `tree::strike::first_leaves` meets its contract. The loop's invariant: the queue holds the leaves among the nodes passed; the measure is what is left of the
+-- nodes.
+use mathlib.Core.Path.{_≡_}
+use Prim.Native.Nat.{_+_, _-_, _≤_, _<_}
+use native.Mathlib.Omega.{arith}
+use borrow.Author.Needs.{needs}
+use lib.ListN.{length, set, length-set}
+use Rattle.tree.specs.Layout.{nodeRoom}
+use Rattle.tree.specs.Queue.{Queue, room, queue-start, queue-next}
+use Rattle.tree.proofs.strike.first_leaves.Statement.{statement}
+use Rattle.tree.proofs.strike.first_leaves.Tie as tie
+
+abbrev Inv-loop : tie.InvT-loop
+Inv-loop live leaf₀ m n tail₀ node₀ leaf tail node = (1 ≤ node) × (node ≤ m + n) × (m + n ≤ nodeRoom) × (length leaf ≡ nodeRoom) × Queue node live leaf 0 tail
+
+abbrev μ-loop : tie.MeasureT-loop
+μ-loop live leaf₀ m n tail₀ node₀ leaf tail node = m + n - node
+
+loop-holds : tie.Need-loop-holds Inv-loop μ-loop
+loop-holds c = (
+  omega arith,
+  omega (arith, c .pre .0 .rowsLow),
+  omega (arith, c .pre .0 .rowsHigh, c .pre .0 .colsHigh),
+  c .pre .1,
+  queue-start (c .args .live .now) (c .args .leaf .now),
+)
+
+add-loop : tie.Need-add-loop Inv-loop μ-loop
+add-loop c = omega arith
+
+-- There is room for one node more.
+tail-room : (c : tie.In-loop Inv-loop μ-loop) → c .before .loop .tail < nodeRoom
+tail-room c = omega (arith, room (c .before .loop .inv .0) (c .before .loop .inv .4))
+
+mul-leaf : tie.Need-mul-leaf Inv-loop μ-loop
+mul-leaf c = omega (arith, tail-room c)
+
+element-write-leaf : tie.Need-element-write-leaf Inv-loop μ-loop
+element-write-leaf c = tail-room c
+
+mul-joins-queue : tie.Need-mul-joins-queue Inv-loop μ-loop
+mul-joins-queue c = omega arith
+
+element-copy-out-joins-queue : tie.Need-element-copy-out-joins-queue Inv-loop μ-loop
+element-copy-out-joins-queue c = omega arith
+
+joins-queue-requires : tie.Need-joins-queue-requires Inv-loop μ-loop
+joins-queue-requires c κs = search needs
+
+again : (c : tie.After-joins-queue Inv-loop μ-loop)
+    → let a = c .before .before .before .before .args in
+    let i = c .before .before .before .loop in
+    Queue (i .node + 1) (a .live .now) (set (i .leaf) (i .tail) (i .node)) 0 (i .tail + c .joins-queue .result)
+again c =
+    let i = c .before .before .before .loop in
+    rw (c .joins-queue .ensures) (queue-next (i .node) (i .inv .0) (omega arith) (i .inv .3) (i .inv .4))
+
+add-tail : tie.Need-add-tail Inv-loop μ-loop
+add-tail c = omega (arith, room (omega arith) (again c))
+
+add-node : tie.Need-add-node Inv-loop μ-loop
+add-node c = omega arith
+
+loop-less : tie.Need-loop-less Inv-loop μ-loop
+loop-less c = omega arith
+
+loop-again : tie.Need-loop-again Inv-loop μ-loop
+loop-again c = (omega arith, omega arith, omega arith, simp length-set (c .before .before .before .loop .inv .3), again c)
+
+returns : tie.Need-returns Inv-loop μ-loop
+returns c = let e : c .before .loop .node ≡ c .before .before .args .m + c .before .before .args .n = omega arith in
+    (c .before .loop .inv .3, rw e at (c .before .loop .inv .4))
+
+pub first-leaves-spec : {M : Type 1} → statement M
+first-leaves-spec =
+    tie.close
+    (tie.spec
+    Inv-loop
+    μ-loop
+    loop-holds
+    add-loop
+    mul-leaf
+    element-write-leaf
+    mul-joins-queue
+    element-copy-out-joins-queue
+    joins-queue-requires
+    add-tail
+    add-node
+    loop-less
+    loop-again
+    returns)

@@ -1,0 +1,150 @@
+-- The bits of a mask, one after the other, least first: a mask without its least bit, and a change of the array at each bit.
+use mathlib.Core.Path.{_≡_, refl, sym, ap, _∙_}
+use mathlib.Core.Logic.{_≢_, by-cases}
+use mathlib.Core.Bool.{Bool, true, false, not, cond, xor, _&&_, or-false}
+use mathlib.Core.List.{List}
+use Prim.Native.Nat.{ℕ, zero, suc, _-_, _/_, _<_, min}
+use native.Mathlib.Omega.{arith}
+use native.Mathlib.Decide.{ℕ-discrete, decLt}
+use lib.Bits.{bitAnd, bitXor, differ}
+use lib.Dec.{eqb, ltb}
+use lib.ListN.{length, getD, set, length-set}
+use borrow.Author.Tests.{eqb-true, eqb-false, eq-eqb, ne-eqb, lt-ltb, le-ltb}
+use lib.Seq.{getD-set-same, getD-set-other}
+use Rattle.tree.specs.Mask.{bit, has, put, has-put, has-zero, bit-suc, bit-and, bit-xor}
+use Rattle.tree.specs.MaskLaws.{firstBits, first-below, first-above}
+
+-- ---- tests of bits
+
+pub has-xor : (a b k : ℕ) → has (bitXor a b) k ≡ xor (has a k) (has b k)
+unfolding xor
+has-xor a b k = rw (bit-xor a b k) (go (bit a k) (bit b k) (omega arith) (omega arith))
+  where
+    go : (x y : ℕ) → x < 2 → y < 2 → eqb (differ x y) 1 ≡ xor (eqb x 1) (eqb y 1)
+    go zero zero p q = refl
+    go zero (suc zero) p q = refl
+    go (suc zero) zero p q = refl
+    go (suc zero) (suc zero) p q = refl
+    go (suc (suc x)) y p q = absurd (omega arith)
+    go zero (suc (suc y)) p q = absurd (omega arith)
+    go (suc zero) (suc (suc y)) p q = absurd (omega arith)
+
+-- A mask of one bit.
+pub has-one : (j k : ℕ) → has (put 0 j) k ≡ eqb k j
+has-one j k = has-put 0 j k ∙ rw (has-zero k) (or-false (eqb k j))
+
+-- A bit as a number.
+pub bit-has : (x k : ℕ) → bit x k ≡ cond (has x k) 1 0
+bit-has x k = go (bit x k) (omega arith)
+  where
+    go : (d : ℕ) → d < 2 → d ≡ cond (eqb d 1) 1 0
+    go zero p = refl
+    go (suc zero) p = refl
+    go (suc (suc d)) p = absurd (omega arith)
+
+-- ---- a mask without its least bit
+
+-- Bit r is the least bit of x.
+pub record Least (x r : ℕ) : Type 0 where
+  pub on : bit x r ≡ 1
+  pub off : (k : ℕ) → k < r → bit x k ≡ 0
+
+least-half : {x r : ℕ} → Least x (suc r) → Least (x / 2) r
+least-half {x} {r} w = record { on = sym (bit-suc x r) ∙ w .on; off = λ k l. sym (bit-suc x k) ∙ w .off (suc k) (omega arith) }
+
+less-one-here : (x r : ℕ) → Least x r → min (bit x r) (bit (x - 1) r) ≡ 0
+less-one-here x zero w = omega (arith, w .on)
+less-one-here x (suc r) w =
+    let e : (x - 1) / 2 ≡ x / 2 - 1 = omega (arith, w .off 0 (omega arith)) in
+    rw (bit-suc x r, bit-suc (x - 1) r, e) (less-one-here (x / 2) r (least-half w))
+
+less-one-there : (x r k : ℕ) → Least x r → k ≢ r → min (bit x k) (bit (x - 1) k) ≡ bit x k
+less-one-there x zero zero w d = absurd (d refl)
+less-one-there x zero (suc k) w d =
+    let e : (x - 1) / 2 ≡ x / 2 = omega (arith, w .on) in
+    rw (bit-suc x k, bit-suc (x - 1) k, e) (omega arith)
+less-one-there x (suc r) zero w d = omega (arith, w .off 0 (omega arith))
+less-one-there x (suc r) (suc k) w d =
+    let e : (x - 1) / 2 ≡ x / 2 - 1 = omega (arith, w .off 0 (omega arith)) in
+    rw (bit-suc x k, bit-suc (x - 1) k, e) (less-one-there (x / 2) r k (least-half w) (λ s. d (ap suc s)))
+
+pub has-rest : (x r k : ℕ) → Least x r → has (bitAnd x (x - 1)) k ≡ not (eqb k r) && has x k
+has-rest x r k w = rw (bit-and x (x - 1) k) (go (eqb k r) refl)
+  where
+    go : (b : Bool) → eqb k r ≡ b → eqb (min (bit x k) (bit (x - 1) k)) 1 ≡ not b && has x k
+    go true e = let s : k ≡ r = eqb-true k r e in rw (s, less-one-here x r w)
+    go false e = rw (less-one-there x r k w (eqb-false k r e))
+
+pub has-least : {x r : ℕ} → Least x r → has x r ≡ true
+has-least w = rw (w .on)
+
+-- ---- the bits below a bound
+
+pub has-low : (x m k : ℕ) → has (bitAnd x (firstBits m)) k ≡ ltb k m && has x k
+has-low x m k = rw (bit-and x (firstBits m) k) (by-cases (decLt k m)
+    (λ l. let e : min (bit x k) 1 ≡ bit x k = omega arith in rw (first-below m k l, lt-ltb k m l, e))
+    (λ l. let e : min (bit x k) 0 ≡ 0 = omega arith in rw (first-above m k (omega arith), le-ltb k m (omega arith), e)))
+
+-- ---- the elements of an array changed at the bits of a mask
+
+-- Each element whose place is a bit of `at` is changed by f.
+pub record Touched {A : Type 0} (f : A → A) (d : A) (old : List A) (at : ℕ) (new : List A) : Type 0 where
+  pub long : length new ≡ length old
+  pub each : (k : ℕ) → getD new k d ≡ cond (has at k) (f (getD old k d)) (getD old k d)
+
+-- So far, with `bits` still to come.
+pub record Touching {A : Type 0} (f : A → A) (d : A) (old : List A) (at bits : ℕ) (new : List A) : Type 0 where
+  pub long : length new ≡ length old
+  pub part : (k : ℕ) → has bits k ≡ true → has at k ≡ true
+  pub each : (k : ℕ) → getD new k d ≡ cond (not (has bits k) && has at k) (f (getD old k d)) (getD old k d)
+
+pub touch-start : {A : Type 0} (f : A → A) (d : A) (old : List A) (at : ℕ) → Touching f d old at at old
+touch-start f d old at = record { long = refl; part = λ k h. h; each = λ k. go k (has at k) }
+  where
+    go : (k : ℕ) (b : Bool) → getD old k d ≡ cond (not b && b) (f (getD old k d)) (getD old k d)
+    go k true = refl
+    go k false = refl
+
+module _ {A : Type 0} {f : A → A} {d : A} {old new : List A} {at bits r : ℕ} (g : Touching f d old at bits new) (w : Least bits r) where
+  -- What comes is not changed yet ..
+  pub touch-still : getD new r d ≡ getD old r d
+  touch-still = g .each r ∙ rw (has-least w)
+
+  -- .. and is changed.
+  pub touch-step : r < length old → Touching f d old at (bitAnd bits (bits - 1)) (set new r (f (getD old r d)))
+  touch-step l = record {
+    long = simp length-set (g .long);
+    part = λ k h. g .part k (within (not (eqb k r)) (has bits k) (sym (has-rest bits r k w) ∙ h));
+    each = λ k. by-cases (ℕ-discrete k r) (here k) (there k);
+  }
+    where
+      within : (a b : Bool) → a && b ≡ true → b ≡ true
+      within true b e = e
+      within false true e = refl
+      within false false e = e
+
+      here : (k : ℕ) → k ≡ r → getD (set new r (f (getD old r d))) k d ≡ cond (not (has (bitAnd bits (bits - 1)) k) && has at k) (f (getD old k d)) (getD old k d)
+      here k e = rw (e, getD-set-same new r (f (getD old r d)) d (omega (arith, g .long)), has-rest bits r r w, eq-eqb r r refl, g .part r (has-least w))
+
+      there : (k : ℕ) → k ≢ r → getD (set new r (f (getD old r d))) k d ≡ cond (not (has (bitAnd bits (bits - 1)) k) && has at k) (f (getD old k d)) (getD old k d)
+      there k d′ = rw (getD-set-other new r k (f (getD old r d)) d d′, has-rest bits r k w, ne-eqb k r d′) (g .each k)
+
+pub touch-end : {A : Type 0} {f : A → A} {d : A} {old new : List A} {at bits : ℕ} → Touching f d old at bits new → bits ≡ 0 → Touched f d old at new
+touch-end {bits = bits} g e = record { long = g .long; each = λ k. g .each k ∙ rw (e, has-zero k) }
+
+-- Masks that have the bits of x turned over.
+abbrev pub Grafted : List ℕ → ℕ → ℕ → List ℕ → Type 0
+Grafted old at x new = Touched (λ (y : ℕ). bitXor y x) 0 old at new
+
+-- What a bit then says.
+pub grafted-bit : {old new : List ℕ} {at : ℕ} (x : ℕ) → Grafted old at x new → (k j : ℕ) → has (getD new k 0) j ≡ xor (has (getD old k 0) j) (has at k && has x j)
+unfolding xor
+grafted-bit {old} {at = at} x g k j = rw (g .each k) (go (has at k))
+  where
+    keep : (b : Bool) → b ≡ xor b false
+    keep true = refl
+    keep false = refl
+
+    go : (b : Bool) → has (cond b (bitXor (getD old k 0) x) (getD old k 0)) j ≡ xor (has (getD old k 0) j) (b && has x j)
+    go true = has-xor (getD old k 0) x j
+    go false = keep (has (getD old k 0) j)

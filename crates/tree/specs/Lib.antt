@@ -1,0 +1,14 @@
+pub mod Mask
+pub mod MaskLaws
+pub mod Bits
+pub mod Layout
+pub mod Links
+pub mod Queue
+pub mod Strip
+pub mod State
+pub mod Strikes
+pub mod Drawn
+pub mod PotentialLaws
+pub mod SignLaws
+pub mod StepLaws
+pub mod ScanLaws

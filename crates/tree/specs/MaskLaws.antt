@@ -1,0 +1,70 @@
+-- Masks as sets: the first n bits, the bits of one mask without those of another, and where there is a bit at all.
+use mathlib.Core.Path.{_≡_, refl, _∙_}
+use Prim.Native.Nat.{ℕ, zero, suc, _+_, _-_, _*_, _/_, _%_, _^_, _<_, _≤_, min, max}
+use native.Mathlib.Omega.{arith}
+use native.Mathlib.Nat.{pow-suc, div-eq-of-lt}
+use lib.Bits.{bitOr, bitXor, differ}
+use lib.Pow.{pow-pos, pow-mono, shr-shr, shl-exact}
+use lib.Count.{trailingZeros}
+use Rattle.tree.specs.Mask.{bit, bit-or, bit-xor, bit-suc, none, ones-zero, first-in}
+
+-- ---- the first n bits
+
+unfoldable pub firstBits : ℕ → ℕ
+firstBits n = 2 ^ n - 1
+
+pub first-below : (n k : ℕ) → k < n → bit (firstBits n) k ≡ 1
+unfolding firstBits
+first-below zero k p = absurd (omega arith)
+first-below (suc n) zero p = omega (arith, pow-suc 2 n, pow-pos n)
+first-below (suc n) (suc k) p =
+    let e : (2 ^ suc n - 1) / 2 ≡ 2 ^ n - 1 = omega (arith, pow-suc 2 n, pow-pos n) in
+    bit-suc (2 ^ suc n - 1) k ∙ rw e (first-below n k (omega arith))
+
+pub first-above : (n k : ℕ) → n ≤ k → bit (firstBits n) k ≡ 0
+unfolding firstBits
+first-above n k p = rw (div-eq-of-lt small)
+  where
+    small : 2 ^ n - 1 < 2 ^ k
+    small = omega (arith, pow-pos n, pow-mono p)
+
+pub first-shl : (n : ℕ) → n < 64 → (1 * 2 ^ n) % 2 ^ 64 - 1 ≡ firstBits n
+unfolding firstBits
+first-shl n p = rw (shl-exact {a = 1} 1 n 64 (omega arith) (omega arith)) (omega arith)
+
+-- ---- the bits of a that are not in b
+
+unfoldable pub minus : ℕ → ℕ → ℕ
+minus a b = bitXor (bitOr a b) b
+
+pub minus-is : (a b : ℕ) → bitXor (bitOr a b) b ≡ minus a b
+unfolding minus
+minus-is a b = refl
+
+pub bit-minus : (a b k : ℕ) → bit (minus a b) k + min (bit a k) (bit b k) ≡ bit a k
+unfolding minus
+bit-minus a b k = rw (bit-xor (bitOr a b) b k, bit-or a b k) (digit (bit a k) (bit b k) (omega arith) (omega arith))
+  where
+    digit : (x y : ℕ) → x < 2 → y < 2 → differ (max x y) y + min x y ≡ x
+    digit zero zero p q = refl
+    digit zero (suc zero) p q = refl
+    digit zero (suc (suc y)) p q = absurd (omega arith)
+    digit (suc zero) zero p q = refl
+    digit (suc zero) (suc zero) p q = refl
+    digit (suc zero) (suc (suc y)) p q = absurd (omega arith)
+    digit (suc (suc x)) y p q = absurd (omega arith)
+
+-- ---- shifts; no bit at all, and some bit
+
+pub bit-shift : (x m k : ℕ) → bit (x / 2 ^ m) k ≡ bit x (m + k)
+bit-shift x m k = rw (shr-shr x m k)
+
+pub bit-zero : (k : ℕ) → bit 0 k ≡ 0
+bit-zero k = none 0 k ones-zero
+
+own-power : (n : ℕ) → n < 2 ^ n
+own-power zero = omega arith
+own-power (suc n) = omega (arith, own-power n, pow-suc 2 n)
+
+pub some-bit : (x : ℕ) → 0 < x → (k : ℕ) × (bit x k ≡ 1)
+some-bit x p = (trailingZeros x x, first-in x x p (own-power x))
