@@ -1,33 +1,42 @@
 -- The bits of a mask, one after the other, least first: a mask without its least bit, and a change of the array at each bit.
 use mathlib.Core.Path.{_≡_, refl, sym, ap, _∙_}
 use mathlib.Core.Logic.{_≢_, by-cases}
-use mathlib.Core.Bool.{Bool, true, false, not, cond, xor, _&&_, or-false}
+use mathlib.Core.Bool.{Bool, true, false, not, cond, xor, _&&_, _||_, or-false}
 use mathlib.Core.List.{List}
-use Prim.Native.Nat.{ℕ, zero, suc, _-_, _/_, _<_, min}
+use Prim.Native.Nat.{ℕ, zero, suc, _-_, _/_, _<_, min, max}
 use native.Mathlib.Omega.{arith}
 use native.Mathlib.Decide.{ℕ-discrete, decLt}
-use lib.Bits.{bitAnd, bitXor, differ}
+use lib.Bits.{bitAnd, bitOr, bitXor, differ, and-le-r}
 use lib.Dec.{eqb, ltb}
 use lib.ListN.{length, getD, set, length-set}
 use borrow.Author.Tests.{eqb-true, eqb-false, eq-eqb, ne-eqb, lt-ltb, le-ltb}
 use lib.Seq.{getD-set-same, getD-set-other}
-use Rattle.tree.specs.Mask.{bit, has, put, has-put, has-zero, bit-suc, bit-and, bit-xor}
+use Rattle.tree.specs.Mask.{bit, has, put, has-put, has-zero, bit-suc, bit-and, bit-or, bit-xor}
 use Rattle.tree.specs.MaskLaws.{firstBits, first-below, first-above}
 
 -- ---- tests of bits
 
+-- An operation on digits as one on tests.
+by-digits : (op : ℕ → ℕ → ℕ) (test : Bool → Bool → Bool) → eqb (op 0 0) 1 ≡ test false false → eqb (op 0 1) 1 ≡ test false true
+    → eqb (op 1 0) 1 ≡ test true false → eqb (op 1 1) 1 ≡ test true true
+    → (x y : ℕ) → x < 2 → y < 2 → eqb (op x y) 1 ≡ test (eqb x 1) (eqb y 1)
+by-digits op test e f g h zero zero p q = e
+by-digits op test e f g h zero (suc zero) p q = f
+by-digits op test e f g h (suc zero) zero p q = g
+by-digits op test e f g h (suc zero) (suc zero) p q = h
+by-digits op test e f g h (suc (suc x)) y p q = absurd (omega arith)
+by-digits op test e f g h zero (suc (suc y)) p q = absurd (omega arith)
+by-digits op test e f g h (suc zero) (suc (suc y)) p q = absurd (omega arith)
+
 pub has-xor : (a b k : ℕ) → has (bitXor a b) k ≡ xor (has a k) (has b k)
 unfolding xor
-has-xor a b k = rw (bit-xor a b k) (go (bit a k) (bit b k) (omega arith) (omega arith))
-  where
-    go : (x y : ℕ) → x < 2 → y < 2 → eqb (differ x y) 1 ≡ xor (eqb x 1) (eqb y 1)
-    go zero zero p q = refl
-    go zero (suc zero) p q = refl
-    go (suc zero) zero p q = refl
-    go (suc zero) (suc zero) p q = refl
-    go (suc (suc x)) y p q = absurd (omega arith)
-    go zero (suc (suc y)) p q = absurd (omega arith)
-    go (suc zero) (suc (suc y)) p q = absurd (omega arith)
+has-xor a b k = rw (bit-xor a b k) (by-digits differ xor refl refl refl refl (bit a k) (bit b k) (omega arith) (omega arith))
+
+pub has-and : (a b k : ℕ) → has (bitAnd a b) k ≡ has a k && has b k
+has-and a b k = rw (bit-and a b k) (by-digits min _&&_ refl refl refl refl (bit a k) (bit b k) (omega arith) (omega arith))
+
+pub has-or : (a b k : ℕ) → has (bitOr a b) k ≡ has a k || has b k
+has-or a b k = rw (bit-or a b k) (by-digits max _||_ refl refl refl refl (bit a k) (bit b k) (omega arith) (omega arith))
 
 -- A mask of one bit.
 pub has-one : (j k : ℕ) → has (put 0 j) k ≡ eqb k j
@@ -77,6 +86,10 @@ has-rest x r k w = rw (bit-and x (x - 1) k) (go (eqb k r) refl)
 
 pub has-least : {x r : ℕ} → Least x r → has x r ≡ true
 has-least w = rw (w .on)
+
+-- It is a smaller number.
+pub rest-less : (x : ℕ) → 0 < x → bitAnd x (x - 1) < x
+rest-less x p = omega (arith, and-le-r x (x - 1))
 
 -- ---- the bits below a bound
 

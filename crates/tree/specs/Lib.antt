@@ -12,3 +12,8 @@ pub mod PotentialLaws
 pub mod SignLaws
 pub mod StepLaws
 pub mod ScanLaws
+pub mod Cuts
+pub mod Planting
+pub mod Cycle
+pub mod Exchange
+pub mod Repriced

@@ -1,5 +1,6 @@
 // The basis of a round in flat arrays: masks of basic lanes, potentials, loop signs, the step and the scan of reduced costs.
 // A lane (i, j) lies at i * MAX_SIDE + j. Nodes are numbered as in the specification: source i is node i, sink j is node m + j.
+pub mod cut;
 pub mod mask;
 pub mod potential;
 pub mod scan;

@@ -1,0 +1,60 @@
+-- `tree::cut::hang` meets its contract: `hang-step` is a turn of the loop, from the last strike back.
+use mathlib.Core.Path.{_≡_, refl}
+use Prim.Native.Nat.{suc, _-_}
+use native.Mathlib.Omega.{arith}
+use borrow.Author.Needs.{needs}
+use Rattle.tree.specs.Layout.{nodeRoom, getD-all}
+use Rattle.tree.specs.Planting.{Hanging, hang-start, hang-step}
+use Rattle.tree.proofs.cut.hang.Statement.{statement}
+use Rattle.tree.proofs.cut.hang.Tie as tie
+
+abbrev Inv-loop : tie.InvT-loop
+Inv-loop leaf other count path₀ k₀ path k = Hanging leaf other count path k
+
+abbrev μ-loop : tie.MeasureT-loop
+μ-loop leaf other count path₀ k₀ path k = k
+
+loop-holds : tie.Need-loop-holds Inv-loop μ-loop
+loop-holds c = hang-start _ _ _ _ refl (λ j. getD-all nodeRoom j 0)
+
+mul-set-bit : tie.Need-mul-set-bit Inv-loop μ-loop
+mul-set-bit c = omega (arith, c .before .before .before .before .before .pre .otherIn (c .before .before .before .loop .k - 1) (omega arith))
+
+element-copy-out-set-bit : tie.Need-element-copy-out-set-bit Inv-loop μ-loop
+element-copy-out-set-bit c = c .before .before .before .before .before .pre .otherIn (c .before .before .before .loop .k - 1) (omega arith)
+
+mul-path : tie.Need-mul-path Inv-loop μ-loop
+mul-path c = omega (arith, c .before .before .before .before .before .before .before .pre .leafIn (c .before .before .before .before .before .loop .k - 1) (omega arith))
+
+element-write-path : tie.Need-element-write-path Inv-loop μ-loop
+element-write-path c = c .before .before .before .before .before .before .before .pre .leafIn (c .before .before .before .before .before .loop .k - 1) (omega arith)
+
+loop-again : tie.Need-loop-again Inv-loop μ-loop
+loop-again c =
+    let i = c .before .before .before .before .before .loop in
+    let e : suc (i .k - 1) ≡ i .k = omega arith in
+    rw (c .set-bit .ensures) (hang-step (c .before .before .before .before .before .before .before .pre) {path = i .path} (rw e (i .inv)) (omega arith))
+
+returns : tie.Need-returns Inv-loop μ-loop
+returns c = let e : c .before .loop .k ≡ 0 = omega arith in rw e at (c .before .loop .inv)
+
+pub hang-spec : {M : Type 1} → statement M
+hang-spec =
+    tie.close
+    (tie.spec
+    Inv-loop
+    μ-loop
+    loop-holds
+    (λ c. search needs)
+    (λ c. search needs)
+    (λ c. search needs)
+    (λ c. search needs)
+    (λ c. search needs)
+    mul-set-bit
+    element-copy-out-set-bit
+    (λ c κs. search needs)
+    mul-path
+    element-write-path
+    (λ c. search needs)
+    loop-again
+    returns)
