@@ -18,7 +18,7 @@ loop-holds c = touch-start _ 0 (c .args .masks .now) (c .args .at)
 
 loop-less : tie.Need-loop-less Inv-loop μ-loop
 loop-less c =
-    rw (c .rest .ensures) (rest-less _ (rest-requires (c .before) _))
+    rw (c .rest .ensures) (rest-less _ (omega arith))
 
 loop-again : tie.Need-loop-again Inv-loop μ-loop
 loop-again c =
