@@ -2,3 +2,5 @@ pub mod Cells
 pub mod CellTests
 pub mod Held
 pub mod Lanes
+pub mod Slots
+pub mod Pivoting
