@@ -2,5 +2,7 @@ pub mod Cells
 pub mod CellTests
 pub mod Held
 pub mod Lanes
+pub mod Arrays
 pub mod Slots
 pub mod Pivoting
+pub mod Drawing

@@ -47,23 +47,8 @@ use Rattle.tree.specs.Cuts.{signBy, sign-by, slots-apart, Exchanged, Shifted, s
 use Rattle.tree.specs.Planting.{Tree}
 use Rattle.tree.specs.Cycle.{onLoop, rowFar, against, LoopSlots}
 use Rattle.tree.specs.Exchange.{Regrafted, loop-slot, loop-across, tree-exchanged}
+use Rattle.board.specs.Arrays.{Amounts, Board}
 use Rattle.board.specs.Slots.{pairAt, Slotted, LeastSlot, Added}
-
--- The amounts of the cells lie on their lanes, (0, 0) on every other.
-pub record Amounts (m n : ℕ) (T : List Cell) (q e : List ℤ) : Type 0 where
-  pub qLong : length q ≡ laneRoom
-  pub eLong : length e ≡ laneRoom
-  pub bags : (i j : ℕ) → i < m → j < n → getD q (i * stride + j) (pos 0) ≡ amountAt T i j .q
-  pub marks : (i j : ℕ) → i < m → j < n → getD e (i * stride + j) (pos 0) ≡ amountAt T i j .e
-
--- The arrays hold the tableau T of the problem P, of m sources and n sinks: its amounts and its tree.
-pub record Board (P : Problem) (T : List Cell) (q e : List ℤ) (sub path lanes : List ℕ) (m n : ℕ) : Type 0 where
-  pub sound : Sound P
-  pub rows : m ≡ sources P
-  pub columns : n ≡ sinks P
-  pub belongs : cellsBelong P T ≡ true
-  pub amounts : Amounts m n T q e
-  pub tree : Tree m n (basisOf T) sub path lanes
 
 -- The lane from row to col is one of the problem, and not basic.
 pub record Enters (P : Problem) (T : List Cell) (row col : ℕ) : Type 0 where

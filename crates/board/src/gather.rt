@@ -1,4 +1,6 @@
 // A tableau gathered from flat arrays: its lanes from the masks of the rows, in sheet order, and their amounts.
+use crate::amount::pair_at;
+use crate::spread::link;
 use transport::Cell;
 use transport::MAX_CELLS;
 use transport::MAX_SIDE;
@@ -8,11 +10,15 @@ use tree::LANES;
 use tree::NODES;
 use tree::mask;
 ghost use mathlib.Core.Path.{_≡_};
-ghost use mathlib.Core.List.{_++_};
-ghost use Prim.Native.Nat.{_+_, _≤_};
-ghost use lib.ListN.{length, take};
+ghost use mathlib.Core.List.{List, _++_};
+ghost use Prim.Native.Nat.{ℕ, _+_, _/_, _<_, _≤_};
+ghost use lib.ListN.{length, take, getD};
+ghost use Rattle.transport.specs.Problem.{Problem};
 ghost use Rattle.transport.specs.Tableau.{tableauOf};
-ghost use Rattle.tree.specs.Layout.{nodeRoom, laneRoom};
+ghost use Rattle.transport.specs.declared.Cell.{Cell};
+ghost use Rattle.tree.specs.Layout.{stride, nodeRoom, laneRoom};
+ghost use Rattle.board.specs.Arrays.{Board};
+ghost use Rattle.board.specs.Drawing.{Redrawn};
 ghost use Rattle.board.specs.Lanes.{rowLanes, RowMasks, Lanes, gathered};
 
 // Behind the first `count` lanes come those of one more row, which begins at the lane `first`; the count then.
@@ -49,8 +55,8 @@ fn basic_lanes(adj: &[u64; NODES], m: usize, lanes: &mut [usize; NODES]) -> usiz
     count
 }
 
-// The tableau that the arrays hold.
-pub fn gather(adj: &[u64; NODES], q: &[i64; LANES], e: &[i64; LANES], m: usize) -> Tableau
+// The cells on the basic lanes that the masks have.
+fn gather_cells(adj: &[u64; NODES], q: &[i64; LANES], e: &[i64; LANES], m: usize) -> Tableau
     requires { ⌜ RowMasks (now adj) m ⌝ }
     ensures { λ r. ⌜ r ≡ tableauOf (gathered m (now (adj .entry)) (now (q .entry)) (now (e .entry))) ⌝ }
 {
@@ -69,13 +75,47 @@ pub fn gather(adj: &[u64; NODES], q: &[i64; LANES], e: &[i64; LANES], m: usize) 
     let mut k = 0;
     while k < count {
         let l = lanes[k];
-        let amount = Pair { q: q[l], e: e[l] };
         t.cells[k] = Cell {
             row: l / MAX_SIDE,
             col: l % MAX_SIDE,
-            amount: amount,
+            amount: pair_at(q, e, l),
         };
         k += 1;
     }
     t
+}
+
+// The masks of the basic lanes, drawn from the lanes of the first `count` slots.
+pub fn draw(lane: &[usize; NODES], m: usize, count: usize, adj: &mut [u64; NODES])
+    requires { ⌜ (m ≤ stride) × (count ≤ nodeRoom) × ((t : ℕ) → t < count → getD (now lane) t 0 / stride < m) ⌝ }
+    ensures { λ _. ⌜ Redrawn m (now (lane .entry)) count (now (adj .exit)) ⌝ }
+{
+    *adj = [0; NODES];
+    let mut k = 0;
+    while k < count {
+        let l = lane[k];
+        link(adj, m, l / MAX_SIDE, l % MAX_SIDE);
+        k += 1;
+    }
+}
+
+// The tableau that the arrays hold.
+pub fn gather(
+    lane: &[usize; NODES],
+    q: &[i64; LANES],
+    e: &[i64; LANES],
+    m: usize,
+    n: usize,
+) -> Tableau
+    requires { ⌜
+        ((P : Problem) × (T : List Cell) × (sub : List ℕ) × (path : List ℕ) × Board P T (now q) (now e) sub path (now lane) m n)
+        ⌝ }
+    ensures { λ r. ⌜
+        ((P : Problem) (T : List Cell) (sub path : List ℕ) → Board P T (now (q .entry)) (now (e .entry)) sub path (now (lane .entry)) m n
+        → r ≡ tableauOf T)
+        ⌝ }
+{
+    let mut adj = [0u64; NODES];
+    draw(lane, m, m + n - 1, &mut adj);
+    gather_cells(&adj, q, e, m)
 }

@@ -13,7 +13,8 @@ ghost use mathlib.Core.List.{List};
 ghost use Prim.Native.Nat.{ℕ};
 ghost use Rattle.transport.specs.Problem.{Problem};
 ghost use Rattle.transport.specs.declared.Cell.{Cell};
-ghost use Rattle.board.specs.Pivoting.{Board, Enters, Pivoted};
+ghost use Rattle.board.specs.Arrays.{Board};
+ghost use Rattle.board.specs.Pivoting.{Enters, Pivoted};
 
 // The lane from `row` to `col`, which is not basic, enters. Gives the nodes whose price moves.
 pub fn pivot(

@@ -1,16 +1,20 @@
 // A tableau spread over flat arrays: a mask of basic lanes for each node, and the amounts by lane.
+use crate::amount::put_pair;
 use transport::Cell;
 use transport::MAX_SIDE;
 use transport::Tableau;
 use tree::LANES;
 use tree::NODES;
 use tree::mask;
+use tree::strike::strike;
 ghost use mathlib.Core.Path.{_≡_};
 ghost use Prim.Native.Nat.{ℕ, _+_, _*_, _<_, _≤_};
-ghost use lib.ListN.{set};
-ghost use Rattle.transport.specs.Tableau.{cellsOf};
-ghost use Rattle.tableaux.specs.View.{Inside};
-ghost use Rattle.tree.specs.Layout.{stride};
+ghost use lib.ListN.{length, set};
+ghost use Rattle.transport.specs.Tableau.{cellsOf, basisOf};
+ghost use Rattle.tableaux.specs.View.{Inside, Distinct};
+ghost use Rattle.tree.specs.Layout.{stride, nodeRoom, strikesOf};
+ghost use Rattle.tree.specs.Strip.{Stripped};
+ghost use Rattle.board.specs.Arrays.{Sides, Amounts};
 ghost use Rattle.board.specs.Cells.{cellRoom};
 ghost use Rattle.board.specs.Held.{Held, linked, Cleared};
 
@@ -44,23 +48,12 @@ fn put_cell(c: Cell, m: usize, adj: &mut [u64; NODES], q: &mut [i64; LANES], e: 
 {
     let row = c.row;
     let col = c.col;
-    let amount = c.amount;
-    let bags = amount.q;
-    let marks = amount.e;
     link(adj, m, row, col);
-    let lane = row * MAX_SIDE + col;
-    q[lane] = bags;
-    e[lane] = marks;
+    put_pair(q, e, row * MAX_SIDE + col, c.amount);
 }
 
 // All cells of the tableau, from the last to the first.
-pub fn spread(
-    t: Tableau,
-    m: usize,
-    adj: &mut [u64; NODES],
-    q: &mut [i64; LANES],
-    e: &mut [i64; LANES],
-)
+fn spread(t: Tableau, m: usize, adj: &mut [u64; NODES], q: &mut [i64; LANES], e: &mut [i64; LANES])
     requires { ⌜ (t .count ≤ cellRoom) × (m ≤ stride) × Inside m stride (cellsOf t) ⌝ }
     ensures { λ _. ⌜ ((n : ℕ) → n ≤ stride → Held m n (cellsOf t) (now (adj .exit)) (now (q .exit)) (now (e .exit))) ⌝ }
 {
@@ -71,4 +64,28 @@ pub fn spread(
         let c = t.cells[k];
         put_cell(c, m, adj, q, e);
     }
+}
+
+// Lays the tableau out over the arrays and strikes off its basis: how many of its lanes were struck.
+pub fn lay_out(
+    t: Tableau,
+    m: usize,
+    n: usize,
+    q: &mut [i64; LANES],
+    e: &mut [i64; LANES],
+    leaf: &mut [usize; NODES],
+    other: &mut [usize; NODES],
+    lane: &mut [usize; NODES],
+) -> usize
+    requires { ⌜ (t .count ≤ cellRoom) × Sides m n × Inside m n (cellsOf t) × Distinct (cellsOf t) ⌝ }
+    requires { ⌜ (length (now leaf) ≡ nodeRoom) × (length (now other) ≡ nodeRoom) × (length (now lane) ≡ nodeRoom) ⌝ }
+    ensures { λ r. ⌜
+        Amounts m n (cellsOf t) (now (q .exit)) (now (e .exit))
+        × (length (now (lane .exit)) ≡ nodeRoom)
+        × Stripped m n (basisOf (cellsOf t)) (strikesOf (now (leaf .exit)) (now (other .exit)) (now (lane .exit)) r) r
+        ⌝ }
+{
+    let mut adj = [0u64; NODES];
+    spread(t, m, &mut adj, q, e);
+    strike(&adj, leaf, other, lane, m, n)
 }

@@ -1,106 +1,32 @@
--- `board::gather::gather` meets its contract. The loop's invariant: the first k cells are those on the first k lanes; the measure is how many cells are left.
-use Prim.Native.Nat.{_-_, _≤_, _<_}
-use mathlib.Core.Path.{_≡_, refl}
+-- `board::gather::gather` meets its contract: with the masks drawn from the slots the arrays hold the tableau (`board-gathered`).
+use Prim.Native.Nat.{_≤_}
 use native.Mathlib.Omega.{arith}
+use mathlib.Core.Path.{_∙_, ap}
 use borrow.Author.Needs.{needs}
-use lib.IntN.{pos}
-use lib.ListN.{getD}
-use mir.Syntax.{w64}
-use mir.Val.{toZ, ofZ}
-use Rattle.transport.specs.Amount.{nothing}
-use Rattle.transport.specs.Tableau.{noCell}
-use Rattle.tree.specs.Layout.{laneRoom}
-use Rattle.board.specs.Cells.{cellRoom}
-use Rattle.board.specs.Lanes.{Filled, lane-in, filled-none, filled-one, filled-all}
+use Rattle.transport.specs.Tableau.{tableauOf}
+use Rattle.tree.specs.Layout.{stride, stride-is}
+use Rattle.board.specs.Drawing.{lane-rows, board-masks, board-gathered}
 use Rattle.board.proofs.gather.gather.Statement.{statement}
 use Rattle.board.proofs.gather.gather.Tie as tie
 
-abbrev Inv-loop : tie.InvT-loop
-Inv-loop adj q e m lanes count t₀ k₀ t k = Filled lanes q e count k t
+high : (c : tie.Start) → (c .args .m ≤ stride) × (c .args .n ≤ stride)
+high c = let b = c .pre .4 in
+    (omega (arith, stride-is, b .rows, b .sound .sourcesHigh), omega (arith, stride-is, b .columns, b .sound .sinksHigh))
 
-abbrev μ-loop : tie.MeasureT-loop
-μ-loop adj q e m lanes count t₀ k₀ t k = count - k
+add-draw : tie.Need-add-draw
+add-draw c = omega (arith, high c)
 
-basic-lanes-requires : tie.Need-basic-lanes-requires Inv-loop μ-loop
-basic-lanes-requires c κs = (c .before .pre, refl)
+sub-draw : tie.Need-sub-draw
+sub-draw c = let b = c .pre .4 in omega (arith, b .rows, b .sound .sourcesLow)
 
-loop-holds : tie.Need-loop-holds Inv-loop μ-loop
-unfolding noCell nothing
-loop-holds c = filled-none _ _ _ _
+draw-requires : tie.Need-draw-requires
+draw-requires c κs = let s = c .before in (high s .0, omega (arith, high s), lane-rows (s .pre .4))
 
--- There are few lanes, and they are lanes of the sheet.
-few : (c : tie.In-loop Inv-loop μ-loop) → c .before .before .basic-lanes .result ≤ cellRoom
-few c = omega (arith, c .before .before .basic-lanes .ensures .many, c .before .before .before .before .pre .few)
+gather-cells-requires : tie.Need-gather-cells-requires
+gather-cells-requires c κs = board-masks (c .before .before .before .pre .4) (c .before .draw .ensures)
 
-inside : (c : tie.In-loop Inv-loop μ-loop) → getD (c .before .before .basic-lanes .last .1 .1 .0) (c .before .loop .k) 0 < laneRoom
-inside c = lane-in (c .before .before .before .before .pre) (c .before .before .basic-lanes .ensures) (c .before .loop .k) (omega arith)
-
-mul-l : tie.Need-mul-l Inv-loop μ-loop
-mul-l c = omega (arith, few c)
-
-array-read-l : tie.Need-array-read-l Inv-loop μ-loop
-array-read-l c = omega (arith, few c)
-
-mul-t16 : tie.Need-mul-t16 Inv-loop μ-loop
-mul-t16 c = omega (arith, inside c)
-
-element-copy-out-t22 : tie.Need-element-copy-out-t22 Inv-loop μ-loop
-element-copy-out-t22 c = inside c
-
-mul-t19 : tie.Need-mul-t19 Inv-loop μ-loop
-mul-t19 c = omega (arith, inside (c .before))
-
-element-copy-out-t25 : tie.Need-element-copy-out-t25 Inv-loop μ-loop
-element-copy-out-t25 c = inside (c .before)
-
-mul-t27 : tie.Need-mul-t27 Inv-loop μ-loop
-mul-t27 c = omega (arith, few (c .before .before))
-
-element-set-from-t : tie.Need-element-set-from-t Inv-loop μ-loop
-element-set-from-t c = omega (arith, few (c .before .before))
-
-add-k : tie.Need-add-k Inv-loop μ-loop
-add-k c = omega (arith, few (c .before .before))
-
-loop-less : tie.Need-loop-less Inv-loop μ-loop
-loop-less c = omega arith
-
-loop-again : tie.Need-loop-again Inv-loop μ-loop
-loop-again c =
-    let i = c .before .before .before .loop in
-    let a = c .before .before .before .before .before .before .args in
-    let b = c .before .before .before .before .basic-lanes in
-    let x = getD (b .last .1 .1 .0) (i .k) 0 in
-    let v : toZ w64 (ofZ w64 (getD (a .q .now) x (pos 0))) ≡ getD (a .q .now) x (pos 0) = search needs in
-    let w : toZ w64 (ofZ w64 (getD (a .e .now) x (pos 0))) ≡ getD (a .e .now) x (pos 0) = search needs in
-    filled-one (b .last .1 .1 .0) (a .q .now) (a .e .now) (b .result) (i .k) (i .t) _ _ (i .inv) (omega arith) (omega (arith, few (c .before .before))) v w
-
-returns : tie.Need-returns Inv-loop μ-loop
-returns c =
-    let a = c .before .before .before .before .args in
-    let b = c .before .before .basic-lanes in
-    let i = c .before .loop in
-    let e : i .k ≡ b .result = omega arith in
-    filled-all (b .last .1 .1 .0) (a .q .now) (a .e .now) (b .result) (a .adj .now) (a .m) (i .t) (b .ensures)
-    (omega (arith, b .ensures .many, c .before .before .before .before .pre .few)) (rw e at (i .inv))
+returns : tie.Need-returns
+returns c P T sub path b = c .gather-cells .ensures ∙ ap tableauOf (board-gathered b (c .before .before .draw .ensures))
 
 pub gather-spec : {M : Type 1} → statement M
-gather-spec =
-    tie.close
-    (tie.spec
-    Inv-loop
-    μ-loop
-    basic-lanes-requires
-    loop-holds
-    mul-l
-    array-read-l
-    mul-t16
-    element-copy-out-t22
-    mul-t19
-    element-copy-out-t25
-    mul-t27
-    element-set-from-t
-    add-k
-    loop-less
-    loop-again
-    returns)
+gather-spec = tie.close (tie.spec add-draw sub-draw draw-requires gather-cells-requires returns)
