@@ -39,7 +39,7 @@ use Rattle.tableaux.specs.Belonging.{fits-inside}
 use Rattle.belonging.specs.Carried.{Light}
 
 -- The cells T are distinct and inside the sheet, and the strikes ss strike off their lanes, which span.
-pub record Tree (m n : ℕ) (T : List Cell) (ss : List Strike) : Type 0 where
+pub record Spanning (m n : ℕ) (T : List Cell) (ss : List Strike) : Type 0 where
   pub rowsLow : 1 ≤ m
   pub colsLow : 1 ≤ n
   pub inside : Inside m n T
@@ -57,7 +57,7 @@ Carry T ss part w = (i j : ℕ) → Has (basisOf T) i j → part (amountAt T i j
 abbrev pub AddUp : ℕ → ℕ → List Cell → (Pair → ℤ) → (ℕ → ℤ) → Type 0
 AddUp m n T part w = ((i : ℕ) → i < m → part (rowTotal T i) ≡ w i) × ((j : ℕ) → j < n → part (columnTotal T j) ≡ w (m + j))
 
-module _ {m n : ℕ} {T : List Cell} {ss : List Strike} (t : Tree m n T ss) (part : Pair → ℤ) (part-zero : part nothing ≡ pos 0)
+module _ {m n : ℕ} {T : List Cell} {ss : List Strike} (t : Spanning m n T ss) (part : Pair → ℤ) (part-zero : part nothing ≡ pos 0)
     (part-add : (a b : Pair) → part (add a b) ≡ part a +ℤ part b) (w : ℕ → ℤ) (even : sum m (λ i. toZ (w i)) ≈ sum n (λ j. toZ (w (m + j)))) where
   abbrev x : ℕ → ℕ → Z
   x i j = toZ (part (amountAt T i j))
@@ -135,7 +135,7 @@ marks-even m (suc n) p =
     rw (eq-eqb n (suc n - 1) (omega arith))
     (omega (arith, sum-ones m, sumTo-cong n (markOf m (suc n)) (λ k. 0) (λ k l. rw (ne-eqb k (suc n - 1) (omega arith))), sumTo-none n))
 
-module _ (P : Problem) {T : List Cell} {ss : List Strike} (t : Tree (sources P) (sinks P) T ss) (totals : total (P .supply) ≡ total (P .demand))
+module _ (P : Problem) {T : List Cell} {ss : List Strike} (t : Spanning (sources P) (sinks P) T ss) (totals : total (P .supply) ≡ total (P .demand))
     {bags marks : List ℤ}
     (b : Weights (sources P) (sinks P) (at (P .supply)) (at (P .demand)) bags)
     (e : Weights (sources P) (sinks P) (λ i. 1) (markOf (sources P) (sinks P)) marks) where

@@ -1,6 +1,6 @@
 -- A tableau in the flat arrays: whether its lanes span and its amounts add up, as the code finds it.
-use Prim.Native.Nat.{ℕ, _+_, _*_, _<_, _≤_}
-use mathlib.Core.Path.{_≡_, refl, sym, ap, _∙_}
+use Prim.Native.Nat.{ℕ, _+_, _-_, _*_, _<_}
+use mathlib.Core.Path.{_≡_, refl, sym, ap, _∙_, subst}
 use mathlib.Core.Logic.{_↔_}
 use mathlib.Core.Bool.{Bool, true, false, _&&_}
 use mathlib.Core.List.{List}
@@ -24,25 +24,17 @@ use Rattle.transport.specs.Laws.ProblemLaws.{problem}
 use Rattle.tableaux.specs.View.{Distinct, Inside, rowOf, colOf, amountAt}
 use Rattle.tableaux.specs.Belonging.{fits-inside, order-true}
 use Rattle.tableaux.specs.Order.{ordered-by, ordered-distinct}
-use Rattle.tree.specs.Layout.{stride, laneAt, placeOf, place-laneAt, strikeOf, strikesOf}
+use Rattle.tree.specs.Layout.{stride, nodeRoom, laneAt, placeOf, place-laneAt, strikeOf, strikesOf}
 use Rattle.tree.specs.SignLaws.{weightsOf}
 use Rattle.board.specs.CellTests.{onBoard, cellsFit}
-use Rattle.board.specs.Held.{Held, row-lanes, column-lanes, lanes-apart}
-use Rattle.tree.specs.Links.{Links, Masks, iff-same}
-use Rattle.tree.specs.Drawn.{Drawn, drawn-links, drawn-masks}
+use Rattle.board.specs.Arrays.{Sides, Amounts}
+use Rattle.tree.specs.Links.{iff-same}
 use Rattle.tree.specs.Strip.{Stripped}
 use Rattle.belonging.specs.Carried.{carries, carries-true, carries-at}
-use Rattle.belonging.specs.Balance.{Tree, Carry, Weights, markOf, balanced-iff}
+use Rattle.belonging.specs.Balance.{Spanning, Carry, Weights, markOf, balanced-iff}
 use Rattle.belonging.specs.Weighing.{Modest}
 
 -- ---- the sheet
-
--- There are 1 to `stride` rows and 1 to `stride` columns.
-pub record Sides (m n : ℕ) : Type 0 where
-  pub rowsLow : 1 ≤ m
-  pub rowsHigh : m ≤ stride
-  pub colsLow : 1 ≤ n
-  pub colsHigh : n ≤ stride
 
 module _ {supply demand : List ℕ} {cost : List ℤ} (ok : Sound (problem supply demand cost)) where
   pub sound-sides : Sides (length supply) (length demand)
@@ -52,45 +44,30 @@ module _ {supply demand : List ℕ} {cost : List ℤ} (ok : Sound (problem suppl
   pub sound-modest : Modest supply × Modest demand
   sound-modest = (record { few = sound-sides .rowsHigh; high = supply-most ok }, record { few = sound-sides .colsHigh; high = demand-most ok })
 
--- ---- masks
+-- ---- the basis
 
--- The arrays hold m + n − 1 distinct cells T, all on the sheet.
-pub record Laid (m n : ℕ) (T : List Cell) (adj : List ℕ) (q e : List ℤ) : Type 0 where
-  pub held : Held m n T adj q e
-  pub inside : Inside m n T
-  pub distinct : Distinct T
-  pub count : length T ≡ basisSize m n
+-- m + n − 1 distinct cells, all on the sheet, of whose lanes r are struck off.
+module _ {m n : ℕ} (T : List Cell) (sides : Sides m n) (inside : Inside m n T) (distinct : Distinct T) (many : length T ≡ basisSize m n)
+    (leaf other lanes : List ℕ) (r : ℕ) (w : Stripped m n (basisOf T) (strikesOf leaf other lanes r) r) where
+  -- All lanes are struck off if they span ..
+  pub struck-apart : (r ≡ basisSize m n → ⊥) → spans m n (basisOf T) ≡ false
+  struck-apart d = go (spans m n (basisOf T)) refl
+    where
+      go : (b : Bool) → spans m n (basisOf T) ≡ b → spans m n (basisOf T) ≡ false
+      go true s = absurd (d (w .complete s .0))
+      go false s = s
 
-module _ {m n : ℕ} {T : List Cell} {adj : List ℕ} {q e : List ℤ} (sides : Sides m n) (h : Laid m n T adj q e) where
-  -- The masks are those of the lanes of T.
-  laid-drawn : Drawn m n (basisOf T) adj
-  laid-drawn = record { rows = row-lanes (h .held); cols = column-lanes (h .held) }
-
-  pub laid-links : Links m n adj
-  laid-links = drawn-links laid-drawn (fits-inside m n T (h .inside)) (sides .rowsLow) (sides .rowsHigh) (sides .colsLow) (sides .colsHigh)
-
-  pub laid-masks : Masks m n (basisOf T) adj
-  laid-masks = drawn-masks laid-drawn (fits-inside m n T (h .inside)) (lanes-apart T (h .distinct))
-
-  module _ (leaf other lanes : List ℕ) (r : ℕ) (w : Stripped m n (basisOf T) (strikesOf leaf other lanes r) r) where
-    -- All lanes are struck off if they span ..
-    pub laid-apart : (r ≡ basisSize m n → ⊥) → spans m n (basisOf T) ≡ false
-    laid-apart d = go (spans m n (basisOf T)) refl
-      where
-        go : (b : Bool) → spans m n (basisOf T) ≡ b → spans m n (basisOf T) ≡ false
-        go true s = absurd (d (w .complete s .0))
-        go false s = s
-
-    -- .. and only then.
-    pub laid-tree : r ≡ basisSize m n → Tree m n T (strikesOf leaf other lanes r)
-    unfolding basisOf
-    laid-tree s =
-        let (spanned, struck) = w .sound (length-map T laneOf ∙ h .count) s in
-        record { rowsLow = sides .rowsLow; colsLow = sides .colsLow; inside = h .inside; distinct = h .distinct; spans = spanned; struck = struck }
+  -- .. and only then.
+  pub struck-spans : r ≡ basisSize m n → Spanning m n T (strikesOf leaf other lanes (basisSize m n))
+  unfolding basisOf
+  struck-spans s =
+      let (spanned, struck) = w .sound (length-map T laneOf ∙ many) s in
+      subst (λ (k : ℕ). Spanning m n T (strikesOf leaf other lanes k)) s
+      (record { rowsLow = sides .rowsLow; colsLow = sides .colsLow; inside = inside; distinct = distinct; spans = spanned; struck = struck })
 
 -- ---- the amounts in their array
 
-module _ {m n : ℕ} {T : List Cell} (leaf other lanes : List ℕ) (count : ℕ) (t : Tree m n T (strikesOf leaf other lanes count)) (part : Pair → ℤ)
+module _ {m n : ℕ} {T : List Cell} (leaf other lanes : List ℕ) (count : ℕ) (t : Spanning m n T (strikesOf leaf other lanes count)) (part : Pair → ℤ)
     (amount : List ℤ)
     (lies : (i j : ℕ) → i < m → j < n → getD amount (i * stride + j) (pos 0) ≡ part (amountAt T i j)) (w : ℕ → ℤ) where
   pub carries-iff : (carries w (strikesOf leaf other lanes count) amount lanes count ≡ true) ↔ Carry T (strikesOf leaf other lanes count) part w
@@ -121,9 +98,15 @@ module _ {m n : ℕ} {T : List Cell} (leaf other lanes : List ℕ) (count : ℕ)
 
 -- ---- balanced, by the two flows
 
-module _ (supply demand : List ℕ) (cost : List ℤ) {T : List Cell} {adj : List ℕ} {q e : List ℤ} (h : Held (length supply) (length demand) T adj q e)
+-- The amounts of T lie on their lanes, which the strikes strike off.
+pub record Balancing (m n : ℕ) (T : List Cell) (q e : List ℤ) (leaf other lanes : List ℕ) : Type 0 where
+  pub amounts : Amounts m n T q e
+  pub long : length lanes ≡ nodeRoom
+  pub spanning : Spanning m n T (strikesOf leaf other lanes (m + n - 1))
+
+module _ (supply demand : List ℕ) (cost : List ℤ) {T : List Cell} {q e : List ℤ} (h : Amounts (length supply) (length demand) T q e)
     (leaf other lanes : List ℕ) (count : ℕ)
-    (t : Tree (length supply) (length demand) T (strikesOf leaf other lanes count)) (totals : total supply ≡ total demand) {bags marks : List ℤ}
+    (t : Spanning (length supply) (length demand) T (strikesOf leaf other lanes count)) (totals : total supply ≡ total demand) {bags marks : List ℤ}
     (b : Weights (length supply) (length demand) (at supply) (at demand) bags)
     (k : Weights (length supply) (length demand) (λ i. 1) (markOf (length supply) (length demand)) marks) where
   pub balanced-is : balanced (problem supply demand cost) T

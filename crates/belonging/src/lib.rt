@@ -8,70 +8,71 @@ use transport::Tableau;
 use tree::LANES;
 use tree::NODES;
 ghost use mathlib.Core.Path.{_≡_};
-ghost use mathlib.Core.Bool.{true, _&&_};
+ghost use mathlib.Core.Bool.{true};
 ghost use mathlib.Core.List.{List};
 ghost use lib.IntN.{ℤ};
-ghost use Prim.Native.Nat.{ℕ};
 ghost use lib.ListN.{length};
 ghost use Rattle.transport.specs.Laws.Sound.{Sound};
-ghost use Rattle.transport.specs.Tableau.{cellsOf, basisOf};
-ghost use Rattle.transport.specs.Belonging.{balanced, spans, belongs};
+ghost use Rattle.transport.specs.Tableau.{cellsOf};
+ghost use Rattle.transport.specs.Belonging.{balanced, belongs};
 ghost use Rattle.transport.specs.declared.Cell.{Cell};
 ghost use Rattle.transport.specs.Laws.ProblemLaws.{problem};
-ghost use Rattle.board.specs.Held.{Held};
-ghost use Rattle.belonging.specs.Spread.{Laid};
+ghost use Rattle.tree.specs.Layout.{nodeRoom};
+ghost use Rattle.board.specs.Arrays.{Loaded};
+ghost use Rattle.belonging.specs.Spread.{Balancing};
 
-// Whether the basic lanes join all nodes without a loop, and the amounts on them add up to the paired supplies and demands. There are m + n - 1 lanes, so they
-// do join if all are struck off; and then the amounts that add up are one flow of the bags and one of the marks.
-fn spans_and_balances(
+// Whether the amounts on the basic lanes, which the strikes strike off, add up to the paired supplies and demands: they are then one flow of the bags and one
+// of the marks.
+fn balances(
     supply: &[u64],
     demand: &[u64],
-    adj: &[u64; NODES],
     q: &[i64; LANES],
     e: &[i64; LANES],
+    leaf: &[usize; NODES],
+    other: &[usize; NODES],
+    lane: &[usize; NODES],
 ) -> bool
     requires { ⌜ ((cost : List ℤ) × Sound (problem (now supply) (now demand) cost)) ⌝ }
-    requires { ⌜ ((T : List Cell) × Laid (length (now supply)) (length (now demand)) T (now adj) (now q) (now e)) ⌝ }
+    requires { ⌜ ((T : List Cell) × Balancing (length (now supply)) (length (now demand)) T (now q) (now e) (now leaf) (now other) (now lane)) ⌝ }
     ensures { λ r. ⌜
         ((cost : List ℤ) (T : List Cell)
-        → Laid (length (now (supply .entry))) (length (now (demand .entry))) T (now (adj .entry)) (now (q .entry)) (now (e .entry))
-        → r ≡ spans (length (now (supply .entry))) (length (now (demand .entry))) (basisOf T)
-        && balanced (problem (now (supply .entry)) (now (demand .entry)) cost) T)
+        → Balancing (length (now (supply .entry))) (length (now (demand .entry))) T (now (q .entry)) (now (e .entry))
+        (now (leaf .entry)) (now (other .entry)) (now (lane .entry))
+        → r ≡ balanced (problem (now (supply .entry)) (now (demand .entry)) cost) T)
         ⌝ }
 {
     let m = supply.len();
     let n = demand.len();
-    let mut leaf = [0; NODES];
-    let mut other = [0; NODES];
-    let mut lane = [0; NODES];
-    let count = tree::strike::strike(adj, &mut leaf, &mut other, &mut lane, m, n);
-    if count != m + n - 1 {
-        return false;
-    }
     let mut bags = [0; NODES];
     let mut marks = [0; NODES];
     weights::weigh_bags(supply, demand, &mut bags);
     weights::weigh_marks(m, n, &mut marks);
-    if !flows::flows_match(&mut bags, q, &leaf, &other, &lane, count) {
+    let count = m + n - 1;
+    if !flows::flows_match(&mut bags, q, leaf, other, lane, count) {
         return false;
     }
-    flows::flows_match(&mut marks, e, &leaf, &other, &lane, count)
+    flows::flows_match(&mut marks, e, leaf, other, lane, count)
 }
 
-// Whether the tableau belongs to the sheet with these supplies and demands, whatever its costs. If it does, the arrays then hold it.
+// Whether the tableau belongs to the sheet with these supplies and demands, whatever its costs. If it does, its amounts then lie on their lanes, and the strikes
+// strike off its basis. There are m + n - 1 lanes, so they join all nodes without a loop if all are struck off.
 pub fn load(
     supply: &[u64],
     demand: &[u64],
     t: Tableau,
-    adj: &mut [u64; NODES],
     q: &mut [i64; LANES],
     e: &mut [i64; LANES],
+    leaf: &mut [usize; NODES],
+    other: &mut [usize; NODES],
+    lane: &mut [usize; NODES],
 ) -> bool
     requires { ⌜ ((cost : List ℤ) × Sound (problem (now supply) (now demand) cost)) ⌝ }
+    requires { ⌜ (length (now leaf) ≡ nodeRoom) × (length (now other) ≡ nodeRoom) × (length (now lane) ≡ nodeRoom) ⌝ }
     ensures { λ r. ⌜ ((cost : List ℤ) → r ≡ belongs (problem (now (supply .entry)) (now (demand .entry)) cost) t) ⌝ }
     ensures { λ r. ⌜
         (r ≡ true
-        → Held (length (now (supply .entry))) (length (now (demand .entry))) (cellsOf t) (now (adj .exit)) (now (q .exit)) (now (e .exit)))
+        → Loaded (length (now (supply .entry))) (length (now (demand .entry))) (cellsOf t)
+        (now (q .exit)) (now (e .exit)) (now (leaf .exit)) (now (other .exit)) (now (lane .exit)))
         ⌝ }
 {
     let m = supply.len();
@@ -83,6 +84,8 @@ pub fn load(
     if !fit::cells_fit(t, m, n) {
         return false;
     }
-    spread::spread(t, m, adj, q, e);
-    spans_and_balances(supply, demand, adj, q, e)
+    if spread::lay_out(t, m, n, q, e, leaf, other, lane) != m + n - 1 {
+        return false;
+    }
+    balances(supply, demand, q, e, leaf, other, lane)
 }

@@ -9,15 +9,13 @@ use lib.ListN.{length}
 use Rattle.transport.specs.Tableau.{cellsOf, basisSize}
 use Rattle.board.specs.Cells.{cellRoom, long, length-cells}
 use Rattle.board.specs.CellTests.{cellsFit}
-use Rattle.belonging.specs.Spread.{Sides, sound-sides, Laid, fit-inside, fit-distinct, other-count, other-cells, belongs-whole}
+use Rattle.board.specs.Arrays.{Sides}
+use Rattle.belonging.specs.Spread.{sound-sides, struck-apart, struck-spans, Balancing, fit-inside, fit-distinct, other-count, other-cells, belongs-whole}
 use Rattle.belonging.proofs.load.Statement.{statement}
 use Rattle.belonging.proofs.load.Tie as tie
 
 sides : (c : tie.Start) → Sides (length (c .args .supply .now)) (length (c .args .demand .now))
-sides c = sound-sides (c .pre .1)
-
-add-if1 : tie.Need-add-if1
-add-if1 c = search needs
+sides c = sound-sides (c .pre .0 .1)
 
 sub-if1 : tie.Need-sub-if1
 sub-if1 c = omega (arith, sides (c .before .before) .rowsLow)
@@ -51,50 +49,80 @@ fits : (c : tie.Else2) → let a = c .before .before .before .before .before .be
     cellsFit (length (a .supply .now)) (length (a .demand .now)) (cellsOf (a .t)) ≡ true
 fits c = sym (c .before .cells-fit .ensures) ∙ not-false (c .before .cells-fit .result) (c .if2 .left)
 
-spread-requires : tie.Need-spread-requires
-spread-requires c κs =
-    let s = sides (c .before .before .before .before .before .before .before .before .before) in (
-      few (c .before .before .before .before .before),
-      s .rowsHigh,
-      λ k l. let (i, j) = fit-inside _ _ _ (fits (c .before .before .before)) k l in
-          (i, omega (arith, s .colsHigh)),
-    )
+abbrev elseOf : tie.After-lay-out → tie.Else2
+elseOf c = c .before .before .before .before .before .before
 
-laid : (c : tie.After-spread)
-    → let a = c .before .before .before .before .before .before .before .before .before .before .args in
-    let x = c .spread .last in
-    Laid (length (a .supply .now)) (length (a .demand .now)) (cellsOf (a .t)) (x .1 .1 .0) (x .1 .1 .1 .0) (x .1 .1 .1 .1 .0)
-laid c = record {
-  held = c .spread .ensures _ (sides (c .before .before .before .before .before .before .before .before .before .before) .colsHigh);
-  inside = fit-inside _ _ _ (fits (c .before .before .before .before));
-  distinct = fit-distinct _ _ _ (fits (c .before .before .before .before));
-  count = length-cells (c .before .before .before .before .before .before .before .before .before .before .args .t)
-      (omega (arith, few (c .before .before .before .before .before .before), roomy (c .before .before .before .before .before .before .before)))
-      ∙ counted (c .before .before .before .before .before .before);
-}
+abbrev startOf : tie.After-lay-out → tie.Start
+startOf c = elseOf c .before .before .before .before .before .before
 
-spans-and-balances-requires : tie.Need-spans-and-balances-requires
-spans-and-balances-requires c κs =
-    (c .before .before .before .before .before .before .before .before .before .before .before .before .before .pre, (_, laid (c .before .before .before)))
+lay-out-requires : tie.Need-lay-out-requires
+lay-out-requires c κs =
+    let e = c .before .before .before .before .before in
+    let s = e .before .before .before .before .before .before in
+    ((few (e .before .before), sides s, fit-inside _ _ _ (fits e), fit-distinct _ _ _ (fits e)), s .pre .1)
+
+many : (c : tie.After-lay-out) → let a = startOf c .args in length (cellsOf (a .t)) ≡ basisSize (length (a .supply .now)) (length (a .demand .now))
+many c =
+    let e = c .before .before .before .before .before .before .before .before in
+    length-cells (startOf c .args .t) (omega (arith, few e, roomy (e .before))) ∙ counted e
+
+sub-if3 : tie.Need-sub-if3
+sub-if3 c = omega (arith, sides (startOf c) .rowsLow)
 
 returns-3 : tie.Need-returns-3
+unfolding basisSize
 returns-3 c =
-    let l = laid (c .before .before .before .before) in (
-      (λ cost. c .spans-and-balances .ensures cost _ l ∙ sym (belongs-whole _ _ cost _ (counted
-          (c .before .before .before .before .before .before .before .before .before .before))
-          (fits (c .before .before .before .before .before .before .before .before)))),
-      λ e. l .held,
+    let l = c .before in
+    let e = elseOf l in
+    let apart = struck-apart _ (sides (startOf l)) (fit-inside _ _ _ (fits e)) (fit-distinct _ _ _ (fits e)) (many l) _ _ _ _
+    (l .lay-out .ensures .2) (c .if3 .taken)
+    in (
+      (λ cost. sym (belongs-whole _ _ cost _ (counted (e .before .before)) (fits e) ∙ rw apart)),
+      λ f. absurd (false≢true f),
+    )
+
+-- All lanes are struck off, so the cells are a tree.
+balancing : (c : tie.Else3)
+    → let a = startOf (c .before) .args in
+    let x = c .before .lay-out .last .1 .1 .1 in
+    Balancing (length (a .supply .now)) (length (a .demand .now)) (cellsOf (a .t)) (x .0) (x .1 .0) (x .1 .1 .0) (x .1 .1 .1 .0) (x .1 .1 .1 .1 .0)
+unfolding basisSize
+balancing c =
+    let l = c .before in
+    let e = elseOf l in
+    record {
+      amounts = l .lay-out .ensures .0;
+      long = l .lay-out .ensures .1;
+      spanning = struck-spans _ (sides (startOf l)) (fit-inside _ _ _ (fits e)) (fit-distinct _ _ _ (fits e)) (many l) _ _ _ _
+          (l .lay-out .ensures .2) (c .if3 .left);
+    }
+
+balances-requires : tie.Need-balances-requires
+balances-requires c κs =
+    let e = c .before .before .before .before .before in
+    (startOf (e .before) .pre .0, (_, balancing e))
+
+returns-4 : tie.Need-returns-4
+returns-4 c =
+    let e = c .before .before .before .before .before .before in
+    let b = balancing e in
+    let f = elseOf (e .before) in (
+      (λ cost. c .balances .ensures cost _ b ∙ sym (belongs-whole _ _ cost _ (counted (f .before .before)) (fits f) ∙ rw (b .spanning .spans))),
+      λ s. record { amounts = b .amounts; long = b .long; struck = b .spanning .struck },
     )
 
 pub load-spec : {M : Type 1} → statement M
 load-spec =
     tie.close
     (tie.spec
-    add-if1
+    (λ c. search needs)
     sub-if1
     returns
     cells-fit-requires
     returns-2
-    spread-requires
-    spans-and-balances-requires
-    returns-3)
+    lay-out-requires
+    (λ c. search needs)
+    sub-if3
+    returns-3
+    balances-requires
+    returns-4)
