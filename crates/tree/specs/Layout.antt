@@ -1,5 +1,5 @@
 -- How a round's numbers lie in the flat arrays, and what the arrays stand for.
-use mathlib.Core.Path.{_≡_, refl, ap}
+use mathlib.Core.Path.{_≡_, refl}
 use mathlib.Core.Bool.{Bool, true, false, cond}
 use mathlib.Core.List.{List, [], _∷_}
 use Prim.Native.Nat.{ℕ, zero, suc, _+_, _*_, _/_, _%_, _<_, _≤_}
@@ -52,12 +52,9 @@ laneAt-place i j l =
     let q : (i * stride + j) % stride ≡ j = omega arith in
     λ t. lane (p t) (q t)
 
--- A cost for each lane.
+-- A cost for each lane. Costs lie by column: that of row i and column j at j * stride + i.
 abbrev pub costOf : List ℤ → Lane → ℤ
-costOf cost l = getD cost (placeOf l) (pos 0)
-
-pub costOf-at : (cost : List ℤ) (l : ℕ) → costOf cost (laneAt l) ≡ getD cost l (pos 0)
-costOf-at cost l = ap (λ (k : ℕ). getD cost k (pos 0)) (place-laneAt l)
+costOf cost l = getD cost (l .col * stride + l .row) (pos 0)
 
 -- ---- strikes: the leaf, the node at the other end, and the place of the lane, in three arrays
 

@@ -1,5 +1,5 @@
 -- The laws of potentials by strikes: the step back through one strike, and a bound on their size.
-use Prim.Native.Nat.{ℕ, suc, _+_, _*_, _-_, _<_, _≤_}
+use Prim.Native.Nat.{ℕ, suc, _+_, _*_, _-_, _/_, _%_, _<_, _≤_}
 use native.Mathlib.Omega.{arith}
 use native.Mathlib.Nat.{suc-mul, mul-le-mul-right}
 use mathlib.Core.Path.{_≡_, refl, ap, _∙_}
@@ -13,7 +13,7 @@ use Rattle.transport.specs.Problem.{Lane}
 use Rattle.transport.specs.Leaf.{Strike}
 use Rattle.transport.specs.Potential.{potentialBy}
 use Rattle.transport.specs.Laws.RangeLaws.{abs-diff}
-use Rattle.tree.specs.Layout.{nodeRoom, costOf, costOf-at, strikeOf, strikesOf, strikesFrom, strikesFrom-cons, length-strikes, getD-strikes, getD-set}
+use Rattle.tree.specs.Layout.{stride, nodeRoom, costOf, laneAt, strikeOf, strikesOf, strikesFrom, strikesFrom-cons, length-strikes, getD-strikes, getD-set}
 use Rattle.tree.specs.Layout.{Struck}
 
 module _ (cost : Lane → ℤ) where
@@ -53,19 +53,18 @@ Priced cost leaf other lane count price k =
 module _ (cost : List ℤ) (leaf other lane : List ℕ) (count : ℕ) (price : List ℤ) (k : ℕ) where
   -- The strike before, k, prices its leaf.
   pub priced-step : length price ≡ nodeRoom → Struck leaf other lane count → k < count → Priced cost leaf other lane count price (suc k)
-      → Priced cost leaf other lane count (set price (getD leaf k 0) (getD cost (getD lane k 0) (pos 0) -ℤ getD price (getD other k 0) (pos 0))) k
+      → Priced cost leaf other lane count (set price (getD leaf k 0) (costOf cost (laneAt (getD lane k 0)) -ℤ getD price (getD other k 0) (pos 0))) k
   unfolding Priced
   priced-step l w p h j q =
       getD-set price (getD leaf k 0) j _ (pos 0) (omega (arith, w .leafIn k p))
       ∙ rw (
         strikesFrom-cons leaf other lane count k p,
         potentialBy-cons (costOf cost) (strikeOf leaf other lane k) (strikesFrom leaf other lane count (suc k)) j,
-        costOf-at cost (getD lane k 0),
         h j q,
         h (getD other k 0) (w .otherIn k p),
       )
 
-  module _ (most : ℕ) (small : (i : ℕ) → i < count → natAbs (getD cost (getD lane i 0) (pos 0)) ≤ most) where
+  module _ (most : ℕ) (small : (l : ℕ) → natAbs (getD cost l (pos 0)) ≤ most) where
     -- No potential passes the greatest cost times the strikes that are left ..
     pub priced-abs : (j : ℕ) → natAbs (potentialBy (costOf cost) (strikesFrom leaf other lane count k) j) ≤ (count - k) * most
     priced-abs j =
@@ -78,19 +77,18 @@ module _ (cost : List ℤ) (leaf other lane : List ℕ) (count : ℕ) (price : L
             rw (
               getD-drop k (strikesOf leaf other lane count) i (strikeOf leaf other lane 0),
               getD-strikes leaf other lane count (k + i) (strikeOf leaf other lane 0) (omega arith),
-              costOf-at cost (getD lane (k + i) 0),
             )
-            (small (k + i) (omega arith))
+            (small _)
 
 -- .. so what strike k subtracts from, and what it subtracts, are small.
 pub priced-room : (cost : List ℤ) (leaf other lane : List ℕ) (count : ℕ) (price : List ℤ) (k most : ℕ) → Struck leaf other lane count
-    → ((i : ℕ) → i < count → natAbs (getD cost (getD lane i 0) (pos 0)) ≤ most) → k < count → Priced cost leaf other lane count price (suc k)
-    → natAbs (getD cost (getD lane k 0) (pos 0)) + natAbs (getD price (getD other k 0) (pos 0)) ≤ nodeRoom * most
+    → ((l : ℕ) → natAbs (getD cost l (pos 0)) ≤ most) → k < count → Priced cost leaf other lane count price (suc k)
+    → natAbs (costOf cost (laneAt (getD lane k 0))) + natAbs (getD price (getD other k 0) (pos 0)) ≤ nodeRoom * most
 unfolding Priced
 priced-room cost leaf other lane count price k most w small p h =
     omega (
       arith,
-      small k p,
+      small (getD lane k 0 % stride * stride + getD lane k 0 / stride),
       ap natAbs (h (getD other k 0) (w .otherIn k p)),
       priced-abs cost leaf other lane count price (suc k) most small (getD other k 0),
       mul-le-mul-right {m = suc (count - suc k)} {n = nodeRoom} most (omega (arith, w .few)),

@@ -3,6 +3,7 @@ use crate::LANES;
 use crate::NODES;
 use crate::Price;
 use crate::mask;
+use transport::MAX_SIDE;
 ghost use mathlib.Core.Path.{_≡_};
 ghost use mathlib.Core.Bool.{true, cond};
 ghost use Prim.Native.Nat.{ℕ, _+_, _<_, _≤_, _^_};
@@ -25,7 +26,7 @@ pub fn potentials(
     price: &mut [Price; NODES],
 )
     requires { ⌜ Struck (now leaf) (now other) (now lane) count ⌝ }
-    requires { ⌜ ((k : ℕ) → k < count → natAbs (getD (now cost) (getD (now lane) k 0) (pos 0)) ≤ costAbove) ⌝ }
+    requires { ⌜ ((l : ℕ) → natAbs (getD (now cost) l (pos 0)) ≤ costAbove) ⌝ }
     ensures { λ _. ⌜
         (length (now (price .exit)) ≡ nodeRoom)
         × ((k : ℕ) → k < nodeRoom
@@ -40,7 +41,7 @@ pub fn potentials(
         let p = leaf[k];
         let o = other[k];
         let l = lane[k];
-        price[p] = cost[l] - price[o];
+        price[p] = cost[l % MAX_SIDE * MAX_SIDE + l / MAX_SIDE] - price[o];
     }
 }
 

@@ -2,13 +2,13 @@
 use Prim.Native.Nat.{suc, _+_, _-_, _≤_, _<_, _^_}
 use mathlib.Core.Path.{_≡_, refl, _∙_}
 use native.Mathlib.Omega.{arith}
-use borrow.Author.Needs.{needs}
 use lib.ListN.{length, getD, getD-replicate, length-set}
 use lib.IntN.{pos, natAbs}
 use mir.Syntax.{w32}
+use borrow.Author.Needs.{needs}
 use Rattle.transport.specs.Limits.{maxCost, costAbove}
 use Rattle.transport.specs.Laws.RangeLaws.{diff-in, diff-back}
-use Rattle.tree.specs.Layout.{nodeRoom, strikesFrom-nil}
+use Rattle.tree.specs.Layout.{nodeRoom, laneRoom, laneAt, costOf, strikesFrom-nil}
 use Rattle.tree.specs.PotentialLaws.{Priced, potentialBy-nil, priced-step, priced-room}
 use Rattle.tree.proofs.potential.potentials.Statement.{statement}
 use Rattle.tree.proofs.potential.potentials.Tie as tie
@@ -29,71 +29,48 @@ loop-holds c =
           ∙ rw (strikesFrom-nil (a .leaf .now) (a .other .now) (a .lane .now) (a .count), potentialBy-nil),
     )
 
-sub-k : tie.Need-sub-k Inv-loop μ-loop
-sub-k c = omega arith
-
-mul-p : tie.Need-mul-p Inv-loop μ-loop
-mul-p c = omega arith
-
-element-copy-out-p : tie.Need-element-copy-out-p Inv-loop μ-loop
-element-copy-out-p c = omega arith
-
-mul-o : tie.Need-mul-o Inv-loop μ-loop
-mul-o c = omega arith
-
-element-copy-out-o : tie.Need-element-copy-out-o Inv-loop μ-loop
-element-copy-out-o c = omega arith
-
-mul-l : tie.Need-mul-l Inv-loop μ-loop
-mul-l c = omega arith
-
-element-copy-out-l : tie.Need-element-copy-out-l Inv-loop μ-loop
-element-copy-out-l c = omega arith
-
 -- The lane, the other end and the leaf of the strike are within the arrays.
-element-copy-out-price : tie.Need-element-copy-out-price Inv-loop μ-loop
-element-copy-out-price c = c .before .before .before .before .before .before .pre .0 .laneIn (c .before .before .before .before .loop .k - 1) (omega arith)
+lane-in : (c : tie.After-l Inv-loop μ-loop) → getD (c .before .before .before .before .before .before .args .lane .now) (c .before .before .before .before .loop .k - 1) 0 < laneRoom
+lane-in c = c .before .before .before .before .before .before .pre .0 .laneIn (c .before .before .before .before .loop .k - 1) (omega arith)
 
 mul-price : tie.Need-mul-price Inv-loop μ-loop
-mul-price c = omega (arith, element-copy-out-price c)
+mul-price c = omega (arith, lane-in c)
 
-element-copy-out-price-2 : tie.Need-element-copy-out-price-2 Inv-loop μ-loop
-element-copy-out-price-2 c = c .before .before .before .before .before .before .before .pre .0 .otherIn
-    (c .before .before .before .before .before .loop .k - 1) (omega arith)
+add-price : tie.Need-add-price Inv-loop μ-loop
+add-price c = omega (arith, lane-in c)
 
 mul-price-2 : tie.Need-mul-price-2 Inv-loop μ-loop
-mul-price-2 c = omega (arith, element-copy-out-price-2 c)
+mul-price-2 c = omega (arith, lane-in c)
 
-element-set-from-price : tie.Need-element-set-from-price Inv-loop μ-loop
-element-set-from-price c =
-    c .before .before .before .before .before .before .before .before .pre .0 .leafIn (c .before .before .before .before .before .before .loop .k - 1)
-    (omega arith)
+element-copy-out-price : tie.Need-element-copy-out-price Inv-loop μ-loop
+element-copy-out-price c = omega (arith, lane-in c)
 
-mul-t27 : tie.Need-mul-t27 Inv-loop μ-loop
-mul-t27 c = omega (arith, element-set-from-price c)
+mul-price-3 : tie.Need-mul-price-3 Inv-loop μ-loop
+mul-price-3 c = let l = c .before .before .before .before .before .before .before .pre .0 .otherIn (c .before .before .before .before .before .loop .k - 1) (omega arith) in omega arith
+
+element-copy-out-price-2 : tie.Need-element-copy-out-price-2 Inv-loop μ-loop
+element-copy-out-price-2 c = c .before .before .before .before .before .before .before .pre .0 .otherIn (c .before .before .before .before .before .loop .k - 1) (omega arith)
 
 -- The difference is in range.
 room : (c : tie.After-price3 Inv-loop μ-loop)
     → let a = c .before .before .before .before .before .before .before .before .args in
     let i = c .before .before .before .before .before .before .loop in
-    natAbs (getD (a .cost .now) (getD (a .lane .now) (i .k - 1) 0) (pos 0)) + natAbs (getD (i .price) (getD (a .other .now) (i .k - 1) 0) (pos 0)) < 2 ^ 31
+    natAbs (costOf (a .cost .now) (laneAt (getD (a .lane .now) (i .k - 1) 0))) + natAbs (getD (i .price) (getD (a .other .now) (i .k - 1) 0) (pos 0)) < 2 ^ 31
 unfolding costAbove maxCost
 room c =
     let s = c .before .before .before .before .before .before .before .before in
-    let a = s .args in
     let i = c .before .before .before .before .before .before .loop in
     let e : i .k ≡ suc (i .k - 1) = omega arith in
-    omega (
-      arith,
-      priced-room (a .cost .now) (a .leaf .now) (a .other .now) (a .lane .now) (a .count) (i .price) (i .k - 1) costAbove (s .pre .0) (s .pre .1)
-          (omega arith) (rw e at (i .inv .2)),
-    )
+    omega (arith, priced-room _ _ _ _ _ (i .price) (i .k - 1) costAbove (s .pre .0) (s .pre .1) (omega arith) (rw e at (i .inv .2)))
 
 sub-price : tie.Need-sub-price Inv-loop μ-loop
 sub-price c = search (needs, diff-in, room c)
 
-loop-less : tie.Need-loop-less Inv-loop μ-loop
-loop-less c = omega arith
+mul-t31 : tie.Need-mul-t31 Inv-loop μ-loop
+mul-t31 c = let l = c .before .before .before .before .before .before .before .before .pre .0 .leafIn (c .before .before .before .before .before .before .loop .k - 1) (omega arith) in omega arith
+
+element-set-from-price : tie.Need-element-set-from-price Inv-loop μ-loop
+element-set-from-price c = c .before .before .before .before .before .before .before .before .pre .0 .leafIn (c .before .before .before .before .before .before .loop .k - 1) (omega arith)
 
 loop-again : tie.Need-loop-again Inv-loop μ-loop
 loop-again c =
@@ -101,7 +78,7 @@ loop-again c =
     let a = s .args in
     let i = c .before .before .before .before .before .before .loop in
     let e : i .k ≡ suc (i .k - 1) = omega arith in
-    let v = diff-back w32 (getD (a .cost .now) (getD (a .lane .now) (i .k - 1) 0) (pos 0)) (getD (i .price) (getD (a .other .now) (i .k - 1) 0) (pos 0))
+    let v = diff-back w32 (costOf (a .cost .now) (laneAt (getD (a .lane .now) (i .k - 1) 0))) (getD (i .price) (getD (a .other .now) (i .k - 1) 0) (pos 0))
     (room c) in (
       omega arith,
       simp length-set (i .inv .1),
@@ -120,20 +97,22 @@ potentials-spec =
     Inv-loop
     μ-loop
     loop-holds
-    sub-k
-    mul-p
-    element-copy-out-p
-    mul-o
-    element-copy-out-o
-    mul-l
-    element-copy-out-l
+    (λ c. omega arith)
+    (λ c. omega arith)
+    (λ c. omega arith)
+    (λ c. omega arith)
+    (λ c. omega arith)
+    (λ c. omega arith)
+    (λ c. omega arith)
     mul-price
-    element-copy-out-price
+    add-price
     mul-price-2
+    element-copy-out-price
+    mul-price-3
     element-copy-out-price-2
     sub-price
-    mul-t27
+    mul-t31
     element-set-from-price
-    loop-less
+    (λ c. omega arith)
     loop-again
     returns)
