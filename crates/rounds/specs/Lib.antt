@@ -1,3 +1,5 @@
-pub mod Boards
+pub mod Lowest
+pub mod Slacks
+pub mod Scan
 pub mod Costs
-pub mod Pricing
+pub mod Kept

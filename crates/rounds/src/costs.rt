@@ -1,8 +1,7 @@
-// The costs of a sheet, spread by lane: that of row i and column j lies at i * MAX_SIDE + j.
+// The costs of a sheet, spread by column: that of row i and column j lies at j * MAX_SIDE + i.
 use transport::MAX_SIDE;
 use tree::LANES;
 use tree::Price;
-use tree::scan::PAD;
 ghost use mathlib.Core.Path.{_≡_};
 ghost use Prim.Native.Nat.{ℕ, _*_, _≤_};
 ghost use lib.ListN.{length};
@@ -11,17 +10,17 @@ ghost use Rattle.transport.specs.Limits.{maxCost};
 ghost use Rattle.tree.specs.Layout.{stride};
 ghost use Rattle.rounds.specs.Costs.{Spread};
 
-// Columns past the sheet, and rows past it, cost PAD.
+// Where there is no lane, the cost is 0: no scan looks at it.
 pub fn spread_costs(cost: &[u64], m: usize, n: usize, out: &mut [Price; LANES])
     requires { ⌜ (m ≤ stride) × (n ≤ stride) × (length (now cost) ≡ m * n) × ((k : ℕ) → at (now cost) k ≤ maxCost) ⌝ }
     ensures { λ _. ⌜ Spread (now (cost .entry)) m n (now (out .exit)) ⌝ }
 {
-    *out = [PAD; LANES];
+    *out = [0; LANES];
     let mut i = 0;
     while i < m {
         let mut j = 0;
         while j < n {
-            out[i * MAX_SIDE + j] = cost[i * n + j] as Price;
+            out[j * MAX_SIDE + i] = cost[i * n + j] as Price;
             j += 1;
         }
         i += 1;

@@ -1,4 +1,3 @@
-// Rounds on flat arrays: the costs spread by lane, the prices of a basis with the lane that enters, and runs of rounds.
+// Rounds on flat arrays: the costs spread by lane, and the scan for the lane that enters.
 pub mod costs;
-pub mod pricing;
-pub mod run;
+pub mod scan;

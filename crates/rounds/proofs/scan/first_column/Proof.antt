@@ -1,0 +1,91 @@
+-- `rounds::scan::first_column` meets its contract. The loop's invariant: every column before `col` has a greater slack; the measure is what is left of them.
+use Prim.Native.Nat.{_+_, _-_, _*_, _≤_, _<_, _^_}
+use mathlib.Core.Path.{_≡_}
+use native.Mathlib.Omega.{arith}
+use borrow.Author.Needs.{needs}
+use lib.ListN.{getD}
+use lib.IntN.{pos, natAbs, _-ℤ_}
+use mir.Syntax.{w32}
+use mir.Val.{toZ, ofZ}
+use Rattle.transport.specs.Limits.{maxCost, costAbove}
+use Rattle.transport.specs.Laws.RangeLaws.{diff-in, diff-back}
+use Rattle.tree.specs.Layout.{stride}
+use Rattle.rounds.specs.Lowest.{Above, above-start, above-step, above-stop, above-end}
+use Rattle.rounds.specs.Slacks.{slackAt, slack-room}
+use Rattle.rounds.proofs.scan.first_column.Statement.{statement}
+use Rattle.rounds.proofs.scan.first_column.Tie as tie
+
+abbrev Inv-loop : tie.InvT-loop
+Inv-loop cost price m n row slack col₀ col = (col ≤ n) × Above (slackAt cost price m row) (toZ w32 slack) col
+
+abbrev μ-loop : tie.MeasureT-loop
+μ-loop cost price m n row slack col₀ col = n - col
+
+loop-holds : tie.Need-loop-holds Inv-loop μ-loop
+loop-holds c =
+    let a = c .args in
+    (omega arith, above-start (slackAt (a .cost .now) (a .price .now) (a .m) (a .row)) (toZ w32 (ofZ w32 (a .slack))))
+
+-- The turn of the loop in which a column is looked at.
+abbrev turn : tie.After-if13 Inv-loop μ-loop → tie.At-loop Inv-loop μ-loop
+turn c = c .before .before .before
+
+room : (c : tie.After-if13 Inv-loop μ-loop)
+    → let a = turn c .before .args in
+    let j = turn c .loop .col in
+    natAbs (getD (a .cost .now) (j * stride + a .row) (pos 0)) + natAbs (getD (a .price .now) (a .m + j) (pos 0)) < 2 ^ 31
+unfolding costAbove maxCost
+room c =
+    let s = turn c .before in
+    omega (arith, slack-room (s .pre .0) (s .args .row) (turn c .loop .col) (omega arith))
+
+sub-if1 : tie.Need-sub-if1 Inv-loop μ-loop
+sub-if1 c = search (needs, diff-in, room c)
+
+-- The slack in the column, as the code has it.
+slack-is : (c : tie.After-if13 Inv-loop μ-loop)
+    → let a = turn c .before .args in
+    let j = turn c .loop .col in
+    let x = getD (a .cost .now) (j * stride + a .row) (pos 0) in
+    let y = getD (a .price .now) (a .m + j) (pos 0) in
+    toZ w32 (ofZ w32 (toZ w32 (ofZ w32 x) -ℤ toZ w32 (ofZ w32 y))) ≡ slackAt (a .cost .now) (a .price .now) (a .m) (a .row) j
+slack-is c =
+    let a = turn c .before .args in
+    let j = turn c .loop .col in
+    diff-back w32 (getD (a .cost .now) (j * stride + a .row) (pos 0)) (getD (a .price .now) (a .m + j) (pos 0)) (room c)
+
+loop-again : tie.Need-loop-again Inv-loop μ-loop
+loop-again c = (omega arith, above-step (turn (c .before) .loop .inv .1) (rw (slack-is (c .before)) at (c .if1 .taken)))
+
+returns : tie.Need-returns Inv-loop μ-loop
+returns c =
+    let a = turn (c .before) .before .args in
+    let back-z : toZ w32 (ofZ w32 (a .slack)) ≡ a .slack = search needs in
+    rw back-z at (above-stop (a .n) (turn (c .before) .loop .inv .1) (omega arith) (rw (slack-is (c .before)) at (c .if1 .left)))
+
+returns-2 : tie.Need-returns-2 Inv-loop μ-loop
+returns-2 c =
+    let a = c .before .before .args in
+    let back-z : toZ w32 (ofZ w32 (a .slack)) ≡ a .slack = search needs in
+    rw back-z at (above-end (a .n) (c .before .loop .inv .1) (omega arith))
+
+pub first-column-spec : {M : Type 1} → statement M
+first-column-spec =
+    tie.close
+    (tie.spec
+    Inv-loop
+    μ-loop
+    loop-holds
+    (λ c. search needs)
+    (λ c. search needs)
+    (λ c. search needs)
+    (λ c. search needs)
+    (λ c. search needs)
+    (λ c. search needs)
+    (λ c. search needs)
+    sub-if1
+    (λ c. search needs)
+    (λ c. search needs)
+    loop-again
+    returns
+    returns-2)

@@ -1,0 +1,278 @@
+-- What a run keeps from round to round: the board of a tableau with its prices and the least slacks of its rows. What the scan finds on it, and one round.
+use Prim.Native.Nat.{ℕ, _+_, _-_, _*_, _^_, _<_, _≤_}
+use native.Mathlib.Omega.{arith}
+use native.Mathlib.Decide.{decLt}
+use mathlib.Core.Path.{_≡_, refl, sym, ap, _∙_}
+use mathlib.Core.Logic.{by-cases}
+use mathlib.Core.Bool.{Bool, true, false, not, cond, true≢false}
+use mathlib.Core.List.{List, List·Memᴰ}
+use lib.IntN.{ℤ, pos, negsuc, natAbs, negℤ, _+ℤ_, _-ℤ_}
+use lib.Signed.{ltZ, leZ, nonNeg, mag}
+use lib.Dec.{ltb}
+use lib.ListN.{length, getD}
+use mir.Syntax.{w32}
+use mir.Val as bits
+use borrow.Author.Tests.{lt-ltb, le-ltb, le-leb}
+use Rattle.integers.specs.Integer.{_≈_, _⊕_, _⊖_, neg, nat}
+use Rattle.integers.specs.Bridge.{toZ, z-add, z-neg, z-eq}
+use Rattle.integers.specs.Tests.{lt-yes}
+use Rattle.transport.specs.Limits.{maxSide, maxCost, maxCells, costAbove}
+use Rattle.transport.specs.Laws.ListLaws.{by-key, firstLeast-unique}
+use Rattle.transport.specs.Laws.AmountLaws.{ltZ-weak}
+use Rattle.transport.specs.Laws.RangeLaws.{abs-diff, back}
+use Rattle.transport.specs.Problem.{Problem, sources, sinks, Lane, lanes, place, laneCost}
+use Rattle.transport.specs.Laws.ProblemLaws.{lane, Placed, place-of, place-below, length-lanes, getD-lanes, all-lanes, all-lanes-at}
+use Rattle.transport.specs.Laws.Sound.{Sound}
+use Rattle.transport.specs.Tableau.{laneOf, noCell, basisOf}
+use Rattle.transport.specs.Leaf.{Strike, strikes}
+use Rattle.transport.specs.Belonging.{spans, cellsBelong}
+use Rattle.transport.specs.Potential.{potential, reducedCost, isFinished, potentialBy}
+use Rattle.transport.specs.Round.{entering, pivot, next}
+use Rattle.transport.specs.Statements.{Belongs}
+use Rattle.transport.specs.declared.Cell.{Cell}
+use Rattle.tableaux.specs.Lanes.{Fits}
+use Rattle.tableaux.specs.Striking.{Struck, step-of, leaf-below}
+use Rattle.tableaux.specs.Potentials.{price-size, price-limit, potential-off, potential-root, potential-tight, potential-only, potential-any}
+use Rattle.tableaux.specs.Belonging.{belongs-iff, fits-of, spans-of}
+use Rattle.tableaux.specs.Entering.{entering-inside, entering-new}
+use Rattle.tree.specs.Layout.{stride, stride-is, nodeRoom, maxPotential, costOf, strikesOf}
+use Rattle.tree.specs.Layout as layout
+use Rattle.tree.specs.Mask.{has}
+use Rattle.tree.specs.Strikes.{strikes-room}
+use Rattle.tree.specs.Planting.{Tree}
+use Rattle.tree.specs.Repriced.{Repriced}
+use Rattle.board.specs.Lanes.{place-order}
+use Rattle.board.specs.Arrays.{Loaded, Board}
+use Rattle.board.specs.Drawing.{board-belongs}
+use Rattle.board.specs.Pivoting.{Enters, Shifts, Pivoted}
+use Rattle.rounds.specs.Costs.{Costed}
+use Rattle.rounds.specs.Slacks.{InRange, Slacks, Stale}
+use Rattle.rounds.specs.Scan.{reducedAt, Found, Scanned}
+
+-- The prices of T, 0 past the nodes.
+pub record Prices (P : Problem) (T : List Cell) (price : List ℤ) (m n : ℕ) : Type 0 where
+  pub long : length price ≡ nodeRoom
+  pub are : (k : ℕ) → k < m + n → getD price k (pos 0) ≡ potential P T k
+  pub none : (k : ℕ) → m + n ≤ k → k < nodeRoom → getD price k (pos 0) ≡ pos 0
+
+-- The arrays hold the tableau T of the problem P, whose costs lie by column: its board, its prices and the least slacks of its rows.
+pub record Kept (P : Problem) (T : List Cell) (q e cost price slack : List ℤ) (sub path tree : List ℕ) (m n : ℕ) : Type 0 where
+  pub board : Board P T q e sub path tree m n
+  pub costs : Costed P cost
+  pub prices : Prices P T price m n
+  pub slacks : Slacks cost price m n slack
+
+-- The round on T: it is finished, and the arrays hold it still; or it is not, and they hold the next tableau.
+pub record Advanced (P : Problem) (T : List Cell) (q e cost price slack : List ℤ) (sub path tree : List ℕ) (m n : ℕ) (finished : Bool) : Type 0 where
+  pub done : isFinished P T ≡ finished
+  pub kept : Kept P (cond finished T (next P T)) q e cost price slack sub path tree m n
+
+-- ---- signs of numbers
+
+not-negative : (z : ℤ) → ltZ z (pos 0) ≡ false → nonNeg z ≡ true
+not-negative (pos k) e = refl
+not-negative (negsuc k) e = absurd (true≢false e)
+
+negative : (z : ℤ) → ltZ z (pos 0) ≡ true → nonNeg z ≡ false
+negative (pos k) e = absurd (omega (arith, lt-yes (pos k) (pos 0) e))
+negative (negsuc k) e = refl
+
+-- What a test of the sign says of a number that is read from a struct.
+pub sign-is : (z : ℤ) → mag z < 2 ^ 31 → leZ (pos 0) (bits.toZ w32 (bits.ofZ w32 z)) ≡ not (ltZ z (pos 0))
+sign-is z p = rw (back w32 z p) (go z)
+  where
+    go : (z : ℤ) → leZ (pos 0) z ≡ not (ltZ z (pos 0))
+    go (pos k) = rw (le-leb 0 k (omega arith), le-ltb k 0 (omega arith))
+    go (negsuc k) = refl
+
+-- ---- ranges
+
+module _ {P : Problem} {T : List Cell} {q e cost price : List ℤ} {sub path tree : List ℕ} {m n : ℕ} (b : Board P T q e sub path tree m n)
+    (costs : Costed P cost) (prices : Prices P T price m n) where
+  pub board-sides : (1 ≤ m) × (m ≤ stride) × (1 ≤ n) × (n ≤ stride)
+  board-sides = (
+    omega (arith, b .rows, b .sound .sourcesLow),
+    omega (arith, b .rows, stride-is, b .sound .sourcesHigh),
+    omega (arith, b .columns, b .sound .sinksLow),
+    omega (arith, b .columns, stride-is, b .sound .sinksHigh),
+  )
+
+  price-small : (k : ℕ) → k < nodeRoom → natAbs (getD price k (pos 0)) ≤ maxPotential
+  unfolding costAbove maxCost
+  price-small k r = by-cases (decLt k (m + n))
+      (λ l. rw (prices .are k l) (omega (arith, price-limit, price-size P (b .sound) T (fits-of (b .sound) (board-belongs b))
+      (spans-of (b .sound) (board-belongs b)) k)))
+      (λ l. rw (prices .none k (omega arith) r) (omega arith))
+
+  pub in-range : InRange cost price m n
+  in-range = record { rows = board-sides .1; columns = board-sides .3; costs = costs .small; prices = price-small }
+
+module _ {P : Problem} {T : List Cell} {bags marks cost price slack : List ℤ} {sub path tree : List ℕ} {m n : ℕ}
+    (h : Kept P T bags marks cost price slack sub path tree m n) where
+  b : Board P T bags marks sub path tree m n
+  b = h .board
+
+  pub kept-range : InRange cost price m n
+  kept-range = in-range b (h .costs) (h .prices)
+
+  pub kept-sides : (1 ≤ m) × (m ≤ stride) × (1 ≤ n) × (n ≤ stride)
+  kept-sides = board-sides b (h .costs) (h .prices)
+
+  pub kept-prices : (k : ℕ) → k < nodeRoom → natAbs (getD price k (pos 0)) ≤ 2 ^ 29
+  unfolding costAbove maxCost
+  kept-prices k l = omega (arith, kept-range .prices k l)
+
+  reduced-are : (i j : ℕ) → i < m → j < n → reducedAt cost price m i j ≡ reducedCost P T (lane i j)
+  unfolding reducedCost
+  reduced-are i j x y =
+      rw (
+        h .costs .lanes i j (omega (arith, b .rows)) (omega (arith, b .columns)),
+        h .prices .are i (omega arith),
+        h .prices .are (m + j) (omega arith),
+        b .rows,
+      )
+
+  -- ---- what the scan finds
+
+  module _ {row col : ℕ} {reduced : ℤ} (w : Scanned cost price m n row col reduced) where
+    -- What holds of the lane at each place.
+    at-place : (k : ℕ) → k < length (lanes (sources P) (sinks P)) → (Q : Lane → Type 0)
+        → ((i j : ℕ) → i < m → j < n → place (sinks P) i j ≡ k → Q (lane i j)) → Q (getD (lanes (sources P) (sinks P)) k (laneOf noCell))
+    at-place k l Q f =
+        let t : Placed (sources P) (sinks P) k = place-of (sources P) (sinks P) k (omega (arith, length-lanes (sources P) (sinks P))) in
+        rw (← t .placed, getD-lanes (sources P) (sinks P) (t .row) (t .col) (laneOf noCell) (t .rowBelow) (t .colBelow))
+        (f (t .row) (t .col) (omega (arith, b .rows, t .rowBelow)) (omega (arith, b .columns, t .colBelow)) (t .placed))
+
+    module _ (t : ltZ reduced (pos 0) ≡ true) where
+      abbrev found : Found cost price m n row col reduced
+      found = w .found t
+
+      on-sheet : (row < sources P) × (col < sinks P)
+      on-sheet = (omega (arith, b .rows, found .rowIn), omega (arith, b .columns, found .colIn))
+
+      is-reduced : reducedCost P T (lane row col) ≡ reduced
+      is-reduced = sym (reduced-are row col (found .rowIn) (found .colIn)) ∙ found .is
+
+      -- The lane that the scan finds is the specification's entering lane: the first in sheet order of those with the least reduced cost.
+      scanned-enters : entering P T ≡ lane row col
+      unfolding entering
+      scanned-enters =
+          let M = sources P in
+          let N = sinks P in
+          let below = place-below M N row col (on-sheet .0) (on-sheet .1) in
+          firstLeast-unique (λ k l. ltZ (reducedCost P T k) (reducedCost P T l)) (by-key (reducedCost P T) ltZ-weak) (laneOf noCell) (lanes M N) (lane row col)
+          (place N row col)
+          (record {
+            inside = omega (arith, below, length-lanes M N);
+            stands = getD-lanes M N row col (laneOf noCell) (on-sheet .0) (on-sheet .1);
+            least = λ k l. at-place k l (λ t. ltZ (reducedCost P T t) (reducedCost P T (lane row col)) ≡ false)
+                (λ i j x y r. rw (is-reduced, ← reduced-are i j x y) (found .least i j x y));
+            first = λ k l. at-place k (omega (arith, below, length-lanes M N)) (λ t. ltZ (reducedCost P T (lane row col)) (reducedCost P T t) ≡ true)
+                (λ i j x y r. rw (is-reduced, ← reduced-are i j x y)
+                (found .first i j x y (place-order N i j row col (omega (arith, b .columns)) (on-sheet .1) (omega (arith, b .columns, kept-sides))
+                (omega arith))));
+          })
+
+    pub scanned-done : isFinished P T ≡ not (ltZ reduced (pos 0))
+    unfolding isFinished
+    scanned-done = go (ltZ reduced (pos 0)) refl
+      where
+        go : (v : Bool) → ltZ reduced (pos 0) ≡ v → isFinished P T ≡ not v
+        go false s = all-lanes (λ l. nonNeg (reducedCost P T l)) (sources P) (sinks P)
+            (λ i j x y. not-negative (reducedCost P T (lane i j)) (rw (← reduced-are i j (omega (arith, b .rows)) (omega (arith, b .columns)))
+            (w .finished s i j (omega (arith, b .rows)) (omega (arith, b .columns)))))
+        go true s = unless (isFinished P T) refl
+          where
+            unless : (v : Bool) → isFinished P T ≡ v → isFinished P T ≡ false
+            unless false r = r
+            unless true r =
+                let one = all-lanes-at (λ l. nonNeg (reducedCost P T l)) (sources P) (sinks P) row col r (on-sheet s .0) (on-sheet s .1) in
+                absurd (true≢false (sym one ∙ negative (reducedCost P T (lane row col)) (rw (is-reduced s) s)))
+
+    -- ---- one round
+
+    pub advanced-stays : ltZ reduced (pos 0) ≡ false → Advanced P T bags marks cost price slack sub path tree m n true
+    advanced-stays t = record { done = scanned-done ∙ ap not t; kept = h }
+
+    module _ (t : ltZ reduced (pos 0) ≡ true) where
+      unfinished : isFinished P T ≡ false
+      unfinished = scanned-done ∙ ap not t
+
+      pub lane-enters : Enters P T row col
+      lane-enters =
+          let inside = rw (scanned-enters t) at (entering-inside (b .sound) T) in
+          record {
+            inRow = inside .0;
+            inCol = inside .1;
+            new = rw (scanned-enters t) at (entering-new (b .sound) T unfinished (board-belongs b));
+          }
+
+      pub reduced-small : natAbs reduced ≤ 2 ^ 29
+      unfolding costAbove maxCost
+      reduced-small =
+          let c = getD cost (col * stride + row) (pos 0) in
+          let u = getD price row (pos 0) in
+          let v = getD price (m + col) (pos 0) in
+          rw (← found t .is) (omega (
+            arith,
+            abs-diff (c -ℤ u) v,
+            abs-diff c u,
+            kept-range .costs (col * stride + row),
+            kept-range .prices row (omega (arith, found t .rowIn, kept-sides)),
+            kept-range .prices (m + col) (omega (arith, found t .colIn, kept-sides)),
+          ))
+
+      module _ {bags′ marks′ price′ : List ℤ} {sub′ path′ tree′ : List ℕ} {far : ℕ} (v : Pivoted P T m n row col bags′ marks′ sub′ path′ tree′ far)
+          (r : Repriced m far (cond (has far row) reduced (negℤ reduced)) price price′) where
+        abbrev x : ℤ
+        x = cond (has far row) reduced (negℤ reduced)
+
+        -- The prices move as the theory of cuts asks.
+        shifts : Shifts P T m row col far (λ k. getD price′ k (pos 0))
+        shifts = record {
+          x = toZ x;
+          by = toward (has far row);
+          rows = λ i l. up i l (has far i) (r .each i);
+          cols = λ j l. down j l (has far (m + j)) (r .each (m + j));
+        }
+          where
+            toward : (v : Bool) → toZ (cond v reduced (negℤ reduced)) ≈ (let r = toZ (reducedCost P T (lane row col)) in cond v r (neg r))
+            toward true = rw (is-reduced t) (omega arith)
+            toward false = rw (is-reduced t) (z-neg reduced)
+
+            up : (i : ℕ) → i < m → (v : Bool) → getD price′ i (pos 0) ≡ cond v (getD price i (pos 0) +ℤ cond (ltb i m) x (negℤ x)) (getD price i (pos 0))
+                → toZ (getD price′ i (pos 0)) ≈ toZ (potential P T i) ⊕ cond v (toZ x) (nat 0)
+            up i l true s = rw (← h .prices .are i (omega arith), s, lt-ltb i m l) (z-add (getD price i (pos 0)) x)
+            up i l false s = rw (← h .prices .are i (omega arith), s) (omega arith)
+
+            down : (j : ℕ) → j < sinks P → (v : Bool)
+                → getD price′ (m + j) (pos 0) ≡ cond v (getD price (m + j) (pos 0) +ℤ cond (ltb (m + j) m) x (negℤ x)) (getD price (m + j) (pos 0))
+                → toZ (getD price′ (m + j) (pos 0)) ≈ toZ (potential P T (m + j)) ⊖ cond v (toZ x) (nat 0)
+            down j l true s = rw (← h .prices .are (m + j) (omega (arith, b .columns)), s, le-ltb (m + j) m (omega arith))
+                (omega (arith, z-add (getD price (m + j) (pos 0)) (negℤ x), z-neg x))
+            down j l false s = rw (← h .prices .are (m + j) (omega (arith, b .columns)), s) (omega arith)
+
+        next-is : pivot m n T (lane row col) ≡ next P T
+        unfolding next
+        next-is = rw (b .rows, b .columns, scanned-enters t)
+
+        board-next : Board P (next P T) bags′ marks′ sub′ path′ tree′ m n
+        board-next = rw (← next-is) (v .board)
+
+        prices-next : Prices P (next P T) price′ m n
+        prices-next = record {
+          long = r .long ∙ h .prices .long;
+          are = λ k l. rw (← next-is) (v .prices (λ k. getD price′ k (pos 0)) shifts k l);
+          none = λ k l p. r .each k ∙ (rw (v .inside k l)) ∙ h .prices .none k l p;
+        }
+
+        pub range-next : InRange cost price′ m n
+        range-next = in-range board-next (h .costs) prices-next
+
+        pub slacks-stale : Stale cost price price′ m n far row reduced slack
+        slacks-stale = record { slacks = h .slacks; negative = t; moved = r; nodes = λ k s. by-cases (decLt k (m + n)) (λ l. l)
+            (λ l. absurd (true≢false (sym s ∙ v .inside k (omega arith)))) }
+
+        pub advanced-moves : {slack′ : List ℤ} → Slacks cost price′ m n slack′
+            → Advanced P T bags′ marks′ cost price′ slack′ sub′ path′ tree′ m n false
+        advanced-moves s = record { done = unfinished; kept = record { board = board-next; costs = h .costs; prices = prices-next; slacks = s } }
