@@ -100,8 +100,12 @@ module _ {P : Problem} {T : List Cell} {q e cost price : List ℤ} {sub path tre
   price-small : (k : ℕ) → k < nodeRoom → natAbs (getD price k (pos 0)) ≤ maxPotential
   unfolding costAbove maxCost
   price-small k r = by-cases (decLt k (m + n))
-      (λ l. rw (prices .are k l) (omega (arith, price-limit, price-size P (b .sound) T (fits-of (b .sound) (board-belongs b))
-      (spans-of (b .sound) (board-belongs b)) k)))
+      (λ l. rw (prices .are k l) (omega (
+        arith,
+        price-limit,
+        price-size P (b .sound) T (fits-of (b .sound) (board-belongs b))
+            (spans-of (b .sound) (board-belongs b)) k,
+      )))
       (λ l. rw (prices .none k (omega arith) r) (omega arith))
 
   pub in-range : InRange cost price m n
@@ -270,9 +274,23 @@ module _ {P : Problem} {T : List Cell} {bags marks cost price slack : List ℤ} 
         range-next = in-range board-next (h .costs) prices-next
 
         pub slacks-stale : Stale cost price price′ m n far row reduced slack
-        slacks-stale = record { slacks = h .slacks; negative = t; moved = r; nodes = λ k s. by-cases (decLt k (m + n)) (λ l. l)
-            (λ l. absurd (true≢false (sym s ∙ v .inside k (omega arith)))) }
+        slacks-stale = record {
+          slacks = h .slacks;
+          negative = t;
+          moved = r;
+          nodes = λ k s. by-cases (decLt k (m + n)) (λ l. l)
+              (λ l. absurd (true≢false (sym s ∙ v .inside k (omega arith))));
+        }
 
         pub advanced-moves : {slack′ : List ℤ} → Slacks cost price′ m n slack′
             → Advanced P T bags′ marks′ cost price′ slack′ sub′ path′ tree′ m n false
         advanced-moves s = record { done = unfinished; kept = record { board = board-next; costs = h .costs; prices = prices-next; slacks = s } }
+
+-- What is kept after a round, by its answer.
+module _ {P : Problem} {T : List Cell} {q e cost price slack : List ℤ} {sub path tree : List ℕ} {m n : ℕ} {finished : Bool}
+    (a : Advanced P T q e cost price slack sub path tree m n finished) where
+  pub kept-still : finished ≡ true → Kept P T q e cost price slack sub path tree m n
+  kept-still f = rw f at (a .kept)
+
+  pub kept-next : finished ≡ false → Kept P (next P T) q e cost price slack sub path tree m n
+  kept-next f = rw f at (a .kept)

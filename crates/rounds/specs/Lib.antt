@@ -3,3 +3,4 @@ pub mod Slacks
 pub mod Scan
 pub mod Costs
 pub mod Kept
+pub mod Runs

@@ -1,0 +1,257 @@
+// Runs: rounds made until a tableau is finished, or an allowance is spent. The tree, the prices and the least slacks of the rows are kept between rounds.
+use crate::scan::entering;
+use crate::scan::refresh_slacks;
+use crate::scan::scan_slacks;
+use board::pivot::pivot;
+use transport::MAX_SIDE;
+use tree::LANES;
+use tree::NODES;
+use tree::Price;
+use tree::cut::plant;
+use tree::potential::potentials;
+use tree::potential::reprice;
+ghost use mathlib.Core.Path.{_≡_};
+ghost use mathlib.Core.Bool.{true};
+ghost use mathlib.Core.List.{List};
+ghost use lib.IntN.{ℤ};
+ghost use lib.ListN.{length};
+ghost use Rattle.transport.specs.Problem.{Problem};
+ghost use Rattle.transport.specs.Round.{roundBound};
+ghost use Rattle.transport.specs.declared.Cell.{Cell};
+ghost use Rattle.tree.specs.Layout.{nodeRoom};
+ghost use Rattle.rounds.specs.Kept.{Kept, Advanced};
+ghost use Rattle.rounds.specs.Runs.{Begun, Ran, Rounded};
+
+// The tree, the prices and the least slacks of a tableau whose basis the strikes strike off.
+fn begin(
+    cost: &[Price; LANES],
+    leaf: &[usize; NODES],
+    other: &[usize; NODES],
+    lane: &[usize; NODES],
+    m: usize,
+    n: usize,
+    path: &mut [u64; NODES],
+    sub: &mut [u64; NODES],
+    price: &mut [Price; NODES],
+    slack: &mut [Price; MAX_SIDE],
+)
+    requires { ⌜ ((P : Problem) × (T : List Cell) × (q : List ℤ) × (e : List ℤ) × Begun P T q e (now cost) (now leaf) (now other) (now lane) m n) ⌝ }
+    ensures { λ _. ⌜
+        ((P : Problem) (T : List Cell) (q e : List ℤ)
+        → Begun P T q e (now (cost .entry)) (now (leaf .entry)) (now (other .entry)) (now (lane .entry)) m n
+        → Kept P T q e (now (cost .entry)) (now (price .exit)) (now (slack .exit)) (now (sub .exit)) (now (path .exit)) (now (lane .entry)) m n)
+        ⌝ }
+{
+    potentials(cost, leaf, other, lane, m + n - 1, price);
+    plant(leaf, other, lane, m, n, path, sub);
+    scan_slacks(cost, price, m, n, slack);
+}
+
+// A round: whether the tableau is finished; if not, the arrays then hold the next one.
+fn advance(
+    q: &mut [i64; LANES],
+    e: &mut [i64; LANES],
+    cost: &[Price; LANES],
+    price: &mut [Price; NODES],
+    slack: &mut [Price; MAX_SIDE],
+    path: &mut [u64; NODES],
+    sub: &mut [u64; NODES],
+    lane: &mut [usize; NODES],
+    m: usize,
+    n: usize,
+) -> bool
+    requires { ⌜
+        ((P : Problem) × (T : List Cell) × Kept P T (now q) (now e) (now cost) (now price) (now slack) (now sub) (now path) (now lane) m n)
+        ⌝ }
+    ensures { λ r. ⌜
+        ((P : Problem) (T : List Cell)
+        → Kept P T (now (q .entry)) (now (e .entry)) (now (cost .entry)) (now (price .entry)) (now (slack .entry))
+        (now (sub .entry)) (now (path .entry)) (now (lane .entry)) m n
+        → Advanced P T (now (q .exit)) (now (e .exit)) (now (cost .entry)) (now (price .exit)) (now (slack .exit))
+        (now (sub .exit)) (now (path .exit)) (now (lane .exit)) m n r)
+        ⌝ }
+{
+    let enter = entering(cost, price, slack, m, n);
+    if enter.reduced >= 0 {
+        return true;
+    }
+    let row = enter.row;
+    let col = enter.col;
+    let reduced = enter.reduced;
+    let far = pivot(q, e, path, sub, lane, m, row, col);
+    reprice(price, m, far, row, reduced);
+    refresh_slacks(cost, price, m, n, far, row, slack);
+    false
+}
+
+// One round: whether the tableau was finished, with its prices; if not, the arrays then hold the next one.
+pub fn make_round(
+    q: &mut [i64; LANES],
+    e: &mut [i64; LANES],
+    cost: &[Price; LANES],
+    leaf: &[usize; NODES],
+    other: &[usize; NODES],
+    lane: &mut [usize; NODES],
+    m: usize,
+    n: usize,
+    price: &mut [Price; NODES],
+) -> bool
+    requires { ⌜ ((P : Problem) × (T : List Cell) × Begun P T (now q) (now e) (now cost) (now leaf) (now other) (now lane) m n) ⌝ }
+    ensures { λ r. ⌜
+        ((P : Problem) (T : List Cell)
+        → Begun P T (now (q .entry)) (now (e .entry)) (now (cost .entry)) (now (leaf .entry)) (now (other .entry)) (now (lane .entry)) m n
+        → Rounded P T (now (q .exit)) (now (e .exit)) (now (price .exit)) (now (lane .exit)) m n r)
+        ⌝ }
+{
+    let mut path = [0u64; NODES];
+    let mut sub = [0u64; NODES];
+    let mut slack: [Price; MAX_SIDE] = [0; MAX_SIDE];
+    begin(
+        cost,
+        leaf,
+        other,
+        lane,
+        m,
+        n,
+        &mut path,
+        &mut sub,
+        price,
+        &mut slack,
+    );
+    advance(
+        q,
+        e,
+        cost,
+        price,
+        &mut slack,
+        &mut path,
+        &mut sub,
+        lane,
+        m,
+        n,
+    )
+}
+
+// How a run ended, and how many rounds it made.
+pub struct Made {
+    pub finished: bool,
+    pub made: u64,
+}
+
+// Rounds left count down, and rounds made count up. The arrays then hold the last tableau, and `price` its prices.
+pub fn rounds(
+    q: &mut [i64; LANES],
+    e: &mut [i64; LANES],
+    cost: &[Price; LANES],
+    leaf: &[usize; NODES],
+    other: &[usize; NODES],
+    lane: &mut [usize; NODES],
+    m: usize,
+    n: usize,
+    price: &mut [Price; NODES],
+    allowance: u64,
+) -> Made
+    requires { ⌜ ((P : Problem) × (T : List Cell) × Begun P T (now q) (now e) (now cost) (now leaf) (now other) (now lane) m n) ⌝ }
+    ensures { λ r. ⌜
+        ((P : Problem) (T : List Cell)
+        → Begun P T (now (q .entry)) (now (e .entry)) (now (cost .entry)) (now (leaf .entry)) (now (other .entry)) (now (lane .entry)) m n
+        → Ran P T allowance (now (q .exit)) (now (e .exit)) (now (price .exit)) (now (lane .exit)) m n (r .finished) (r .made))
+        ⌝ }
+{
+    let mut path = [0u64; NODES];
+    let mut sub = [0u64; NODES];
+    let mut slack: [Price; MAX_SIDE] = [0; MAX_SIDE];
+    begin(
+        cost,
+        leaf,
+        other,
+        lane,
+        m,
+        n,
+        &mut path,
+        &mut sub,
+        price,
+        &mut slack,
+    );
+    let mut left = allowance;
+    let mut made = 0;
+    while left > 0 {
+        if advance(
+            q,
+            e,
+            cost,
+            price,
+            &mut slack,
+            &mut path,
+            &mut sub,
+            lane,
+            m,
+            n,
+        ) {
+            return Made {
+                finished: true,
+                made: made,
+            };
+        }
+        left -= 1;
+        made += 1;
+    }
+    // None is left: whether the last tableau is finished is still to be told.
+    let enter = entering(cost, price, &slack, m, n);
+    Made {
+        finished: enter.reduced >= 0,
+        made: made,
+    }
+}
+
+// Rounds until the tableau is finished, however many: how many they were. The arrays then hold the finished tableau, and `price` its prices.
+pub fn finish(
+    q: &mut [i64; LANES],
+    e: &mut [i64; LANES],
+    cost: &[Price; LANES],
+    leaf: &[usize; NODES],
+    other: &[usize; NODES],
+    lane: &mut [usize; NODES],
+    m: usize,
+    n: usize,
+    price: &mut [Price; NODES],
+) -> u64
+    requires { ⌜ ((P : Problem) × (T : List Cell) × Begun P T (now q) (now e) (now cost) (now leaf) (now other) (now lane) m n) ⌝ }
+    ensures { λ r. ⌜
+        ((P : Problem) (T : List Cell)
+        → Begun P T (now (q .entry)) (now (e .entry)) (now (cost .entry)) (now (leaf .entry)) (now (other .entry)) (now (lane .entry)) m n
+        → Ran P T (roundBound P) (now (q .exit)) (now (e .exit)) (now (price .exit)) (now (lane .exit)) m n true r)
+        ⌝ }
+{
+    let mut path = [0u64; NODES];
+    let mut sub = [0u64; NODES];
+    let mut slack: [Price; MAX_SIDE] = [0; MAX_SIDE];
+    begin(
+        cost,
+        leaf,
+        other,
+        lane,
+        m,
+        n,
+        &mut path,
+        &mut sub,
+        price,
+        &mut slack,
+    );
+    let mut made = 0u64;
+    while !advance(
+        q,
+        e,
+        cost,
+        price,
+        &mut slack,
+        &mut path,
+        &mut sub,
+        lane,
+        m,
+        n,
+    ) {
+        made += 1;
+    }
+    made
+}
