@@ -1,16 +1,14 @@
--- Round and run, case by case: what the arrays hold after them, and the answers of the calls.
-use Prim.Native.Nat.{ℕ, _+_, _<_, _≤_}
+-- Round and run, case by case: the answers of the calls.
+use Prim.Native.Nat.{ℕ}
 use mathlib.Core.Path.{_≡_, refl, sym, ap}
 use mathlib.Core.Bool.{Bool, true, false, not}
 use mathlib.Core.Option.{none, some}
 use mathlib.Core.List.{List}
-use lib.IntN.{ℤ, pos, natAbs}
-use lib.ListN.{getD}
+use lib.IntN.{ℤ}
 use Rattle.transport.specs.declared.RoundOutcome.the-variants as RoundOutcome
 use Rattle.transport.specs.declared.RunOutcome.the-variants as RunOutcome
 use Rattle.transport.specs.declared.Cell.{Cell}
 use Rattle.transport.specs.declared.Tableau.{Tableau}
-use Rattle.transport.specs.Lists.{table}
 use Rattle.transport.specs.Problem.{Problem}
 use Rattle.transport.specs.Sheet.{Sheet, problemOf, sheetTests, refusal}
 use Rattle.transport.specs.Tableau.{cellsOf, tableauOf, noTableau}
@@ -19,48 +17,21 @@ use Rattle.transport.specs.Potential.{sourcePrices, sinkPrices, isFinished}
 use Rattle.transport.specs.Round.{finished, moved, round, next, Run, run}
 use Rattle.transport.specs.Calls.{given, refusedBy, tableauTests, roundCall, runCall}
 use Rattle.transport.specs.Laws.CallLaws.{unless-before, unless-last, unless-none}
+use Rattle.board.specs.Arrays.{Board}
+use Rattle.rounds.specs.Runs.{Ran}
 use Rattle.transport.specs.Answers.{prices, noPrices, roundAnswer, runAnswer, runOutcome}
-use Rattle.tree.specs.Layout.{maxPotential}
-use Rattle.board.specs.Lanes.{RowMasks, gathered}
-use Rattle.rounds.specs.Boards.{Board, Advanced, Ran, board-masks, board-gathered}
-use Rattle.dealing.specs.Dealt.{prices-small, source-prices, sink-prices}
 
--- ---- what the arrays hold after a round, and after a run
+-- The run of an allowance on T has ended after `made` rounds, and the arrays hold its last tableau.
+pub record Ended (P : Problem) (T : List Cell) (allowance : ℕ) (q e : List ℤ) (lanes : List ℕ) (m n : ℕ) (finished : Bool) (made : ℕ) : Type 0 where
+  pub done : run P allowance T .finished ≡ finished
+  pub rounds : run P allowance T .rounds ≡ made
+  pub sub : List ℕ
+  pub path : List ℕ
+  pub board : Board P (run P allowance T .tableau) q e sub path lanes m n
 
--- The round on T: whether it is finished, and its prices. The arrays hold a tableau, the next one if T is not finished.
-pub record Rounded (P : Problem) (T : List Cell) (adj : List ℕ) (q e price : List ℤ) (m n : ℕ) (finished : Bool) : Type 0 where
-  pub done : isFinished P T ≡ finished
-  pub small : (k : ℕ) → k < m + n → natAbs (getD price k (pos 0)) ≤ maxPotential
-  pub rowPrices : table m (λ k. getD price (0 + k) (pos 0)) ≡ sourcePrices P T
-  pub columnPrices : table n (λ k. getD price (m + k) (pos 0)) ≡ sinkPrices P T
-  pub masks : RowMasks adj m
-  pub moved : finished ≡ false → gathered m adj q e ≡ next P T
-
-pub rounded : {P : Problem} {T : List Cell} {adj adj′ : List ℕ} {q q′ e e′ cost : List ℤ} {m n : ℕ} {finished : Bool} (price : List ℤ)
-    → Board P T adj q e cost m n → Advanced P T adj′ q′ e′ cost price m n finished → Rounded P T adj′ q′ e′ price m n finished
-rounded {P} {T} {adj} {adj′} {q} {q′} {e} {e′} {cost} {m} {n} {finished} price b r = record {
-  done = r .done;
-  small = prices-small b price (r .prices);
-  rowPrices = source-prices b price (r .prices);
-  columnPrices = sink-prices b price (r .prices);
-  masks = held finished refl;
-  moved = λ f. board-gathered (r .moves f);
-}
-  where
-    held : (f : Bool) → finished ≡ f → RowMasks adj′ m
-    held true f = board-masks (r .stays f)
-    held false f = board-masks (r .moves f)
-
--- The run R has ended after `made` rounds, and the arrays hold its last tableau.
-pub record Ended (R : Run) (adj : List ℕ) (q e : List ℤ) (m : ℕ) (finished : Bool) (made : ℕ) : Type 0 where
-  pub done : R .finished ≡ finished
-  pub rounds : R .rounds ≡ made
-  pub masks : RowMasks adj m
-  pub last : gathered m adj q e ≡ R .tableau
-
-pub ended : {P : Problem} {T : List Cell} {allowance : ℕ} {adj : List ℕ} {q e cost price : List ℤ} {m n : ℕ} {finished : Bool} {made : ℕ}
-    → Ran P T allowance adj q e cost price m n finished made → Ended (run P allowance T) adj q e m finished made
-ended r = record { done = r .done; rounds = r .rounds; masks = board-masks (r .board); last = board-gathered (r .board) }
+pub ended : {P : Problem} {T : List Cell} {allowance : ℕ} {q e price : List ℤ} {lanes : List ℕ} {m n : ℕ} {finished : Bool} {made : ℕ}
+    → Ran P T allowance q e price lanes m n finished made → Ended P T allowance q e lanes m n finished made
+ended r = record { done = r .done; rounds = r .rounds; sub = r .sub; path = r .path; board = r .board }
 
 -- ---- round, case by case
 
@@ -73,16 +44,16 @@ module _ (P : Problem) (T : List Cell) where
   unfolding round
   round-next f = rw (f, round)
 
-  pub round-finished : isFinished P T ≡ true
-      → record { outcome = RoundOutcome.Finished; tableau = noTableau; u = prices (sourcePrices P T); v = prices (sinkPrices P T) }
-      ≡ roundAnswer (given (round P T))
+  -- The answer, by its parts.
+  pub round-finished : isFinished P T ≡ true → {t : Tableau} {u v : List ℤ} → t ≡ noTableau → u ≡ prices (sourcePrices P T) → v ≡ prices (sinkPrices P T)
+      → record { outcome = RoundOutcome.Finished; tableau = t; u = u; v = v } ≡ roundAnswer (given (round P T))
   unfolding roundAnswer
-  round-finished f = ap (λ r. roundAnswer (given r)) (sym (round-done f))
+  round-finished f x y z = rw (x, y, z) (ap (λ r. roundAnswer (given r)) (sym (round-done f)))
 
-  pub round-moved : isFinished P T ≡ false
-      → record { outcome = RoundOutcome.Moved; tableau = tableauOf (next P T); u = noPrices; v = noPrices } ≡ roundAnswer (given (round P T))
+  pub round-moved : isFinished P T ≡ false → {t : Tableau} → t ≡ tableauOf (next P T)
+      → record { outcome = RoundOutcome.Moved; tableau = t; u = noPrices; v = noPrices } ≡ roundAnswer (given (round P T))
   unfolding roundAnswer
-  round-moved f = ap (λ r. roundAnswer (given r)) (sym (round-next f))
+  round-moved f x = rw x (ap (λ r. roundAnswer (given r)) (sym (round-next f)))
 
 pub round-refused : (k : ℕ) → record { outcome = RoundOutcome.Refused k; tableau = noTableau; u = noPrices; v = noPrices } ≡ roundAnswer (refusedBy k)
 unfolding roundAnswer refusedBy
@@ -103,14 +74,14 @@ round-early S t k e = unless-before (sheetTests S) (not (belongs (problemOf S) t
 
 -- ---- run, case by case
 
-module _ (R : Run) where
-  pub run-finished : R .finished ≡ true → record { outcome = RunOutcome.Finished (R .rounds); tableau = tableauOf (R .tableau) } ≡ runAnswer (given R)
+module _ (R : Run) {made : ℕ} {t : Tableau} (rounds : R .rounds ≡ made) (last : t ≡ tableauOf (R .tableau)) where
+  pub run-finished : R .finished ≡ true → record { outcome = RunOutcome.Finished made; tableau = t } ≡ runAnswer (given R)
   unfolding runAnswer runOutcome
-  run-finished f = rw f
+  run-finished f = rw (← rounds, last, f)
 
-  pub run-spent : R .finished ≡ false → record { outcome = RunOutcome.Spent (R .rounds); tableau = tableauOf (R .tableau) } ≡ runAnswer (given R)
+  pub run-spent : R .finished ≡ false → record { outcome = RunOutcome.Spent made; tableau = t } ≡ runAnswer (given R)
   unfolding runAnswer runOutcome
-  run-spent f = rw f
+  run-spent f = rw (← rounds, last, f)
 
 pub run-refused : (k : ℕ) → record { outcome = RunOutcome.Refused k; tableau = noTableau } ≡ runAnswer (refusedBy k)
 unfolding runAnswer refusedBy

@@ -24,7 +24,7 @@ ghost use Rattle.transport.specs.Answers.{prices, roundAnswer};
 ghost use Rattle.transport.specs.declared.Cell.{Cell};
 ghost use Rattle.tree.specs.Layout.{stride, maxPotential};
 ghost use Rattle.dealing.specs.Dealt.{Dealt};
-ghost use Rattle.tableau_calls.specs.CallCases.{Rounded};
+ghost use Rattle.rounds.specs.Runs.{Rounded};
 
 // The prices of one side, from the node `from` on, as an answer holds them.
 fn side_prices(price: &[Price; NODES], from: usize, count: usize) -> [i64; MAX_SIDE]
@@ -52,20 +52,23 @@ fn round_on(
     cost: &[u64],
     m: usize,
     n: usize,
-    adj: &mut [u64; NODES],
     q: &mut [i64; LANES],
     e: &mut [i64; LANES],
+    leaf: &[usize; NODES],
+    other: &[usize; NODES],
+    lane: &mut [usize; NODES],
     price: &mut [Price; NODES],
 ) -> bool
-    requires { ⌜ ((P : Problem) × (T : List Cell) × Dealt P T (now cost) (now adj) (now q) (now e) m n) ⌝ }
+    requires { ⌜ ((P : Problem) × (T : List Cell) × Dealt P T (now cost) (now q) (now e) (now leaf) (now other) (now lane) m n) ⌝ }
     ensures { λ r. ⌜
-        ((P : Problem) (T : List Cell) → Dealt P T (now (cost .entry)) (now (adj .entry)) (now (q .entry)) (now (e .entry)) m n
-        → Rounded P T (now (adj .exit)) (now (q .exit)) (now (e .exit)) (now (price .exit)) m n r)
+        ((P : Problem) (T : List Cell)
+        → Dealt P T (now (cost .entry)) (now (q .entry)) (now (e .entry)) (now (leaf .entry)) (now (other .entry)) (now (lane .entry)) m n
+        → Rounded P T (now (q .exit)) (now (e .exit)) (now (price .exit)) (now (lane .exit)) m n r)
         ⌝ }
 {
     let mut lane_cost: [Price; LANES] = [0; LANES];
     costs::spread_costs(cost, m, n, &mut lane_cost);
-    rounds::run::make_round(adj, q, e, &lane_cost, price, m, n)
+    rounds::run::make_round(q, e, &lane_cost, leaf, other, lane, m, n, price)
 }
 
 // Round: the next tableau, or that this one is finished, with its prices. It refuses what the sheet check refuses, and by 6 a tableau that does not belong.
@@ -80,14 +83,35 @@ pub fn round(supply: &[u64], demand: &[u64], cost: &[u64], t: Tableau) -> RoundA
     }
     let m = supply.len();
     let n = demand.len();
-    let mut adj = [0u64; NODES];
     let mut q = [0i64; LANES];
     let mut e = [0i64; LANES];
+    let mut leaf = [0usize; NODES];
+    let mut other = [0usize; NODES];
+    let mut lane = [0usize; NODES];
     let mut price: [Price; NODES] = [0; NODES];
-    if !belonging::load(supply, demand, t, &mut adj, &mut q, &mut e) {
+    if !belonging::load(
+        supply,
+        demand,
+        t,
+        &mut q,
+        &mut e,
+        &mut leaf,
+        &mut other,
+        &mut lane,
+    ) {
         return refused_round(6);
     }
-    let finished = round_on(cost, m, n, &mut adj, &mut q, &mut e, &mut price);
+    let finished = round_on(
+        cost,
+        m,
+        n,
+        &mut q,
+        &mut e,
+        &leaf,
+        &other,
+        &mut lane,
+        &mut price,
+    );
     if finished {
         return RoundAnswer {
             outcome: RoundOutcome::Finished,
@@ -96,7 +120,7 @@ pub fn round(supply: &[u64], demand: &[u64], cost: &[u64], t: Tableau) -> RoundA
             v: side_prices(&price, m, n),
         };
     }
-    let next = gather::gather(&adj, &q, &e, m);
+    let next = gather::gather(&lane, &q, &e, m, n);
     RoundAnswer {
         outcome: RoundOutcome::Moved,
         tableau: next,

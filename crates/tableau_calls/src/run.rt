@@ -14,7 +14,6 @@ ghost use mathlib.Core.Path.{_≡_};
 ghost use mathlib.Core.List.{List};
 ghost use Rattle.transport.specs.Problem.{Problem};
 ghost use Rattle.transport.specs.Sheet.{sheetOf};
-ghost use Rattle.transport.specs.Round.{run};
 ghost use Rattle.transport.specs.Calls.{refusedBy, runCall};
 ghost use Rattle.transport.specs.Answers.{runAnswer};
 ghost use Rattle.transport.specs.declared.Cell.{Cell};
@@ -35,21 +34,35 @@ fn run_on(
     cost: &[u64],
     m: usize,
     n: usize,
-    adj: &mut [u64; NODES],
     q: &mut [i64; LANES],
     e: &mut [i64; LANES],
+    leaf: &[usize; NODES],
+    other: &[usize; NODES],
+    lane: &mut [usize; NODES],
     allowance: u64,
 ) -> Made
-    requires { ⌜ ((P : Problem) × (T : List Cell) × Dealt P T (now cost) (now adj) (now q) (now e) m n) ⌝ }
+    requires { ⌜ ((P : Problem) × (T : List Cell) × Dealt P T (now cost) (now q) (now e) (now leaf) (now other) (now lane) m n) ⌝ }
     ensures { λ r. ⌜
-        ((P : Problem) (T : List Cell) → Dealt P T (now (cost .entry)) (now (adj .entry)) (now (q .entry)) (now (e .entry)) m n
-        → Ended (run P allowance T) (now (adj .exit)) (now (q .exit)) (now (e .exit)) m (r .finished) (r .made))
+        ((P : Problem) (T : List Cell)
+        → Dealt P T (now (cost .entry)) (now (q .entry)) (now (e .entry)) (now (leaf .entry)) (now (other .entry)) (now (lane .entry)) m n
+        → Ended P T allowance (now (q .exit)) (now (e .exit)) (now (lane .exit)) m n (r .finished) (r .made))
         ⌝ }
 {
     let mut lane_cost: [Price; LANES] = [0; LANES];
     let mut price: [Price; NODES] = [0; NODES];
     costs::spread_costs(cost, m, n, &mut lane_cost);
-    rounds::run::rounds(adj, q, e, &lane_cost, &mut price, m, n, allowance)
+    rounds::run::rounds(
+        q,
+        e,
+        &lane_cost,
+        leaf,
+        other,
+        lane,
+        m,
+        n,
+        &mut price,
+        allowance,
+    )
 }
 
 // Run makes rounds: `finished` with the tableau and the number of rounds, if it finishes within the allowance; else `spent`, after exactly that many.
@@ -65,16 +78,27 @@ pub fn run(supply: &[u64], demand: &[u64], cost: &[u64], t: Tableau, allowance: 
     }
     let m = supply.len();
     let n = demand.len();
-    let mut adj = [0u64; NODES];
     let mut q = [0i64; LANES];
     let mut e = [0i64; LANES];
-    if !belonging::load(supply, demand, t, &mut adj, &mut q, &mut e) {
+    let mut leaf = [0usize; NODES];
+    let mut other = [0usize; NODES];
+    let mut lane = [0usize; NODES];
+    if !belonging::load(
+        supply,
+        demand,
+        t,
+        &mut q,
+        &mut e,
+        &mut leaf,
+        &mut other,
+        &mut lane,
+    ) {
         return refused_run(6);
     }
     let within = allowance as u64;
-    let end = run_on(cost, m, n, &mut adj, &mut q, &mut e, within);
+    let end = run_on(cost, m, n, &mut q, &mut e, &leaf, &other, &mut lane, within);
     let made = end.made;
-    let last = gather::gather(&adj, &q, &e, m);
+    let last = gather::gather(&lane, &q, &e, m, n);
     if end.finished {
         return RunAnswer {
             outcome: RunOutcome::Finished(made),

@@ -1,6 +1,6 @@
 -- `tableau_calls::round::round` meets its contract: each way out is a case of the call.
 use native.Mathlib.Omega.{arith}
-use mathlib.Core.Path.{_≡_, sym, ap, _∙_}
+use mathlib.Core.Path.{_≡_, refl, sym, ap, _∙_}
 use mathlib.Core.Bool.{true}
 use mathlib.Core.List.{map}
 use mathlib.Core.Option.{none}
@@ -17,7 +17,8 @@ use Rattle.transport.specs.Tableau.{cellsOf}
 use Rattle.transport.specs.Belonging.{belongs}
 use Rattle.transport.specs.Answers.{prices, noPrices, roundAnswer}
 use Rattle.sheet.specs.Check.{accepted-none, refused-some}
-use Rattle.dealing.specs.Dealt.{Dealt, dealt-costs, dealt-loaded}
+use Rattle.rounds.specs.Runs.{Rounded}
+use Rattle.dealing.specs.Dealt.{rounded-small, rounded-sources, rounded-sinks, rounded-next, Dealt, dealt-costs, dealt-loaded}
 use Rattle.tableau_calls.specs.CallCases.{round-early, round-astray, round-given, round-finished, round-moved}
 use Rattle.tableau_calls.proofs.round.round.Statement.{statement}
 use Rattle.tableau_calls.proofs.round.round.Tie as tie
@@ -49,8 +50,10 @@ passed c = accepted-none _ (sym (c .before .before .check-sheet .ensures) ∙ c 
 
 load-requires : tie.Need-load-requires
 unfolding problemOf
-load-requires c κs = let s = c .before .before .before .before .before .before .before .before .before in
-    (map pos (s .args .cost .now), accepted-sound (sheetAt s) (passed (c .before .before .before)))
+load-requires c κs =
+    let told = c .before .before .before .before .before in
+    let s = told .before .before .before .before .before .before in
+    ((map pos (s .args .cost .now), accepted-sound (sheetAt s) (passed told)), (refl, refl, refl))
 
 refused-round-requires-2 : tie.Need-refused-round-requires-2
 refused-round-requires-2 c κs = tt
@@ -59,15 +62,16 @@ returns-2 : tie.Need-returns-2
 unfolding problemOf
 returns-2 c =
     let a = c .before .before in
-    let s = a .before .before .before .before .before .before .before .before .before .before in
+    let told = a .before .before .before .before .before .before in
+    let s = told .before .before .before .before .before .before in
     c .refused-round2 .ensures
-    ∙ ap roundAnswer (sym (round-astray (sheetAt s) (s .args .t) (passed (a .before .before .before .before))
+    ∙ ap roundAnswer (sym (round-astray (sheetAt s) (s .args .t) (passed told)
     (sym (a .load .ensures .0 (map pos (s .args .cost .now))) ∙ not-true _ (c .before .if1 .taken))))
 
 -- ---- the tableau belongs to the sheet
 
 abbrev toldBefore : tie.Else1 → tie.After-enum-told
-toldBefore c = c .before .before .before .before .before
+toldBefore c = c .before .before .before .before .before .before .before
 
 abbrev startBefore : tie.Else1 → tie.Start
 startBefore c = toldBefore c .before .before .before .before .before .before
@@ -79,8 +83,8 @@ within c = sym (c .before .load .ensures .0 (map pos (startBefore c .args .cost 
 dealt : (c : tie.Else1)
     → let s = startBefore c in
     let l = c .before .load .last .1 .1 .1 in
-    Dealt (problemOf (sheetAt s)) (cellsOf (s .args .t)) (s .args .cost .now) (l .0) (l .1 .0) (l .1 .1 .0) (length (s .args .supply .now))
-    (length (s .args .demand .now))
+    Dealt (problemOf (sheetAt s)) (cellsOf (s .args .t)) (s .args .cost .now) (l .0) (l .1 .0) (l .1 .1 .0) (l .1 .1 .1 .0) (l .1 .1 .1 .1 .0)
+    (length (s .args .supply .now)) (length (s .args .demand .now))
 unfolding problemOf
 dealt c =
     let s = startBefore c in
@@ -88,11 +92,21 @@ dealt c =
 
 round-on-requires : tie.Need-round-on-requires
 round-on-requires c κs =
-    let b = c .before .before .before .before in
-    let s = startBefore b in
-    (problemOf (sheetAt s), cellsOf (s .args .t), dealt b)
+    let d = c .before .before .before .before .before .before in
+    let s = startBefore d in
+    (problemOf (sheetAt s), cellsOf (s .args .t), dealt d)
 
 -- ---- the answer is made of what the round gives; what its parts ask for holds of a finished tableau and of one that is not
+
+abbrev elseBefore : tie.After-round-on → tie.Else1
+elseBefore c = c .before .before .before .before .before .before .before
+
+rounded : (c : tie.After-round-on)
+    → let s = startBefore (elseBefore c) in
+    let l = c .round-on .last .1 .1 .1 in
+    Rounded (problemOf (sheetAt s)) (cellsOf (s .args .t)) (l .0) (l .1 .0) (l .1 .1 .1 .1 .1 .0) (l .1 .1 .1 .1 .0)
+    (length (s .args .supply .now)) (length (s .args .demand .now)) (c .round-on .result)
+rounded c = c .round-on .ensures _ _ (dealt (elseBefore c))
 
 empty-tableau-requires : tie.Need-empty-tableau-requires
 empty-tableau-requires c κs = tt
@@ -100,53 +114,44 @@ empty-tableau-requires c κs = tt
 side-prices-requires : tie.Need-side-prices-requires
 side-prices-requires c κs =
     let a = c .before .before .before in
-    let b = a .before .before .before .before .before in
-    let s = startBefore b in
-    (omega arith, dealt-costs (dealt b) .0, λ k l. a .round-on .ensures (problemOf (sheetAt s)) (cellsOf (s .args .t)) (dealt b) .small k (omega arith))
+    let r = rounded a in
+    (omega arith, dealt-costs (dealt (elseBefore a)) .0, λ k l. rounded-small r k (omega arith))
 
 side-prices-requires-2 : tie.Need-side-prices-requires-2
 side-prices-requires-2 c κs =
     let a = c .before .before .before .before .before in
-    let b = a .before .before .before .before .before in
-    let s = startBefore b in
-    (dealt-costs (dealt b) .0, dealt-costs (dealt b) .1, a .round-on .ensures (problemOf (sheetAt s)) (cellsOf (s .args .t)) (dealt b) .small)
+    let r = rounded a in
+    let d = dealt-costs (dealt (elseBefore a)) in
+    (d .0, d .1, rounded-small r)
 
 returns-3 : tie.Need-returns-3
 returns-3 c =
     let a = c .before .before .before .before .before .before in
-    let b = a .before .before .before .before .before in
-    let s = startBefore b in
+    let d = elseBefore a in
+    let s = startBefore d in
     let S = sheetAt s in
     let t = s .args .t in
-    let r = a .round-on .ensures (problemOf S) (cellsOf t) (dealt b) in
-    rw (
-      round-given S t (passed (toldBefore b)) (within b),
-      c .before .before .before .before .empty-tableau .ensures,
-      c .before .before .side-prices .ensures,
-      c .side-prices2 .ensures,
-      r .rowPrices,
-      r .columnPrices,
-    )
-    (round-finished (problemOf S) (cellsOf t) (r .done ∙ c .before .before .before .before .before .if2 .taken))
+    let r = rounded a in
+    let f = c .before .before .before .before .before .if2 .taken in
+    round-finished (problemOf S) (cellsOf t) (r .done ∙ f) (c .before .before .before .before .empty-tableau .ensures)
+    (c .before .before .side-prices .ensures ∙ ap prices (rounded-sources r f)) (c .side-prices2 .ensures ∙ ap prices (rounded-sinks r f))
+    ∙ ap roundAnswer (sym (round-given S t (passed (toldBefore d)) (within d)))
 
 gather-requires : tie.Need-gather-requires
-gather-requires c κs =
-    let a = c .before .before .before .before in
-    let b = a .before .before .before .before .before in
-    let s = startBefore b in
-    a .round-on .ensures (problemOf (sheetAt s)) (cellsOf (s .args .t)) (dealt b) .masks
+gather-requires c κs = let r = rounded (c .before .before .before .before) in (_, _, r .sub, r .path, r .board)
 
 returns-4 : tie.Need-returns-4
 unfolding noPrices prices padded maxSide
 returns-4 c =
     let a = c .before .before .before .before .before in
-    let b = a .before .before .before .before .before in
-    let s = startBefore b in
+    let d = elseBefore a in
+    let s = startBefore d in
     let S = sheetAt s in
     let t = s .args .t in
-    let r = a .round-on .ensures (problemOf S) (cellsOf t) (dealt b) in
+    let r = rounded a in
     let f = c .before .before .before .before .if2 .left in
-    rw (round-given S t (passed (toldBefore b)) (within b), c .gather .ensures, r .moved f) (round-moved (problemOf S) (cellsOf t) (r .done ∙ f))
+    round-moved (problemOf S) (cellsOf t) (r .done ∙ f) (c .gather .ensures _ _ _ _ (rounded-next r f))
+    ∙ ap roundAnswer (sym (round-given S t (passed (toldBefore d)) (within d)))
 
 pub round-spec : {M : Type 1} → statement M
 round-spec =

@@ -1,5 +1,5 @@
 -- `tableau_calls::run::run` meets its contract: each way out is a case of the call.
-use mathlib.Core.Path.{_≡_, sym, ap, _∙_}
+use mathlib.Core.Path.{_≡_, refl, sym, ap, _∙_}
 use mathlib.Core.Bool.{true}
 use mathlib.Core.List.{map}
 use mathlib.Core.Option.{none}
@@ -10,13 +10,13 @@ use lib.ListN.{length}
 use Rattle.transport.specs.Laws.Sound.{accepted-sound}
 use Rattle.transport.specs.Sheet.{Sheet, problemOf, refusal, sheetTests, sheetOf}
 use Rattle.transport.specs.Laws.SheetLaws.{accepted}
-use Rattle.transport.specs.Tableau.{cellsOf}
+use Rattle.transport.specs.Tableau.{cellsOf, tableauOf}
 use Rattle.transport.specs.Belonging.{belongs}
 use Rattle.transport.specs.Round.{run}
 use Rattle.transport.specs.Answers.{runAnswer}
 use Rattle.sheet.specs.Check.{accepted-none, refused-some}
 use Rattle.dealing.specs.Dealt.{Dealt, dealt-loaded}
-use Rattle.tableau_calls.specs.CallCases.{run-early, run-astray, run-given, run-finished, run-spent}
+use Rattle.tableau_calls.specs.CallCases.{Ended, run-early, run-astray, run-given, run-finished, run-spent}
 use Rattle.tableau_calls.proofs.run.run.Statement.{statement}
 use Rattle.tableau_calls.proofs.run.run.Tie as tie
 
@@ -47,8 +47,10 @@ passed c = accepted-none _ (sym (c .before .before .check-sheet .ensures) ∙ c 
 
 load-requires : tie.Need-load-requires
 unfolding problemOf
-load-requires c κs = let s = c .before .before .before .before .before .before .before .before .before in
-    (map pos (s .args .cost .now), accepted-sound (sheetAt s) (passed (c .before .before .before)))
+load-requires c κs =
+    let told = c .before .before .before .before .before in
+    let s = told .before .before .before .before .before .before in
+    ((map pos (s .args .cost .now), accepted-sound (sheetAt s) (passed told)), (refl, refl, refl))
 
 refused-run-requires-2 : tie.Need-refused-run-requires-2
 refused-run-requires-2 c κs = tt
@@ -57,15 +59,16 @@ returns-2 : tie.Need-returns-2
 unfolding problemOf
 returns-2 c =
     let a = c .before .before in
-    let s = a .before .before .before .before .before .before .before .before .before .before in
+    let told = a .before .before .before .before .before .before in
+    let s = told .before .before .before .before .before .before in
     c .refused-run2 .ensures
-    ∙ ap runAnswer (sym (run-astray (sheetAt s) (s .args .t) (s .args .allowance) (passed (a .before .before .before .before))
+    ∙ ap runAnswer (sym (run-astray (sheetAt s) (s .args .t) (s .args .allowance) (passed told)
     (sym (a .load .ensures .0 (map pos (s .args .cost .now))) ∙ not-true _ (c .before .if1 .taken))))
 
 -- ---- the tableau belongs to the sheet
 
 abbrev toldBefore : tie.Else1 → tie.After-enum-told
-toldBefore c = c .before .before .before .before .before
+toldBefore c = c .before .before .before .before .before .before .before
 
 abbrev startBefore : tie.Else1 → tie.Start
 startBefore c = toldBefore c .before .before .before .before .before .before
@@ -77,8 +80,8 @@ within c = sym (c .before .load .ensures .0 (map pos (startBefore c .args .cost 
 dealt : (c : tie.Else1)
     → let s = startBefore c in
     let l = c .before .load .last .1 .1 .1 in
-    Dealt (problemOf (sheetAt s)) (cellsOf (s .args .t)) (s .args .cost .now) (l .0) (l .1 .0) (l .1 .1 .0) (length (s .args .supply .now))
-    (length (s .args .demand .now))
+    Dealt (problemOf (sheetAt s)) (cellsOf (s .args .t)) (s .args .cost .now) (l .0) (l .1 .0) (l .1 .1 .0) (l .1 .1 .1 .0) (l .1 .1 .1 .1 .0)
+    (length (s .args .supply .now)) (length (s .args .demand .now))
 unfolding problemOf
 dealt c =
     let s = startBefore c in
@@ -86,40 +89,51 @@ dealt c =
 
 run-on-requires : tie.Need-run-on-requires
 run-on-requires c κs =
-    let b = c .before .before .before in
-    let s = startBefore b in
-    (problemOf (sheetAt s), cellsOf (s .args .t), dealt b)
+    let d = c .before .before .before .before .before in
+    let s = startBefore d in
+    (problemOf (sheetAt s), cellsOf (s .args .t), dealt d)
 
 -- ---- the answer is made of what the run gives, whatever its allowance
 
+abbrev elseBefore : tie.After-run-on → tie.Else1
+elseBefore c = c .before .before .before .before .before .before
+
+ended : (c : tie.After-run-on)
+    → let s = startBefore (elseBefore c) in
+    let l = c .run-on .last .1 .1 .1 in
+    Ended (problemOf (sheetAt s)) (cellsOf (s .args .t)) (s .args .allowance) (l .0) (l .1 .0) (l .1 .1 .1 .1 .0)
+    (length (s .args .supply .now)) (length (s .args .demand .now)) (c .run-on .result .finished) (c .run-on .result .made)
+ended c = c .run-on .ensures _ _ (dealt (elseBefore c))
+
 gather-requires : tie.Need-gather-requires
-gather-requires c κs =
-    let a = c .before .before .before in
-    let b = a .before .before .before .before in
-    let s = startBefore b in
-    a .run-on .ensures (problemOf (sheetAt s)) (cellsOf (s .args .t)) (dealt b) .masks
+gather-requires c κs = let r = ended (c .before .before .before) in (_, _, r .sub, r .path, r .board)
+
+last-is : (c : tie.After-gather)
+    → let s = startBefore (elseBefore (c .before .before .before .before)) in
+    c .gather .result ≡ tableauOf (run (problemOf (sheetAt s)) (s .args .allowance) (cellsOf (s .args .t)) .tableau)
+last-is c = c .gather .ensures _ _ _ _ (ended (c .before .before .before .before) .board)
 
 returns-3 : tie.Need-returns-3
 returns-3 c =
     let a = c .before .before .before .before .before in
-    let b = a .before .before .before .before in
-    let s = startBefore b in
+    let d = elseBefore a in
+    let s = startBefore d in
     let S = sheetAt s in
     let t = s .args .t in
-    let r = a .run-on .ensures (problemOf S) (cellsOf t) (dealt b) in
-    rw (run-given S t (s .args .allowance) (passed (toldBefore b)) (within b), c .before .gather .ensures, r .last, ← r .rounds)
-    (run-finished (run (problemOf S) (s .args .allowance) (cellsOf t)) (r .done ∙ c .if2 .taken))
+    let r = ended a in
+    run-finished (run (problemOf S) (s .args .allowance) (cellsOf t)) (r .rounds) (last-is (c .before)) (r .done ∙ c .if2 .taken)
+    ∙ ap runAnswer (sym (run-given S t (s .args .allowance) (passed (toldBefore d)) (within d)))
 
 returns-4 : tie.Need-returns-4
 returns-4 c =
     let a = c .before .before .before .before .before in
-    let b = a .before .before .before .before in
-    let s = startBefore b in
+    let d = elseBefore a in
+    let s = startBefore d in
     let S = sheetAt s in
     let t = s .args .t in
-    let r = a .run-on .ensures (problemOf S) (cellsOf t) (dealt b) in
-    rw (run-given S t (s .args .allowance) (passed (toldBefore b)) (within b), c .before .gather .ensures, r .last, ← r .rounds)
-    (run-spent (run (problemOf S) (s .args .allowance) (cellsOf t)) (r .done ∙ c .if2 .left))
+    let r = ended a in
+    run-spent (run (problemOf S) (s .args .allowance) (cellsOf t)) (r .rounds) (last-is (c .before)) (r .done ∙ c .if2 .left)
+    ∙ ap runAnswer (sym (run-given S t (s .args .allowance) (passed (toldBefore d)) (within d)))
 
 pub run-spec : {M : Type 1} → statement M
 run-spec =

@@ -1,5 +1,5 @@
 -- `tableau_calls::run::run_on` meets its contract: the run on the board ends as the specification's.
-use Rattle.dealing.specs.Dealt.{dealt-costs, dealt-board}
+use Rattle.dealing.specs.Dealt.{dealt-costs, dealt-begun}
 use Rattle.tableau_calls.specs.CallCases.{ended}
 use Rattle.tableau_calls.proofs.run.run_on.Statement.{statement}
 use Rattle.tableau_calls.proofs.run.run_on.Tie as tie
@@ -9,10 +9,10 @@ spread-costs-requires c κs = dealt-costs (c .before .before .pre .2)
 
 rounds-requires : tie.Need-rounds-requires
 rounds-requires c κs = let (S, T, d) = c .before .before .before .before .before .before .before .before .pre in
-    (S, T, dealt-board d (c .before .before .before .before .before .spread-costs .ensures))
+    (S, T, dealt-begun d (c .before .before .before .before .before .spread-costs .ensures))
 
 returns : tie.Need-returns
-returns c = λ S T d. ended (c .rounds .ensures S T (dealt-board d (c .before .before .before .before .before .before .spread-costs .ensures)))
+returns c = λ S T d. ended (c .rounds .ensures S T (dealt-begun d (c .before .before .before .before .before .before .spread-costs .ensures)))
 
 pub run-on-spec : {M : Type 1} → statement M
 run-on-spec = tie.close (tie.spec spread-costs-requires rounds-requires returns)
