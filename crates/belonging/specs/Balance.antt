@@ -34,7 +34,7 @@ use Rattle.tableaux.specs.Striking.{Struck}
 use Rattle.tableaux.specs.Leaves.{sum-ones}
 use Rattle.tableaux.specs.Flows.{struck-flow, flow-only}
 use Rattle.tableaux.specs.PlanView.{sum-sumTo}
-use Rattle.tree.specs.SignLaws.{weightsOf}
+use Rattle.belonging.specs.FlowLaws.{weightsOf}
 use Rattle.tableaux.specs.Belonging.{fits-inside}
 use Rattle.belonging.specs.Carried.{Light}
 

@@ -19,7 +19,7 @@ use Rattle.transport.specs.Laws.AmountLaws.{eqZ-true, eqZ-same}
 use Rattle.transport.specs.Leaf.{Strike}
 use Rattle.transport.specs.Round.{flow}
 use Rattle.tree.specs.Layout.{nodeRoom, laneAt, strikesOf, Distinct, Struck}
-use Rattle.tree.specs.SignLaws.{size, weightsOf, Needed, flow-now, needed-step}
+use Rattle.belonging.specs.FlowLaws.{size, weightsOf, Needed, flow-now, needed-step}
 
 -- Two numbers in range with the same bits are the same.
 pub eq-test : (a b : ℤ) → mag a < 2 ^ 63 → mag b < 2 ^ 63 → ofZ w64 a ≡ ofZ w64 b → a ≡ b

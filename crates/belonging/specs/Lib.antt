@@ -1,3 +1,4 @@
+pub mod FlowLaws
 pub mod Carried
 pub mod Balance
 pub mod Weighing

@@ -25,7 +25,7 @@ use Rattle.tableaux.specs.View.{Distinct, Inside, rowOf, colOf, amountAt}
 use Rattle.tableaux.specs.Belonging.{fits-inside, order-true}
 use Rattle.tableaux.specs.Order.{ordered-by, ordered-distinct}
 use Rattle.tree.specs.Layout.{stride, nodeRoom, laneAt, placeOf, place-laneAt, strikeOf, strikesOf}
-use Rattle.tree.specs.SignLaws.{weightsOf}
+use Rattle.belonging.specs.FlowLaws.{weightsOf}
 use Rattle.board.specs.CellTests.{onBoard, cellsFit}
 use Rattle.board.specs.Arrays.{Sides, Amounts}
 use Rattle.tree.specs.Links.{iff-same}

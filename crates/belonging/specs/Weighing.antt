@@ -14,7 +14,7 @@ use Rattle.transport.specs.Lists.{at}
 use Rattle.transport.specs.Laws.ListLaws.{sumTo-bound}
 use Rattle.transport.specs.Limits.{maxAmount, maxBags, maxSide}
 use Rattle.tree.specs.Layout.{stride, nodeRoom}
-use Rattle.tree.specs.SignLaws.{size}
+use Rattle.belonging.specs.FlowLaws.{size}
 use Rattle.belonging.specs.Carried.{Light}
 use Rattle.belonging.specs.Balance.{Weights, markOf}
 

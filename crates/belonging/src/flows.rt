@@ -3,7 +3,7 @@ use tree::LANES;
 use tree::NODES;
 ghost use mathlib.Core.Path.{_≡_};
 ghost use Rattle.tree.specs.Layout.{Distinct, Struck, strikesOf};
-ghost use Rattle.tree.specs.SignLaws.{weightsOf};
+ghost use Rattle.belonging.specs.FlowLaws.{weightsOf};
 ghost use Rattle.belonging.specs.Carried.{Light, carries};
 
 // Forwards through the strikes: a leaf's lane must carry exactly what the leaf still needs, which is then taken from both ends of the lane. Amounts are

@@ -35,6 +35,9 @@ pub sum-neg : (n : ℕ) (f : ℕ → Z) → sum n (λ i. neg (f i)) ≈ neg (sum
 sum-neg zero f = omega arith
 sum-neg (suc n) f = omega (arith, sum-neg n f)
 
+pub sum-sub : (n : ℕ) (f g : ℕ → Z) → sum n (λ i. f i ⊖ g i) ≈ sum n f ⊖ sum n g
+sum-sub n f g = omega (arith, sum-add n f (λ i. neg (g i)), sum-neg n g)
+
 pub sum-scale : (n : ℕ) (k : Z) (f : ℕ → Z) → sum n (λ i. k ⊗ f i) ≈ k ⊗ sum n f
 sum-scale zero k f = omega arith
 sum-scale (suc n) k f = omega (arith, sum-scale n k f)

@@ -8,5 +8,9 @@ pub mod Marks
 pub mod Pivot
 pub mod Round
 pub mod Staircase
+pub mod Finite
+pub mod Circuit
 pub mod Settling
+pub mod Search
+pub mod Settles
 pub mod Measure

@@ -1,227 +1,317 @@
--- Settling: lanes are decided one after another, and what is left is the plan that carries more on the first lane where it differs from any other.
--- Lane (i, j) has the number i * n + j.
-use mathlib.Core.Path.{_≡_}
-use mathlib.Core.Logic.{_↔_, _⊎_, inl, inr, ⊎-elim, by-cases}
-use Prim.Native.Nat.{ℕ, suc, _+_, _*_, _≤_, _<_}
+-- Settling on bags: a lane is decided when no more bags can be brought onto it from later lanes, and where all lanes are decided the plan carries more on the
+-- first lane where it differs from any other. Lane (i, j) has the number i * n + j.
+use mathlib.Core.Path.{_≡_, refl, ap}
+use mathlib.Core.Logic.{_↔_, _≢_, inl, inr, ⊎-elim, by-cases}
+use mathlib.Core.Bool.{Bool, true, false, cond, Bool-discrete}
+use Prim.Native.Nat.{ℕ, zero, suc, _+_, _*_, _-_, _≤_, _<_}
 use native.Mathlib.Omega.{arith}
 use native.Mathlib.Decide.{ℕ-discrete, decLt}
-use Rattle.integers.specs.Integer.{Z, _≈_, _≼_, _≺_, ≈-dec, _⊗_, neg, nat}
+use native.Mathlib.Nat.{mul-le-mul-right}
+use Rattle.integers.specs.Integer.{Z, _≈_, _≼_, _≺_, ≈-dec, ≼-dec, _⊕_, _⊖_, _⊗_, nat}
 use Rattle.integers.specs.IntegerLaws.{⊗-cong}
-use Rattle.integers.specs.Sum.{point}
-use Rattle.integers.specs.SumLaws.{sum₂-one, point-at, point-off}
+use Rattle.integers.specs.Sum.{sum, point}
+use Rattle.integers.specs.SumLaws.{sum-cong, sum-zero, sum-nonneg, sum-each, sum-scale, sum-sub, sum₂-cols, point-at, point-off}
 use Rattle.transport.specs.Problem.{place}
-use Rattle.transport.specs.Laws.ProblemLaws.{place-below, place-injective}
-use Rattle.network.specs.Flow.{On, Flow, Nonneg, Plan, cost, Feasible, Tight}
-use Rattle.network.specs.FlowLaws.{on-zero, flow-on, flow-cong, flow-scale, plan-whole, plan-on, plan-restrict}
-use Rattle.network.specs.Duality.{least, least-tight}
+use Rattle.transport.specs.Laws.ProblemLaws.{place-injective}
+use Rattle.network.specs.Flow.{Flow, Nonneg, Plan}
+use Rattle.network.specs.FlowLaws.{on-zero, flow-on, flow-scale, plan-on}
 use Rattle.network.specs.Basis.{Basis, In, flow-unique}
+use Rattle.network.specs.Finite.{some-or-all}
+use Rattle.network.specs.Circuit.{Circuit, around, moved, moved-flow, moved-nonneg, off-row, off-col, first-row}
 
--- ---- one phase
--- the cost that asks for as much as can be on lane (p, q): −1 there, 0 elsewhere
-abbrev pub most : ℕ → ℕ → ℕ → ℕ → Z
-most p q i j = point p (point q (neg (nat 1)) j) i
-
-pub most-cost : (m n p q : ℕ) → p < m → q < n → (y : ℕ → ℕ → Z) → cost m n (most p q) y ≈ neg (y p q)
-most-cost m n p q hp hq y = omega (arith, sum₂-one m n (λ i j. y i j ⊗ most p q i j) p q hp hq elsewhere, here)
-  where
-    here : y p q ⊗ most p q p q ≈ neg (y p q)
-    here = rw (point-at p (point q (neg (nat 1)) q), point-at q (neg (nat 1))) (omega arith)
-
-    elsewhere : (i j : ℕ) → i < m → j < n → ¬ ((i ≡ p) × (j ≡ q)) → y i j ⊗ most p q i j ≈ nat 0
-    elsewhere i j k l d = by-cases (ℕ-discrete i p)
-        (λ e. rw (e, point-at p (point q (neg (nat 1)) j), point-off q (neg (nat 1)) j (λ e′. d (e, e′))) (omega arith))
-        (λ e. rw (point-off p (point q (neg (nat 1)) j) i e) (omega arith))
-
--- a phase for lane (p, q) ends with potentials u, v: no allowed lane has a negative reduced cost
-pub record Phase (m n : ℕ) (P : ℕ → ℕ → Type 0) (p q : ℕ) (u v : ℕ → Z) : Type 0 where
-  pub row : p < m
-  pub col : q < n
-  pub feasible : (i j : ℕ) → i < m → j < n → P i j → Feasible (most p q) u v i j
-
--- the allowed lanes that it keeps: those with reduced cost 0
-abbrev pub Kept : (ℕ → ℕ → Type 0) → ℕ → ℕ → (ℕ → Z) → (ℕ → Z) → ℕ → ℕ → Type 0
-Kept P p q u v i j = P i j × Tight (most p q) u v i j
-
-module _ {m n p q k : ℕ} {P : ℕ → ℕ → Type 0} {u v a b : ℕ → Z} {x y : ℕ → ℕ → Z}
-    (ph : Phase m n P p q u v) (f : Flow m n (Kept P p q u v) x a b) (g : Plan m n P k y a b) where
-  -- Optimality for that cost: no plan on the allowed lanes carries more on (p, q) than x does, taken k times.
-  pub phase-most : y p q ≼ nat k ⊗ x p q
-  phase-most = omega (
-    arith,
-    least (most p q) u v (flow-on (λ i j hi hj s. s .1) f) (plan-on (ph .feasible) g),
-    most-cost m n p q (ph .row) (ph .col) y,
-    ⊗-cong (nat k) (cost m n (most p q) x) (neg (x p q)) (most-cost m n p q (ph .row) (ph .col) x),
-  )
-
-  -- And those that carry as much are exactly those on the lanes kept.
-  pub phase-kept : (y p q ≈ nat k ⊗ x p q) ↔ On m n (Kept P p q u v) y
-  phase-kept = (
-    (λ e i j hi hj z. (g .flow .on i j hi hj z, tight .0 (omega (arith, same, costs)) i j hi hj z)),
-    (λ on. omega (arith, same, costs, tight .1 (λ i j hi hj z. on i j hi hj z .1))),
-  )
-    where
-      tight : (cost m n (most p q) y ≈ nat k ⊗ cost m n (most p q) x) ↔ On m n (Tight (most p q) u v) y
-      tight = least-tight (most p q) u v (flow-on (λ i j hi hj s. s .1) f) (plan-on (ph .feasible) g)
-
-      same : cost m n (most p q) y ≈ neg (y p q)
-      same = most-cost m n p q (ph .row) (ph .col) y
-
-      costs : nat k ⊗ cost m n (most p q) x ≈ nat k ⊗ neg (x p q)
-      costs = ⊗-cong (nat k) (cost m n (most p q) x) (neg (x p q)) (most-cost m n p q (ph .row) (ph .col) x)
-
--- ---- phase after phase
+-- ---- decided lanes
 -- y in k-ths agrees with x on the lanes before t
 abbrev pub Agree : ℕ → ℕ → ℕ → ℕ → (ℕ → ℕ → Z) → (ℕ → ℕ → Z) → Type 0
 Agree m n t k x y = (i j : ℕ) → i < m → j < n → i * n + j < t → y i j ≈ nat k ⊗ x i j
 
--- before t there is a lane where they differ, and on the first such lane y carries less
-pub record FirstLess (m n t k : ℕ) (x y : ℕ → ℕ → Z) : Type 0 where
-  pub i : ℕ
-  pub j : ℕ
-  pub row : i < m
-  pub col : j < n
-  pub before : i * n + j < t
-  pub less : y i j ≺ nat k ⊗ x i j
-  pub agree : Agree m n (i * n + j) k x y
+-- of all plans on P that agree with x before lane (i, j), in k-ths too, none carries more on it
+abbrev pub Most : ℕ → ℕ → (ℕ → Z) → (ℕ → Z) → (ℕ → ℕ → Type 0) → (ℕ → ℕ → Z) → ℕ → ℕ → Type 0
+Most m n a b P x i j = (k : ℕ) (y : ℕ → ℕ → Z) → Plan m n P k y a b → Agree m n (i * n + j) k x y → y i j ≼ nat k ⊗ x i j
 
-later : {m n t t′ k : ℕ} {x y : ℕ → ℕ → Z} → t ≤ t′ → FirstLess m n t k x y → FirstLess m n t′ k x y
-later l w = record { i = w .i; j = w .j; row = w .row; col = w .col; before = omega arith; less = w .less; agree = w .agree }
-
--- The lanes before t are decided: of all plans on the first allowed lanes P₀, those on the lanes P still allowed agree with x before t, and
--- every other one carries less than x on the first lane where the two differ.
-pub record Decided (m n : ℕ) (a b : ℕ → Z) (P₀ : ℕ → ℕ → Type 0) (t : ℕ) (P : ℕ → ℕ → Type 0) (x : ℕ → ℕ → Z) : Type 0 where
-  pub inside : (i j : ℕ) → i < m → j < n → P i j → P₀ i j
+-- x is a plan on P, and its lanes before t are decided
+pub record DecidedTo (m n : ℕ) (a b : ℕ → Z) (P : ℕ → ℕ → Type 0) (t : ℕ) (x : ℕ → ℕ → Z) : Type 0 where
   pub flow : Flow m n P x a b
-  pub kept : (k : ℕ) (y : ℕ → ℕ → Z) → Plan m n P k y a b → Agree m n t k x y
-  pub rest : (k : ℕ) (y : ℕ → ℕ → Z) → Plan m n P₀ k y a b → On m n P y ⊎ FirstLess m n t k x y
+  pub nonneg : Nonneg m n x
+  pub most : (i j : ℕ) → i < m → j < n → i * n + j < t → Most m n a b P x i j
 
--- The same lanes and the same amounts, written otherwise.
-pub decided-cong : {m n t : ℕ} {a b : ℕ → Z} {P₀ P P′ : ℕ → ℕ → Type 0} {x x′ : ℕ → ℕ → Z}
-    → ((i j : ℕ) → i < m → j < n → P i j ↔ P′ i j) → ((i j : ℕ) → i < m → j < n → x′ i j ≈ x i j)
-    → Decided m n a b P₀ t P x → Decided m n a b P₀ t P′ x′
-decided-cong {m} {n} {t} {a} {b} {P₀} {P} {P′} {x} {x′} h e d = record {
-  inside = λ i j hi hj s. d .inside i j hi hj (h i j hi hj .1 s);
-  flow = flow-cong e (flow-on (λ i j hi hj s. h i j hi hj .0 s) (d .flow));
-  kept = λ k y g. again k y t (d .kept k y (plan-on (λ i j hi hj s. h i j hi hj .1 s) g));
-  rest = λ k y g. ⊎-elim
-      (λ on. inl (λ i j hi hj z. h i j hi hj .0 (on i j hi hj z)))
-      (λ w. inr (record {
-        i = w .i;
-        j = w .j;
-        row = w .row;
-        col = w .col;
-        before = w .before;
-        less = omega (arith, w .less, times k (w .i) (w .j) (w .row) (w .col));
-        agree = again k y (w .i * n + w .j) (w .agree);
-      }))
-      (d .rest k y g);
-}
-  where
-    times : (k i j : ℕ) → i < m → j < n → nat k ⊗ x′ i j ≈ nat k ⊗ x i j
-    times k i j hi hj = ⊗-cong (nat k) (x′ i j) (x i j) (e i j hi hj)
+module _ {m n : ℕ} {a b : ℕ → Z} {P : ℕ → ℕ → Type 0} {x : ℕ → ℕ → Z} where
+  pub decided-start : Flow m n P x a b → Nonneg m n x → DecidedTo m n a b P 0 x
+  decided-start f pos = record { flow = f; nonneg = pos; most = λ i j hi hj l. absurd (omega arith) }
 
-    again : (k : ℕ) (y : ℕ → ℕ → Z) (s : ℕ) → Agree m n s k x y → Agree m n s k x′ y
-    again k y s w i j hi hj l = omega (arith, w i j hi hj l, times k i j hi hj)
+  decided-next : (p q : ℕ) {t : ℕ} → q < n → p * n + q ≡ t → Most m n a b P x p q → DecidedTo m n a b P t x → DecidedTo m n a b P (suc t) x
+  unfolding place
+  decided-next p q {t} hq e h d = record {
+    flow = d .flow;
+    nonneg = d .nonneg;
+    most = λ i j hi hj l. by-cases (decLt (i * n + j) t)
+        (λ s. d .most i j hi hj s)
+        (λ s. here i j (place-injective n i j p q hj hq (omega arith)));
+  }
+    where
+      here : (i j : ℕ) → (i ≡ p) × (j ≡ q) → Most m n a b P x i j
+      here i j s = rw (s .0, s .1) h
 
-module _ {m n : ℕ} {a b : ℕ → Z} {P₀ : ℕ → ℕ → Type 0} where
-  pub decided-start : {x : ℕ → ℕ → Z} → Flow m n P₀ x a b → Decided m n a b P₀ 0 P₀ x
-  decided-start f = record {
-    inside = λ i j hi hj s. s;
+  -- another plan that has the same bags on the decided lanes
+  pub decided-other : {t : ℕ} {x′ : ℕ → ℕ → Z} → Flow m n P x′ a b → Nonneg m n x′ → ((i j : ℕ) → i < m → j < n → i * n + j < t → x′ i j ≈ x i j)
+      → DecidedTo m n a b P t x → DecidedTo m n a b P t x′
+  decided-other {t} {x′} f pos same d = record {
     flow = f;
-    kept = λ k y g i j hi hj l. absurd (omega arith);
-    rest = λ k y g. inl (g .flow .on);
+    nonneg = pos;
+    most = λ i j hi hj l k y g e. omega (
+      arith,
+      d .most i j hi hj l k y g (λ i′ j′ hi′ hj′ l′. omega (arith, e i′ j′ hi′ hj′ l′, times k i′ j′ hi′ hj′ (omega arith))),
+      times k i j hi hj l,
+    );
+  }
+    where
+      times : (k i j : ℕ) → i < m → j < n → i * n + j < t → nat k ⊗ x′ i j ≈ nat k ⊗ x i j
+      times k i j hi hj l = ⊗-cong (nat k) (x′ i j) (x i j) (same i j hi hj l)
+
+  -- the same lanes, written otherwise
+  pub decided-on : {t : ℕ} {P′ : ℕ → ℕ → Type 0} → ((i j : ℕ) → i < m → j < n → P i j ↔ P′ i j) → DecidedTo m n a b P t x → DecidedTo m n a b P′ t x
+  decided-on h d = record {
+    flow = flow-on (λ i j hi hj s. h i j hi hj .0 s) (d .flow);
+    nonneg = d .nonneg;
+    most = λ i j hi hj l k y g e. d .most i j hi hj l k y (plan-on (λ i j hi hj s. h i j hi hj .1 s) g) e;
   }
 
-  module _ {t : ℕ} {P : ℕ → ℕ → Type 0} {x : ℕ → ℕ → Z} (d : Decided m n a b P₀ t P x) where
-    -- A phase decides lane t. Its plan x′ is one on P, so it agrees with x before t. A plan that was left carries at most as much as x′ on lane t;
-    -- if it carries as much it is on the lanes kept, and else it differs from x′ there first.
-    pub decided-phase : {p q : ℕ} {u v : ℕ → Z} {x′ : ℕ → ℕ → Z} → p * n + q ≡ t → Phase m n P p q u v
-        → Flow m n (Kept P p q u v) x′ a b → Nonneg m n x′ → Decided m n a b P₀ (suc t) (Kept P p q u v) x′
-    unfolding place
-    decided-phase {p} {q} {u} {v} {x′} e ph f pos = record {
-      inside = λ i j hi hj s. d .inside i j hi hj (s .0);
-      flow = f;
-      kept = λ k y g i j hi hj l. by-cases (decLt (i * n + j) t)
-          (λ s. again k y t (omega arith) (d .kept k y (plan-on (λ i j hi hj s. s .0) g)) i j hi hj s)
-          (λ s. here k y g i j (place-injective n i j p q hj (ph .col) (omega arith)));
-      rest = λ k y g. ⊎-elim (λ on. at-lane k y (plan-restrict on g)) (λ w. inr (before-lane k y w)) (d .rest k y g);
-    }
-      where
-        times : (k i j : ℕ) → i < m → j < n → i * n + j < t → nat k ⊗ x′ i j ≈ nat k ⊗ x i j
-        times k i j hi hj l = ⊗-cong (nat k) (x′ i j) (x i j) (omega (arith, d .kept 1 x′ (plan-whole (flow-on (λ i j hi hj s. s .0) f) pos) i j hi hj l))
+  -- A lane that is not of P is empty in every plan on P.
+  pub decided-shut : {p q : ℕ} → p < m → q < n → ¬ P p q → DecidedTo m n a b P (p * n + q) x → DecidedTo m n a b P (suc (p * n + q)) x
+  decided-shut {p} {q} hp hq shut d = decided-next p q hq refl
+      (λ k y g e. omega (arith, on-zero y (g .flow .on) p q hp hq shut, ⊗-cong (nat k) (x p q) (nat 0) (on-zero x (d .flow .on) p q hp hq shut))) d
 
-        again : (k : ℕ) (y : ℕ → ℕ → Z) (s : ℕ) → s ≤ t → Agree m n s k x y → Agree m n s k x′ y
-        again k y s le h i j hi hj l = omega (arith, h i j hi hj l, times k i j hi hj (omega arith))
+  -- If there is no other plan on P, in k-ths too, all lanes are decided.
+  pub decided-single : {t : ℕ} → ((k : ℕ) (y : ℕ → ℕ → Z) → Plan m n P k y a b → (i j : ℕ) → i < m → j < n → y i j ≈ nat k ⊗ x i j) → DecidedTo m n a b P 0 x
+      → DecidedTo m n a b P t x
+  decided-single single d = record {
+    flow = d .flow;
+    nonneg = d .nonneg;
+    most = λ i j hi hj l k y g e. let same = single k y g i j hi hj in omega arith;
+  }
 
-        here : (k : ℕ) (y : ℕ → ℕ → Z) → Plan m n (Kept P p q u v) k y a b → (i j : ℕ) → (i ≡ p) × (j ≡ q) → y i j ≈ nat k ⊗ x′ i j
-        here k y g i j s = rw (s .0, s .1) (phase-kept ph f (plan-on (λ i j hi hj s. s .0) g) .1 (g .flow .on))
+  -- All lanes are decided: on the first lane where a plan on P differs from x, it carries less.
+  pub decided-all : DecidedTo m n a b P (m * n) x → {k : ℕ} {y : ℕ → ℕ → Z} → Plan m n P k y a b
+      → (i j : ℕ) → i < m → j < n → Agree m n (i * n + j) k x y → ¬ (y i j ≈ nat k ⊗ x i j) → y i j ≺ nat k ⊗ x i j
+  decided-all d {k} {y} g i j hi hj before differs = omega (arith, d .most i j hi hj (omega (arith, mul-le-mul-right n hi)) k y g before)
 
-        at-lane : (k : ℕ) (y : ℕ → ℕ → Z) → Plan m n P k y a b → On m n (Kept P p q u v) y ⊎ FirstLess m n (suc t) k x′ y
-        at-lane k y g = by-cases (≈-dec (y p q) (nat k ⊗ x′ p q)) (λ z. inl (phase-kept ph f g .0 z)) (λ z. inr (record {
-          i = p;
-          j = q;
-          row = ph .row;
-          col = ph .col;
-          before = omega arith;
-          less = omega (arith, phase-most ph f g);
-          agree = again k y (p * n + q) (omega arith) (λ i j hi hj l. d .kept k y g i j hi hj (omega arith));
-        }))
+-- On a basis there is one plan alone: a flow on it is determined by its margins.
+pub basis-single : {m n K k : ℕ} {r c : ℕ → ℕ} {a b : ℕ → Z} {x y : ℕ → ℕ → Z} → Basis m n K r c → Flow m n (In r c (suc K)) x a b
+    → Plan m n (In r c (suc K)) k y a b → (i j : ℕ) → i < m → j < n → y i j ≈ nat k ⊗ x i j
+basis-single {k = k} w f g = flow-unique w (g .flow) (flow-scale (nat k) f)
 
-        before-lane : (k : ℕ) (y : ℕ → ℕ → Z) → FirstLess m n t k x y → FirstLess m n (suc t) k x′ y
-        before-lane k y w = record {
-          i = w .i;
-          j = w .j;
-          row = w .row;
-          col = w .col;
-          before = omega arith;
-          less = omega (arith, w .less, times k (w .i) (w .j) (w .row) (w .col) (w .before));
-          agree = again k y (w .i * n + w .j) (omega arith) (w .agree);
-        }
+-- ---- when a lane is decided
+-- The columns C are closed: a row after p that has bags on one of them has no lane of P to another column.
+abbrev pub Closed : ℕ → ℕ → (ℕ → ℕ → Type 0) → (ℕ → ℕ → Z) → ℕ → (ℕ → Bool) → Type 0
+Closed m n P x p C = (i j k : ℕ) → p < i → i < m → j < n → k < n → C j ≡ true → nat 0 ≺ x i j → P i k → C k ≡ true
 
-    -- A lane that is not allowed needs no phase: no plan left carries anything on it.
-    pub decided-skip : {p q : ℕ} → p < m → q < n → p * n + q ≡ t → ¬ P p q → Decided m n a b P₀ (suc t) P x
-    unfolding place
-    decided-skip {p} {q} hp hq e shut = record {
-      inside = d .inside;
-      flow = d .flow;
-      kept = λ k y g i j hi hj l. by-cases (decLt (i * n + j) t)
-          (λ s. d .kept k y g i j hi hj s)
-          (λ s. here k y g i j (place-injective n i j p q hj hq (omega arith)));
-      rest = λ k y g. ⊎-elim inl (λ w. inr (later (omega arith) w)) (d .rest k y g);
-    }
-      where
-        here : (k : ℕ) (y : ℕ → ℕ → Z) → Plan m n P k y a b → (i j : ℕ) → (i ≡ p) × (j ≡ q) → y i j ≈ nat k ⊗ x i j
-        here k y g i j s = rw (s .0, s .1)
-            (omega (arith, on-zero y (g .flow .on) p q hp hq shut, ⊗-cong (nat k) (x p q) (nat 0) (on-zero x (d .flow .on) p q hp hq shut)))
+-- Nothing can be brought onto lane (p, q): column q is in C, and row p has no bags on later columns of C.
+pub record Stuck (m n : ℕ) (P : ℕ → ℕ → Type 0) (x : ℕ → ℕ → Z) (p q : ℕ) (C : ℕ → Bool) : Type 0 where
+  pub closed : Closed m n P x p C
+  pub here : C q ≡ true
+  pub clear : (j : ℕ) → q < j → j < n → C j ≡ true → x p j ≈ nat 0
 
-    -- Where only cells of one basis are still allowed all lanes are decided: a flow on a basis is determined by its margins.
-    pub decided-rest : {K : ℕ} {r c : ℕ → ℕ} → t ≤ m * n → Basis m n K r c → ((i j : ℕ) → i < m → j < n → P i j → In r c (suc K) i j)
-        → Decided m n a b P₀ (m * n) P x
-    decided-rest l w h = record {
-      inside = d .inside;
-      flow = d .flow;
-      kept = λ k y g i j hi hj s. flow-unique w (flow-on h (g .flow)) (flow-on h (flow-scale (nat k) (d .flow))) i j hi hj;
-      rest = λ k y g. ⊎-elim inl (λ s. inr (later l s)) (d .rest k y g);
-    }
+abbrev one : Bool → Z
+one s = cond s (nat 1) (nat 0)
 
-  module _ {P : ℕ → ℕ → Type 0} {x : ℕ → ℕ → Z} (d : Decided m n a b P₀ (m * n) P x) where
-    -- All lanes are decided: on the first lane where a plan on P₀ differs from x, it carries less.
-    pub settled : {k : ℕ} {y : ℕ → ℕ → Z} → Plan m n P₀ k y a b
-        → (i j : ℕ) → i < m → j < n → Agree m n (i * n + j) k x y → ¬ (y i j ≈ nat k ⊗ x i j) → y i j ≺ nat k ⊗ x i j
-    unfolding place
-    settled {k} {y} g i j hi hj before differs = ⊎-elim
-        (λ on. absurd (differs (d .kept k y (plan-restrict on g) i j hi hj (place-below m n i j hi hj))))
-        (λ w. first w (decLt (w .i * n + w .j) (i * n + j)) (decLt (i * n + j) (w .i * n + w .j)))
-        (d .rest k y g)
-      where
-        first : (w : FirstLess m n (m * n) k x y) → Dec (w .i * n + w .j < i * n + j) → Dec (i * n + j < w .i * n + w .j) → y i j ≺ nat k ⊗ x i j
-        first w (yes s) s′ = absurd (omega (arith, before (w .i) (w .j) (w .row) (w .col) s, w .less))
-        first w (no s) (yes s′) = absurd (differs (w .agree i j hi hj s′))
-        first w (no s) (no s′) = let e : (i ≡ w .i) × (j ≡ w .j) = place-injective n i j (w .i) (w .j) hj (w .col) (omega arith) in rw (e .0, e .1) (w .less)
+-- Let z = y − k·x for a rival y. Its rows and columns add up to 0. Take it on the columns of C only: rows before p have none. A row after p that has bags on C
+-- has its whole z on C, which adds up to 0; one that has no bags there has a z that is not negative. So row p's z on C adds up to at most 0. Before q it is 0,
+-- after q it is not negative: so on lane (p, q) it is at most 0.
+module _ {m n p q k : ℕ} {a b : ℕ → Z} {P : ℕ → ℕ → Type 0} {x y : ℕ → ℕ → Z} {C : ℕ → Bool} (hp : p < m) (hq : q < n)
+    (f : Flow m n P x a b) (pos : Nonneg m n x) (s : Stuck m n P x p q C) (g : Plan m n P k y a b) (e : Agree m n (p * n + q) k x y) where
+  abbrev z : ℕ → ℕ → Z
+  z i j = y i j ⊖ nat k ⊗ x i j
 
--- The settled plan. P₀ are the tight lanes of a finished tableau, whose reduced costs are nowhere negative. The plans of least cost are exactly those on
--- tight lanes, so of all plans of least cost, in k-ths too, x carries more on the first lane where it differs from another.
-pub settled-least : {m n k : ℕ} {a b : ℕ → Z} {P : ℕ → ℕ → Type 0} {x y : ℕ → ℕ → Z} (c : ℕ → ℕ → Z) (u v : ℕ → Z)
-    → Decided m n a b (Tight c u v) (m * n) P x → Plan m n (Feasible c u v) k y a b → cost m n c y ≈ nat k ⊗ cost m n c x
-    → (i j : ℕ) → i < m → j < n → Agree m n (i * n + j) k x y → ¬ (y i j ≈ nat k ⊗ x i j) → y i j ≺ nat k ⊗ x i j
-settled-least c u v d g e = settled d (plan-restrict (least-tight c u v (flow-on (d .inside) (d .flow)) g .0 e) g)
+  part : ℕ → ℕ → Z
+  part i j = one (C j) ⊗ z i j
+
+  row-zero : (i : ℕ) → i < m → sum n (z i) ≈ nat 0
+  row-zero i l = omega (
+    arith,
+    sum-sub n (y i) (λ j. nat k ⊗ x i j),
+    sum-scale n (nat k) (x i),
+    ⊗-cong (nat k) (sum n (x i)) (a i) (f .rows i l),
+    g .flow .rows i l,
+  )
+
+  col-zero : (j : ℕ) → j < n → sum m (λ i. z i j) ≈ nat 0
+  col-zero j l = omega (
+    arith,
+    sum-sub m (λ i. y i j) (λ i. nat k ⊗ x i j),
+    sum-scale m (nat k) (λ i. x i j),
+    ⊗-cong (nat k) (sum m (λ i. x i j)) (b j) (f .cols j l),
+    g .flow .cols j l,
+  )
+
+  on-lanes : (i j : ℕ) → i < m → j < n → ¬ (z i j ≈ nat 0) → P i j
+  on-lanes i j hi hj d = by-cases (≈-dec (y i j) (nat 0))
+      (λ o. f .on i j hi hj (λ o′. d (omega (arith, ⊗-cong (nat k) (x i j) (nat 0) o′))))
+      (λ o. g .flow .on i j hi hj o)
+
+  -- where x has no bags, z is not negative
+  empty : (i j : ℕ) → i < m → j < n → x i j ≈ nat 0 → nat 0 ≼ z i j
+  empty i j hi hj o = omega (arith, ⊗-cong (nat k) (x i j) (nat 0) o, g .nonneg i j hi hj)
+
+  part-in : (i j : ℕ) → C j ≡ true → part i j ≈ z i j
+  unfolding part
+  part-in i j o = rw o (omega arith)
+
+  part-out : (i j : ℕ) → ¬ (C j ≡ true) → part i j ≈ nat 0
+  unfolding part
+  part-out i j o = go (C j) o
+    where
+      go : (s : Bool) → ¬ (s ≡ true) → one s ⊗ z i j ≈ nat 0
+      go true h = absurd (h refl)
+      go false h = omega arith
+
+  before-row : (i : ℕ) → i < p → sum n (part i) ≈ nat 0
+  before-row i l = sum-zero n (part i) (λ j hj. by-cases (Bool-discrete (C j) true)
+      (λ o. omega (arith, part-in i j o, e i j (omega arith) hj (omega (arith, mul-le-mul-right n l))))
+      (part-out i j))
+
+  -- It has bags on a column of C, and so its whole z there ..
+  whole-row : (i j : ℕ) → p < i → i < m → j < n → C j ≡ true → nat 0 ≺ x i j → sum n (part i) ≈ sum n (z i)
+  whole-row i j l hi hj o u = sum-cong n (part i) (z i) (λ j′ hj′. by-cases (Bool-discrete (C j′) true)
+      (part-in i j′)
+      (λ o′. by-cases (≈-dec (z i j′) (nat 0))
+      (λ d. omega (arith, part-out i j′ o′))
+      (λ d. absurd (o′ (s .closed i j j′ l hi hj hj′ o u (on-lanes i j′ hi hj′ d))))))
+
+  -- .. or none.
+  later-row : (i : ℕ) → p < i → i < m → nat 0 ≼ sum n (part i)
+  later-row i l hi = ⊎-elim
+      (λ (j, hj, (o, u)). omega (arith, row-zero i hi, whole-row i j l hi hj o u))
+      (λ h. sum-nonneg n (part i) h)
+      (some-or-all n (λ j. (C j ≡ true) × (nat 0 ≺ x i j)) (λ j. nat 0 ≼ part i j) (λ j hj. by-cases (Bool-discrete (C j) true)
+      (λ o. by-cases (≼-dec (x i j) (nat 0))
+      (λ u. inr (omega (arith, part-in i j o, empty i j hi hj (omega (arith, pos i j hi hj)))))
+      (λ u. inl (o, omega arith)))
+      (λ o. inr (omega (arith, part-out i j o)))))
+
+  total : sum m (λ i. sum n (part i)) ≈ nat 0
+  unfolding part
+  total = omega (arith, sum₂-cols m n z (λ j. one (C j)) (λ j. nat 0) col-zero, sum-zero n (λ j. one (C j) ⊗ nat 0) (λ j l. omega arith))
+
+  own-row : nat 0 ≺ z p q → nat 0 ≺ sum n (part p)
+  own-row l = omega (arith, part-in p q (s .here), sum-each n (part p) each q hq)
+    where
+      each : (j : ℕ) → j < n → nat 0 ≼ part p j
+      each j hj = by-cases (Bool-discrete (C j) true)
+          (λ o. by-cases (decLt j q)
+          (λ u. omega (arith, part-in p j o, e p j hp hj (omega arith)))
+          (λ u. by-cases (ℕ-discrete j q)
+          (λ d. rw d (omega (arith, part-in p q (s .here))))
+          (λ d. omega (arith, part-in p j o, empty p j hp hj (s .clear j (omega arith) hj o)))))
+          (λ o. omega (arith, part-out p j o))
+
+  stuck-most : y p q ≼ nat k ⊗ x p q
+  stuck-most = by-cases (≼-dec (z p q) (nat 0)) (λ l. omega arith) (λ l.
+      let own : nat 0 ≺ sum n (part p) = own-row (omega arith) in
+      absurd (omega (arith, total, sum-each m (λ i. sum n (part i)) (each own) p hp)))
+    where
+      each : nat 0 ≺ sum n (part p) → (i : ℕ) → i < m → nat 0 ≼ sum n (part i)
+      each own i hi = by-cases (decLt i p)
+          (λ l. omega (arith, before-row i l))
+          (λ l. by-cases (ℕ-discrete i p) (λ d. rw d (omega arith)) (λ d. later-row i (omega arith) hi))
+
+-- So the lane is decided.
+pub decided-stuck : {m n p q : ℕ} {a b : ℕ → Z} {P : ℕ → ℕ → Type 0} {x : ℕ → ℕ → Z} {C : ℕ → Bool} → p < m → q < n → Stuck m n P x p q C
+    → DecidedTo m n a b P (p * n + q) x → DecidedTo m n a b P (suc (p * n + q)) x
+decided-stuck {p = p} {q = q} hp hq s d = decided-next p q hq refl (λ k y g e. stuck-most hp hq (d .flow) (d .nonneg) s g e) d
+
+-- ---- several lanes of a row
+module _ {m n p : ℕ} {a b : ℕ → Z} {P : ℕ → ℕ → Type 0} {x : ℕ → ℕ → Z} (hp : p < m) where
+  -- Lanes from q on, of which each is decided if those before it are.
+  decided-along : (c q : ℕ) → q + c ≤ n → ((j : ℕ) → q ≤ j → j < q + c → DecidedTo m n a b P (p * n + j) x → DecidedTo m n a b P (suc (p * n + j)) x)
+      → DecidedTo m n a b P (p * n + q) x → DecidedTo m n a b P (p * n + (q + c)) x
+  decided-along zero q l h d = let e : q + 0 ≡ q = omega arith in rw e d
+  decided-along (suc c) q l h d =
+      let e : p * n + (q + suc c) ≡ suc (p * n + (q + c)) = omega arith in
+      rw e (h (q + c) (omega arith) (omega arith) (decided-along c q (omega arith) (λ j u v. h j u (omega arith)) d))
+
+  -- Lanes that are not of P.
+  pub decided-past : {q c : ℕ} → q ≤ c → c ≤ n → ((j : ℕ) → q ≤ j → j < c → ¬ P p j) → DecidedTo m n a b P (p * n + q) x → DecidedTo m n a b P (p * n + c) x
+  decided-past {q} {c} l l′ h d =
+      let e : q + (c - q) ≡ c = omega arith in
+      rw e at (decided-along (c - q) q (omega arith) (λ j u v. decided-shut hp (omega arith) (h j u (omega arith))) d)
+
+  -- Row p has no bags after column q: nothing can be brought onto a lane from q on, whatever the other rows have.
+  pub decided-end : {q : ℕ} → q ≤ n → ((j : ℕ) → q < j → j < n → x p j ≈ nat 0) → DecidedTo m n a b P (p * n + q) x → DecidedTo m n a b P (p * n + n) x
+  decided-end {q} l clear d =
+      let e : q + (n - q) ≡ n = omega arith in
+      rw e at (decided-along (n - q) q (omega arith) (λ j u v. decided-stuck hp (omega arith) (stuck j u)) d)
+    where
+      stuck : (j : ℕ) → q ≤ j → Stuck m n P x p j (λ k. true)
+      stuck j u = record { closed = λ i k l v hi hk hl o w t. refl; here = refl; clear = λ k v hk o. clear k (omega arith) hk }
+
+-- ---- bringing bags onto a lane
+-- A circuit that takes from lanes with at least θ bags: first from lane (p, c 0) with q < c 0, and last it puts on lane (p, q). Between, it goes over later
+-- rows.
+pub record Brings (m n : ℕ) (P : ℕ → ℕ → Type 0) (x : ℕ → ℕ → Z) (p q : ℕ) (θ : Z) (K : ℕ) (r c : ℕ → ℕ) : Type 0 where
+  pub circuit : Circuit m n (suc K) r c
+  pub start : r 0 ≡ p
+  pub later : (k : ℕ) → 0 < k → k < suc K → p < r k
+  pub goal : q < c 0
+  pub ends : c K ≡ q
+  pub lanes : (k : ℕ) → k < suc K → P (r (suc k)) (c k)
+  pub bags : (k : ℕ) → k < suc K → θ ≼ x (r k) (c k)
+  pub some : nat 0 ≺ θ
+
+module _ {m n p q K : ℕ} {P : ℕ → ℕ → Type 0} {x : ℕ → ℕ → Z} {θ : Z} {r c : ℕ → ℕ} (w : Brings m n P x p q θ K r c) where
+  own : (j : ℕ) → around r c (suc K) p j ≈ point q (nat 1) j ⊖ point (c 0) (nat 1) j
+  own j = rw (← w .start) (omega (arith, first-row (w .circuit) K refl j, last))
+    where
+      last : point (c K) (nat 1) j ≈ point q (nat 1) j
+      last = rw (w .ends) (omega arith)
+
+  -- Lane (p, q) gets θ more, ..
+  pub brought-here : moved r c (suc K) θ x p q ≈ x p q ⊕ θ
+  brought-here = omega (arith, ⊗-cong θ (around r c (suc K) p q) (nat 1) all)
+    where
+      all : around r c (suc K) p q ≈ nat 1
+      all = rw (point-at q (nat 1), point-off (c 0) (nat 1) q (omega (arith, w .goal))) at (own q)
+
+  -- .. another lane of row p no more than it has, ..
+  pub brought-beside : (j : ℕ) → j ≢ q → moved r c (suc K) θ x p j ≼ x p j
+  brought-beside j d = by-cases (ℕ-discrete j (c 0))
+      (λ e. omega (arith, w .some, ⊗-cong θ (around r c (suc K) p j) (nat 0 ⊖ nat 1) (first e)))
+      (λ e. omega (arith, ⊗-cong θ (around r c (suc K) p j) (nat 0) (other e)))
+    where
+      first : j ≡ c 0 → around r c (suc K) p j ≈ nat 0 ⊖ nat 1
+      first e = rw e (omega (arith, rw (point-off q (nat 1) (c 0) (omega (arith, w .goal)), point-at (c 0) (nat 1)) at (own (c 0))))
+
+      other : j ≢ c 0 → around r c (suc K) p j ≈ nat 0
+      other e = rw (point-off q (nat 1) j d, point-off (c 0) (nat 1) j e) at (own j)
+
+  -- .. and the lanes before it keep what they have.
+  brought-before : (i j : ℕ) → j < n → i * n + j < p * n + q → q < n → moved r c (suc K) θ x i j ≈ x i j
+  brought-before i j hj l hq = omega (arith, ⊗-cong θ (around r c (suc K) i j) (nat 0) none)
+    where
+      before-row : i < p → (k : ℕ) → k < suc K → r k ≢ i
+      before-row s k u = by-cases (ℕ-discrete k 0) (λ d. rw d (omega (arith, w .start))) (λ d. omega (arith, w .later k (omega arith) u))
+
+      same-row : i ≡ p → around r c (suc K) i j ≈ nat 0
+      same-row d =
+          let u : j < q = omega (arith, ap (λ (t : ℕ). t * n) d) in
+          rw d (rw (point-off q (nat 1) j (omega arith), point-off (c 0) (nat 1) j (omega (arith, w .goal))) at (own j))
+
+      none : around r c (suc K) i j ≈ nat 0
+      none = by-cases (decLt i p) (λ s. off-row (w .circuit) i j (before-row s)) (λ s. by-cases (ℕ-discrete i p) same-row (λ d.
+          let u : p < i = omega arith in absurd (omega (arith, mul-le-mul-right n u))))
+
+  -- The plan stays one on P, and its decided lanes stay decided.
+  pub brought : {a b : ℕ → Z} → q < n → DecidedTo m n a b P (p * n + q) x → DecidedTo m n a b P (p * n + q) (moved r c (suc K) θ x)
+  brought hq d = decided-other
+      (moved-flow (w .circuit) θ (λ k l. (taken k l, w .lanes k l)) (d .flow))
+      (moved-nonneg (w .circuit) x θ (omega (arith, w .some)) (w .bags) (d .nonneg))
+      (λ i j hi hj l. brought-before i j hj l hq)
+      d
+    where
+      taken : (k : ℕ) → k < suc K → P (r k) (c k)
+      taken k l = d .flow .on (r k) (c k) (w .circuit .rows k l) (w .circuit .cols k l) (λ o. omega (arith, w .bags k l, w .some))
+
+  -- Columns that the circuit does not touch keep their bags, and stay closed.
+  pub brought-off : (i j : ℕ) → ((k : ℕ) → k < suc K → c k ≢ j) → moved r c (suc K) θ x i j ≈ x i j
+  brought-off i j h = omega (arith, ⊗-cong θ (around r c (suc K) i j) (nat 0) (off-col (w .circuit) i j h))
+
+  pub brought-closed : {C : ℕ → Bool} → ((k : ℕ) → k < suc K → ¬ (C (c k) ≡ true)) → Closed m n P x p C → Closed m n P (moved r c (suc K) θ x) p C
+  brought-closed h closed i j k l hi hj hk o u t = closed i j k l hi hj hk o (omega (arith, brought-off i j (λ k l d. h k l (rw d o)))) t

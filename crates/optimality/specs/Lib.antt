@@ -1,3 +1,2 @@
 pub mod Finished
-pub mod Phases
 pub mod Settling

@@ -1,23 +1,42 @@
 -- The board of a finished tableau: from it settling starts, and what it ends with is the settled plan.
-use mathlib.Core.Path.{_≡_, _∙_}
-use mathlib.Core.Bool.{true}
+use mathlib.Core.Path.{_≡_, sym, _∙_}
+use mathlib.Core.Logic.{_↔_, by-cases}
+use mathlib.Core.Bool.{true, false≢true}
 use mathlib.Core.List.{List, _++_}
 use Prim.Native.Nat.{ℕ, _+_, _*_, _<_}
+use native.Mathlib.Omega.{arith}
+use native.Mathlib.Decide.{decLt}
 use lib.IntN.{ℤ, pos}
 use lib.ListN.{getD, drop}
+use Rattle.integers.specs.Integer.{_≈_, nat}
+use Rattle.integers.specs.IntegerLaws.{⊗-cong}
+use Rattle.network.specs.Flow.{Plan, Tight}
+use Rattle.network.specs.FlowLaws.{flow-cong, flow-on, plan-on}
+use Rattle.network.specs.Settling.{DecidedTo, decided-start, decided-on, decided-other}
+use Rattle.transport.specs.Lists.{table}
+use Rattle.transport.specs.Laws.ListLaws.{length-table}
 use Rattle.transport.specs.Problem.{Problem, sources, sinks}
+use Rattle.transport.specs.Laws.Sound.{supply-most}
 use Rattle.transport.specs.Sheet.{Sheet, problemOf}
+use Rattle.transport.specs.Amount.{nothing}
 use Rattle.transport.specs.Potential.{potential, isFinished}
 use Rattle.transport.specs.Plan.{settled}
-use Rattle.transport.specs.Lists.{table}
+use Rattle.transport.specs.Statements.{Basic, Belongs}
 use Rattle.transport.specs.declared.Cell.{Cell}
+use Rattle.tableaux.specs.View.{amount-none}
+use Rattle.tableaux.specs.Belonging.{belongs-iff}
+use Rattle.tableaux.specs.TableauView.{bagsAt}
+use Rattle.tableaux.specs.PlanView.{carried, supplies, demands, costs}
+use Rattle.tableaux.specs.ProblemPlans.{flowCost, Optimal}
+use Rattle.tableaux.specs.Least.{rowPotential, columnPotential, finished-feasible}
+use Rattle.optimality.specs.Settling.{tight-lanes, settling-start, basics-single, decided-optimal}
 use Rattle.reduction.specs.Reduction.{optimal-settled}
+use Rattle.board.specs.Held.{row-basic, basic-row}
 use Rattle.rounds.specs.Boards.{Board}
+use Rattle.settle.specs.Bags.{laneBags, InMask, OnBasics}
+use Rattle.settle.specs.Rows.{Settleable}
 use Rattle.settle.specs.Tight.{Ranged, TightLanes, tight-same, tight-ranged}
-use Rattle.settle.specs.Plan.{bagsIn, NoDebt, Written}
-use Rattle.settle.specs.Laid.{laid-debtless}
-use Rattle.settle.specs.Stage.{Stage, stage-start, stage-optimal}
-use Rattle.settle.specs.Reach.{AtStage, Reaches}
+use Rattle.settle.specs.Plan.{bagsIn, NoDebt, Written, debtless, plan-carries}
 
 -- The board's tableau T is finished, and the prices are its own.
 pub record Finished (P : Problem) (T : List Cell) (adj : List ℕ) (q e cost price : List ℤ) (m n : ℕ) : Type 0 where
@@ -29,28 +48,85 @@ module _ {P : Problem} {T : List Cell} {adj : List ℕ} {q e cost price : List �
   node-prices : (k : ℕ) → k < sources P + sinks P → getD price k (pos 0) ≡ potential P T k
   node-prices = rw (f .board .rows, f .board .columns) at (f .prices)
 
+  belongs : Belongs P T
+  belongs = belongs-iff P T (f .board .sound .sourcesLow) (f .board .sound .sinksLow) .0 (f .board .belongs)
+
   pub finished-ranged : Ranged cost price m n
   finished-ranged = rw (f .board .rows, f .board .columns) (tight-ranged P T (f .board .sound) (f .board .belongs) (f .board .costs .lanes) node-prices)
 
+  -- ---- where settling starts
+
+  -- The bags lie on basic lanes.
+  on-basics : OnBasics m n adj q
+  unfolding nothing
+  on-basics = record {
+    rows = finished-ranged .rows;
+    cols = finished-ranged .cols;
+    qLong = f .board .held .qLong;
+    inside = λ i j hi h.
+        let b = row-basic (f .board .held) i j hi h in
+        omega (arith, rw (b .column) at (belongs .onSheet (b .index) (b .below) .1), f .board .columns);
+    off = λ i j hi hj h. f .board .held .bags i j hi hj ∙ rw (amount-none T i j (λ b. h (basic-row (f .board .held) i j hi b)));
+  }
+
+  same-bags : (i j : ℕ) → i < m → j < n → laneBags q i j ≈ bagsAt T i j
+  same-bags i j hi hj = rw (f .board .held .bags i j hi hj) (omega arith)
+
   module _ {masks : List ℕ} (t : TightLanes cost price m n m masks) where
-    start : Stage P T 0 m n adj q e masks T
-    start = stage-start (f .board .sound) (f .board .rows) (f .board .columns) (t .long) (f .board .belongs) (f .board .held)
-        (tight-same P T (rw (f .board .rows, f .board .columns) at t) (f .board .costs .lanes) node-prices)
+    tight : (i j : ℕ) → i < m → j < n → InMask masks i j ↔ Tight (costs P) (rowPotential P T) (columnPotential P T) i j
+    tight i j hi hj =
+        let same = tight-same P T (rw (f .board .rows, f .board .columns) at t) (f .board .costs .lanes) node-prices in
+        rw (same i j (omega (arith, f .board .rows)) (omega (arith, f .board .columns))) (tight-lanes P T i j)
 
-    pub finished-start : AtStage 0 m n adj q e masks
-    finished-start = record { problem = P; first = T; tableau = T; stage = start }
+    start : DecidedTo m n (supplies P) (demands P) (InMask masks) 0 (laneBags q)
+    start =
+        let d = settling-start (f .board .sound) belongs in
+        let d : DecidedTo m n (supplies P) (demands P) (Tight (costs P) (rowPotential P T) (columnPotential P T)) 0 (bagsAt T) =
+        rw (f .board .rows, f .board .columns) d in
+        decided-start (flow-cong same-bags (flow-on (λ i j hi hj s. tight i j hi hj .1 s) (d .flow)))
+        (λ i j hi hj. omega (arith, same-bags i j hi hj, d .nonneg i j hi hj))
 
-    module _ {adj′ masks′ : List ℕ} {q′ e′ : List ℤ} (r : Reaches 0 (m * n) m n adj q e masks adj′ q′ e′ masks′) where
-      end : (T′ : List Cell) × Stage P T (m * n) m n adj′ q′ e′ masks′ T′
-      end = r .stage P T T start
+    pub finished-settleable : Settleable m n (supplies P) (demands P) masks adj q
+    finished-settleable = record {
+      plan = start;
+      most = λ i hi. omega (arith, supply-most (f .board .sound) i);
+      inside = λ i j hi h. by-cases (decLt j n) (λ l. l) (λ l. absurd (false≢true (sym (t .rows i hi .past j (omega arith)) ∙ h)));
+      onBasics = on-basics;
+      single = λ k y g i j hi hj.
+          let g : Plan (sources P) (sinks P) (Basic T) k y (supplies P) (demands P) =
+          rw (f .board .rows, f .board .columns) at (plan-on (λ i j hi hj h. row-basic (f .board .held) i j hi h) g) in
+          omega (
+            arith,
+            basics-single (f .board .sound) belongs k y g i j (omega (arith, f .board .rows)) (omega (arith, f .board .columns)),
+            ⊗-cong (nat k) (laneBags q i j) (bagsAt T i j) (same-bags i j hi hj),
+          );
+    }
 
-      -- No bags are owed at the end.
+    -- ---- where it ends
+
+    module _ (q′ : List ℤ) (d : DecidedTo m n (supplies P) (demands P) (InMask masks) (m * n) (laneBags q′)) where
       pub settled-debtless : NoDebt m n q′
-      settled-debtless = laid-debtless (end .1 .laid)
+      settled-debtless = debtless q′ (d .nonneg)
 
--- .. and they are the settled plan of the sheet behind which the problem stands.
+      abbrev plan : List ℕ
+      plan = table (m * n) (bagsIn n q′)
+
+      at-end : DecidedTo m n (supplies P) (demands P) (Tight (costs P) (rowPotential P T) (columnPotential P T)) (m * n) (carried n plan)
+      at-end =
+          let same = plan-carries q′ (d .nonneg) in
+          let d = decided-on tight d in
+          decided-other (flow-cong same (d .flow)) (λ i j hi hj. omega arith) (λ i j hi hj l. same i j hi hj) d
+
+      settled-optimal : Optimal P plan (flowCost P plan)
+      settled-optimal =
+          let d = rw (f .board .rows, f .board .columns) at at-end in
+          rw (f .board .rows, f .board .columns)
+          (decided-optimal P (rowPotential P T) (columnPotential P T) (finished-feasible P T (f .done)) _
+          (length-table (bagsIn (sinks P) q′) (sources P * sinks P)) d)
+
+-- The bags are the settled plan of the sheet behind which the problem stands.
 module _ (S : Sheet) {T : List Cell} {adj : List ℕ} {q e cost price : List ℤ} {m n : ℕ} (f : Finished (problemOf S) T adj q e cost price m n)
-    {masks : List ℕ} (t : TightLanes cost price m n m masks)
-    {adj′ masks′ : List ℕ} {q′ e′ : List ℤ} (r : Reaches 0 (m * n) m n adj q e masks adj′ q′ e′ masks′) where
+    {masks : List ℕ} (t : TightLanes cost price m n m masks) (q′ : List ℤ)
+    (d : DecidedTo m n (supplies (problemOf S)) (demands (problemOf S)) (InMask masks) (m * n) (laneBags q′)) where
   pub settled-written : {old new : List ℕ} → Written n q′ (m * n) old new → new ≡ settled S ++ drop (m * n) old
-  settled-written w = w .is ∙ rw (optimal-settled S (table (m * n) (bagsIn n q′)) _ (stage-optimal (end f t r .1) (f .done)))
+  settled-written w = w .is ∙ rw (optimal-settled S (table (m * n) (bagsIn n q′)) _ (settled-optimal f t q′ d))

@@ -1,5 +1,5 @@
 // The settled plan from the board of a finished tableau.
-use settle::decide::settle_lanes;
+use settle::lanes::settle_lanes;
 use settle::plan::store_plan;
 use settle::tight::tight_lanes;
 use transport::MAX_SIDE;
@@ -9,6 +9,7 @@ use tree::Price;
 ghost use mathlib.Core.Path.{_≡_};
 ghost use mathlib.Core.List.{List, _++_};
 ghost use Prim.Native.Nat.{_*_, _≤_};
+ghost use lib.IntN.{ℤ};
 ghost use lib.ListN.{length, drop};
 ghost use Rattle.transport.specs.Problem.{Problem};
 ghost use Rattle.transport.specs.Sheet.{Sheet, problemOf};
@@ -17,27 +18,26 @@ ghost use Rattle.transport.specs.declared.Cell.{Cell};
 ghost use Rattle.plan_calls.specs.Finished.{Finished};
 
 // Settles the board of a finished tableau: the settled plan stands in the first m × n places of the list, and the rest of it is as it was.
-// The arrays are used up.
+// The bags become the plan's.
 pub(crate) fn settle_board(
-    adj: &mut [u64; NODES],
+    adj: &[u64; NODES],
     q: &mut [i64; LANES],
-    e: &mut [i64; LANES],
     cost: &[Price; LANES],
     price: &[Price; NODES],
     plan: &mut [u64],
     m: usize,
     n: usize,
 )
-    requires { ⌜ ((P : Problem) × (T : List Cell) × Finished P T (now adj) (now q) (now e) (now cost) (now price) m n) ⌝ }
+    requires { ⌜ ((P : Problem) × (T : List Cell) × (e : List ℤ) × Finished P T (now adj) (now q) e (now cost) (now price) m n) ⌝ }
     requires { ⌜ m * n ≤ length (now plan) ⌝ }
     ensures { λ _. ⌜
-        ((S : Sheet) (T : List Cell)
-        → Finished (problemOf S) T (now (adj .entry)) (now (q .entry)) (now (e .entry)) (now (cost .entry)) (now (price .entry)) m n
+        ((S : Sheet) (T : List Cell) (e : List ℤ)
+        → Finished (problemOf S) T (now (adj .entry)) (now (q .entry)) e (now (cost .entry)) (now (price .entry)) m n
         → now (plan .exit) ≡ settled S ++ drop (m * n) (now (plan .entry)))
         ⌝ }
 {
-    let mut allowed = [0u64; MAX_SIDE];
-    tight_lanes(cost, price, &mut allowed, m, n);
-    settle_lanes(adj, q, e, &mut allowed, m, n);
+    let mut tight = [0u64; MAX_SIDE];
+    tight_lanes(cost, price, &mut tight, m, n);
+    settle_lanes(q, &tight, adj, m, n);
     store_plan(q, plan, m, n);
 }

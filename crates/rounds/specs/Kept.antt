@@ -35,8 +35,7 @@ use Rattle.tableaux.specs.Striking.{Struck, step-of, leaf-below}
 use Rattle.tableaux.specs.Potentials.{price-size, price-limit, potential-off, potential-root, potential-tight, potential-only, potential-any}
 use Rattle.tableaux.specs.Belonging.{belongs-iff, fits-of, spans-of}
 use Rattle.tableaux.specs.Entering.{entering-inside, entering-new}
-use Rattle.tree.specs.Layout.{stride, stride-is, nodeRoom, maxPotential, costOf, strikesOf}
-use Rattle.tree.specs.Layout as layout
+use Rattle.tree.specs.Layout.{stride, stride-is, nodeRoom, maxPotential, reducedAt}
 use Rattle.tree.specs.Mask.{has}
 use Rattle.tree.specs.Strikes.{strikes-room}
 use Rattle.tree.specs.Planting.{Tree}
@@ -47,7 +46,7 @@ use Rattle.board.specs.Drawing.{board-belongs}
 use Rattle.board.specs.Pivoting.{Enters, Shifts, Pivoted}
 use Rattle.rounds.specs.Costs.{Costed}
 use Rattle.rounds.specs.Slacks.{InRange, Slacks, Stale}
-use Rattle.rounds.specs.Scan.{reducedAt, Found, Scanned}
+use Rattle.rounds.specs.Scan.{Found, Scanned}
 
 -- The prices of T, 0 past the nodes.
 pub record Prices (P : Problem) (T : List Cell) (price : List ℤ) (m n : ℕ) : Type 0 where

@@ -12,13 +12,9 @@ use lib.Signed.{ltZ}
 use Rattle.integers.specs.Integer.{_≈_, _≼_, _≺_, _⊖_}
 use Rattle.integers.specs.Bridge.{toZ, eq-z, z-eq, z-add, z-neg, z-ev, !, _-'_}
 use Rattle.integers.specs.Tests.{lt-yes, lt-no, yes-lt, no-lt, abs-z}
-use Rattle.tree.specs.Layout.{stride, maxPotential}
+use Rattle.tree.specs.Layout.{stride, maxPotential, slackAt, reducedAt}
 use Rattle.rounds.specs.Lowest.{lowest, Low, lowest-low, FirstAt, FirstLow, low-first}
-use Rattle.rounds.specs.Slacks.{far, slackAt, InRange, Slacks, slacks-low, slacks-room}
-
--- The reduced cost of row i and column j: the slack less the potential of the source.
-abbrev pub reducedAt : List ℤ → List ℤ → ℕ → ℕ → ℕ → ℤ
-reducedAt cost price m i j = getD cost (j * stride + i) (pos 0) -ℤ getD price i (pos 0) -ℤ getD price (m + j) (pos 0)
+use Rattle.rounds.specs.Slacks.{far, InRange, Slacks, slacks-low, slacks-room}
 
 -- The least reduced cost of row i, from its least slack.
 abbrev pub rowReduced : List ℤ → List ℤ → ℕ → ℤ

@@ -20,7 +20,7 @@ use Rattle.integers.specs.Tests.{lt-yes, abs-z}
 use Rattle.transport.specs.Limits.{costAbove}
 use Rattle.transport.specs.Laws.ListLaws.{and-right}
 use Rattle.transport.specs.Laws.RangeLaws.{abs-diff}
-use Rattle.tree.specs.Layout.{stride, nodeRoom, maxPotential}
+use Rattle.tree.specs.Layout.{stride, nodeRoom, maxPotential, slackAt}
 use Rattle.tree.specs.Mask.{has}
 use Rattle.tree.specs.MaskLaws.{firstBits, first-below, first-above, bit-shift}
 use Rattle.tree.specs.Bits.{Least, has-least, has-rest}
@@ -30,10 +30,6 @@ use Rattle.rounds.specs.Lowest.{lesser, lowest, Low, lowest-low, Relaxin
 -- Greater than every slack: where a minimum starts.
 abbrev pub far : ℕ
 far = 2 * maxPotential
-
--- The slack of row i and column j; m is the number of rows.
-abbrev pub slackAt : List ℤ → List ℤ → ℕ → ℕ → ℕ → ℤ
-slackAt cost price m i j = getD cost (j * stride + i) (pos 0) -ℤ getD price (m + j) (pos 0)
 
 -- Costs and potentials are in the range of the scan.
 pub record InRange (cost price : List ℤ) (m n : ℕ) : Type 0 where

@@ -12,9 +12,9 @@ ghost use Prim.Native.Nat.{ℕ, _<_, _≤_};
 ghost use lib.IntN.{ℤ, pos, natAbs};
 ghost use lib.ListN.{length, getD};
 ghost use Rattle.transport.specs.Limits.{costAbove};
-ghost use Rattle.tree.specs.Layout.{stride, maxPotential};
+ghost use Rattle.tree.specs.Layout.{stride, maxPotential, slackAt};
 ghost use Rattle.rounds.specs.Lowest.{lesser, lowest, FirstAt};
-ghost use Rattle.rounds.specs.Slacks.{slackAt, InRange, Slacks, Lowered, Pending, Stale};
+ghost use Rattle.rounds.specs.Slacks.{InRange, Slacks, Lowered, Pending, Stale};
 ghost use Rattle.rounds.specs.Scan.{rowReduced, RowsFit, Scanned};
 
 // Greater than every slack: where a minimum starts.

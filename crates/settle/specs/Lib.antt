@@ -1,6 +1,9 @@
-pub mod Plan
-pub mod Tight
-pub mod Laid
-pub mod Step
+pub mod Sets
+pub mod Bags
+pub mod Way
+pub mod Sought
+pub mod Answer
 pub mod Stage
-pub mod Reach
+pub mod Rows
+pub mod Tight
+pub mod Plan

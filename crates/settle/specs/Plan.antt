@@ -1,20 +1,22 @@
 -- The bags in the arrays as a plan in sheet order.
 use mathlib.Core.Path.{_≡_, refl, sym, ap, _∙_}
-use mathlib.Core.List.{List, _++_, map}
+use mathlib.Core.List.{List, _++_}
 use Prim.Native.Nat.{ℕ, _+_, _*_, _-_, _/_, _%_, _<_, _≤_}
 use native.Mathlib.Omega.{arith}
 use native.Mathlib.Nat.{mod-lt, div-add-mod'}
-use lib.IntN.{ℤ, pos, natAbs}
-use lib.ListN.{length, getD, set, drop, length-map, length-set}
-use lib.Seq.{ext-getD, drop-drop, drop-at}
-use Rattle.transport.specs.Lists.{table}
-use Rattle.transport.specs.Laws.ListLaws.{table-zero, length-table, getD-table, fill-one, getD-map}
-use Rattle.transport.specs.Problem.{Problem, sources, sinks, lanes, place}
-use Rattle.transport.specs.Laws.ProblemLaws.{lane, place-injective, place-below, place-of, length-lanes, getD-lanes}
-use Rattle.transport.specs.declared.Cell.{Cell}
-use Rattle.tableaux.specs.Least.{bagsOn, bagsOf}
+use lib.IntN.{ℤ, pos, negsuc, natAbs}
+use lib.ListN.{length, getD, set, drop, length-set}
+use lib.Seq.{drop-drop, drop-at}
+use Rattle.integers.specs.Integer.{_≈_, _≼_, nat}
+use Rattle.integers.specs.Bridge.{toZ}
+use Rattle.network.specs.Flow.{Nonneg}
+use Rattle.transport.specs.Lists.{at, table}
+use Rattle.transport.specs.Laws.ListLaws.{table-zero, length-table, getD-table, fill-one}
+use Rattle.transport.specs.Problem.{place}
+use Rattle.transport.specs.Laws.ProblemLaws.{place-injective, place-below}
+use Rattle.tableaux.specs.PlanView.{carried}
 use Rattle.tree.specs.Layout.{stride}
-use Rattle.board.specs.Held.{Held}
+use Rattle.settle.specs.Bags.{laneBags}
 
 -- The bags on the lane at place k in sheet order, among n columns.
 unfoldable pub bagsIn : ℕ → List ℤ → ℕ → ℕ
@@ -56,27 +58,18 @@ module _ {n : ℕ} {q : List ℤ} {k : ℕ} {old new : List ℕ} (w : Written n 
   pub written-on : {h : ℕ} {last : List ℕ} → k ≤ h → Written n q h new last → Written n q h old last
   written-on {h} p v = record { long = v .long ∙ w .long; is = v .is ∙ rw (rest h p) }
 
--- The bags of the tableau that the arrays hold.
-pub bags-held : (P : Problem) {T : List Cell} {adj : List ℕ} {q e : List ℤ} → Held (sources P) (sinks P) T adj q e
-    → table (sources P * sinks P) (bagsIn (sinks P) q) ≡ bagsOf P T
-unfolding bagsOf bagsOn place
-bags-held P {T} {adj} {q} {e} h = ext-getD 0 _ _ (length-table (bagsIn n q) (m * n) ∙ sym long) same
+-- ---- bags that are nowhere negative
+
+pub debtless : {m n : ℕ} (q : List ℤ) → Nonneg m n (laneBags q) → NoDebt m n q
+debtless q h i j hi hj = whole (getD q (i * stride + j) (pos 0)) (h i j hi hj)
   where
-    m : ℕ
-    m = sources P
+    whole : (z : ℤ) → nat 0 ≼ toZ z → z ≡ pos (natAbs z)
+    whole (pos k) p = refl
+    whole (negsuc k) p = absurd (omega arith)
 
-    n : ℕ
-    n = sinks P
-
-    long : length (map (bagsOn T) (lanes (sources P) (sinks P))) ≡ sources P * sinks P
-    long = length-map (lanes (sources P) (sinks P)) (bagsOn T) ∙ length-lanes (sources P) (sinks P)
-
-    same : (k : ℕ) → k < length (table (m * n) (bagsIn n q)) → getD (table (m * n) (bagsIn n q)) k 0 ≡ getD (map (bagsOn T) (lanes m n)) k 0
-    same k p =
-        let p : k < m * n = omega (arith, length-table (bagsIn n q) (m * n)) in
-        let w = place-of m n k p in
-        getD-table (bagsIn n q) (m * n) k 0 p
-        ∙ rw (← w .placed) (bagsIn-place n (w .row) (w .col) q (w .colBelow) ∙ ap natAbs (h .bags (w .row) (w .col) (w .rowBelow) (w .colBelow))
-        ∙ sym (getD-map (bagsOn T) (lanes m n) (place n (w .row) (w .col)) (lane 0 0) 0
-        (omega (arith, length-lanes m n, place-below m n (w .row) (w .col) (w .rowBelow) (w .colBelow)))
-        ∙ ap (bagsOn T) (getD-lanes m n (w .row) (w .col) (lane 0 0) (w .rowBelow) (w .colBelow))))
+-- The plan carries them.
+pub plan-carries : {m n : ℕ} (q : List ℤ) → Nonneg m n (laneBags q) → (i j : ℕ) → i < m → j < n → carried n (table (m * n) (bagsIn n q)) i j ≈ laneBags q i j
+unfolding at place
+plan-carries {m} {n} q h i j hi hj =
+    let e = getD-table (bagsIn n q) (m * n) (i * n + j) 0 (place-below m n i j hi hj) ∙ bagsIn-place n i j q hj in
+    rw (e, debtless q h i j hi hj) (omega arith)

@@ -24,9 +24,8 @@ use Rattle.transport.specs.declared.Cell.{Cell}
 use Rattle.tableaux.specs.Belonging.{belongs-iff, fits-of, spans-of}
 use Rattle.tableaux.specs.Potentials.{cost-size, price-size, price-limit}
 use Rattle.optimality.specs.Settling.{tightLanes}
-use Rattle.tree.specs.Layout.{stride, stride-is, maxPotential}
+use Rattle.tree.specs.Layout.{stride, stride-is, maxPotential, slackAt, reducedAt}
 use Rattle.tree.specs.Mask.{has, put, has-put, has-zero}
-use Rattle.tree.specs.ScanLaws.{slackAt, reducedAt}
 
 abbrev isTight : List ℤ → List ℤ → ℕ → ℕ → ℕ → Bool
 isTight cost price m i j = eqZ (reducedAt cost price m i j) (pos 0)
@@ -35,7 +34,7 @@ isTight cost price m i j = eqZ (reducedAt cost price m i j) (pos 0)
 pub record Ranged (cost price : List ℤ) (m n : ℕ) : Type 0 where
   pub rows : m ≤ stride
   pub cols : n ≤ stride
-  pub costs : (i j : ℕ) → i < m → j < n → natAbs (getD cost (i * stride + j) (pos 0)) ≤ costAbove
+  pub costs : (i j : ℕ) → i < m → j < n → natAbs (getD cost (j * stride + i) (pos 0)) ≤ costAbove
   pub prices : (k : ℕ) → k < m + n → natAbs (getD price k (pos 0)) ≤ maxPotential
 
 -- Of the first n columns just those are in where row i has reduced cost 0, and no others.
@@ -52,14 +51,14 @@ module _ (cost price : List ℤ) (m i j : ℕ) where
   -- The test of the code: what is left of the cost at the sink's end is the source's potential.
   slack-tight : slackAt cost price m i j ≡ getD price i (pos 0) → isTight cost price m i j ≡ true
   slack-tight e =
-      let c = getD cost (i * stride + j) (pos 0) in
+      let c = getD cost (j * stride + i) (pos 0) in
       let u = getD price i (pos 0) in
       let v = getD price (m + j) (pos 0) in
       rw (eq-z (c -ℤ u -ℤ v) (pos 0) (omega (arith, z-ev (! c -' ! u -' ! v), z-ev (! c -' ! v), z-eq e))) (eqZ-same (pos 0))
 
   tight-slack : isTight cost price m i j ≡ true → slackAt cost price m i j ≡ getD price i (pos 0)
   tight-slack e =
-      let c = getD cost (i * stride + j) (pos 0) in
+      let c = getD cost (j * stride + i) (pos 0) in
       let u = getD price i (pos 0) in
       let v = getD price (m + j) (pos 0) in
       eq-z (c -ℤ v) u (omega (arith, z-ev (! c -' ! u -' ! v), z-ev (! c -' ! v), z-eq (eqZ-true (c -ℤ u -ℤ v) (pos 0) e)))
@@ -100,7 +99,7 @@ module _ {cost price : List ℤ} {m n : ℕ} where
 
 -- With the costs of the sheet and the potentials of the tableau these are the tight lanes.
 pub tight-same : (P : Problem) (T : List Cell) {cost price : List ℤ} {masks : List ℕ} → TightLanes cost price (sources P) (sinks P) (sources P) masks
-    → ((i j : ℕ) → i < sources P → j < sinks P → getD cost (i * stride + j) (pos 0) ≡ laneCost P (lane i j))
+    → ((i j : ℕ) → i < sources P → j < sinks P → getD cost (j * stride + i) (pos 0) ≡ laneCost P (lane i j))
     → ((k : ℕ) → k < sources P + sinks P → getD price k (pos 0) ≡ potential P T k)
     → (i j : ℕ) → i < sources P → j < sinks P → has (getD masks i 0) j ≡ tightLanes P T i j
 unfolding tightLanes reducedCost
@@ -108,7 +107,7 @@ tight-same P T h costs prices i j p q = h .rows i p .here j q ∙ rw (costs i j 
 
 -- And they are in range.
 pub tight-ranged : (P : Problem) (T : List Cell) {cost price : List ℤ} → Sound P → cellsBelong P T ≡ true
-    → ((i j : ℕ) → i < sources P → j < sinks P → getD cost (i * stride + j) (pos 0) ≡ laneCost P (lane i j))
+    → ((i j : ℕ) → i < sources P → j < sinks P → getD cost (j * stride + i) (pos 0) ≡ laneCost P (lane i j))
     → ((k : ℕ) → k < sources P + sinks P → getD price k (pos 0) ≡ potential P T k)
     → Ranged cost price (sources P) (sinks P)
 unfolding laneCost costAbove maxCost

@@ -1,4 +1,7 @@
-// Settling: from a finished tableau to the settled plan, lane by lane in sheet order. Lanes, nodes and amounts lie as in the crates basis and board.
-pub mod decide;
+// Settling: from the bags of a finished tableau to the settled plan, lane by lane in sheet order. Lanes lie as in the crate tree.
+pub mod bags;
+pub mod lanes;
 pub mod plan;
+pub mod search;
 pub mod tight;
+pub mod way;

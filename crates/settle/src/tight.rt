@@ -1,4 +1,4 @@
-// The first allowed lanes of settling: those of least cost.
+// The first tight lanes of settling: those of least cost.
 use transport::MAX_SIDE;
 use tree::LANES;
 use tree::NODES;
@@ -17,7 +17,7 @@ fn tight_in_row(cost: &[Price; LANES], price: &[Price; NODES], m: usize, n: usiz
     let mut tight: u64 = 0;
     let mut j = 0;
     while j < n {
-        if cost[i * MAX_SIDE + j] - price[m + j] == own {
+        if cost[j * MAX_SIDE + i] - price[m + j] == own {
             tight = set_bit(tight, j);
         }
         j += 1;
@@ -29,17 +29,17 @@ fn tight_in_row(cost: &[Price; LANES], price: &[Price; NODES], m: usize, n: usiz
 pub fn tight_lanes(
     cost: &[Price; LANES],
     price: &[Price; NODES],
-    allowed: &mut [u64; MAX_SIDE],
+    tight: &mut [u64; MAX_SIDE],
     m: usize,
     n: usize,
 )
     requires { ⌜ Ranged (now cost) (now price) m n ⌝ }
-    ensures { λ _. ⌜ TightLanes (now (cost .entry)) (now (price .entry)) m n m (now (allowed .exit)) ⌝ }
+    ensures { λ _. ⌜ TightLanes (now (cost .entry)) (now (price .entry)) m n m (now (tight .exit)) ⌝ }
 {
-    *allowed = [0; MAX_SIDE];
+    *tight = [0; MAX_SIDE];
     let mut i = 0;
     while i < m {
-        allowed[i] = tight_in_row(cost, price, m, n, i);
+        tight[i] = tight_in_row(cost, price, m, n, i);
         i += 1;
     }
 }

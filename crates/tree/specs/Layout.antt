@@ -5,7 +5,7 @@ use mathlib.Core.List.{List, [], _∷_}
 use Prim.Native.Nat.{ℕ, zero, suc, _+_, _*_, _/_, _%_, _<_, _≤_}
 use native.Mathlib.Omega.{arith}
 use native.Mathlib.Nat.{div-add-mod'}
-use lib.IntN.{ℤ, pos}
+use lib.IntN.{ℤ, pos, _-ℤ_}
 use lib.Dec.{eqb}
 use lib.ListN.{length, drop, getD, set, replicate, drop-of-length-le}
 use lib.Seq.{drop-cons, getD-set-same, getD-set-other}
@@ -55,6 +55,14 @@ laneAt-place i j l =
 -- A cost for each lane. Costs lie by column: that of row i and column j at j * stride + i.
 abbrev pub costOf : List ℤ → Lane → ℤ
 costOf cost l = getD cost (l .col * stride + l .row) (pos 0)
+
+-- The slack of row i and column j, its cost less the potential of its sink; and its reduced cost, the slack less the potential of its source. m is the number
+-- of rows.
+abbrev pub slackAt : List ℤ → List ℤ → ℕ → ℕ → ℕ → ℤ
+slackAt cost price m i j = getD cost (j * stride + i) (pos 0) -ℤ getD price (m + j) (pos 0)
+
+abbrev pub reducedAt : List ℤ → List ℤ → ℕ → ℕ → ℕ → ℤ
+reducedAt cost price m i j = getD cost (j * stride + i) (pos 0) -ℤ getD price i (pos 0) -ℤ getD price (m + j) (pos 0)
 
 -- ---- strikes: the leaf, the node at the other end, and the place of the lane, in three arrays
 

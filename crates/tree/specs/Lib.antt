@@ -9,9 +9,6 @@ pub mod State
 pub mod Strikes
 pub mod Drawn
 pub mod PotentialLaws
-pub mod SignLaws
-pub mod StepLaws
-pub mod ScanLaws
 pub mod Cuts
 pub mod Planting
 pub mod Cycle

@@ -4,9 +4,9 @@ use Prim.Native.Nat.{ℕ, zero, suc, _+_, _-_, _*_, _/_, _%_, _^_, _<_, _≤_, m
 use native.Mathlib.Omega.{arith}
 use native.Mathlib.Nat.{pow-suc, div-eq-of-lt}
 use lib.Bits.{bitOr, bitXor, differ}
-use lib.Pow.{pow-pos, pow-mono, shr-shr, shl-exact}
+use lib.Pow.{pow-pos, pow-mono, shl-exact}
 use lib.Count.{trailingZeros}
-use Rattle.tree.specs.Mask.{bit, bit-or, bit-xor, bit-suc, none, ones-zero, first-in}
+use Rattle.tree.specs.Mask.{bit, bit-or, bit-xor, bit-suc, first-in}
 
 -- ---- the first n bits
 
@@ -54,13 +54,7 @@ bit-minus a b k = rw (bit-xor (bitOr a b) b k, bit-or a b k) (digit (bit a k) (b
     digit (suc zero) (suc (suc y)) p q = absurd (omega arith)
     digit (suc (suc x)) y p q = absurd (omega arith)
 
--- ---- shifts; no bit at all, and some bit
-
-pub bit-shift : (x m k : ℕ) → bit (x / 2 ^ m) k ≡ bit x (m + k)
-bit-shift x m k = rw (shr-shr x m k)
-
-pub bit-zero : (k : ℕ) → bit 0 k ≡ 0
-bit-zero k = none 0 k ones-zero
+-- ---- some bit
 
 own-power : (n : ℕ) → n < 2 ^ n
 own-power zero = omega arith

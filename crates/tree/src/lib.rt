@@ -1,11 +1,9 @@
-// The basis of a round in flat arrays: masks of basic lanes, potentials, loop signs, the step and the scan of reduced costs.
-// A lane (i, j) lies at i * MAX_SIDE + j. Nodes are numbered as in the specification: source i is node i, sink j is node m + j.
+// The tree of a basis in flat arrays: masks of its lanes, its leaves struck off, its fundamental cuts, and potentials.
+// A lane (i, j) lies at i * MAX_SIDE + j, and its cost at j * MAX_SIDE + i. Nodes are numbered as in the specification: source i is node i, sink j is node
+// m + j, and node 0 is the root.
 pub mod cut;
 pub mod mask;
 pub mod potential;
-pub mod scan;
-pub mod signs;
-pub mod step;
 pub mod strike;
 
 // The room for nodes, and for lanes.

@@ -13,7 +13,7 @@ use Rattle.transport.specs.Belonging.{balanced}
 use Rattle.transport.specs.Laws.ProblemLaws.{problem}
 use Rattle.tree.specs.Layout as layout
 use Rattle.tree.specs.Layout.{strikesOf, Distinct}
-use Rattle.tree.specs.SignLaws.{weightsOf}
+use Rattle.belonging.specs.FlowLaws.{weightsOf}
 use Rattle.tree.specs.Strikes.{strikes-room, strikes-distinct}
 use Rattle.belonging.specs.Carried.{carries}
 use Rattle.belonging.specs.Spread.{sound-sides, sound-modest, Balancing, balanced-is}

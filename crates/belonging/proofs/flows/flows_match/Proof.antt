@@ -8,7 +8,7 @@ use mir.Val.{ofZ}
 use Rattle.transport.specs.Laws.RangeLaws.{diff-in, diff-back}
 use native.Mathlib.Omega.{arith}
 use borrow.Author.Needs.{needs}
-use Rattle.tree.specs.SignLaws.{weightsOf, flow-now, needed-room}
+use Rattle.belonging.specs.FlowLaws.{weightsOf, flow-now, needed-room}
 use Rattle.belonging.specs.Carried.{Passed, passed-none, passed-more, carries-true, carries-false, eq-test}
 use Rattle.belonging.proofs.flows.flows_match.Statement.{statement}
 use Rattle.belonging.proofs.flows.flows_match.Tie as tie

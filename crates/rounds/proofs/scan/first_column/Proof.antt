@@ -9,9 +9,9 @@ use mir.Syntax.{w32}
 use mir.Val.{toZ, ofZ}
 use Rattle.transport.specs.Limits.{maxCost, costAbove}
 use Rattle.transport.specs.Laws.RangeLaws.{diff-in, diff-back}
-use Rattle.tree.specs.Layout.{stride}
+use Rattle.tree.specs.Layout.{stride, slackAt}
 use Rattle.rounds.specs.Lowest.{Above, above-start, above-step, above-stop, above-end}
-use Rattle.rounds.specs.Slacks.{slackAt, slack-room}
+use Rattle.rounds.specs.Slacks.{slack-room}
 use Rattle.rounds.proofs.scan.first_column.Statement.{statement}
 use Rattle.rounds.proofs.scan.first_column.Tie as tie
 

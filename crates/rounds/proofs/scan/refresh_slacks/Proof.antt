@@ -3,7 +3,8 @@ use mathlib.Core.Path.{_≡_, sym, _∙_}
 use mathlib.Core.Bool.{true}
 use borrow.Author.Needs.{needs}
 use Rattle.tree.specs.Mask.{has}
-use Rattle.rounds.specs.Slacks.{slackAt, pending-risen, stale-risen}
+use Rattle.tree.specs.Layout.{slackAt}
+use Rattle.rounds.specs.Slacks.{pending-risen, stale-risen}
 use Rattle.rounds.proofs.scan.refresh_slacks.Statement.{statement}
 use Rattle.rounds.proofs.scan.refresh_slacks.Tie as tie
 

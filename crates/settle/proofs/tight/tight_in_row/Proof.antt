@@ -12,8 +12,7 @@ use mir.Val.{toZ, ofZ}
 use mir.Facts.{toZ-ofZ}
 use Rattle.transport.specs.Limits.{maxCost, costAbove}
 use Rattle.transport.specs.Laws.RangeLaws.{diff-in, diff-back}
-use Rattle.tree.specs.Layout.{stride}
-use Rattle.tree.specs.ScanLaws.{slackAt}
+use Rattle.tree.specs.Layout.{stride, slackAt}
 use Rattle.settle.specs.Tight.{TightRow, tight-none, tight-in, tight-out}
 use Rattle.settle.proofs.tight.tight_in_row.Statement.{statement}
 use Rattle.settle.proofs.tight.tight_in_row.Tie as tie
@@ -57,7 +56,7 @@ element-copy-out-if1-2 c = omega arith
 room : (c : tie.After-if13 Inv-loop μ-loop)
     → let a = c .before .before .before .before .before .args in
     let j = c .before .before .before .loop .j in
-    natAbs (getD (a .cost .now) (a .i * stride + j) (pos 0)) + natAbs (getD (a .price .now) (a .m + j) (pos 0)) < 2 ^ 31
+    natAbs (getD (a .cost .now) (j * stride + a .i) (pos 0)) + natAbs (getD (a .price .now) (a .m + j) (pos 0)) < 2 ^ 31
 unfolding costAbove maxCost
 room c =
     let s = c .before .before .before .before .before in
@@ -82,13 +81,13 @@ loop-less c = omega arith
 slack-is : (c : tie.After-if13 Inv-loop μ-loop)
     → let a = c .before .before .before .before .before .args in
     let j = c .before .before .before .loop .j in
-    let x = getD (a .cost .now) (a .i * stride + j) (pos 0) in
+    let x = getD (a .cost .now) (j * stride + a .i) (pos 0) in
     let y = getD (a .price .now) (a .m + j) (pos 0) in
     toZ w32 (ofZ w32 (toZ w32 (ofZ w32 x) -ℤ toZ w32 (ofZ w32 y))) ≡ slackAt (a .cost .now) (a .price .now) (a .m) (a .i) j
 slack-is c =
     let a = c .before .before .before .before .before .args in
     let j = c .before .before .before .loop .j in
-    diff-back w32 (getD (a .cost .now) (a .i * stride + j) (pos 0)) (getD (a .price .now) (a .m + j) (pos 0)) (room c)
+    diff-back w32 (getD (a .cost .now) (j * stride + a .i) (pos 0)) (getD (a .price .now) (a .m + j) (pos 0)) (room c)
 
 loop-again : tie.Need-loop-again Inv-loop μ-loop
 loop-again c =
