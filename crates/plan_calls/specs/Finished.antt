@@ -3,7 +3,7 @@ use mathlib.Core.Path.{_≡_, sym, _∙_}
 use mathlib.Core.Logic.{_↔_, by-cases}
 use mathlib.Core.Bool.{true, false≢true}
 use mathlib.Core.List.{List, _++_}
-use Prim.Native.Nat.{ℕ, _+_, _*_, _<_}
+use Prim.Native.Nat.{ℕ, _+_, _*_, _-_, _<_}
 use native.Mathlib.Omega.{arith}
 use native.Mathlib.Decide.{decLt}
 use lib.IntN.{ℤ, pos}
@@ -16,9 +16,10 @@ use Rattle.network.specs.Settling.{DecidedTo, decided-start, decided-on, decide
 use Rattle.transport.specs.Lists.{table}
 use Rattle.transport.specs.Laws.ListLaws.{length-table}
 use Rattle.transport.specs.Problem.{Problem, sources, sinks}
-use Rattle.transport.specs.Laws.Sound.{supply-most}
+use Rattle.transport.specs.Laws.Sound.{Sound, supply-most}
 use Rattle.transport.specs.Sheet.{Sheet, problemOf}
 use Rattle.transport.specs.Amount.{nothing}
+use Rattle.transport.specs.Belonging.{cellsBelong}
 use Rattle.transport.specs.Potential.{potential, isFinished}
 use Rattle.transport.specs.Plan.{settled}
 use Rattle.transport.specs.Statements.{Basic, Belongs}
@@ -31,28 +32,50 @@ use Rattle.tableaux.specs.ProblemPlans.{flowCost, Optimal}
 use Rattle.tableaux.specs.Least.{rowPotential, columnPotential, finished-feasible}
 use Rattle.optimality.specs.Settling.{tight-lanes, settling-start, basics-single, decided-optimal}
 use Rattle.reduction.specs.Reduction.{optimal-settled}
-use Rattle.board.specs.Held.{row-basic, basic-row}
-use Rattle.rounds.specs.Boards.{Board}
+use Rattle.board.specs.Held.{Held, row-basic, basic-row}
+use Rattle.board.specs.Arrays.{Board}
+use Rattle.board.specs.Drawing.{Redrawn, board-held}
+use Rattle.rounds.specs.Costs.{Costed}
 use Rattle.settle.specs.Bags.{laneBags, InMask, OnBasics}
 use Rattle.settle.specs.Rows.{Settleable}
 use Rattle.settle.specs.Tight.{Ranged, TightLanes, tight-same, tight-ranged}
 use Rattle.settle.specs.Plan.{bagsIn, NoDebt, Written, debtless, plan-carries}
 
--- The board's tableau T is finished, and the prices are its own.
+-- The tableau T of the problem P is finished. The arrays hold it, with the masks of its basic lanes, the costs lie by column, and the prices are its own.
 pub record Finished (P : Problem) (T : List Cell) (adj : List ℕ) (q e cost price : List ℤ) (m n : ℕ) : Type 0 where
-  pub board : Board P T adj q e cost m n
+  pub sound : Sound P
+  pub rows : m ≡ sources P
+  pub columns : n ≡ sinks P
+  pub belongs : cellsBelong P T ≡ true
+  pub costs : Costed P cost
+  pub held : Held m n T adj q e
   pub done : isFinished P T ≡ true
   pub prices : (k : ℕ) → k < m + n → getD price k (pos 0) ≡ potential P T k
 
+-- From the board of a finished tableau, when its masks are drawn.
+pub board-finished : {P : Problem} {T : List Cell} {q e cost : List ℤ} {sub path lanes adj : List ℕ} {m n : ℕ} (price : List ℤ)
+    → Board P T q e sub path lanes m n → Costed P cost → Redrawn m lanes (m + n - 1) adj → isFinished P T ≡ true
+    → ((k : ℕ) → k < m + n → getD price k (pos 0) ≡ potential P T k) → Finished P T adj q e cost price m n
+board-finished price b costs w done prices = record {
+  sound = b .sound;
+  rows = b .rows;
+  columns = b .columns;
+  belongs = b .belongs;
+  costs = costs;
+  held = board-held b w;
+  done = done;
+  prices = prices;
+}
+
 module _ {P : Problem} {T : List Cell} {adj : List ℕ} {q e cost price : List ℤ} {m n : ℕ} (f : Finished P T adj q e cost price m n) where
   node-prices : (k : ℕ) → k < sources P + sinks P → getD price k (pos 0) ≡ potential P T k
-  node-prices = rw (f .board .rows, f .board .columns) at (f .prices)
+  node-prices = rw (f .rows, f .columns) at (f .prices)
 
-  belongs : Belongs P T
-  belongs = belongs-iff P T (f .board .sound .sourcesLow) (f .board .sound .sinksLow) .0 (f .board .belongs)
+  its-own : Belongs P T
+  its-own = belongs-iff P T (f .sound .sourcesLow) (f .sound .sinksLow) .0 (f .belongs)
 
   pub finished-ranged : Ranged cost price m n
-  finished-ranged = rw (f .board .rows, f .board .columns) (tight-ranged P T (f .board .sound) (f .board .belongs) (f .board .costs .lanes) node-prices)
+  finished-ranged = rw (f .rows, f .columns) (tight-ranged P T (f .sound) (f .belongs) (f .costs .lanes) node-prices)
 
   -- ---- where settling starts
 
@@ -62,42 +85,42 @@ module _ {P : Problem} {T : List Cell} {adj : List ℕ} {q e cost price : List �
   on-basics = record {
     rows = finished-ranged .rows;
     cols = finished-ranged .cols;
-    qLong = f .board .held .qLong;
+    qLong = f .held .qLong;
     inside = λ i j hi h.
-        let b = row-basic (f .board .held) i j hi h in
-        omega (arith, rw (b .column) at (belongs .onSheet (b .index) (b .below) .1), f .board .columns);
-    off = λ i j hi hj h. f .board .held .bags i j hi hj ∙ rw (amount-none T i j (λ b. h (basic-row (f .board .held) i j hi b)));
+        let b = row-basic (f .held) i j hi h in
+        omega (arith, rw (b .column) at (its-own .onSheet (b .index) (b .below) .1), f .columns);
+    off = λ i j hi hj h. f .held .bags i j hi hj ∙ rw (amount-none T i j (λ b. h (basic-row (f .held) i j hi b)));
   }
 
   same-bags : (i j : ℕ) → i < m → j < n → laneBags q i j ≈ bagsAt T i j
-  same-bags i j hi hj = rw (f .board .held .bags i j hi hj) (omega arith)
+  same-bags i j hi hj = rw (f .held .bags i j hi hj) (omega arith)
 
   module _ {masks : List ℕ} (t : TightLanes cost price m n m masks) where
     tight : (i j : ℕ) → i < m → j < n → InMask masks i j ↔ Tight (costs P) (rowPotential P T) (columnPotential P T) i j
     tight i j hi hj =
-        let same = tight-same P T (rw (f .board .rows, f .board .columns) at t) (f .board .costs .lanes) node-prices in
-        rw (same i j (omega (arith, f .board .rows)) (omega (arith, f .board .columns))) (tight-lanes P T i j)
+        let same = tight-same P T (rw (f .rows, f .columns) at t) (f .costs .lanes) node-prices in
+        rw (same i j (omega (arith, f .rows)) (omega (arith, f .columns))) (tight-lanes P T i j)
 
     start : DecidedTo m n (supplies P) (demands P) (InMask masks) 0 (laneBags q)
     start =
-        let d = settling-start (f .board .sound) belongs in
+        let d = settling-start (f .sound) its-own in
         let d : DecidedTo m n (supplies P) (demands P) (Tight (costs P) (rowPotential P T) (columnPotential P T)) 0 (bagsAt T) =
-        rw (f .board .rows, f .board .columns) d in
+        rw (f .rows, f .columns) d in
         decided-start (flow-cong same-bags (flow-on (λ i j hi hj s. tight i j hi hj .1 s) (d .flow)))
         (λ i j hi hj. omega (arith, same-bags i j hi hj, d .nonneg i j hi hj))
 
     pub finished-settleable : Settleable m n (supplies P) (demands P) masks adj q
     finished-settleable = record {
       plan = start;
-      most = λ i hi. omega (arith, supply-most (f .board .sound) i);
+      most = λ i hi. omega (arith, supply-most (f .sound) i);
       inside = λ i j hi h. by-cases (decLt j n) (λ l. l) (λ l. absurd (false≢true (sym (t .rows i hi .past j (omega arith)) ∙ h)));
       onBasics = on-basics;
       single = λ k y g i j hi hj.
           let g : Plan (sources P) (sinks P) (Basic T) k y (supplies P) (demands P) =
-          rw (f .board .rows, f .board .columns) at (plan-on (λ i j hi hj h. row-basic (f .board .held) i j hi h) g) in
+          rw (f .rows, f .columns) at (plan-on (λ i j hi hj h. row-basic (f .held) i j hi h) g) in
           omega (
             arith,
-            basics-single (f .board .sound) belongs k y g i j (omega (arith, f .board .rows)) (omega (arith, f .board .columns)),
+            basics-single (f .sound) its-own k y g i j (omega (arith, f .rows)) (omega (arith, f .columns)),
             ⊗-cong (nat k) (laneBags q i j) (bagsAt T i j) (same-bags i j hi hj),
           );
     }
@@ -119,8 +142,8 @@ module _ {P : Problem} {T : List Cell} {adj : List ℕ} {q e cost price : List �
 
       settled-optimal : Optimal P plan (flowCost P plan)
       settled-optimal =
-          let d = rw (f .board .rows, f .board .columns) at at-end in
-          rw (f .board .rows, f .board .columns)
+          let d = rw (f .rows, f .columns) at at-end in
+          rw (f .rows, f .columns)
           (decided-optimal P (rowPotential P T) (columnPotential P T) (finished-feasible P T (f .done)) _
           (length-table (bagsIn (sinks P) q′) (sources P * sinks P)) d)
 

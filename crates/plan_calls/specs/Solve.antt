@@ -24,10 +24,12 @@ use Rattle.transport.specs.Answers.{solveAnswer}
 use Rattle.tableaux.specs.Ending.{start-finished}
 use Rattle.demands.specs.Bought.{bought}
 use Rattle.demands.specs.Demand3.{settled-length}
-use Rattle.rounds.specs.Boards.{Ran}
+use Rattle.board.specs.Drawing.{Redrawn}
+use Rattle.rounds.specs.Costs.{Costed}
+use Rattle.rounds.specs.Runs.{Ran}
 use Rattle.dealing.specs.Dealt.{source-prices, sink-prices}
 use Rattle.plan_calls.specs.Cost.{Summable, settled-summable, settled-cost}
-use Rattle.plan_calls.specs.Finished.{Finished}
+use Rattle.plan_calls.specs.Finished.{Finished, board-finished}
 
 -- ---- the call
 
@@ -87,44 +89,45 @@ told-all {S} {r} {u} {u′} {v} {v′} {plan} {plan′} t =
 -- ---- what is written before the cost is told
 
 -- The rounds are those of the solution, and each lent list, as it was and as it is, holds its part of it.
-pub record Written (S : Sheet) (made : ℕ) (u u′ v v′ : List ℤ) (plan plan′ : List ℕ) : Type 0 where
+pub record Stored (S : Sheet) (made : ℕ) (u u′ v v′ : List ℤ) (plan plan′ : List ℕ) : Type 0 where
   pub rounds : made ≡ solution S .rounds
   pub uHeld : u′ ≡ lentAfter (λ s. s .u) (given (solution S)) u
   pub vHeld : v′ ≡ lentAfter (λ s. s .v) (given (solution S)) v
   pub planHeld : plan′ ≡ lentAfter (λ s. s .plan) (given (solution S)) plan
 
-module _ {S : Sheet} {made : ℕ} {u u′ v v′ : List ℤ} {plan plan′ : List ℕ} (w : Written S made u u′ v v′ plan plan′) where
-  written-plan : plan′ ≡ settled S ++ drop (length (settled S)) plan
+module _ {S : Sheet} {made : ℕ} {u u′ v v′ : List ℤ} {plan plan′ : List ℕ} (w : Stored S made u u′ v v′ plan plan′) where
+  stored-plan : plan′ ≡ settled S ++ drop (length (settled S)) plan
   unfolding lentAfter solution solutionFrom
-  written-plan = w .planHeld
+  stored-plan = w .planHeld
 
-  pub written-summable : Accepted S → Summable plan′ (S .cost)
-  written-summable ok = settled-summable ok (drop (length (settled S)) plan) written-plan refl
+  pub stored-summable : Accepted S → Summable plan′ (S .cost)
+  stored-summable ok = settled-summable ok (drop (length (settled S)) plan) stored-plan refl
 
   -- The cost is that of the plan that was written.
-  pub told-written : {total : ℕ} → Accepted S → total ≡ sumTo (length (S .cost)) (λ l. at plan′ l * at (S .cost) l)
+  pub told-stored : {total : ℕ} → Accepted S → total ≡ sumTo (length (S .cost)) (λ l. at plan′ l * at (S .cost) l)
       → Told (given (solution S)) (Solved total made) u u′ v v′ plan plan′
   unfolding solveAnswer solution solutionFrom
-  told-written ok t = record {
-    answer = rw (t, w .rounds, ap natAbs (settled-cost ok (drop (length (settled S)) plan) written-plan refl));
+  told-stored ok t = record {
+    answer = rw (t, w .rounds, ap natAbs (settled-cost ok (drop (length (settled S)) plan) stored-plan refl));
     uHeld = w .uHeld;
     vHeld = w .vHeld;
     planHeld = w .planHeld;
   }
 
 -- The rounds have come from the start to the finished tableau.
-module _ (S : Sheet) {adj : List ℕ} {q e cost price : List ℤ} {m n made : ℕ}
-    (r : Ran (problemOf S) (start (problemOf S)) (roundBound (problemOf S)) adj q e cost price m n true made) where
-  pub ran-finished : Finished (problemOf S) (run (problemOf S) (roundBound (problemOf S)) (start (problemOf S)) .tableau) adj q e cost price m n
-  ran-finished = record { board = r .board; done = start-finished (r .board .sound); prices = r .prices }
+module _ (S : Sheet) {q e price : List ℤ} {lanes : List ℕ} {m n made : ℕ}
+    (r : Ran (problemOf S) (start (problemOf S)) (roundBound (problemOf S)) q e price lanes m n true made) where
+  pub ran-finished : {cost : List ℤ} {adj : List ℕ} → Costed (problemOf S) cost → Redrawn m lanes (m + n - 1) adj
+      → Finished (problemOf S) (run (problemOf S) (roundBound (problemOf S)) (start (problemOf S)) .tableau) adj q e cost price m n
+  ran-finished costs w = board-finished price (r .board) costs w (start-finished (r .board .sound)) (r .prices)
 
   module _ {u u′ v v′ : List ℤ} {plan plan′ : List ℕ}
       (uIs : u′ ≡ table m (λ k. getD price (0 + k) (pos 0)) ++ drop m u)
       (vIs : v′ ≡ table n (λ k. getD price (m + k) (pos 0)) ++ drop n v)
       (planIs : plan′ ≡ settled S ++ drop (m * n) plan) where
-    pub written-given : Written S made u u′ v v′ plan plan′
+    pub stored-given : Stored S made u u′ v v′ plan plan′
     unfolding lentAfter solution solutionFrom problemOf sources sinks roasteries cafes
-    written-given =
+    stored-given =
         let P = problemOf S in
         let rows = source-prices (r .board) price (r .prices) in
         let columns = sink-prices (r .board) price (r .prices) in

@@ -1,7 +1,8 @@
 // Solve: from a sheet to its cheapest plan, the settled one, with its prices.
 use crate::cost::plan_cost;
 use crate::finished::settle_board;
-use board::spread::spread;
+use board::gather::draw;
+use board::spread::lay_out;
 use dealing::corner::first_tableau;
 use dealing::prices::write_prices;
 use rounds::costs::spread_costs;
@@ -21,7 +22,7 @@ ghost use Rattle.transport.specs.Answers.{solveAnswer};
 ghost use Rattle.transport.specs.Statements.{Bought};
 ghost use Rattle.tree.specs.Layout.{stride};
 ghost use Rattle.dealing.specs.Dealt.{Dealt};
-ghost use Rattle.plan_calls.specs.Solve.{Written};
+ghost use Rattle.plan_calls.specs.Solve.{Stored};
 
 // How many places a list of this length lacks for so many numbers.
 fn lacking(len: usize, count: usize) -> usize
@@ -39,32 +40,39 @@ fn lacking_room(u: usize, v: usize, plan: usize, m: usize, n: usize) -> usize
     lacking(u, m) + lacking(v, n) + lacking(plan, m * n)
 }
 
-// Solves from the first tableau of a sheet of m sources and n sinks, which the arrays hold: the rounds made. Prices and plan then stand in their lists.
+// Solves from the first tableau of a sheet of m sources and n sinks, which is laid out over the arrays: the rounds made. Prices and plan then stand in their
+// lists.
 fn solve_on(
     cost: &[u64],
     m: usize,
     n: usize,
-    adj: &mut [u64; NODES],
     q: &mut [i64; LANES],
     e: &mut [i64; LANES],
+    leaf: &[usize; NODES],
+    other: &[usize; NODES],
+    lane: &mut [usize; NODES],
     u: &mut [i64],
     v: &mut [i64],
     plan: &mut [u64],
 ) -> u64
-    requires { ⌜ ((S : Sheet) × Dealt (problemOf S) (start (problemOf S)) (now cost) (now adj) (now q) (now e) m n) ⌝ }
+    requires { ⌜ ((S : Sheet) × Dealt (problemOf S) (start (problemOf S)) (now cost) (now q) (now e) (now leaf) (now other) (now lane) m n) ⌝ }
     requires { ⌜ (m ≤ length (now u)) × (n ≤ length (now v)) × (m * n ≤ length (now plan)) ⌝ }
     ensures { λ r. ⌜
-        ((S : Sheet) → Dealt (problemOf S) (start (problemOf S)) (now (cost .entry)) (now (adj .entry)) (now (q .entry)) (now (e .entry)) m n
-        → Written S r (now (u .entry)) (now (u .exit)) (now (v .entry)) (now (v .exit)) (now (plan .entry)) (now (plan .exit)))
+        ((S : Sheet)
+        → Dealt (problemOf S) (start (problemOf S)) (now (cost .entry)) (now (q .entry)) (now (e .entry))
+        (now (leaf .entry)) (now (other .entry)) (now (lane .entry)) m n
+        → Stored S r (now (u .entry)) (now (u .exit)) (now (v .entry)) (now (v .exit)) (now (plan .entry)) (now (plan .exit)))
         ⌝ }
 {
     let mut lane_cost: [Price; LANES] = [0; LANES];
     let mut price: [Price; NODES] = [0; NODES];
+    let mut adj = [0u64; NODES];
     spread_costs(cost, m, n, &mut lane_cost);
-    let rounds = finish(adj, q, e, &lane_cost, &mut price, m, n);
+    let rounds = finish(q, e, &lane_cost, leaf, other, lane, m, n, &mut price);
     write_prices(&price, 0, m, u);
     write_prices(&price, m, n, v);
-    settle_board(adj, q, e, &lane_cost, &price, plan, m, n);
+    draw(lane, m, m + n - 1, &mut adj);
+    settle_board(&adj, q, &lane_cost, &price, plan, m, n);
     rounds
 }
 
@@ -100,12 +108,35 @@ pub fn solve(
     if lacking_room(u.len(), v.len(), plan.len(), m, n) > 0 {
         return too_short;
     }
-    let mut adj = [0u64; NODES];
     let mut q = [0i64; LANES];
     let mut e = [0i64; LANES];
+    let mut leaf = [0usize; NODES];
+    let mut other = [0usize; NODES];
+    let mut lane = [0usize; NODES];
     let first = first_tableau(supply, demand);
-    spread(first, m, &mut adj, &mut q, &mut e);
-    let rounds = solve_on(cost, m, n, &mut adj, &mut q, &mut e, u, v, plan);
+    lay_out(
+        first,
+        m,
+        n,
+        &mut q,
+        &mut e,
+        &mut leaf,
+        &mut other,
+        &mut lane,
+    );
+    let rounds = solve_on(
+        cost,
+        m,
+        n,
+        &mut q,
+        &mut e,
+        &leaf,
+        &other,
+        &mut lane,
+        u,
+        v,
+        plan,
+    );
     let total = plan_cost(plan, cost);
     let solved = SolveAnswer::Solved {
         cost: total,

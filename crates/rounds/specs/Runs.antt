@@ -129,6 +129,18 @@ pub rounded-by : {P : Problem} {T : List Cell} {q e cost price slack : List ℤ}
     → Advanced P T q e cost price slack sub path tree m n finished → Rounded P T q e price tree m n finished
 rounded-by {sub = sub} {path} a = record { done = a .done; sub = sub; path = path; board = a .kept .board; prices = a .kept .prices .are }
 
+-- Whether T is finished, with its board and its prices.
+pub record Judged (P : Problem) (T : List Cell) (q e price : List ℤ) (tree : List ℕ) (m n : ℕ) (finished : Bool) : Type 0 where
+  pub done : isFinished P T ≡ finished
+  pub sub : List ℕ
+  pub path : List ℕ
+  pub board : Board P T q e sub path tree m n
+  pub prices : (k : ℕ) → k < m + n → getD price k (pos 0) ≡ potential P T k
+
+pub judged-by : {P : Problem} {T : List Cell} {q e cost price slack : List ℤ} {sub path tree : List ℕ} {m n : ℕ} {finished : Bool}
+    → Kept P T q e cost price slack sub path tree m n → isFinished P T ≡ finished → Judged P T q e price tree m n finished
+judged-by {sub = sub} {path} k f = record { done = f; sub = sub; path = path; board = k .board; prices = k .prices .are }
+
 -- ---- what falls
 
 abbrev onLane : List ℤ → ℕ → ℕ → Z

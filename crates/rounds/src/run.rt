@@ -20,7 +20,7 @@ ghost use Rattle.transport.specs.Round.{roundBound};
 ghost use Rattle.transport.specs.declared.Cell.{Cell};
 ghost use Rattle.tree.specs.Layout.{nodeRoom};
 ghost use Rattle.rounds.specs.Kept.{Kept, Advanced};
-ghost use Rattle.rounds.specs.Runs.{Begun, Ran, Rounded};
+ghost use Rattle.rounds.specs.Runs.{Begun, Judged, Ran, Rounded};
 
 // The tree, the prices and the least slacks of a tableau whose basis the strikes strike off.
 fn begin(
@@ -45,6 +45,42 @@ fn begin(
     potentials(cost, leaf, other, lane, m + n - 1, price);
     plant(leaf, other, lane, m, n, path, sub);
     scan_slacks(cost, price, m, n, slack);
+}
+
+// Whether the tableau is finished. `price` then has its prices.
+pub fn is_finished(
+    cost: &[Price; LANES],
+    leaf: &[usize; NODES],
+    other: &[usize; NODES],
+    lane: &[usize; NODES],
+    m: usize,
+    n: usize,
+    price: &mut [Price; NODES],
+) -> bool
+    requires { ⌜ ((P : Problem) × (T : List Cell) × (q : List ℤ) × (e : List ℤ) × Begun P T q e (now cost) (now leaf) (now other) (now lane) m n) ⌝ }
+    ensures { λ r. ⌜
+        ((P : Problem) (T : List Cell) (q e : List ℤ)
+        → Begun P T q e (now (cost .entry)) (now (leaf .entry)) (now (other .entry)) (now (lane .entry)) m n
+        → Judged P T q e (now (price .exit)) (now (lane .entry)) m n r)
+        ⌝ }
+{
+    let mut path = [0u64; NODES];
+    let mut sub = [0u64; NODES];
+    let mut slack: [Price; MAX_SIDE] = [0; MAX_SIDE];
+    begin(
+        cost,
+        leaf,
+        other,
+        lane,
+        m,
+        n,
+        &mut path,
+        &mut sub,
+        price,
+        &mut slack,
+    );
+    let enter = entering(cost, price, &slack, m, n);
+    enter.reduced >= 0
 }
 
 // A round: whether the tableau is finished; if not, the arrays then hold the next one.

@@ -4,7 +4,7 @@ use Prim.Native.Nat.{ℕ, zero, suc, _+_, _-_, _*_, _/_, _%_, _^_, _<_, _≤_, m
 use native.Mathlib.Omega.{arith}
 use native.Mathlib.Nat.{pow-suc, div-eq-of-lt}
 use lib.Bits.{bitOr, bitXor, differ}
-use lib.Pow.{pow-pos, pow-mono, shl-exact}
+use lib.Pow.{pow-pos, pow-mono, shl-exact, shr-shr}
 use lib.Count.{trailingZeros}
 use Rattle.tree.specs.Mask.{bit, bit-or, bit-xor, bit-suc, first-in}
 
@@ -62,3 +62,8 @@ own-power (suc n) = omega (arith, own-power n, pow-suc 2 n)
 
 pub some-bit : (x : ℕ) → 0 < x → (k : ℕ) × (bit x k ≡ 1)
 some-bit x p = (trailingZeros x x, first-in x x p (own-power x))
+
+-- ---- shifts
+
+pub bit-shift : (x m k : ℕ) → bit (x / 2 ^ m) k ≡ bit x (m + k)
+bit-shift x m k = rw (shr-shr x m k)

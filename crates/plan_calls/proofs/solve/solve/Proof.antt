@@ -1,5 +1,5 @@
 -- `plan_calls::solve::solve` meets its contract: each way out is a case of the call.
-use mathlib.Core.Path.{_≡_, sym, _∙_}
+use mathlib.Core.Path.{_≡_, refl, sym, _∙_}
 use mathlib.Core.Option.{none}
 use Prim.Native.Nat.{_*_, _≤_}
 use native.Mathlib.Omega.{arith}
@@ -11,8 +11,10 @@ use Rattle.transport.specs.Laws.Sound.{accepted-sound, sources-room, sinks-room
 use Rattle.tree.specs.Layout.{stride-is}
 use Rattle.sheet.specs.Check.{accepted-none, refused-some}
 use Rattle.dealing.specs.Corner.{sound-costless}
+use Rattle.transport.specs.Tableau.{start}
+use Rattle.dealing.specs.Dealt.{Dealt}
 use Rattle.plan_calls.specs.First.{first-fits, first-dealt}
-use Rattle.plan_calls.specs.Solve.{solve-early, solve-short, solve-given, told-refused, told-by, told-all, written-summable, told-written}
+use Rattle.plan_calls.specs.Solve.{solve-early, solve-short, solve-given, told-refused, told-by, told-all, stored-summable, told-stored}
 use Rattle.plan_calls.proofs.solve.solve.Statement.{statement}
 use Rattle.plan_calls.proofs.solve.solve.Tie as tie
 
@@ -63,31 +65,42 @@ first-tableau-requires c κs =
     let S = sheetAt (a .before .before .before .before .before .before .before) in
     sound-costless (problemOf S) (accepted-sound S (passed a))
 
-spread-requires : tie.Need-spread-requires
-spread-requires c κs =
-    let f = c .before .before .before in
-    let a = f .before .before .before in
-    let S = sheetAt (a .before .before .before .before .before .before .before) in
-    first-fits (accepted S (passed a)) (f .first-tableau .ensures)
+abbrev told : tie.After-first-tableau → tie.After-enum-told
+told f = f .before .before .before
+
+abbrev sheetOn : tie.After-first-tableau → Sheet
+sheetOn f = sheetAt (told f .before .before .before .before .before .before .before)
+
+lay-out-requires : tie.Need-lay-out-requires
+lay-out-requires c κs =
+    let f = c .before .before .before .before .before in
+    (first-fits (accepted (sheetOn f) (passed (told f))) (f .first-tableau .ensures), (refl, refl, refl))
+
+abbrev first : tie.After-lay-out → tie.After-first-tableau
+first d = d .before .before .before .before .before .before
+
+dealt : (d : tie.After-lay-out)
+    → let S = sheetOn (first d) in
+    let l = d .lay-out .last .1 .1 .1 in
+    Dealt (problemOf S) (start (problemOf S)) (S .cost) (l .0) (l .1 .0) (l .1 .1 .0) (l .1 .1 .1 .0) (l .1 .1 .1 .1 .0) (length (S .supply)) (length (S .demand))
+dealt d =
+    let f = first d in
+    let x = d .lay-out .ensures in
+    first-dealt (accepted (sheetOn f) (passed (told f))) (f .first-tableau .ensures) (x .0) (x .1) (x .2)
 
 solve-on-requires : tie.Need-solve-on-requires
 solve-on-requires c κs =
-    let d = c .before .before .before .before .before .before in
-    let f = d .before .before .before .before in
-    let l = f .before in
-    let a = l .before .before in
-    let S = sheetAt (a .before .before .before .before .before .before .before) in
-    ((S, first-dealt (accepted S (passed a)) (f .first-tableau .ensures) (d .spread .ensures)), rooms l)
+    let d = c .before .before .before .before .before .before .before .before in
+    ((_, dealt d), rooms (first d .before))
+
+abbrev laid : tie.After-solve-on → tie.After-lay-out
+laid o = o .before .before .before .before .before .before .before .before .before
 
 plan-cost-requires : tie.Need-plan-cost-requires
 plan-cost-requires c κs =
     let o = c .before .before .before .before .before in
-    let d = o .before .before .before .before .before .before .before in
-    let f = d .before .before .before .before in
-    let a = f .before .before .before in
-    let S = sheetAt (a .before .before .before .before .before .before .before) in
-    let ok = accepted S (passed a) in
-    written-summable (o .solve-on .ensures S (first-dealt ok (f .first-tableau .ensures) (d .spread .ensures))) ok
+    let f = first (laid o) in
+    stored-summable (o .solve-on .ensures _ (dealt (laid o))) (accepted (sheetOn f) (passed (told f)))
 
 same-length : tie.Need-same-length
 same-length c = search needs
@@ -102,14 +115,10 @@ returns-3 : tie.Need-returns-3
 unfolding roasteries cafes
 returns-3 c =
     let o = c .before .before .before .before .before .before in
-    let d = o .before .before .before .before .before .before .before in
-    let f = d .before .before .before .before in
-    let l = f .before in
-    let a = l .before .before in
-    let S = sheetAt (a .before .before .before .before .before .before .before) in
-    let ok = accepted S (passed a) in
-    let written = o .solve-on .ensures S (first-dealt ok (f .first-tableau .ensures) (d .spread .ensures)) in
-    told-all (told-by (solve-given S _ _ _ (passed a) (rooms l)) (told-written written ok (c .plan-cost .ensures)))
+    let f = first (laid o) in
+    let S = sheetOn f in
+    let stored = o .solve-on .ensures S (dealt (laid o)) in
+    told-all (told-by (solve-given S _ _ _ (passed (told f)) (rooms (f .before))) (told-stored stored (accepted S (passed (told f))) (c .plan-cost .ensures)))
 
 pub solve-spec : {M : Type 1} → statement M
 solve-spec =
@@ -122,7 +131,7 @@ solve-spec =
     lacking-room-requires
     returns-2
     first-tableau-requires
-    spread-requires
+    lay-out-requires
     solve-on-requires
     plan-cost-requires
     same-length

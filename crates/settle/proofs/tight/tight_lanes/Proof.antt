@@ -7,10 +7,10 @@ use Rattle.settle.proofs.tight.tight_lanes.Statement.{statement}
 use Rattle.settle.proofs.tight.tight_lanes.Tie as tie
 
 abbrev Inv-loop : tie.InvT-loop
-Inv-loop cost price allowed₀ m n i₀ allowed i = (i ≤ m) × TightLanes cost price m n i allowed
+Inv-loop cost price tight₀ m n i₀ tight i = (i ≤ m) × TightLanes cost price m n i tight
 
 abbrev μ-loop : tie.MeasureT-loop
-μ-loop cost price allowed₀ m n i₀ allowed i = m - i
+μ-loop cost price tight₀ m n i₀ tight i = m - i
 
 loop-holds : tie.Need-loop-holds Inv-loop μ-loop
 loop-holds c = (omega arith, lanes-none)
@@ -18,11 +18,11 @@ loop-holds c = (omega arith, lanes-none)
 tight-in-row-requires : tie.Need-tight-in-row-requires Inv-loop μ-loop
 tight-in-row-requires c κs = (c .before .before .before .pre, omega arith)
 
-mul-allowed : tie.Need-mul-allowed Inv-loop μ-loop
-mul-allowed c = omega (arith, c .before .before .before .before .pre .rows)
+mul-tight : tie.Need-mul-tight Inv-loop μ-loop
+mul-tight c = omega (arith, c .before .before .before .before .pre .rows)
 
-element-write-allowed : tie.Need-element-write-allowed Inv-loop μ-loop
-element-write-allowed c = omega (arith, c .before .before .loop .inv .1 .long, c .before .before .before .before .pre .rows)
+element-write-tight : tie.Need-element-write-tight Inv-loop μ-loop
+element-write-tight c = omega (arith, c .before .before .loop .inv .1 .long, c .before .before .before .before .pre .rows)
 
 add-i : tie.Need-add-i Inv-loop μ-loop
 add-i c = omega arith
@@ -48,8 +48,8 @@ tight-lanes-spec =
     μ-loop
     loop-holds
     tight-in-row-requires
-    mul-allowed
-    element-write-allowed
+    mul-tight
+    element-write-tight
     add-i
     loop-less
     loop-again
