@@ -19,7 +19,7 @@ use Rattle.transport.specs.Leaf.{Strike}
 use Rattle.transport.specs.Round.{takeFrom, flow}
 use Rattle.transport.specs.Laws.RoundLaws.{leftBy, flow-here, flow-later}
 use Rattle.transport.specs.Laws.RangeLaws.{abs-diff}
-use Rattle.tree.specs.Layout.{nodeRoom, laneAt, placeOf, place-laneAt, strikeOf, strikesOf, strikesFrom, strikesFrom-cons, getD-set, Distinct, Struck}
+use Rattle.tree.specs.Layout.{nodeRoom, laneAt, placeOf, place-laneAt, strikeOf, strikesOf, strikesFrom, strikesFrom-cons, getD-set, Distinct, StrikesInRoom}
 
 -- ---- one strike
 
@@ -118,7 +118,7 @@ pub record Needed (start : ℕ → ℤ) (most : ℕ) (leaf other lane : List ℕ
       ≡ flow (weightsOf need) (strikesFrom leaf other lane count k) (laneAt (getD lane i 0))
 
 -- Strike k.
-module _ {start : ℕ → ℤ} {most : ℕ} {leaf other lane : List ℕ} {count : ℕ} {need : List ℤ} {k : ℕ} (w : Struck leaf other lane count) (p : k < count)
+module _ {start : ℕ → ℤ} {most : ℕ} {leaf other lane : List ℕ} {count : ℕ} {need : List ℤ} {k : ℕ} (w : StrikesInRoom leaf other lane count) (p : k < count)
     (h : Needed start most leaf other lane count need k) where
   abbrev y : ℤ
   y = getD need (getD leaf k 0) (pos 0)

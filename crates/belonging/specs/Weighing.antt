@@ -31,17 +31,17 @@ light-of weight l h = record { long = l; small = omega (arith, sumTo-bound nodeR
 -- ---- amounts from a place on
 
 -- The first k amounts stand in `new` from place `from` on, and elsewhere it is as `old`.
-pub record Put (amounts : List ℕ) (from : ℕ) (old new : List ℤ) (k : ℕ) : Type 0 where
+pub record PutFrom (amounts : List ℕ) (from : ℕ) (old new : List ℤ) (k : ℕ) : Type 0 where
   pub long : length new ≡ nodeRoom
   pub here : (i : ℕ) → i < k → getD new (from + i) (pos 0) ≡ pos (at amounts i)
   pub before : (i : ℕ) → i < from → getD new i (pos 0) ≡ getD old i (pos 0)
   pub behind : (i : ℕ) → from + k ≤ i → getD new i (pos 0) ≡ getD old i (pos 0)
 
-pub put-none : (amounts : List ℕ) (from : ℕ) (old : List ℤ) → length old ≡ nodeRoom → Put amounts from old old 0
+pub put-none : (amounts : List ℕ) (from : ℕ) (old : List ℤ) → length old ≡ nodeRoom → PutFrom amounts from old old 0
 put-none amounts from old l = record { long = l; here = λ i p. absurd (omega arith); before = λ i p. refl; behind = λ i p. refl }
 
-pub put-more : {amounts : List ℕ} {from : ℕ} {old new : List ℤ} {k : ℕ} → from + k < nodeRoom → Put amounts from old new k
-    → Put amounts from old (set new (from + k) (pos (at amounts k))) (k + 1)
+pub put-more : {amounts : List ℕ} {from : ℕ} {old new : List ℤ} {k : ℕ} → from + k < nodeRoom → PutFrom amounts from old new k
+    → PutFrom amounts from old (set new (from + k) (pos (at amounts k))) (k + 1)
 put-more {amounts} {from} {old} {new} {k} p h = record {
   long = length-set new _ _ ∙ h .long;
   here = λ i q. by-cases (ℕ-discrete i k)
@@ -54,7 +54,7 @@ put-more {amounts} {from} {old} {new} {k} p h = record {
     other : (i : ℕ) → (i ≡ from + k → ⊥) → getD (set new (from + k) (pos (at amounts k))) i (pos 0) ≡ getD new i (pos 0)
     other i d = getD-set-other new (from + k) i (pos (at amounts k)) (pos 0) d
 
-put-small : {amounts : List ℕ} {from : ℕ} {old new : List ℤ} {k : ℕ} → Modest amounts → Put amounts from old new k
+put-small : {amounts : List ℕ} {from : ℕ} {old new : List ℤ} {k : ℕ} → Modest amounts → PutFrom amounts from old new k
     → ((j : ℕ) → natAbs (getD old j (pos 0)) ≤ maxBags) → (j : ℕ) → natAbs (getD new j (pos 0)) ≤ maxBags
 put-small {amounts} {from} {old} {new} {k} w h s j = by-cases (decLt j from)
     (λ p. rw (h .before j p) (s j))
@@ -64,7 +64,7 @@ put-small {amounts} {from} {old} {new} {k} w h s j = by-cases (decLt j from)
 
 -- Supplies, and behind them demands, in an array of zeros.
 pub bags-put : {supply demand : List ℕ} {zeros mid new : List ℤ} → Modest supply → Modest demand → ((j : ℕ) → getD zeros j (pos 0) ≡ pos 0)
-    → Put supply 0 zeros mid (length supply) → Put demand (length supply) mid new (length demand)
+    → PutFrom supply 0 zeros mid (length supply) → PutFrom demand (length supply) mid new (length demand)
     → Weights (length supply) (length demand) (at supply) (at demand) new
 bags-put {supply} {demand} {zeros} {mid} {new} s d z a b = record {
   light = light-of new (b .long) (put-small d b (put-small s a (λ j. rw (z j) (omega arith))));

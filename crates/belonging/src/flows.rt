@@ -2,7 +2,7 @@
 use tree::LANES;
 use tree::NODES;
 ghost use mathlib.Core.Path.{_≡_};
-ghost use Rattle.tree.specs.Layout.{Distinct, Struck, strikesOf};
+ghost use Rattle.tree.specs.Layout.{Distinct, StrikesInRoom, strikesOf};
 ghost use Rattle.belonging.specs.FlowLaws.{weightsOf};
 ghost use Rattle.belonging.specs.Carried.{Light, carries};
 
@@ -16,7 +16,7 @@ pub(crate) fn flows_match(
     lane: &[usize; NODES],
     count: usize,
 ) -> bool
-    requires { ⌜ Struck (now leaf) (now other) (now lane) count ⌝ }
+    requires { ⌜ StrikesInRoom (now leaf) (now other) (now lane) count ⌝ }
     requires { ⌜ Distinct (now lane) count ⌝ }
     requires { ⌜ Light (now weight) ⌝ }
     ensures { λ r. ⌜

@@ -6,13 +6,13 @@ ghost use lib.ListN.{length};
 ghost use Rattle.transport.specs.Lists.{at};
 ghost use Rattle.tree.specs.Layout.{stride, nodeRoom};
 ghost use Rattle.belonging.specs.Balance.{Weights, markOf};
-ghost use Rattle.belonging.specs.Weighing.{Modest, Put};
+ghost use Rattle.belonging.specs.Weighing.{Modest, PutFrom};
 
 // Puts the amounts into the array, from place `from` on.
 fn put_from(amounts: &[u64], from: usize, weight: &mut [i64; NODES])
     requires { ⌜ Modest (now amounts) ⌝ }
     requires { ⌜ (from + length (now amounts) ≤ nodeRoom) × (length (now weight) ≡ nodeRoom) ⌝ }
-    ensures { λ _. ⌜ Put (now (amounts .entry)) from (now (weight .entry)) (now (weight .exit)) (length (now (amounts .entry))) ⌝ }
+    ensures { λ _. ⌜ PutFrom (now (amounts .entry)) from (now (weight .entry)) (now (weight .exit)) (length (now (amounts .entry))) ⌝ }
 {
     let mut k = 0;
     while k < amounts.len() {

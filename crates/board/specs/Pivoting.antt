@@ -336,7 +336,8 @@ module _ {P : Problem} {T : List Cell} {q e : List ℤ} {sub path lanes : List �
           ∙ sym (gain-part part f₁ f₂ (signOf (lane i j)) (out .amount) (amountAt T i j))
           ∙ sym (ap part (amount-gains i j d)))
         where
-          here : getD ys (i * stride + j) (pos 0) ≡ moved (isMinus (signOf (lane i j))) (isPlus (signOf (lane i j))) (part (out .amount)) (part (amountAt T i j))
+          here : getD ys (i * stride + j) (pos 0) ≡ moved (isMinus (signOf (lane i j))) (isPlus (signOf (lane i j))) (part (out .amount))
+              (part (amountAt T i j))
           here = by-cases (basic-dec T i j)
               (λ y. let (t, p, is) = lane-slot i j y in
               let on : laneAt (getD lanes t 0) ≡ lane i j = ap laneAt is ∙ laneAt-place i j (omega (arith, high)) in
@@ -418,7 +419,8 @@ module _ {P : Problem} {T : List Cell} {q e : List ℤ} {sub path lanes : List �
               let across = loop-across (b .tree) row (M + col) s slot-on-loop in
               let low = b .sound .sourcesLow in
               potential-only low (fits-of (b .sound) belongs-after) (spans-of (b .sound) belongs-after) (laneCost P) π
-              (shifted-root (b .tree .cuts) fits slot-in {enter = enter} (h .inRow) (h .inCol) across shifted low (potential-root low fits spanned (laneCost P)))
+              (shifted-root (b .tree .cuts) fits slot-in {enter = enter} (h .inRow) (h .inCol) across shifted low
+              (potential-root low fits spanned (laneCost P)))
               (shifted-tight (b .tree .cuts) fits slot-in {enter = enter} (h .inRow) (h .inCol) across shifted exchanged
               (potential-tight low fits spanned (laneCost P)))
 

@@ -31,8 +31,7 @@ use Rattle.tableaux.specs.Potentials.{potential-off, potential-root, potential-
 use Rattle.tableaux.specs.Belonging.{belongs-iff, fits-of, spans-of}
 use Rattle.tableaux.specs.Running.{run-done, run-none, run-more}
 use Rattle.tableaux.specs.Ending.{mostValue, allValue-high, raised, raised-nonneg, next-falls, run-ends}
-use Rattle.tree.specs.Layout.{stride, stride-is, nodeRoom, costOf, strikesOf}
-use Rattle.tree.specs.Layout as layout
+use Rattle.tree.specs.Layout.{stride, stride-is, nodeRoom, costOf, strikesOf, StrikesInRoom}
 use Rattle.tree.specs.Strikes.{strikes-room}
 use Rattle.tree.specs.Planting.{Tree}
 use Rattle.board.specs.Arrays.{Loaded, Board}
@@ -68,7 +67,7 @@ module _ {P : Problem} {T : List Cell} {q e cost : List ℤ} {leaf other tree : 
   pub begun-ends : run P (roundBound P) T .finished ≡ true
   begun-ends = run-ends (d .sound) T begun-belongs
 
-  pub begun-room : layout.Struck leaf other tree (m + n - 1)
+  pub begun-room : StrikesInRoom leaf other tree (m + n - 1)
   begun-room = strikes-room m n leaf other tree (m + n - 1) (begun-sides .1) (begun-sides .3) (d .loaded .long) (d .loaded .struck)
 
   fits : Fits m n (basisOf T)

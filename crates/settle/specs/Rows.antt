@@ -106,7 +106,7 @@ module _ {m n p : ℕ} {a b : ℕ → Z} {tight : List ℕ} {q : List ℤ} {hold
 
     -- It is not: bags are sought for it.
     pub along-sought : {later : ℕ} → later ≡ minus (firstBits m) (firstBits (p + 1)) → ¬ (has dead c ≡ true)
-        → Sought m n (record { row = p; col = c; later = later; goal = bitAnd (entry owns′ p) rest; dead = dead }) (laneBags q′) tight holds′
+        → Sought m n (record { row = p; col = c; later = later; goal = bitAnd (entry owns′ p) rest; dead = dead }) (laneBags q′) tight holds′ owns′
     along-sought is off = record {
       rows = stage .masked .rows;
       cols = stage .masked .cols;
@@ -122,6 +122,7 @@ module _ {m n p : ℕ} {a b : ℕ → Z} {tight : List ℕ} {q : List ℤ} {hold
       );
       inside = start .inside;
       hold = λ i j hi hj. rw (stage .masked .hold i j hi hj) (carries-some q′ i j);
+      own = λ i j hi hj. rw (stage .masked .own i j hi hj) (carries-some q′ i j);
       goals = goals;
       closed = w .deadIs .closed;
     }

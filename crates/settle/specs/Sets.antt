@@ -2,14 +2,13 @@
 use mathlib.Core.Path.{_≡_, sym, _∙_}
 use mathlib.Core.Logic.{_↔_, _≢_, _⊎_, inl, inr, ⊎-elim, by-cases}
 use mathlib.Core.Bool.{true, false≢true}
-use Prim.Native.Nat.{ℕ, zero, suc, _-_, _/_, _^_, _<_, _≤_}
+use Prim.Native.Nat.{ℕ, _-_, _<_, _≤_}
 use native.Mathlib.Omega.{arith}
 use native.Mathlib.Decide.{ℕ-discrete, decLt}
-use native.Mathlib.Nat.{pow-suc}
 use borrow.Author.Tests.{eqb-true, eq-eqb, ne-eqb}
 use lib.Bits.{bitAnd, bitOr, and-le-r}
-use Rattle.tree.specs.Mask.{bit, has, bit-suc, bit-or, bit-and, put, put-here, put-there, cut, cut-here, cut-there, has-zero}
-use Rattle.tree.specs.MaskLaws.{firstBits, first-below, first-above, minus, bit-minus, some-bit}
+use Rattle.tree.specs.Mask.{bit, has, bit-or, bit-and, put, put-here, put-there, cut, cut-here, cut-there, has-zero}
+use Rattle.tree.specs.MaskLaws.{firstBits, first-below, first-above, minus, bit-minus}
 use Rattle.tree.specs.Bits.{Least, has-rest}
 
 pub in-bit : (x k : ℕ) → (has x k ≡ true) ↔ (bit x k ≡ 1)
@@ -17,6 +16,10 @@ in-bit x k = ((λ e. eqb-true (bit x k) 1 e), (λ e. eq-eqb (bit x k) 1 e))
 
 pub in-none : {x : ℕ} (k : ℕ) → x ≡ 0 → ¬ (has x k ≡ true)
 in-none k e h = false≢true (sym (has-zero k) ∙ rw e at h)
+
+-- A mask with some bit is not 0.
+pub in-some : (x k : ℕ) → has x k ≡ true → 0 < x
+in-some x k h = by-cases (ℕ-discrete x 0) (λ e. absurd (in-none k e h)) (λ e. omega arith)
 
 pub in-or : (a b k : ℕ) → (has (bitOr a b) k ≡ true) ↔ ((has a k ≡ true) ⊎ (has b k ≡ true))
 in-or a b k = (
@@ -81,10 +84,3 @@ in-between m k i = (
     λ s. absurd (omega (arith, first-above k i (e .0), in-bit (firstBits k) i .0 s)),
   )),
 )
-
--- A mask of bits below K is below 2 ^ K.
-pub bits-low : (K x : ℕ) → ((k : ℕ) → bit x k ≡ 1 → k < K) → x < 2 ^ K
-bits-low zero x h = by-cases (ℕ-discrete x 0) (λ e. omega arith) (λ e. let w = some-bit x (omega arith) in absurd (omega (arith, h (w .0) (w .1))))
-bits-low (suc K) x h =
-    let half : x / 2 < 2 ^ K = bits-low K (x / 2) (λ k b. let l : suc k < suc K = h (suc k) (bit-suc x k ∙ b) in omega arith) in
-    omega (arith, pow-suc 2 K)

@@ -81,8 +81,8 @@ stage-few {n = n} {q = q} s i j hi hj = abs-most (getD q (i * stride + j) (pos 0
 abbrev pub aimed : Target → ℕ → Target
 aimed t goal = record { row = t .row; col = t .col; later = t .later; goal = goal; dead = t .dead }
 
-pub hit-walkable : {m n s l : ℕ} {t : Target} {x : ℕ → ℕ → Z} {tight holds row col up : List ℕ}
-    → Sought m n t x tight holds → Hits m n t x tight s l row col up → Walkable m n s l row col up
+pub hit-walkable : {m n s l : ℕ} {t : Target} {x : ℕ → ℕ → Z} {tight holds owns row col up : List ℕ}
+    → Sought m n t x tight holds owns → Hits m n t x tight s l row col up → Walkable m n s l row col up
 hit-walkable g hit = record {
   rowsHigh = g .rows;
   colsHigh = g .cols;
@@ -94,11 +94,11 @@ hit-walkable g hit = record {
 }
 
 pub hit-loaded : {m n s l : ℕ} {t : Target} {x : ℕ → ℕ → Z} {a b : ℕ → Z} {v : ℕ} {q : List ℤ} {tight holds owns row col up : List ℕ}
-    → Sought m n t x tight holds → Hits m n t x tight s l row col up → Stage m n a b v tight q holds owns → Loaded m n s l row col up q holds owns
+    → Sought m n t x tight holds owns → Hits m n t x tight s l row col up → Stage m n a b v tight q holds owns → Loaded m n s l row col up q holds owns
 hit-loaded g hit e = record { walkable = hit-walkable g hit; masked = e .masked; few = stage-few e }
 
-module _ {m n s l : ℕ} {t : Target} {q : List ℤ} {tight holds row col up : List ℕ}
-    (g : Sought m n t (laneBags q) tight holds) (hit : Hits m n t (laneBags q) tight s l row col up) where
+module _ {m n s l : ℕ} {t : Target} {q : List ℤ} {tight holds owns row col up : List ℕ}
+    (g : Sought m n t (laneBags q) tight holds owns) (hit : Hits m n t (laneBags q) tight s l row col up) where
   module _ {d : ℕ} {q′ : List ℤ} (w : Rooted (entry up) s d) (done : BroughtLeast d s l row col up q q′) where
     abbrev r : ℕ → ℕ
     r = wayRow (entry row) (entry up) s
@@ -131,7 +131,7 @@ module _ {m n s l : ℕ} {t : Target} {q : List ℤ} {tight holds row col up : L
         let h′ = brought brings (g .col) h in
         decided-other (flow-cong same (h′ .flow)) (λ i j hi hj. omega (arith, same i j hi hj, h′ .nonneg i j hi hj)) (λ i j hi hj u. same i j hi hj) h′
 
-    pub turn-stage : {a b : ℕ → Z} {owns holds′ owns′ : List ℕ} → Masked m n q′ holds′ owns′
+    pub turn-stage : {a b : ℕ → Z} {holds′ owns′ : List ℕ} → Masked m n q′ holds′ owns′
         → Stage m n a b (t .row * n + t .col) tight q holds owns → Stage m n a b (t .row * n + t .col) tight q′ holds′ owns′
     turn-stage right e = record { decided = turn-decided (e .decided); masked = right; most = e .most; inside = e .inside }
 
@@ -160,7 +160,7 @@ module _ {m n s l : ℕ} {t : Target} {q : List ℤ} {tight holds row col up : L
         )),
       )
 
-      pub turn-sought : Sought m n (aimed t (bitAnd (t .goal) (entry owns′ (t .row)))) (laneBags q′) tight holds′
+      pub turn-sought : Sought m n (aimed t (bitAnd (t .goal) (entry owns′ (t .row)))) (laneBags q′) tight holds′ owns′
       turn-sought = record {
         rows = g .rows;
         cols = g .cols;
@@ -178,6 +178,7 @@ module _ {m n s l : ℕ} {t : Target} {q : List ℤ} {tight holds row col up : L
         after = g .after;
         inside = g .inside;
         hold = λ i j hi hj. rw (right .hold i j hi hj) (carries-some q′ i j);
+        own = λ i j hi hj. rw (right .own i j hi hj) (carries-some q′ i j);
         goals = goals;
         closed = λ i j k u hi hj hk o v h. brought-closed brings alive (g .closed) i j k u hi hj hk o (omega (arith, same i j hi hj)) h;
       }
@@ -189,14 +190,14 @@ pub record Dead (m n p c : ℕ) (tight : List ℕ) (q : List ℤ) (dead : ℕ) :
   pub closed : Closed m n (InMask tight) (laneBags q) p (has dead)
   pub clear : (j : ℕ) → c ≤ j → j < n → has dead j ≡ true → laneBags q p j ≈ nat 0
 
-module _ {m n : ℕ} {t : Target} {q : List ℤ} {tight holds : List ℕ} (g : Sought m n t (laneBags q) tight holds) where
+module _ {m n : ℕ} {t : Target} {q : List ℤ} {tight holds owns : List ℕ} (g : Sought m n t (laneBags q) tight holds owns) where
   -- A search came to its end: the lane is stuck, and the columns that it reached are dead for the lanes after it.
-  pub stuck-reaches : {owns : List ℕ} (cols : ℕ) → Stuck m n (InMask tight) (laneBags q) (t .row) (t .col) (has cols)
+  pub stuck-reaches : (cols : ℕ) → Stuck m n (InMask tight) (laneBags q) (t .row) (t .col) (has cols)
       → Reaches m n (t .row * n + t .col) (suc (t .row * n + t .col)) tight q holds owns q holds owns
   stuck-reaches cols s = reaches-decided (λ a b. decided-stuck (g .row) (g .col) s)
 
   -- There is no goal: nothing can be brought, whatever is reached.
-  pub goalless-reaches : {owns : List ℕ} → t .goal ≡ 0 → Reaches m n (t .row * n + t .col) (suc (t .row * n + t .col)) tight q holds owns q holds owns
+  pub goalless-reaches : t .goal ≡ 0 → Reaches m n (t .row * n + t .col) (suc (t .row * n + t .col)) tight q holds owns q holds owns
   goalless-reaches e = reaches-decided (λ a b. decided-stuck (g .row) (g .col) (record {
     closed = λ i j k u hi hj hk o v h. refl;
     here = refl;

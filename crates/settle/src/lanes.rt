@@ -55,7 +55,7 @@ fn decide(
     n: usize,
 ) -> u64
     requires { ⌜ ((a : ℕ → Z) × (b : ℕ → Z) × Stage m n a b (target .row * n + target .col) (now tight) (now q) (now holds) (now owns)) ⌝ }
-    requires { ⌜ Sought m n target (laneBags (now q)) (now tight) (now holds) ⌝ }
+    requires { ⌜ Sought m n target (laneBags (now q)) (now tight) (now holds) (now owns) ⌝ }
     requires { ⌜ Rooms (now row) (now col) (now up) (now from) ⌝ }
     ensures { λ _. ⌜ Rooms (now (row .exit)) (now (col .exit)) (now (up .exit)) (now (from .exit)) ⌝ }
     ensures { λ r. ⌜ Dead m n (target .row) (suc (target .col)) (now (tight .entry)) (now (q .exit)) r ⌝ }
@@ -74,7 +74,7 @@ fn decide(
             goal,
             dead: target.dead,
         };
-        let reached = search(holds, tight, now, row, col, up, from, m, n);
+        let reached = search(holds, owns, tight, now, row, col, up, from, m, n);
         match reached {
             Reached::Nothing(cols) => {
                 return cols;
@@ -159,8 +159,9 @@ pub fn settle_lanes(
     let mut col = [0usize; NODES];
     let mut up = [0usize; NODES];
     let mut from = [0usize; MAX_SIDE];
-    let mut p = 0;
-    while p < m {
+    // The rows that are left are counted, so that a program that decides them backwards is an operand away.
+    let mut left = m;
+    while left > 0 {
         settle_row(
             q,
             &mut holds,
@@ -172,8 +173,8 @@ pub fn settle_lanes(
             &mut from,
             m,
             n,
-            p,
+            m - left,
         );
-        p += 1;
+        left -= 1;
     }
 }

@@ -14,7 +14,7 @@ ghost use Rattle.integers.specs.Integer.{Z};
 ghost use Rattle.tree.specs.Layout.{stride};
 ghost use Rattle.tree.specs.Mask.{has};
 ghost use Rattle.tree.specs.Bits.{Touched};
-ghost use Rattle.settle.specs.Sought.{Sought, Rooms};
+ghost use Rattle.settle.specs.Sought.{Sought, Rooms, Gathered};
 ghost use Rattle.settle.specs.Answer.{Answers};
 
 // What is sought: bags for lane (row, col). `later` are the rows after it, `goal` the later columns where the row has bags, and `dead` columns from which
@@ -33,24 +33,29 @@ pub enum Reached {
     Nothing(u64),
 }
 
-// from[l] = at for each column l of the mask.
-fn hang(from: &mut [usize; MAX_SIDE], cols: u64, at: usize)
+// from[l] = at for each column l of the mask. Gives the rows with bags on one of them.
+fn hang(from: &mut [usize; MAX_SIDE], holds: &[u64; MAX_SIDE], cols: u64, at: usize) -> u64
     requires { ⌜ length (now from) ≡ stride ⌝ }
     requires { ⌜ ((l : ℕ) → has cols l ≡ true → l < stride) ⌝ }
     ensures { λ _. ⌜ Touched (λ (y : ℕ). at) 0 (now (from .entry)) cols (now (from .exit)) ⌝ }
+    ensures { λ r. ⌜ Gathered (now (holds .entry)) cols r ⌝ }
 {
+    let mut rows: u64 = 0;
     let mut left = cols;
     while left > 0 {
         let l = first_bit(left);
         from[l] = at;
+        rows = rows | holds[l];
         left = rest(left);
     }
+    rows
 }
 
 // Position 0 is the target's row. Position k is the later row row[k], which has bags on column col[k]; that column is tight for the row at position up[k].
-// A column that is reached hangs on position from[l]. `todo` are the columns still to look at, `left` the rows not yet reached.
+// A column that is reached hangs on position from[l]. `left` are the rows not yet reached, `rows` those of them with bags on a column that is.
 pub(crate) fn search(
     holds: &[u64; MAX_SIDE],
+    owns: &[u64; MAX_SIDE],
     tight: &[u64; MAX_SIDE],
     target: Target,
     row: &mut [usize; NODES],
@@ -60,42 +65,36 @@ pub(crate) fn search(
     m: usize,
     n: usize,
 ) -> Reached
-    requires { ⌜ ((x : ℕ → ℕ → Z) × Sought m n target x (now tight) (now holds)) ⌝ }
+    requires { ⌜ ((x : ℕ → ℕ → Z) × Sought m n target x (now tight) (now holds) (now owns)) ⌝ }
     requires { ⌜ Rooms (now row) (now col) (now up) (now from) ⌝ }
     ensures { λ _. ⌜ Rooms (now (row .exit)) (now (col .exit)) (now (up .exit)) (now (from .exit)) ⌝ }
     ensures { λ r. ⌜
-        ((x : ℕ → ℕ → Z) → Sought m n target x (now (tight .entry)) (now (holds .entry))
+        ((x : ℕ → ℕ → Z) → Sought m n target x (now (tight .entry)) (now (holds .entry)) (now (owns .entry))
         → Answers m n target x (now (tight .entry)) r (now (row .exit)) (now (col .exit)) (now (up .exit)))
         ⌝ }
 {
     let b = target.col;
     row[0] = target.row;
     from[b] = 0;
-    let mut cols = set_bit(target.dead, b);
-    let mut todo = set_bit(0, b);
+    let mut cols = set_bit(0, b);
     let mut left = target.later;
+    let mut rows = holds[b] & left;
     let mut count = 1;
-    while todo > 0 {
-        let j = first_bit(todo);
-        let rows = holds[j] & left;
-        if rows > 0 {
-            let i = first_bit(rows);
-            row[count] = i;
-            col[count] = j;
-            up[count] = from[j];
-            let fresh = without(tight[i], cols);
-            let hit = fresh & target.goal;
-            if hit > 0 {
-                return Reached::Goal(count, first_bit(hit));
-            }
-            hang(from, fresh, count);
-            cols = cols | fresh;
-            todo = todo | fresh;
-            left = clear_bit(left, i);
-            count += 1;
-        } else {
-            todo = rest(todo);
+    while rows > 0 {
+        let i = first_bit(rows);
+        let j = first_bit(owns[i] & cols);
+        row[count] = i;
+        col[count] = j;
+        up[count] = from[j];
+        let fresh = without(tight[i], cols | target.dead);
+        let hit = fresh & target.goal;
+        if hit > 0 {
+            return Reached::Goal(count, first_bit(hit));
         }
+        cols = cols | fresh;
+        left = clear_bit(left, i);
+        rows = (rows | hang(from, holds, fresh, count)) & left;
+        count += 1;
     }
-    Reached::Nothing(cols)
+    Reached::Nothing(cols | target.dead)
 }

@@ -136,10 +136,12 @@ module _ {A : Type 0} {f : A → A} {d : A} {old new : List A} {at bits r : ℕ}
       within false true e = refl
       within false false e = e
 
-      here : (k : ℕ) → k ≡ r → getD (set new r (f (getD old r d))) k d ≡ cond (not (has (bitAnd bits (bits - 1)) k) && has at k) (f (getD old k d)) (getD old k d)
+      here : (k : ℕ) → k ≡ r → getD (set new r (f (getD old r d))) k d ≡ cond (not (has (bitAnd bits (bits - 1)) k) && has at k) (f (getD old k d))
+          (getD old k d)
       here k e = rw (e, getD-set-same new r (f (getD old r d)) d (omega (arith, g .long)), has-rest bits r r w, eq-eqb r r refl, g .part r (has-least w))
 
-      there : (k : ℕ) → k ≢ r → getD (set new r (f (getD old r d))) k d ≡ cond (not (has (bitAnd bits (bits - 1)) k) && has at k) (f (getD old k d)) (getD old k d)
+      there : (k : ℕ) → k ≢ r → getD (set new r (f (getD old r d))) k d ≡ cond (not (has (bitAnd bits (bits - 1)) k) && has at k) (f (getD old k d))
+          (getD old k d)
       there k d′ = rw (getD-set-other new r k (f (getD old r d)) d d′, has-rest bits r k w, ne-eqb k r d′) (g .each k)
 
 pub touch-end : {A : Type 0} {f : A → A} {d : A} {old new : List A} {at bits : ℕ} → Touching f d old at bits new → bits ≡ 0 → Touched f d old at new
@@ -150,7 +152,8 @@ abbrev pub Grafted : List ℕ → ℕ → ℕ → List ℕ → Type 0
 Grafted old at x new = Touched (λ (y : ℕ). bitXor y x) 0 old at new
 
 -- What a bit then says.
-pub grafted-bit : {old new : List ℕ} {at : ℕ} (x : ℕ) → Grafted old at x new → (k j : ℕ) → has (getD new k 0) j ≡ xor (has (getD old k 0) j) (has at k && has x j)
+pub grafted-bit : {old new : List ℕ} {at : ℕ} (x : ℕ) → Grafted old at x new → (k j : ℕ)
+    → has (getD new k 0) j ≡ xor (has (getD old k 0) j) (has at k && has x j)
 unfolding xor
 grafted-bit {old} {at = at} x g k j = rw (g .each k) (go (has at k))
   where

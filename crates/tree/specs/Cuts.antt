@@ -37,7 +37,8 @@ slots-apart {m} {at = at} {far = far} w t k p q e = by-cases (ℕ-discrete k t) 
 
 -- ---- the loop of an entering lane
 
--- The sign of a basic lane whose ends lie on the sides a and b of its cut, where the ends of the entering lane lie on the sides p and q: 0 where the entering lane
+-- The sign of a basic lane whose ends lie on the sides a and b of its cut, where the ends of the entering lane lie on the sides p and q: 0 where the entering
+-- lane
 -- does not go across; else minus where both go across the same way.
 abbrev pub signBy : Bool → Bool → Bool → ℤ
 signBy a p q = cond (xor p q) (cond (xor a p) (pos 1) (negsuc 0)) (pos 0)
@@ -61,12 +62,13 @@ module _ {m n : ℕ} {B : List Lane} {count : ℕ} {at : ℕ → Lane} {far : �
   pub sign-by : {enter : Lane} → enter .row < m → enter .col < n → {σ : ℕ → ℕ → Z}
       → Flow m n (Has B) σ (point (enter .row) (neg (nat 1))) (point (enter .col) (neg (nat 1)))
       → (t : ℕ) → t < count → σ (at t .row) (at t .col) ≈ toZ (signBy (far t (at t .row)) (far t (enter .row)) (far t (m + enter .col)))
-  sign-by {enter} hr hc {σ} f t p = sign-solved (far t (at t .row)) (far t (m + at t .col)) (far t (enter .row)) (far t (m + enter .col)) (σ (at t .row) (at t .col)) (w .across t p) (omega (
-    arith,
-    balance {A = A} {B = C} (h (at t) (w .basic t p) .0) (h (at t) (w .basic t p) .1) (flow-on (λ i j hi hj. cell i j) f),
-    sum-point m (λ i. ind (A i)) (enter .row) (neg (nat 1)) hr,
-    sum-point n (λ j. ind (C j)) (enter .col) (neg (nat 1)) hc,
-  ))
+  sign-by {enter} hr hc {σ} f t p = sign-solved (far t (at t .row)) (far t (m + at t .col)) (far t (enter .row)) (far t (m + enter .col))
+      (σ (at t .row) (at t .col)) (w .across t p) (omega (
+        arith,
+        balance {A = A} {B = C} (h (at t) (w .basic t p) .0) (h (at t) (w .basic t p) .1) (flow-on (λ i j hi hj. cell i j) f),
+        sum-point m (λ i. ind (A i)) (enter .row) (neg (nat 1)) hr,
+        sum-point n (λ j. ind (C j)) (enter .col) (neg (nat 1)) hc,
+      ))
     where
       A : ℕ → Bool
       A i = not (far t i)
@@ -158,7 +160,9 @@ module _ {m n : ℕ} {B : List Lane} {count : ℕ} {at : ℕ → Lane} {far : �
         along-s k q f = rw (there k f, stays (at k .row) (row-in k q), stays (m + at k .col) (col-in k q)) (w .along s k hs q f)
 
         enters : (t : ℕ) → t < count → t ≢ s → far′ t (enter .row) ≡ far′ t (m + enter .col)
-        enters t p e = is t (enter .row) p (omega arith) ∙ (rw (ne-eqb t s e) (xor-along (far t (enter .row)) (far t (m + enter .col)) (far s (enter .row)) (far s (m + enter .col)) loop)) ∙ sym (is t (m + enter .col) p (omega arith))
+        enters t p e = is t (enter .row) p (omega arith) ∙ (rw (ne-eqb t s e)
+            (xor-along (far t (enter .row)) (far t (m + enter .col)) (far s (enter .row)) (far s (m + enter .col)) loop))
+            ∙ sym (is t (m + enter .col) p (omega arith))
 
         keeps : (t k : ℕ) → t < count → k < count → k ≢ t → t ≢ s → k ≢ s → far′ t (at k .row) ≡ far′ t (m + at k .col)
         keeps t k p q d e f = rw (is t (at k .row) p (row-in k q), is t (m + at k .col) p (col-in k q), w .along t k p q d, w .along s k hs q f)

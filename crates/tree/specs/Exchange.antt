@@ -50,7 +50,8 @@ module _ {m n : ℕ} {B : List Lane} {sub path lanes : List ℕ} (w : Tree m n B
       go true r = false≢true r
       go false r = false≢true r
 
-  module _ {row col s into : ℕ} (fits : Fits m n B) (hr : row < m) (hc : col < n) (hm : m ≤ stride) (hn : n ≤ stride) (is-into : into ≡ row * stride + col) (loop : has (onLoop path row (m + col)) s ≡ true)
+  module _ {row col s into : ℕ} (fits : Fits m n B) (hr : row < m) (hc : col < n) (hm : m ≤ stride) (hn : n ≤ stride) (is-into : into ≡ row * stride + col)
+      (loop : has (onLoop path row (m + col)) s ≡ true)
       {sub′ path′ lanes′ : List ℕ} {moved : ℕ} (g : Regrafted row (m + col) s into sub path lanes sub′ path′ lanes′ moved) where
     hs : s < m + n - 1
     hs = loop-slot row (m + col) s (omega arith) (omega arith) loop
@@ -71,7 +72,8 @@ module _ {m n : ℕ} {B : List Lane} {sub path lanes : List ℕ} (w : Tree m n B
       laneLong = ap length (g .laid) ∙ simp length-set (w .laneLong);
       cuts = exchange (w .cuts) fits hs {enter = lane row col} hr hc (loop-across row (m + col) s loop) new here there far-is;
       slots = λ p t l e. keeps p t l (has (getD path p 0) t) refl (sym (grafted-bit (cut (onLoop path row (m + col)) s) (g .paths) p t) ∙ e);
-      turns = λ t p l. grafted-bit moved (g .subs) t p ∙ (rw (w .turns t p l, in-far p)) ∙ both (ltb p (m + n)) (has (getD path p 0) t) (has (getD path p 0) s) (has (cut (onLoop path row (m + col)) s) t)
+      turns = λ t p l. grafted-bit moved (g .subs) t p ∙ (rw (w .turns t p l, in-far p))
+          ∙ both (ltb p (m + n)) (has (getD path p 0) t) (has (getD path p 0) s) (has (cut (onLoop path row (m + col)) s) t)
           ∙ ap (λ b. ltb p (m + n) && b) (sym (outside p t));
     }
       where
@@ -81,10 +83,13 @@ module _ {m n : ℕ} {B : List Lane} {sub path lanes : List ℕ} (w : Tree m n B
         there : (t : ℕ) → t ≢ s → laneAt (getD lanes′ t 0) ≡ laneAt (getD lanes t 0)
         there t d = rw (g .laid, getD-set-other lanes s t into 0 d)
 
-        keeps : (p t : ℕ) → p < m + n → (b : Bool) → has (getD path p 0) t ≡ b → xor b (has moved p && has (cut (onLoop path row (m + col)) s) t) ≡ true → t < m + n - 1
+        keeps : (p t : ℕ) → p < m + n → (b : Bool) → has (getD path p 0) t ≡ b → xor b (has moved p && has (cut (onLoop path row (m + col)) s) t) ≡ true
+            → t < m + n - 1
         keeps p t l true e r = w .slots p t l e
         keeps p t l false e r = loop-slot row (m + col) t (omega arith) (omega arith)
-            (and-right (not (eqb t s)) (has (onLoop path row (m + col)) t) (sym (has-cut (onLoop path row (m + col)) s t) ∙ and-right (has moved p) _ (sym (xor-of _) ∙ r)))
+            (and-right (not (eqb t s)) (has (onLoop path row (m + col)) t)
+            (sym (has-cut (onLoop path row (m + col)) s t) ∙ and-right (has moved p) _ (sym (xor-of _) ∙ r)))
 
-        outside : (p t : ℕ) → has (getD path′ p 0) t ≡ xor (has (getD path p 0) t) ((ltb p (m + n) && has (getD path p 0) s) && has (cut (onLoop path row (m + col)) s) t)
+        outside : (p t : ℕ) → has (getD path′ p 0) t ≡ xor (has (getD path p 0) t)
+            ((ltb p (m + n) && has (getD path p 0) s) && has (cut (onLoop path row (m + col)) s) t)
         outside p t = grafted-bit (cut (onLoop path row (m + col)) s) (g .paths) p t ∙ rw (in-far p)

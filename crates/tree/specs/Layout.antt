@@ -116,7 +116,7 @@ abbrev pub Distinct : List ℕ → ℕ → Type 0
 Distinct xs n = (i k : ℕ) → i < k → k < n → getD xs k 0 ≡ getD xs i 0 → ⊥
 
 -- Nodes and lanes are within the room. (Of an array that is lent the logic knows no length: where one counts, contracts say it.)
-pub record Struck (leaf other lane : List ℕ) (count : ℕ) : Type 0 where
+pub record StrikesInRoom (leaf other lane : List ℕ) (count : ℕ) : Type 0 where
   pub few : count ≤ nodeRoom
   pub laneLong : length lane ≡ nodeRoom
   pub leafIn : (k : ℕ) → k < count → getD leaf k 0 < nodeRoom

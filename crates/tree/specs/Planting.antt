@@ -50,7 +50,8 @@ module _ {m n : ℕ} {B : List Lane} (leaf other lanes : List ℕ) (count : ℕ)
   clears : (i k : ℕ) → i < k → k < count → (getD leaf k 0 ≢ getD leaf i 0) × (getD other k 0 ≢ getD leaf i 0)
   clears i k l r =
       let s = strikeOf leaf other lanes 0 in
-      rw (getD-strikes leaf other lanes count k s r, getD-strikes leaf other lanes count i s (omega arith)) at (clear-at s (st .peels) i k l (omega (arith, length-strikes leaf other lanes count)))
+      rw (getD-strikes leaf other lanes count k s r, getD-strikes leaf other lanes count i s (omega arith)) at
+      (clear-at s (st .peels) i k l (omega (arith, length-strikes leaf other lanes count)))
 
   pub struck-order : m ≤ stride → n ≤ stride → Order leaf other count
   unfolding strikesOf
@@ -71,11 +72,13 @@ module _ {m n : ℕ} {B : List Lane} (leaf other lanes : List ℕ) (count : ℕ)
           (λ s. absurd (apart k l (e ∙ ap (λ (j : ℕ). getD leaf j 0) s)))
           (λ s. absurd (clears i k (omega arith) l .1 e)))
 
-      hangs : (k : ℕ) → k < count → Live (strikesOf leaf other lanes count) (getD other k 0) → (getD other k 0 ≡ 0) ⊎ ((i : ℕ) × (k < i) × (i < count) × (getD other k 0 ≡ getD leaf i 0))
+      hangs : (k : ℕ) → k < count → Live (strikesOf leaf other lanes count) (getD other k 0)
+          → (getD other k 0 ≡ 0) ⊎ ((i : ℕ) × (k < i) × (i < count) × (getD other k 0 ≡ getD leaf i 0))
       hangs k l (inl z) = inl z
       hangs k l (inr (t, h, e)) = let (i, r, s) = table-member count (strikeOf leaf other lanes) h in inr (at k i l r (sym e ∙ ap (λ (t : Strike). t .leaf) s))
 
-strike-index : (leaf other lanes : List ℕ) (count : ℕ) {s : Strike} → List·Memᴰ s (strikesOf leaf other lanes count) → (k : ℕ) × (k < count) × (s ≡ strikeOf leaf other lanes k)
+strike-index : (leaf other lanes : List ℕ) (count : ℕ) {s : Strike} → List·Memᴰ s (strikesOf leaf other lanes count)
+    → (k : ℕ) × (k < count) × (s ≡ strikeOf leaf other lanes k)
 unfolding strikesOf
 strike-index leaf other lanes count mem = table-member count (strikeOf leaf other lanes) mem
 
@@ -89,8 +92,16 @@ pub record Hanging (leaf other : List ℕ) (count : ℕ) (path : List ℕ) (k : 
   pub hangs : (i : ℕ) → k ≤ i → i < count → getD path (getD leaf i 0) 0 ≡ put (getD path (getD other i 0) 0) i
   pub within : (i t : ℕ) → k ≤ i → i < count → has (getD path (getD leaf i 0) 0) t ≡ true → (i ≤ t) × (t < count)
 
-pub hang-start : (leaf other : List ℕ) (count : ℕ) (zeros : List ℕ) → length zeros ≡ nodeRoom → ((j : ℕ) → getD zeros j 0 ≡ 0) → Hanging leaf other count zeros count
-hang-start leaf other count zeros l z = record { low = omega arith; long = l; root = z 0; hangs = λ i p q. absurd (omega arith); within = λ i t p q. absurd (omega arith) }
+pub hang-start : (leaf other : List ℕ) (count : ℕ) (zeros : List ℕ) → length zeros ≡ nodeRoom → ((j : ℕ) → getD zeros j 0 ≡ 0)
+    → Hanging leaf other count zeros count
+hang-start leaf other count zeros l z = record {
+  low = omega arith;
+  long = l;
+  root = z 0;
+  hangs = λ i p q. absurd (omega arith);
+  within = λ i t p q. absurd
+      (omega arith);
+}
 
 or-parts : (a b : Bool) → a || b ≡ true → (a ≡ true) ⊎ (b ≡ true)
 or-parts true b e = inl refl
@@ -98,7 +109,8 @@ or-parts false b e = inr e
 
 module _ {leaf other : List ℕ} {count : ℕ} (o : Order leaf other count) where
   -- Of the node that strike k hangs on, the path has later slots only.
-  above : {path : List ℕ} {k : ℕ} → Hanging leaf other count path (suc k) → k < count → (t : ℕ) → has (getD path (getD other k 0) 0) t ≡ true → (k < t) × (t < count)
+  above : {path : List ℕ} {k : ℕ} → Hanging leaf other count path (suc k) → k < count → (t : ℕ) → has (getD path (getD other k 0) 0) t ≡ true
+      → (k < t) × (t < count)
   above {path} {k} h l t e = ⊎-elim
       (λ z. absurd (false≢true (sym (has-zero t) ∙ ap (λ (x : ℕ). has x t) (sym (ap (λ (j : ℕ). getD path j 0) z ∙ h .root)) ∙ e)))
       (λ (i, p, q, s). let (a, b) = h .within i t (omega arith) q (rw s at e) in (omega arith, b))
@@ -113,7 +125,8 @@ module _ {leaf other : List ℕ} {count : ℕ} (o : Order leaf other count) wher
     low = omega arith;
     long = simp length-set (h .long);
     root = getD-set-other path _ 0 v 0 (λ e. o .proper k l (sym e)) ∙ h .root;
-    hangs = λ i p q. by-cases (ℕ-discrete i k) (λ e. rw e (here ∙ ap (λ (x : ℕ). put x k) (sym (getD-set-other path _ (getD other k 0) v 0 (not-own k l))))) (λ e. rw (leaves i (omega arith) q, others i (omega arith) q) (h .hangs i (omega arith) q));
+    hangs = λ i p q. by-cases (ℕ-discrete i k) (λ e. rw e (here ∙ ap (λ (x : ℕ). put x k) (sym (getD-set-other path _ (getD other k 0) v 0 (not-own k l)))))
+        (λ e. rw (leaves i (omega arith) q, others i (omega arith) q) (h .hangs i (omega arith) q));
     within = λ i t p q e. by-cases (ℕ-discrete i k)
         (λ s. own i s t (rw (s, here, has-put (getD path (getD other k 0) 0) k t) at e))
         (λ s. let (a, b) = h .within i t (omega arith) q (rw (leaves i (omega arith) q) at e) in (a, b));
@@ -149,7 +162,8 @@ pub record Tree (m n : ℕ) (B : List Lane) (sub path lanes : List ℕ) : Type 0
   pub turns : (t p : ℕ) → t < m + n - 1 → has (getD sub t 0) p ≡ ltb p (m + n) && has (getD path p 0) t
 
 -- The paths are those of the tree of the strikes: the two ends of a lane differ in its own slot alone.
-pub hung-cuts : {m n : ℕ} {B : List Lane} (leaf other lanes path : List ℕ) (count : ℕ) → Struck m n B (strikesOf leaf other lanes count) → Order leaf other count → Hanging leaf other count path 0
+pub hung-cuts : {m n : ℕ} {B : List Lane} (leaf other lanes path : List ℕ) (count : ℕ) → Struck m n B (strikesOf leaf other lanes count)
+    → Order leaf other count → Hanging leaf other count path 0
     → Cuts m n B count (λ t. laneAt (getD lanes t 0)) (λ t p. has (getD path p 0) t)
 unfolding strikesOf
 hung-cuts {m} {n} {B} leaf other lanes path count st o h = record {
@@ -202,13 +216,19 @@ pub turning-start : (path zeros : List ℕ) → length zeros ≡ nodeRoom → ((
 turning-start path zeros l z = record { long = l; each = λ t x. rw (z t, le-ltb x 0 (omega arith)) (has-zero x) }
 
 pub turning-step : {path sub sub′ : List ℕ} {p : ℕ} → Turning path p sub → Grafted sub (getD path p 0) (put 0 p) sub′ → Turning path (p + 1) sub′
-turning-step {path} {sub} {sub′} {p} w g = record { long = g .long ∙ w .long; each = λ t x. grafted-bit (put 0 p) g t x ∙ (rw (has-one p x, w .each t x)) ∙ by-cases (ℕ-discrete x p) (here t x) (there t x) }
+turning-step {path} {sub} {sub′} {p} w g = record {
+  long = g .long ∙ w .long;
+  each = λ t x. grafted-bit (put 0 p) g t x ∙ (rw (has-one p x, w .each t x))
+      ∙ by-cases (ℕ-discrete x p) (here t x) (there t x);
+}
   where
     here : (t x : ℕ) → x ≡ p → xor (ltb x p && has (getD path x 0) t) (has (getD path p 0) t && eqb x p) ≡ ltb x (p + 1) && has (getD path x 0) t
-    here t x e = rw (e, le-ltb p p (omega arith), lt-ltb p (p + 1) (omega arith), eq-eqb p p refl, and-true (has (getD path p 0) t)) (xor-of (has (getD path p 0) t))
+    here t x e = rw (e, le-ltb p p (omega arith), lt-ltb p (p + 1) (omega arith), eq-eqb p p refl, and-true (has (getD path p 0) t))
+        (xor-of (has (getD path p 0) t))
 
     there : (t x : ℕ) → x ≢ p → xor (ltb x p && has (getD path x 0) t) (has (getD path p 0) t && eqb x p) ≡ ltb x (p + 1) && has (getD path x 0) t
-    there t x d = rw (ne-eqb x p d, and-false (has (getD path p 0) t), xor-false (ltb x p && has (getD path x 0) t)) (ap (λ b. b && has (getD path x 0) t) (bound (decLt x p)))
+    there t x d = rw (ne-eqb x p d, and-false (has (getD path p 0) t), xor-false (ltb x p && has (getD path x 0) t))
+        (ap (λ b. b && has (getD path x 0) t) (bound (decLt x p)))
       where
         bound : Dec (x < p) → ltb x p ≡ ltb x (p + 1)
         bound (yes l) = rw (lt-ltb x p l, lt-ltb x (p + 1) (omega arith))
@@ -216,7 +236,8 @@ turning-step {path} {sub} {sub′} {p} w g = record { long = g .long ∙ w .long
 
 -- ---- planted
 
-pub planted : {m n : ℕ} {B : List Lane} (leaf other lanes path sub : List ℕ) (count : ℕ) → count ≡ m + n - 1 → length lanes ≡ nodeRoom → Struck m n B (strikesOf leaf other lanes count) → Order leaf other count
+pub planted : {m n : ℕ} {B : List Lane} (leaf other lanes path sub : List ℕ) (count : ℕ) → count ≡ m + n - 1 → length lanes ≡ nodeRoom
+    → Struck m n B (strikesOf leaf other lanes count) → Order leaf other count
     → Hanging leaf other count path 0 → Turning path (m + n) sub → Tree m n B sub path lanes
 planted {m} {n} {B} leaf other lanes path sub count c l st o h w = record {
   subLong = w .long;

@@ -13,8 +13,20 @@ use Rattle.transport.specs.Problem.{Lane}
 use Rattle.transport.specs.Leaf.{Strike}
 use Rattle.transport.specs.Potential.{potentialBy}
 use Rattle.transport.specs.Laws.RangeLaws.{abs-diff}
-use Rattle.tree.specs.Layout.{stride, nodeRoom, costOf, laneAt, strikeOf, strikesOf, strikesFrom, strikesFrom-cons, length-strikes, getD-strikes, getD-set}
-use Rattle.tree.specs.Layout.{Struck}
+use Rattle.tree.specs.Layout.{
+  stride,
+  nodeRoom,
+  costOf,
+  laneAt,
+  strikeOf,
+  strikesOf,
+  strikesFrom,
+  strikesFrom-cons,
+  length-strikes,
+  getD-strikes,
+  getD-set,
+}
+use Rattle.tree.specs.Layout.{StrikesInRoom}
 
 module _ (cost : Lane → ℤ) where
   pub potentialBy-nil : (k : ℕ) → potentialBy cost [] k ≡ pos 0
@@ -52,7 +64,7 @@ Priced cost leaf other lane count price k =
 
 module _ (cost : List ℤ) (leaf other lane : List ℕ) (count : ℕ) (price : List ℤ) (k : ℕ) where
   -- The strike before, k, prices its leaf.
-  pub priced-step : length price ≡ nodeRoom → Struck leaf other lane count → k < count → Priced cost leaf other lane count price (suc k)
+  pub priced-step : length price ≡ nodeRoom → StrikesInRoom leaf other lane count → k < count → Priced cost leaf other lane count price (suc k)
       → Priced cost leaf other lane count (set price (getD leaf k 0) (costOf cost (laneAt (getD lane k 0)) -ℤ getD price (getD other k 0) (pos 0))) k
   unfolding Priced
   priced-step l w p h j q =
@@ -81,7 +93,7 @@ module _ (cost : List ℤ) (leaf other lane : List ℕ) (count : ℕ) (price : L
             (small _)
 
 -- .. so what strike k subtracts from, and what it subtracts, are small.
-pub priced-room : (cost : List ℤ) (leaf other lane : List ℕ) (count : ℕ) (price : List ℤ) (k most : ℕ) → Struck leaf other lane count
+pub priced-room : (cost : List ℤ) (leaf other lane : List ℕ) (count : ℕ) (price : List ℤ) (k most : ℕ) → StrikesInRoom leaf other lane count
     → ((l : ℕ) → natAbs (getD cost l (pos 0)) ≤ most) → k < count → Priced cost leaf other lane count price (suc k)
     → natAbs (costOf cost (laneAt (getD lane k 0))) + natAbs (getD price (getD other k 0) (pos 0)) ≤ nodeRoom * most
 unfolding Priced

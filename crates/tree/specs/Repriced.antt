@@ -35,9 +35,14 @@ has-high far m k = has-xor far (bitAnd far (firstBits m)) k ∙ (rw (has-low far
 -- First the rows, then the columns.
 pub repriced-by : (m far : ℕ) {x : ℤ} {old mid new : List ℤ} → Touched (λ z. z +ℤ x) (pos 0) old (bitAnd far (firstBits m)) mid
     → Touched (λ z. z +ℤ negℤ x) (pos 0) mid (bitXor far (bitAnd far (firstBits m))) new → Repriced m far x old new
-repriced-by m far {x} {old} {mid} {new} v w = record { long = w .long ∙ v .long; each = λ k. w .each k ∙ (rw (has-high far m k, v .each k, has-low far m k)) ∙ go k (ltb k m) (has far k) }
+repriced-by m far {x} {old} {mid} {new} v w = record {
+  long = w .long ∙ v .long;
+  each = λ k. w .each k ∙ (rw (has-high far m k, v .each k, has-low far m k))
+      ∙ go k (ltb k m) (has far k);
+}
   where
-    go : (k : ℕ) (l h : Bool) → cond (not l && h) (cond (l && h) (getD old k (pos 0) +ℤ x) (getD old k (pos 0)) +ℤ negℤ x) (cond (l && h) (getD old k (pos 0) +ℤ x) (getD old k (pos 0)))
+    go : (k : ℕ) (l h : Bool) → cond (not l && h) (cond (l && h) (getD old k (pos 0) +ℤ x) (getD old k (pos 0)) +ℤ negℤ x)
+        (cond (l && h) (getD old k (pos 0) +ℤ x) (getD old k (pos 0)))
         ≡ cond h (getD old k (pos 0) +ℤ cond l x (negℤ x)) (getD old k (pos 0))
     go k true true = refl
     go k true false = refl

@@ -18,7 +18,7 @@ use Rattle.tree.specs.Queue.{Queue, room, leaf-low, leaf-few, queue-stru
 use Rattle.tree.specs.Strip.{Strip, Stripped, nodeLane, nodeStrike, lane-row, lane-col, strip-start, strip-next, stripped-empty, stripped-lost}
 
 -- k strikes are made, and the leaves from k up to tail wait.
-pub record State (m n : ℕ) (adj live leaf other lane : List ℕ) (k tail : ℕ) : Type 0 where
+pub record StrikeState (m n : ℕ) (adj live leaf other lane : List ℕ) (k tail : ℕ) : Type 0 where
   pub liveSize : length live ≡ nodeRoom
   pub leafSize : length leaf ≡ nodeRoom
   pub otherSize : length other ≡ nodeRoom
@@ -29,7 +29,7 @@ pub record State (m n : ℕ) (adj live leaf other lane : List ℕ) (k tail : ℕ
 
 pub state-start : {m n : ℕ} {adj leaf other lane : List ℕ} {tail : ℕ} → length adj ≡ nodeRoom → length leaf ≡ nodeRoom → length other ≡ nodeRoom → length lane
     ≡ nodeRoom
-    → Links m n adj → Queue (m + n) adj leaf 0 tail → State m n adj adj leaf other lane 0 tail
+    → Links m n adj → Queue (m + n) adj leaf 0 tail → StrikeState m n adj adj leaf other lane 0 tail
 unfolding strikesOf
 state-start {leaf = leaf} {other = other} {lane = lane} a b c d w q =
     record {
@@ -43,7 +43,7 @@ state-start {leaf = leaf} {other = other} {lane = lane} a b c d w q =
           λ B M. rw (table-zero (strikeOf leaf other lane)) (strip-start M leaf w);
     }
 
-module _ {m n : ℕ} {adj live leaf other lane : List ℕ} {k tail : ℕ} (s : State m n adj live leaf other lane k tail) where
+module _ {m n : ℕ} {adj live leaf other lane : List ℕ} {k tail : ℕ} (s : StrikeState m n adj live leaf other lane k tail) where
   module _ (waits : k < tail) (b : ℕ) (e : tied live (getD leaf k 0) b ≡ true) where
     abbrev now : ℕ
     now = getD leaf k 0
@@ -92,7 +92,7 @@ module _ {m n : ℕ} {adj live leaf other lane : List ℕ} {k tail : ℕ} (s : S
           lane-placed,
         )
 
-    pub state-next : State m n adj (without-lane m live now b) (set leaf tail end) (set other k end) (set lane k place) (k + 1) (tail
+    pub state-next : StrikeState m n adj (without-lane m live now b) (set leaf tail end) (set other k end) (set lane k place) (k + 1) (tail
         + cond (joins end (cut (getD live end 0) (ownBit m now))) 1 0)
     state-next = record {
       liveSize = simp length-set (s .liveSize);

@@ -8,8 +8,7 @@ use lib.ListN.{length, getD}
 use Rattle.transport.specs.Laws.ListLaws.{member-at}
 use Rattle.transport.specs.Problem.{Lane}
 use Rattle.transport.specs.Leaf.{Strike}
-use Rattle.tree.specs.Layout.{stride, nodeRoom, laneRoom, laneAt, Distinct, strikeOf, strikesOf, length-strikes, getD-strikes}
-use Rattle.tree.specs.Layout as layout
+use Rattle.tree.specs.Layout.{stride, nodeRoom, laneRoom, laneAt, Distinct, StrikesInRoom, strikeOf, strikesOf, length-strikes, getD-strikes}
 use Rattle.tableaux.specs.Leaves.{Ends, row-struck, column-struck}
 use Rattle.tableaux.specs.Striking.{Step, Peeled, bare, peel, Struck, step-of, leaf-below, lane-once}
 
@@ -49,7 +48,7 @@ module _ (m n : ℕ) (leaf other lane : List ℕ) (count : ℕ) (p : Peeled m n 
 -- The strikes of lanes that span, as the functions over strikes want them.
 pub strikes-room : {B : List Lane} (m n : ℕ) (leaf other lane : List ℕ) (count : ℕ) → m ≤ stride → n ≤ stride → length lane ≡ nodeRoom
     → Struck m n B (strikesOf leaf other lane count)
-    → layout.Struck leaf other lane count
+    → StrikesInRoom leaf other lane count
 strikes-room m n leaf other lane count h v long s = record {
   few = omega (arith, s .size, length-strikes leaf other lane count);
   laneLong = long;

@@ -92,7 +92,7 @@ lane-same m x y z e = by-cases (decLt x m)
     (λ p. ap (λ (l : Lane). l .row) (sym (lane-col m x y (omega arith)) ∙ e ∙ lane-col m x z (omega arith)))
 
 -- What a node's lane is.
-record Laid (m n : ℕ) (live : List ℕ) (x y : ℕ) : Type 0 where
+record NodeLane (m n : ℕ) (live : List ℕ) (x y : ℕ) : Type 0 where
   row : nodeLane m x y .row < m
   col : nodeLane m x y .col < n
   lives : alive live (nodeLane m x y) ≡ true
@@ -100,11 +100,11 @@ record Laid (m n : ℕ) (live : List ℕ) (x y : ℕ) : Type 0 where
   ends : Ends m (nodeStrike m x y)
 
 module _ {m n : ℕ} {live : List ℕ} (w : Links m n live) where
-  laid : (x y : ℕ) → x < m + n → tied live x y ≡ true → Laid m n live x y
+  laid : (x y : ℕ) → x < m + n → tied live x y ≡ true → NodeLane m n live x y
   unfolding touches
   laid x y l e = go (seen w x y l e)
     where
-      go : Seen w x y → Laid m n live x y
+      go : Seen w x y → NodeLane m n live x y
       go (of-row p q) =
           let r = lane-row m x y p in
           record { row = rw r p; col = rw r q; lives = rw r e; touch = rw (r, eq-eqb x x refl); ends = row-struck (rw r) (rw (r, end-row m x y p)) }
@@ -200,7 +200,7 @@ module _ {m n : ℕ} {B : List Lane} {adj live leaf : List ℕ} {k tail : ℕ} (
   few : (z : ℕ) → tied live now z ≡ true → z ≡ b
   few = leaf-few w len size q waits b e
 
-  own : Laid m n live now b
+  own : NodeLane m n live now b
   own = laid w now b low e
 
   others : Others m n (table (basisSize m n) suc)

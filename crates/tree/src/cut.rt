@@ -1,4 +1,5 @@
-// The fundamental cuts of a spanning tree as masks, kept from round to round. The basic lanes stand in slots; for each slot `sub` has the nodes that its lane cuts
+// The fundamental cuts of a spanning tree as masks, kept from round to round. The basic lanes stand in slots; for each slot `sub` has the nodes that its lane
+// cuts
 // off from the root, and for each node `path` has the slots on its path to the root. An exchange of lanes turns over one part of each.
 use crate::NODES;
 use crate::mask;
@@ -85,7 +86,8 @@ pub struct Loop {
     pub plus: u64,
 }
 
-// The loop that an entering lane from the node `row` to the node `sink` closes: the slots on one of the two paths. A lane of it loses the step where its row lies
+// The loop that an entering lane from the node `row` to the node `sink` closes: the slots on one of the two paths. A lane of it loses the step where its row
+// lies
 // on the same side of its cut as `row`.
 pub fn loop_slots(path: &[u64; NODES], lane: &[usize; NODES], row: usize, sink: usize) -> Loop
     requires { ⌜ (row < nodeRoom) × (sink < nodeRoom) ⌝ }

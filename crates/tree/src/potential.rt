@@ -14,7 +14,7 @@ ghost use Rattle.transport.specs.Potential.{potentialBy};
 ghost use Rattle.tree.specs.Mask.{has};
 ghost use Rattle.tree.specs.Bits.{Touched};
 ghost use Rattle.tree.specs.Repriced.{Repriced};
-ghost use Rattle.tree.specs.Layout.{stride, nodeRoom, costOf, strikesOf, Struck};
+ghost use Rattle.tree.specs.Layout.{stride, nodeRoom, costOf, strikesOf, StrikesInRoom};
 
 // Back through the strikes: a leaf's potential is its lane's cost less the potential at the other end; a node that is never struck, as the root, has 0.
 pub fn potentials(
@@ -25,7 +25,7 @@ pub fn potentials(
     count: usize,
     price: &mut [Price; NODES],
 )
-    requires { ⌜ Struck (now leaf) (now other) (now lane) count ⌝ }
+    requires { ⌜ StrikesInRoom (now leaf) (now other) (now lane) count ⌝ }
     requires { ⌜ ((l : ℕ) → natAbs (getD (now cost) l (pos 0)) ≤ costAbove) ⌝ }
     ensures { λ _. ⌜
         (length (now (price .exit)) ≡ nodeRoom)

@@ -2,7 +2,7 @@
 use Prim.Native.Nat.{ℕ, suc, _+_, _<_, _≤_}
 use native.Mathlib.Omega.{arith}
 use mathlib.Core.Path.{_≡_, refl, sym, ap, _∙_}
-use mathlib.Core.Bool.{Bool, true, false, _&&_, _||_, true≢false, false≢true}
+use mathlib.Core.Bool.{Bool, true, false, _&&_, _||_, true≢false, false≢true, not}
 use lib.IntN.{ℤ, pos, negsuc}
 use lib.Signed.{ltZ}
 use borrow.Author.Tests.{ltb-true, ltb-false, lt-ltb, le-ltb, eqb-true, eq-eqb}
@@ -108,6 +108,23 @@ compared x y = go (ltZ x y) refl (ltZ y x) refl
     go true p t r = fewer p
     go false p true r = more r
     go false p false r = equal (ltZ-tie x y p r)
+
+-- As the code tests it, without a branch.
+pub less-tests : (a b : Pair) → ltZ (a .q) (b .q) || (not (ltZ (b .q) (a .q)) && ltZ (a .e) (b .e)) ≡ less a b
+less-tests a b = go (compared (a .q) (b .q))
+  where
+    tests : Bool → Bool → Bool
+    tests x y = x || (not y && ltZ (a .e) (b .e))
+
+    go : Compared (a .q) (b .q) → tests (ltZ (a .q) (b .q)) (ltZ (b .q) (a .q)) ≡ less a b
+    go (fewer s) = ap (λ x. tests x (ltZ (b .q) (a .q))) s ∙ sym (less-q a b s)
+    go (equal s) =
+        let none : ltZ (a .q) (b .q) ≡ false = ap (λ (x : ℤ). ltZ x (b .q)) s ∙ ltZ-weak .irreflexive (b .q) in
+        let back : ltZ (b .q) (a .q) ≡ false = ap (λ (x : ℤ). ltZ (b .q) x) s ∙ ltZ-weak .irreflexive (b .q) in
+        ap (λ x. tests x (ltZ (b .q) (a .q))) none ∙ ap (tests false) back ∙ sym (less-e a b s)
+    go (more s) =
+        let none : ltZ (a .q) (b .q) ≡ false = ge-ltZ (a .q) (b .q) (omega (arith, ltZ-lt (b .q) (a .q) s)) in
+        ap (λ x. tests x (ltZ (b .q) (a .q))) none ∙ ap (tests false) s ∙ sym (less-no a b s)
 
 pub less-weak : StrictWeak less
 less-weak =

@@ -7,12 +7,12 @@ use mir.Syntax.{w64}
 use mir.Facts.{toZ-pos}
 use Rattle.transport.specs.Lists.{at}
 use Rattle.transport.specs.Limits.{maxAmount, maxBags, maxSide}
-use Rattle.belonging.specs.Weighing.{Put, put-none, put-more}
+use Rattle.belonging.specs.Weighing.{PutFrom, put-none, put-more}
 use Rattle.belonging.proofs.weights.put_from.Statement.{statement}
 use Rattle.belonging.proofs.weights.put_from.Tie as tie
 
 abbrev Inv-loop : tie.InvT-loop
-Inv-loop amounts from weight₀ k₀ weight k = (k ≤ length amounts) × Put amounts from weight₀ weight k
+Inv-loop amounts from weight₀ k₀ weight k = (k ≤ length amounts) × PutFrom amounts from weight₀ weight k
 
 abbrev μ-loop : tie.MeasureT-loop
 μ-loop amounts from weight₀ k₀ weight k = length amounts - k

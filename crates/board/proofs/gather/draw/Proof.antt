@@ -35,7 +35,11 @@ loop-less : tie.Need-loop-less Inv-loop μ-loop
 loop-less c = search needs
 
 loop-again : tie.Need-loop-again Inv-loop μ-loop
-loop-again c = let s = c .before .before .before .before .before .before in (omega arith, rw (c .link .ensures) (redraw-step (c .before .before .before .before .loop .inv .1) (s .pre .0) (s .pre .2 (c .before .before .before .before .loop .k) (omega arith))))
+loop-again c = let s = c .before .before .before .before .before .before in (
+  omega arith,
+  rw (c .link .ensures) (redraw-step (c .before .before .before .before .loop .inv .1) (s .pre .0)
+      (s .pre .2 (c .before .before .before .before .loop .k) (omega arith))),
+)
 
 returns : tie.Need-returns Inv-loop μ-loop
 returns c = let e : c .before .loop .k ≡ c .before .before .before .args .count = omega arith in rw e at (c .before .loop .inv .1)

@@ -1,4 +1,5 @@
--- `board::step::carry` meets its contract: `add-step` is a turn of the loop, for the bags and for the marks. The measure is the bits that are left, as a number.
+-- `board::step::carry` meets its contract: `add-step` is a turn of the loop, for the bags and for the marks. The measure is the bits that are left, as a
+-- number.
 use mathlib.Core.Path.{_≡_}
 use mathlib.Core.Bool.{true}
 use native.Mathlib.Omega.{arith}
@@ -33,10 +34,12 @@ add-requires : tie.Need-add-requires Inv-loop μ-loop
 add-requires c κs =
     let f = c .before .before .before .before in
     let i = c .before .before .before .before .before .before .loop .inv in
-    rw (c .pair-at .ensures, i .0 .still _ (has-least (slot f)), i .1 .still _ (has-least (slot f))) (c .before .before .before .before .before .before .before .pre .1 _ (here f))
+    rw (c .pair-at .ensures, i .0 .still _ (has-least (slot f)), i .1 .still _ (has-least (slot f)))
+    (c .before .before .before .before .before .before .before .pre .1 _ (here f))
 
 put-pair-requires : tie.Need-put-pair-requires Inv-loop μ-loop
-put-pair-requires c κs = c .before .before .before .before .before .before .before .before .before .before .pre .0 .2 .inside _ (here (c .before .before .before .before .before .before .before))
+put-pair-requires c κs = c .before .before .before .before .before .before .before .before .before .before .pre .0 .2 .inside _
+    (here (c .before .before .before .before .before .before .before))
 
 loop-less : tie.Need-loop-less Inv-loop μ-loop
 loop-less c = rw (c .rest .ensures) (rest-less _ (omega arith))

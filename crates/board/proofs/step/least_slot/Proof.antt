@@ -28,7 +28,8 @@ slot : (c : tie.After-first-bit2 Inv-loop μ-loop) → Least (c .before .before 
 slot c = let f = c .first-bit2 .ensures in record { on = f .1; off = f .2 }
 
 pair-at-requires-2 : tie.Need-pair-at-requires-2 Inv-loop μ-loop
-pair-at-requires-2 c κs = c .before .before .before .before .before .before .before .before .pre .1 _ (least-here _ _ _ (c .before .before .before .loop .inv .0) (slot (c .before)))
+pair-at-requires-2 c κs = c .before .before .before .before .before .before .before .before .pre .1 _
+    (least-here _ _ _ (c .before .before .before .loop .inv .0) (slot (c .before)))
 
 loop-less : tie.Need-loop-less Inv-loop μ-loop
 loop-less c = rw (c .rest2 .ensures) (rest-less _ (omega arith))

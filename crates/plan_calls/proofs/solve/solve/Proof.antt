@@ -82,7 +82,8 @@ first d = d .before .before .before .before .before .before
 dealt : (d : tie.After-lay-out)
     → let S = sheetOn (first d) in
     let l = d .lay-out .last .1 .1 .1 in
-    Dealt (problemOf S) (start (problemOf S)) (S .cost) (l .0) (l .1 .0) (l .1 .1 .0) (l .1 .1 .1 .0) (l .1 .1 .1 .1 .0) (length (S .supply)) (length (S .demand))
+    Dealt (problemOf S) (start (problemOf S)) (S .cost) (l .0) (l .1 .0) (l .1 .1 .0) (l .1 .1 .1 .0) (l .1 .1 .1 .1 .0) (length (S .supply))
+    (length (S .demand))
 dealt d =
     let f = first d in
     let x = d .lay-out .ensures in

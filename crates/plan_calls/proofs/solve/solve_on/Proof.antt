@@ -54,11 +54,16 @@ write-prices-requires-2 c κs =
     (dealt-costs d .0, dealt-costs d .1, s .pre .1 .1, prices-small (r .board) (f .finish .last .1 .1 .1 .1 .1 .1 .1 .1 .0) (r .prices))
 
 add-draw : tie.Need-add-draw
-add-draw c = omega (arith, dealt-costs (c .before .before .before .before .before .before .before .before .before .before .before .before .before .before .before .before .before .before .before .pre .0 .1))
+add-draw c = omega (
+  arith,
+  dealt-costs (c .before .before .before .before .before .before .before .before .before .before .before .before .before .before
+      .before .before .before .before .before .pre .0 .1),
+)
 
 sub-draw : tie.Need-sub-draw
 unfolding problemOf sources
-sub-draw c = let d = c .before .before .before .before .before .before .before .before .before .before .before .before .before .before .before .before .before .before .before .pre .0 .1 in omega (arith, d .rows, d .sound .sourcesLow)
+sub-draw c = let d = c .before .before .before .before .before .before .before .before .before .before .before .before .before .before .before .before
+    .before .before .before .pre .0 .1 in omega (arith, d .rows, d .sound .sourcesLow)
 
 draw-requires : tie.Need-draw-requires
 draw-requires c κs =

@@ -1,5 +1,5 @@
--- `settle::bags::mask_bags` meets its contract. The loop's invariant: the masks are right for the first i rows, and the others stand in no column's; the measure
--- is what is left of the rows.
+-- `settle::bags::mask_bags` meets its contract. The loop's invariant: the masks are right for the first i rows, and the others stand in no column's; the
+-- measure is what is left of the rows.
 use Prim.Native.Nat.{ℕ, _-_, _≤_, _<_}
 use mathlib.Core.Path.{_≡_, sym, _∙_}
 use mathlib.Core.Bool.{true}
@@ -24,7 +24,8 @@ loop-holds c = (omega arith, masked-none (c .before .before .args .basic .now) (
 low : (c : tie.In-loop Inv-loop μ-loop) → c .before .loop .i < stride
 low c = let s = c .before .before .before .before in omega (arith, s .pre .1 .rows)
 
-basics : (c : tie.In-loop Inv-loop μ-loop) → (j : ℕ) → has (entry (c .before .before .before .before .args .basic .now) (c .before .loop .i)) j ≡ true → j < stride
+basics : (c : tie.In-loop Inv-loop μ-loop) (j : ℕ)
+    → has (entry (c .before .before .before .before .args .basic .now) (c .before .loop .i)) j ≡ true → j < stride
 basics c j h = let s = c .before .before .before .before in omega (arith, s .pre .1 .inside (c .before .loop .i) j (omega arith) h, s .pre .1 .cols)
 
 row-bags-requires : tie.Need-row-bags-requires Inv-loop μ-loop

@@ -23,7 +23,7 @@ use Rattle.settle.proofs.lanes.decide.Tie as tie
 abbrev Inv-loop : tie.InvT-loop
 Inv-loop q₀ holds₀ owns₀ tight target row₀ col₀ up₀ from₀ m n p goal₀ q holds owns row col up from goal =
     Rooms row col up from
-    × Sought m n (aimed target goal) (laneBags q) tight holds
+    × Sought m n (aimed target goal) (laneBags q) tight holds owns
     × Reaches m n (target .row * n + target .col) (target .row * n + target .col) tight q₀ holds₀ owns₀ q holds owns
 
 abbrev μ-loop : tie.MeasureT-loop
@@ -34,13 +34,13 @@ loop-holds : tie.Need-loop-holds Inv-loop μ-loop
 loop-holds c = (c .pre .1 .1, c .pre .1 .0, reaches-none)
 
 search-requires : tie.Need-search-requires Inv-loop μ-loop
-search-requires c κs = let l = c .before .before .before .before .before .before .loop in ((laneBags (l .q), l .inv .1), l .inv .0)
+search-requires c κs = let l = c .before .before .before .before .before .before .before .loop in ((laneBags (l .q), l .inv .1), l .inv .0)
 
 -- ---- what the search answers, at the turn's beginning
 
 module _ (c : tie.After-search Inv-loop μ-loop) where
   abbrev turn : tie.At-loop Inv-loop μ-loop
-  turn = c .before .before .before .before .before .before .before
+  turn = c .before .before .before .before .before .before .before .before
 
   abbrev a : tie.Start Inv-loop μ-loop
   a = turn .before
@@ -49,14 +49,15 @@ module _ (c : tie.After-search Inv-loop μ-loop) where
   target = aimed (a .args .target) (turn .loop .goal)
 
   sought : Sought (a .args .m) (a .args .n) target (laneBags (turn .loop .q)) (a .args .tight .now) (turn .loop .holds)
+      (turn .loop .owns)
   sought = turn .loop .inv .1
 
   answers : (r : Reached) → c .search .result ≡ r
       → Answers (a .args .m) (a .args .n) target (laneBags (turn .loop .q)) (a .args .tight .now) r
-      (c .search .last .1 .1 .1 .0) (c .search .last .1 .1 .1 .1 .0) (c .search .last .1 .1 .1 .1 .1 .0)
+      (c .search .last .1 .1 .1 .1 .0) (c .search .last .1 .1 .1 .1 .1 .0) (c .search .last .1 .1 .1 .1 .1 .1 .0)
   answers r e = subst
       (λ (r : Reached). Answers (a .args .m) (a .args .n) target (laneBags (turn .loop .q)) (a .args .tight .now) r
-      (c .search .last .1 .1 .1 .0) (c .search .last .1 .1 .1 .1 .0) (c .search .last .1 .1 .1 .1 .1 .0))
+      (c .search .last .1 .1 .1 .1 .0) (c .search .last .1 .1 .1 .1 .1 .0) (c .search .last .1 .1 .1 .1 .1 .1 .0))
       e (c .search .ensures .1 (laneBags (turn .loop .q)) sought)
 
 -- Nothing: the lane is stuck.
@@ -77,7 +78,7 @@ module _ (c : tie.After-known-told2 Inv-loop μ-loop) where
   hit : let s = found in
       Hits (a s .args .m) (a s .args .n) (target s) (laneBags (turn s .loop .q)) (a s .args .tight .now)
       (c .before .reached2 .given .0 .0) (c .before .reached2 .given .0 .1 .0)
-      (s .search .last .1 .1 .1 .0) (s .search .last .1 .1 .1 .1 .0) (s .search .last .1 .1 .1 .1 .1 .0)
+      (s .search .last .1 .1 .1 .1 .0) (s .search .last .1 .1 .1 .1 .1 .0) (s .search .last .1 .1 .1 .1 .1 .1 .0)
   hit = answers found _ (c .before .reached2 .given .1)
 
 bring-least-requires : tie.Need-bring-least-requires Inv-loop μ-loop
@@ -102,7 +103,7 @@ module _ (c : tie.After-bring-least Inv-loop μ-loop) where
   right : Masked (a s .args .m) (a s .args .n) (c .bring-least .last .0) (c .bring-least .last .1 .0) (c .bring-least .last .1 .1 .0)
   right = c .bring-least .ensures .1 .masked (before .masked)
 
-  way : (d : ℕ) × Rooted (entry (s .search .last .1 .1 .1 .1 .1 .0)) (given c .before .reached2 .given .0 .0) d
+  way : (d : ℕ) × Rooted (entry (s .search .last .1 .1 .1 .1 .1 .1 .0)) (given c .before .reached2 .given .0 .0) d
   way = way-rooted (hit-walkable (sought s) (hit (given c)))
 
   after : let t = a s in

@@ -1,4 +1,4 @@
--- `settle::lanes::settle_lanes` meets its contract. The loop's invariant: the lanes of the first p rows are decided; the measure is what is left of the rows.
+-- `settle::lanes::settle_lanes` meets its contract. The loop's invariant: the lanes are decided of all rows but those left; the measure is how many these are.
 use mathlib.Core.Path.{_≡_, refl}
 use Prim.Native.Nat.{_+_, _-_, _*_, _≤_}
 use native.Mathlib.Omega.{arith}
@@ -9,11 +9,11 @@ use Rattle.settle.proofs.lanes.settle_lanes.Statement.{statement}
 use Rattle.settle.proofs.lanes.settle_lanes.Tie as tie
 
 abbrev Inv-loop : tie.InvT-loop
-Inv-loop q₀ tight basic m n holds₀ owns₀ row₀ col₀ up₀ from₀ p₀ q holds owns row col up from p =
-    (p ≤ m) × Rooms row col up from × Reaches m n 0 (p * n) tight q₀ holds₀ owns₀ q holds owns
+Inv-loop q₀ tight basic m n holds₀ owns₀ row₀ col₀ up₀ from₀ left₀ q holds owns row col up from left =
+    (left ≤ m) × Rooms row col up from × Reaches m n 0 ((m - left) * n) tight q₀ holds₀ owns₀ q holds owns
 
 abbrev μ-loop : tie.MeasureT-loop
-μ-loop q₀ tight basic m n holds₀ owns₀ row₀ col₀ up₀ from₀ p₀ q holds owns row col up from p = m - p
+μ-loop q₀ tight basic m n holds₀ owns₀ row₀ col₀ up₀ from₀ left₀ q holds owns row col up from left = left
 
 returns : tie.Need-returns Inv-loop μ-loop
 returns c = λ a b s. settleable-done s (c .before .only-basics .ensures .0 (c .if1 .taken))
@@ -21,14 +21,16 @@ returns c = λ a b s. settleable-done s (c .before .only-basics .ensures .0 (c .
 -- The stage at the start, with the masks of the bags.
 start : (c : tie.After-mask-bags Inv-loop μ-loop)
     → let s = c .before .before .before .before .before .before in
-    Stage (s .args .m) (s .args .n) (s .pre .0) (s .pre .1) 0 (s .args .tight .now) (s .args .q .now) (c .mask-bags .last .1 .1 .0) (c .mask-bags .last .1 .1 .1 .0)
+    Stage (s .args .m) (s .args .n) (s .pre .0) (s .pre .1) 0 (s .args .tight .now) (s .args .q .now)
+    (c .mask-bags .last .1 .1 .0) (c .mask-bags .last .1 .1 .1 .0)
 start c =
     let s = c .before .before .before .before .before .before in
     settleable-stage (s .pre .2) (c .mask-bags .ensures (s .args .n) (s .pre .2 .onBasics))
 
 loop-holds : tie.Need-loop-holds Inv-loop μ-loop
 loop-holds c =
-    let e : 0 * c .before .before .before .before .before .before .args .n ≡ 0 = omega arith in
+    let s = c .before .before .before .before .before .before in
+    let e : (s .args .m - s .args .m) * s .args .n ≡ 0 = let z : s .args .m - s .args .m ≡ 0 = omega arith in rw z (omega arith) in
     (omega arith, record { rowLong = refl; colLong = refl; upLong = refl; fromLong = refl }, rw e reaches-none)
 
 settle-row-requires : tie.Need-settle-row-requires Inv-loop μ-loop
@@ -42,15 +44,17 @@ settle-row-requires c κs =
 loop-again : tie.Need-loop-again Inv-loop μ-loop
 loop-again c =
     let l = c .before .before .before .before .before .before .before .before .before .loop in
-    let n = c .before .before .before .before .before .before .before .before .before .before .before .before .before .before .before .before .args .n in
-    let e : (l .p + 1) * n ≡ l .p * n + n = omega arith in
+    let s = c .before .before .before .before .before .before .before .before .before .before .before .before .before .before .before .before in
+    let e : (s .args .m - (l .left - 1)) * s .args .n ≡ (s .args .m - l .left) * s .args .n + s .args .n =
+    let one : s .args .m - (l .left - 1) ≡ (s .args .m - l .left) + 1 = omega arith in rw one (omega arith) in
     (omega arith, c .settle-row .ensures .0, rw e (reaches-on (l .inv .2) (c .settle-row .ensures .1)))
 
 returns-2 : tie.Need-returns-2 Inv-loop μ-loop
 returns-2 c = λ a b s.
     let l = c .before .loop in
     let w = c .before .before in
-    let e : l .p ≡ w .before .before .before .before .before .before .args .m = omega arith in
+    let m = w .before .before .before .before .before .before .args .m in
+    let e : m - l .left ≡ m = omega arith in
     rw e at (l .inv .2 .stage (settleable-stage s (w .mask-bags .ensures _ (s .onBasics))) .decided)
 
 pub settle-lanes-spec : {M : Type 1} → statement M
@@ -63,6 +67,7 @@ settle-lanes-spec =
     returns
     (λ c κs. let s = c .before .before .before .before .before in (s .args .n, s .pre .2 .onBasics))
     loop-holds
+    (λ c. omega arith)
     settle-row-requires
     (λ c. omega arith)
     (λ c. omega arith)

@@ -29,11 +29,6 @@ abbrev μ-loop : tie.MeasureT-loop
 sides : (c : tie.Start Inv-loop μ-loop) → (c .args .m ≤ stride) × (c .args .p < stride)
 sides c = let w = c .pre .0 .2 .masked in (w .rows, omega (arith, c .pre .1 .0, w .rows))
 
--- The later rows.
-later-is : (c : tie.After-without Inv-loop μ-loop)
-    → let a = c .before .before .before .args in c .without .result ≡ minus (firstBits (a .m)) (firstBits (a .p + 1))
-later-is c = c .without .ensures ∙ rw (c .before .first-bits2 .ensures, c .before .before .first-bits .ensures)
-
 -- ---- in the loop: column b is the first that is left
 
 module _ (c : tie.After-rest Inv-loop μ-loop) where
@@ -75,12 +70,15 @@ decide-requires c κs =
     let t = c .before .before .before .before .before .before .before in
     let r = t .before .before .before .before in
     let b = r .before .first-bit .result in
+    let l = turn r .before .before in
+    let later : l .without .result ≡ minus (firstBits (a r .args .m)) (firstBits (a r .args .p + 1)) =
+    cc (l .without .ensures, l .before .first-bits2 .ensures, l .before .before .first-bits .ensures) in
     let here = along-here (a r .pre .1 .0) (a r .pre .0 .2) (turn r .loop .inv .1) b (r .rest .result) (least r) (r .rest .ensures) in
     let off : ¬ (has (turn r .loop .dead) b ≡ true) = λ h. true≢false (sym h ∙ sym (t .before .has-bit .ensures) ∙ not-true _ (t .if2 .taken)) in (
       (a r .pre .0 .0, a r .pre .0 .1, here .stage (a r .pre .0 .2)),
       (
         along-sought (a r .pre .1 .0) (a r .pre .0 .2) (turn r .loop .inv .1) b (r .rest .result) (least r) (r .rest .ensures)
-            (later-is (turn r .before .before)) off,
+            later off,
         turn r .loop .inv .0,
       ),
     )

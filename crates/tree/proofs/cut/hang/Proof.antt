@@ -24,10 +24,15 @@ element-copy-out-set-bit : tie.Need-element-copy-out-set-bit Inv-loop μ-loop
 element-copy-out-set-bit c = c .before .before .before .before .before .pre .otherIn (c .before .before .before .loop .k - 1) (omega arith)
 
 mul-path : tie.Need-mul-path Inv-loop μ-loop
-mul-path c = omega (arith, c .before .before .before .before .before .before .before .pre .leafIn (c .before .before .before .before .before .loop .k - 1) (omega arith))
+mul-path c = omega (
+  arith,
+  c .before .before .before .before .before .before .before .pre .leafIn (c .before .before .before .before .before .loop .k - 1)
+      (omega arith),
+)
 
 element-write-path : tie.Need-element-write-path Inv-loop μ-loop
-element-write-path c = c .before .before .before .before .before .before .before .pre .leafIn (c .before .before .before .before .before .loop .k - 1) (omega arith)
+element-write-path c = c .before .before .before .before .before .before .before .pre .leafIn (c .before .before .before .before .before .loop .k - 1)
+    (omega arith)
 
 loop-again : tie.Need-loop-again Inv-loop μ-loop
 loop-again c =

@@ -37,7 +37,8 @@ loop-less : tie.Need-loop-less Inv-loop μ-loop
 loop-less c = rw (c .rest .ensures) (rest-less _ (omega arith))
 
 loop-again : tie.Need-loop-again Inv-loop μ-loop
-loop-again c = rw (c .rest .ensures, c .before .set-bit .ensures) (far-step (c .before .before .before .before .before .before .loop .inv) (slot (c .before .before .before)))
+loop-again c = rw (c .rest .ensures, c .before .set-bit .ensures)
+    (far-step (c .before .before .before .before .before .before .loop .inv) (slot (c .before .before .before)))
 
 returns : tie.Need-returns Inv-loop μ-loop
 returns c = let e : c .before .loop .bits ≡ 0 = omega arith in loop-slots _ _ _ _ _ (rw e at (c .before .loop .inv))

@@ -11,7 +11,8 @@ hang-requires c κs = let s = c .before in struck-order _ _ _ _ (s .pre .0 .1) (
 returns : tie.Need-returns
 returns c =
     λ B st. let s = c .before .before .before .before .before in
-    planted _ _ _ _ _ _ refl (s .pre .1 .3) st (struck-order _ _ _ _ st (s .pre .1 .1) (s .pre .1 .2)) (c .before .before .before .hang .ensures) (c .turn-over .ensures)
+    planted _ _ _ _ _ _ refl (s .pre .1 .3) st (struck-order _ _ _ _ st (s .pre .1 .1) (s .pre .1 .2)) (c .before .before .before .hang .ensures)
+    (c .turn-over .ensures)
 
 pub plant-spec : {M : Type 1} → statement M
 plant-spec =

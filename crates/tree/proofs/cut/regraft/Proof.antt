@@ -5,7 +5,13 @@ use Rattle.tree.proofs.cut.regraft.Statement.{statement}
 use Rattle.tree.proofs.cut.regraft.Tie as tie
 
 returns : tie.Need-returns
-returns c = record { far = refl; paths = rw (c .before .before .before .before .clear-bit .ensures) at (c .before .before .graft .ensures); subs = rw (c .before .before .before .before .clear-bit .ensures) at (c .graft2 .ensures); laid = refl }
+returns c = record {
+  far = refl;
+  paths = rw (c .before .before .before .before .clear-bit .ensures) at (c .before .before .graft .ensures);
+  subs = rw
+      (c .before .before .before .before .clear-bit .ensures) at (c .graft2 .ensures);
+  laid = refl;
+}
 
 pub regraft-spec : {M : Type 1} → statement M
 regraft-spec =

@@ -30,7 +30,8 @@ loop-holds c =
     )
 
 -- The lane, the other end and the leaf of the strike are within the arrays.
-lane-in : (c : tie.After-l Inv-loop μ-loop) → getD (c .before .before .before .before .before .before .args .lane .now) (c .before .before .before .before .loop .k - 1) 0 < laneRoom
+lane-in : (c : tie.After-l Inv-loop μ-loop) → getD (c .before .before .before .before .before .before .args .lane .now)
+    (c .before .before .before .before .loop .k - 1) 0 < laneRoom
 lane-in c = c .before .before .before .before .before .before .pre .0 .laneIn (c .before .before .before .before .loop .k - 1) (omega arith)
 
 mul-price : tie.Need-mul-price Inv-loop μ-loop
@@ -46,10 +47,12 @@ element-copy-out-price : tie.Need-element-copy-out-price Inv-loop μ-loop
 element-copy-out-price c = omega (arith, lane-in c)
 
 mul-price-3 : tie.Need-mul-price-3 Inv-loop μ-loop
-mul-price-3 c = let l = c .before .before .before .before .before .before .before .pre .0 .otherIn (c .before .before .before .before .before .loop .k - 1) (omega arith) in omega arith
+mul-price-3 c = let l = c .before .before .before .before .before .before .before .pre .0 .otherIn (c .before .before .before .before .before .loop .k - 1)
+    (omega arith) in omega arith
 
 element-copy-out-price-2 : tie.Need-element-copy-out-price-2 Inv-loop μ-loop
-element-copy-out-price-2 c = c .before .before .before .before .before .before .before .pre .0 .otherIn (c .before .before .before .before .before .loop .k - 1) (omega arith)
+element-copy-out-price-2 c = c .before .before .before .before .before .before .before .pre .0 .otherIn
+    (c .before .before .before .before .before .loop .k - 1) (omega arith)
 
 -- The difference is in range.
 room : (c : tie.After-price3 Inv-loop μ-loop)
@@ -67,10 +70,12 @@ sub-price : tie.Need-sub-price Inv-loop μ-loop
 sub-price c = search (needs, diff-in, room c)
 
 mul-t31 : tie.Need-mul-t31 Inv-loop μ-loop
-mul-t31 c = let l = c .before .before .before .before .before .before .before .before .pre .0 .leafIn (c .before .before .before .before .before .before .loop .k - 1) (omega arith) in omega arith
+mul-t31 c = let l = c .before .before .before .before .before .before .before .before .pre .0 .leafIn
+    (c .before .before .before .before .before .before .loop .k - 1) (omega arith) in omega arith
 
 element-set-from-price : tie.Need-element-set-from-price Inv-loop μ-loop
-element-set-from-price c = c .before .before .before .before .before .before .before .before .pre .0 .leafIn (c .before .before .before .before .before .before .loop .k - 1) (omega arith)
+element-set-from-price c = c .before .before .before .before .before .before .before .before .pre .0 .leafIn
+    (c .before .before .before .before .before .before .loop .k - 1) (omega arith)
 
 loop-again : tie.Need-loop-again Inv-loop μ-loop
 loop-again c =

@@ -35,7 +35,11 @@ first : (c : tie.After-raise) → Touched (λ z. z +ℤ c .before .before .befor
 first c = rw (same (c .before .before .before), c .before .before .first-bits .ensures) at (c .raise .ensures)
 
 raise-requires : tie.Need-raise-requires
-raise-requires c κs = let s = c .before .before .before in (s .pre .1 .0, λ k l e. rw (same (c .before .before)) (omega (arith, small (c .before .before), s .pre .1 .1 k l)))
+raise-requires c κs = let s = c .before .before .before in (
+  s .pre .1 .0,
+  λ k l e. rw (same (c .before .before))
+      (omega (arith, small (c .before .before), s .pre .1 .1 k l)),
+)
 
 sub-raise : tie.Need-sub-raise
 sub-raise c = diff-in w32 (pos 0) (c .before .before .before .before .toward .result) (omega (arith, small (c .before .before .before .before)))

@@ -12,10 +12,12 @@ sub-result : tie.Need-sub-result
 sub-result c = diff-in w32 (pos 0) (c .before .before .args .reduced) (omega arith)
 
 returns : tie.Need-returns
-returns c = let a = c .before .before .args in rw (sym (c .before .has-bit .ensures) ∙ c .if1 .taken) (back w32 (a .reduced) (omega (arith, mag-abs (a .reduced))))
+returns c = let a = c .before .before .args in rw (sym (c .before .has-bit .ensures) ∙ c .if1 .taken)
+    (back w32 (a .reduced) (omega (arith, mag-abs (a .reduced))))
 
 returns-2 : tie.Need-returns-2
-returns-2 c = let a = c .before .before .args in rw (sym (c .before .has-bit .ensures) ∙ c .if1 .left) (diff-back w32 (pos 0) (a .reduced) (omega arith) ∙ +ℤ-idl (negℤ (a .reduced)))
+returns-2 c = let a = c .before .before .args in rw (sym (c .before .has-bit .ensures) ∙ c .if1 .left)
+    (diff-back w32 (pos 0) (a .reduced) (omega arith) ∙ +ℤ-idl (negℤ (a .reduced)))
 
 pub toward-spec : {M : Type 1} → statement M
 toward-spec = tie.close (tie.spec (λ c κs. search needs) sub-result returns returns-2)

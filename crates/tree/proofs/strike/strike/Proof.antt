@@ -1,4 +1,4 @@
--- `tree::strike::strike` meets its contract. The loop's invariant is `State`; the measure is what is left of the room for nodes.
+-- `tree::strike::strike` meets its contract. The loop's invariant is `StrikeState`; the measure is what is left of the room for nodes.
 use mathlib.Core.Path.{_≡_}
 use mathlib.Core.Bool.{true}
 use Prim.Native.Nat.{_+_, _-_, _<_}
@@ -10,12 +10,12 @@ use Rattle.tree.specs.Layout.{nodeRoom}
 use Rattle.tree.specs.Mask.{bit}
 use Rattle.tree.specs.Links.{tied, end-below, own-le}
 use Rattle.tree.specs.Queue.{room}
-use Rattle.tree.specs.State.{State, state-start, state-next, state-empty, state-lost}
+use Rattle.tree.specs.State.{StrikeState, state-start, state-next, state-empty, state-lost}
 use Rattle.tree.proofs.strike.strike.Statement.{statement}
 use Rattle.tree.proofs.strike.strike.Tie as tie
 
 abbrev Inv-loop : tie.InvT-loop
-Inv-loop adj leaf₀ other₀ lane₀ m n live₀ tail₀ k₀ leaf other lane live tail k = State m n adj live leaf other lane k tail
+Inv-loop adj leaf₀ other₀ lane₀ m n live₀ tail₀ k₀ leaf other lane live tail k = StrikeState m n adj live leaf other lane k tail
 
 abbrev μ-loop : tie.MeasureT-loop
 μ-loop adj leaf₀ other₀ lane₀ m n live₀ tail₀ k₀ leaf other lane live tail k = nodeRoom - k
@@ -149,7 +149,8 @@ next : (c : tie.After-joins-queue Inv-loop μ-loop)
     → let a = c .before .before .before .before .before .before .before .before .before .before .before .before .before .args in
     let i = c .before .before .before .before .before .before .before .before .before .loop in
     let end = c .before .before .before .before .other-end .result in
-    State (a .m) (a .n) (a .adj .now) (set (set (i .live) (getD (i .leaf) (i .k) 0) 0) end (c .before .before .clear-bit .result)) (set (i .leaf) (i .tail)
+    StrikeState (a .m) (a .n) (a .adj .now) (set (set (i .live) (getD (i .leaf) (i .k) 0) 0) end (c .before .before .clear-bit .result))
+    (set (i .leaf) (i .tail)
     end) (set (i .other) (i .k) end) (set (i .lane) (i .k) (c .before .lane-to .result)) (i .k + 1) (i .tail + c .joins-queue .result)
 next c =
     let i = c .before .before .before .before .before .before .before .before .before .loop in
