@@ -113,7 +113,7 @@ pub record Weights (m n : ℕ) (row column : ℕ → ℕ) (weight : List ℤ) : 
   pub rows : (i : ℕ) → i < m → getD weight i (pos 0) ≡ pos (row i)
   pub columns : (j : ℕ) → j < n → getD weight (m + j) (pos 0) ≡ pos (column j)
 
-pub weights-even : {m n : ℕ} {row column : ℕ → ℕ} {weight : List ℤ} → Weights m n row column weight → sumTo m row ≡ sumTo n column
+weights-even : {m n : ℕ} {row column : ℕ → ℕ} {weight : List ℤ} → Weights m n row column weight → sumTo m row ≡ sumTo n column
     → sum m (λ i. toZ (weightsOf weight i)) ≈ sum n (λ j. toZ (weightsOf weight (m + j)))
 weights-even {m} {n} {row} {column} {weight} w e =
     omega (

@@ -24,7 +24,7 @@ pub record Modest (amounts : List ℕ) : Type 0 where
   pub high : (k : ℕ) → at amounts k ≤ maxBags
 
 -- An array whose numbers are all within the limit of amounts is light.
-pub light-of : (weight : List ℤ) → length weight ≡ nodeRoom → ((j : ℕ) → natAbs (getD weight j (pos 0)) ≤ maxBags) → Light weight
+light-of : (weight : List ℤ) → length weight ≡ nodeRoom → ((j : ℕ) → natAbs (getD weight j (pos 0)) ≤ maxBags) → Light weight
 unfolding size maxBags maxSide maxAmount
 light-of weight l h = record { long = l; small = omega (arith, sumTo-bound nodeRoom maxBags (λ j. natAbs (getD weight j (pos 0))) (λ j p. h j)) }
 

@@ -55,8 +55,7 @@ fn balances(
 }
 
 // Whether the tableau belongs to the sheet with these supplies and demands, whatever its costs. If it does, its amounts then lie on their lanes, and the
-// strikes
-// strike off its basis. There are m + n - 1 lanes, so they join all nodes without a loop if all are struck off.
+// strikes strike off its basis. There are m + n - 1 lanes, so they join all nodes without a loop if all are struck off.
 pub fn load(
     supply: &[u64],
     demand: &[u64],

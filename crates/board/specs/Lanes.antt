@@ -106,7 +106,7 @@ lanesOf-split adj m k =
     let e : (m + k) * stride ≡ m * stride + k * stride = omega arith in
     rw (e, table-split (λ l. l) (m * stride) (k * stride), keep-append)
 
-pub lanesOf-part : (adj : List ℕ) (k m : ℕ) → k ≤ m → length (lanesOf adj k) ≤ length (lanesOf adj m)
+lanesOf-part : (adj : List ℕ) (k m : ℕ) → k ≤ m → length (lanesOf adj k) ≤ length (lanesOf adj m)
 lanesOf-part adj k m p =
     let e : k + (m - k) ≡ m = omega arith in
     omega (
@@ -117,7 +117,7 @@ lanesOf-part adj k m p =
     )
 
 -- One row more.
-pub lanesOf-row : (adj : List ℕ) (i : ℕ) → Narrow (getD adj i 0) → lanesOf adj (i + 1) ≡ lanesOf adj i ++ rowLanes (i * stride) (getD adj i 0)
+lanesOf-row : (adj : List ℕ) (i : ℕ) → Narrow (getD adj i 0) → lanesOf adj (i + 1) ≡ lanesOf adj i ++ rowLanes (i * stride) (getD adj i 0)
 unfolding rowLanes
 lanesOf-row adj i h =
     lanesOf-split adj i 1
@@ -171,7 +171,7 @@ module _ {adj : List ℕ} {m i count : ℕ} {lanes : List ℕ} (w : RowMasks adj
 
 -- ---- the cells on those lanes
 
-abbrev pub cellOn : List ℤ → List ℤ → ℕ → Cell
+abbrev cellOn : List ℤ → List ℤ → ℕ → Cell
 cellOn q e l = record { row = l / stride; col = l % stride; amount = record { q = getD q l (pos 0); e = getD e l (pos 0) } }
 
 unfoldable pub gathered : ℕ → List ℕ → List ℤ → List ℤ → List Cell
@@ -187,19 +187,19 @@ lane-in {adj} {m} {count} {lanes} w h k p =
     omega (arith, w .side)
 
 -- The first k cells of the tableau are those on the first k lanes of the list, and it will have `count` of them.
-pub record Filled (lanes : List ℕ) (q e : List ℤ) (count k : ℕ) (t : Tableau) : Type 0 where
+pub record FilledTo (lanes : List ℕ) (q e : List ℤ) (count k : ℕ) (t : Tableau) : Type 0 where
   pub within : k ≤ count
   pub many : t .count ≡ count
   pub filled : t .cells ≡ table k (λ i. cellOn q e (getD lanes i 0)) ++ drop k (replicate cellRoom noCell)
 
 module _ (lanes : List ℕ) (q e : List ℤ) (count : ℕ) where
-  pub filled-none : Filled lanes q e count 0 (record { cells = replicate cellRoom noCell; count = count })
+  pub filled-none : FilledTo lanes q e count 0 (record { cells = replicate cellRoom noCell; count = count })
   filled-none = record { within = omega arith; many = refl; filled = rw (table-zero (λ i. cellOn q e (getD lanes i 0))) }
 
-  pub filled-one : (k : ℕ) (t : Tableau) (bags marks : ℤ) → Filled lanes q e count k t → k < count → k < cellRoom
+  pub filled-one : (k : ℕ) (t : Tableau) (bags marks : ℤ) → FilledTo lanes q e count k t → k < count → k < cellRoom
       → bags ≡ getD q (getD lanes k 0) (pos 0) → marks ≡ getD e (getD lanes k 0) (pos 0)
       → let cell : Cell = record { row = getD lanes k 0 / stride; col = getD lanes k 0 % stride; amount = record { q = bags; e = marks } } in
-      Filled lanes q e count (k + 1) (record { cells = set (t .cells) k cell; count = t .count })
+      FilledTo lanes q e count (k + 1) (record { cells = set (t .cells) k cell; count = t .count })
   filled-one k t bags marks h p l v w =
       record {
         within = omega arith;
@@ -208,7 +208,7 @@ module _ (lanes : List ℕ) (q e : List ℤ) (count : ℕ) where
             (omega (arith, length-replicate cellRoom noCell)));
       }
 
-  pub filled-all : (adj : List ℕ) (m : ℕ) (t : Tableau) → Lanes adj m lanes count → count ≤ cellRoom → Filled lanes q e count count t
+  pub filled-all : (adj : List ℕ) (m : ℕ) (t : Tableau) → Lanes adj m lanes count → count ≤ cellRoom → FilledTo lanes q e count count t
       → t ≡ tableauOf (gathered m adj q e)
   unfolding tableauOf padded gathered
   filled-all adj m t w p h =
@@ -235,9 +235,9 @@ module _ (lanes : List ℕ) (q e : List ℤ) (count : ℕ) where
 
 -- ---- a sorted list is what is kept of all numbers by a test that its members pass, and no others
 
-abbrev Sorted : List ℕ → Type 0
-Sorted [] = Unit {0}
-Sorted (x ∷ xs) = ((y : ℕ) → List·Memᴰ y xs → x < y) × Sorted xs
+abbrev Ascending : List ℕ → Type 0
+Ascending [] = Unit {0}
+Ascending (x ∷ xs) = ((y : ℕ) → List·Memᴰ y xs → x < y) × Ascending xs
 
 -- Its members are those of the d numbers from p on that pass the test.
 record Members (test : ℕ → Bool) (d p : ℕ) (xs : List ℕ) : Type 0 where
@@ -246,7 +246,7 @@ record Members (test : ℕ → Bool) (d p : ℕ) (xs : List ℕ) : Type 0 where
   pass : (x : ℕ) → List·Memᴰ x xs → test x ≡ true
   every : (x : ℕ) → p ≤ x → x < p + d → test x ≡ true → List·Memᴰ x xs
 
-keep-sorted : (test : ℕ → Bool) (d p : ℕ) (xs : List ℕ) → Sorted xs → Members test d p xs → keep test (table d (λ k. p + k)) ≡ xs
+keep-sorted : (test : ℕ → Bool) (d p : ℕ) (xs : List ℕ) → Ascending xs → Members test d p xs → keep test (table d (λ k. p + k)) ≡ xs
 unfolding keep table
 keep-sorted test zero p [] s h = refl
 keep-sorted test zero p (x ∷ xs) s h = absurd (omega (arith, h .low x (List·Memᴰ·head refl), h .high x (List·Memᴰ·head refl)))
@@ -256,8 +256,8 @@ keep-sorted test (suc d) p xs s h =
     ap (keep test) next
     ∙ go (test p) refl xs s h (keep-sorted test d (suc p))
   where
-    go : (b : Bool) → test p ≡ b → (xs : List ℕ) → Sorted xs → Members test (suc d) p xs
-        → ((ys : List ℕ) → Sorted ys → Members test d (suc p) ys → keep test (table d (λ k. suc p + k)) ≡ ys) → keep test (p ∷ table d (λ k. suc p + k)) ≡ xs
+    go : (b : Bool) → test p ≡ b → (xs : List ℕ) → Ascending xs → Members test (suc d) p xs
+        → ((ys : List ℕ) → Ascending ys → Members test d (suc p) ys → keep test (table d (λ k. suc p + k)) ≡ ys) → keep test (p ∷ table d (λ k. suc p + k)) ≡ xs
     go true e [] s h rest = absurd (List·Memᴰ·not-nil (h .every p (omega arith) (omega arith) e))
     go true e (x ∷ xs) (after, s) h rest =
         let first : p ≡ x = ⊎-elim (λ q. q) (λ m. absurd (omega (arith, after p m, h .low x (List·Memᴰ·head refl))))
@@ -299,7 +299,7 @@ place-order n i j h k p q r l = go (decLt i h) (decLt h i)
     go (no s) (yes t) = absurd (omega (arith, mul-le-mul-right n t, suc-mul h n))
     go (no s) (no t) = let e : i ≡ h = omega arith in omega (arith, ap (λ (x : ℕ). x * n) e)
 
-sorted-places : (n : ℕ) (T : List Cell) → n ≤ stride → ((c : Cell) → List·Memᴰ c T → c .col < n) → Ordered n T → Sorted (map placeOn T)
+sorted-places : (n : ℕ) (T : List Cell) → n ≤ stride → ((c : Cell) → List·Memᴰ c T → c .col < n) → Ordered n T → Ascending (map placeOn T)
 sorted-places n [] p h o = tt
 sorted-places n (c ∷ cs) p h (after, o) = (later, sorted-places n cs p (λ d m. h d (List·Memᴰ·tail m)) o)
   where

@@ -4,7 +4,7 @@ use mathlib.Core.Path.{_≡_, refl, sym, ap, _∙_}
 use mathlib.Core.Logic.{_≢_, _⊎_, inl, inr, ⊎-elim, by-cases, Dec·and}
 use mathlib.Core.Bool.{Bool, true, false, not, cond, xor, _&&_, true≢false, false≢true}
 use mathlib.Core.List.{List, List·Memᴰ}
-use Prim.Native.Nat.{ℕ, zero, suc, _+_, _-_, _*_, _/_, _%_, _^_, _<_, _≤_}
+use Prim.Native.Nat.{ℕ, zero, suc, _+_, _-_, _*_, _/_, _%_, _<_, _≤_}
 use native.Mathlib.Omega.{arith}
 use native.Mathlib.Decide.{ℕ-discrete, decLt}
 use borrow.Author.Tests.{lt-ltb, le-ltb}
@@ -23,7 +23,7 @@ use Rattle.transport.specs.Amount.{nothing, add, subtract, less, Fit}
 use Rattle.transport.specs.Laws.RangeLaws.{abs-add, abs-diff}
 use Rattle.transport.specs.Laws.AmountLaws.{less-q, less-e, ltZ-tie, Compared, fewer, equal, more, compared}
 use Rattle.transport.specs.Tableau.{laneOf, basisOf}
-use Rattle.transport.specs.Belonging.{spans, cellsBelong}
+use Rattle.transport.specs.Belonging.{spans}
 use Rattle.transport.specs.Potential.{potential, reducedCost}
 use Rattle.transport.specs.Round.{gain, pivot}
 use Rattle.transport.specs.Statements.{Basic, Belongs}
@@ -44,8 +44,7 @@ use Rattle.tree.specs.Mask.{has, has-zero}
 use Rattle.tree.specs.Bits.{has-xor}
 use Rattle.tree.specs.Layout.{stride, stride-is, nodeRoom, laneRoom, laneAt, placeOf, place-laneAt, laneAt-place}
 use Rattle.tree.specs.Cuts.{signBy, sign-by, slots-apart, Exchanged, Shifted, shifted-root, shifted-tight}
-use Rattle.tree.specs.Planting.{Tree}
-use Rattle.tree.specs.Cycle.{onLoop, rowFar, against, LoopSlots}
+use Rattle.tree.specs.Cycle.{onLoop, rowFar, LoopSlots}
 use Rattle.tree.specs.Exchange.{Regrafted, loop-slot, loop-across, tree-exchanged}
 use Rattle.board.specs.Arrays.{Amounts, Board}
 use Rattle.board.specs.Slots.{pairAt, Slotted, LeastSlot, Added}

@@ -16,7 +16,7 @@ use Rattle.transport.specs.Limits.{maxSide, maxAmount, maxCells, maxBags, costB
 use Rattle.transport.specs.Problem.{Problem, sources, sinks}
 use Rattle.transport.specs.Laws.Sound.{Sound, supply-most, demand-most}
 use Rattle.transport.specs.Amount.{Fit, subtract, less, smaller, pairedSupply, pairedDemand}
-use Rattle.transport.specs.Laws.RangeLaws.{abs-diff, Within}
+use Rattle.transport.specs.Laws.RangeLaws.{abs-diff, PairWithin}
 use Rattle.transport.specs.Tableau.{noCell, basisSize, corner, start}
 use Rattle.transport.specs.Laws.ProblemLaws.{problem}
 use Rattle.transport.specs.declared.Pair.{Pair}
@@ -152,11 +152,11 @@ pub record Standing (P : Problem) (p : Corner) : Type 0 where
   pub marks : natAbs (p .supply .e) + natAbs (p .demand .e) ≤ (p .row + p .col + 2) * maxBags
 
 module _ (P : Problem) (ok : Sound P) where
-  supply-size : (i : ℕ) → Within maxBags (pairedSupply P i)
+  supply-size : (i : ℕ) → PairWithin maxBags (pairedSupply P i)
   unfolding pairedSupply maxBags maxSide maxAmount
   supply-size i = record { q = supply-most ok i; e = omega arith }
 
-  demand-size : (j : ℕ) → Within maxBags (pairedDemand P j)
+  demand-size : (j : ℕ) → PairWithin maxBags (pairedDemand P j)
   unfolding pairedDemand maxBags maxAmount maxSide
   demand-size j = record { q = demand-most ok j; e = go (eqb j (sinks P - 1)) }
     where

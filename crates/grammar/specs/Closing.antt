@@ -190,8 +190,8 @@ first-then head test room = do
   moreDigits test (room b) (digitValue b)
 
 -- Its texts, with c after them.
-abbrev pub Begun : ℕ → (ℕ → Bool) → (ℕ → Bool) → (ℕ → ℕ) → ℕ → List ℕ → Type 0
-Begun c head test room = Then (Byte head) (λ b. Tail test c (room b) (digitValue b))
+abbrev pub BegunNumber : ℕ → (ℕ → Bool) → (ℕ → Bool) → (ℕ → ℕ) → ℕ → List ℕ → Type 0
+BegunNumber c head test room = Then (Byte head) (λ b. Tail test c (room b) (digitValue b))
 
 -- The byte that closes a number may be read with its last digits.
 closed-later : (c : ℕ) (r : Reader ℕ) (f : ℕ → Reader ℕ) (t : List ℕ) → (r >>= (λ b. closedBy c (f b))) t ≡ closedBy c (r >>= f) t
@@ -204,7 +204,7 @@ closed-later c r f t = go (r t) refl
 
 -- Some byte has to pass `head`.
 pub first-exact : (c : ℕ) → isDigit c ≡ false → (head test : ℕ → Bool) (room : ℕ → ℕ) (b : ℕ) → head b ≡ true
-    → Exact (closedBy c (first-then head test room)) (Begun c head test room) Any
+    → Exact (closedBy c (first-then head test room)) (BegunNumber c head test room) Any
 unfolding first-then
 first-exact c plain head test room b e =
     agreeing
@@ -214,13 +214,13 @@ first-exact c plain head test room b e =
     (bind (byte-exact head b e) (λ d. tail-exact test c plain (room d) (digitValue d)))
 
 -- A text of this kind that is known to hold the digits of n.
-pub begun-written : (c : ℕ) (head test : ℕ → Bool) (room : ℕ → ℕ) (n : ℕ) (t : List ℕ) (h : Begun c head test room n t)
+pub begun-written : (c : ℕ) (head test : ℕ → Bool) (room : ℕ → ℕ) (n : ℕ) (t : List ℕ) (h : BegunNumber c head test room n t)
     → digits n ≡ h .value ∷ h .second .ds → t ≡ digits n ++ (c ∷ [])
 begun-written c head test room n t h e = rw e (glued (h .joined) (h .first .1) (h .second .written))
 
 -- The digits of n are such a text.
 pub numeral-begun : (c : ℕ) (head test : ℕ → Bool) (room : ℕ → ℕ) (k n : ℕ) (t : List ℕ) (x : Numeral test k n)
-    → head (48 + x .first) ≡ true → room (48 + x .first) ≡ k → t ≡ digits n ++ (c ∷ []) → Begun c head test room n t
+    → head (48 + x .first) ≡ true → room (48 + x .first) ≡ k → t ≡ digits n ++ (c ∷ []) → BegunNumber c head test room n t
 numeral-begun c head test room k n t x e r w = record {
   value = 48 + x .first;
   front = (48 + x .first) ∷ [];
@@ -236,5 +236,5 @@ numeral-begun c head test room k n t x e r w = record {
 }
 
 -- The digits of a good number, and c.
-abbrev pub Closed : (ℕ → Type 0) → ℕ → ℕ → List ℕ → Type 0
-Closed Good c = Of Good (λ n. digits n ++ (c ∷ []))
+abbrev pub ClosedNumber : (ℕ → Type 0) → ℕ → ℕ → List ℕ → Type 0
+ClosedNumber Good c = Of Good (λ n. digits n ++ (c ∷ []))

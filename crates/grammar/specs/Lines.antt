@@ -14,7 +14,7 @@ use Rattle.grammar.specs.Numbers.{Side, Small}
 use Rattle.grammar.specs.Exact.{Exact, Any, Then, glued, bind, then, reworded, agreeing}
 use Rattle.grammar.specs.Every.{Count}
 use Rattle.grammar.specs.Readers.{Only, pure-exact, Bytes, word-exact, Of}
-use Rattle.grammar.specs.Closing.{closedBy, Closed}
+use Rattle.grammar.specs.Closing.{closedBy, ClosedNumber}
 use Rattle.grammar.specs.Number.{number-exact, side-exact}
 
 -- ---- lines
@@ -86,7 +86,7 @@ row-one xs t = (
     back (y ∷ z ∷ ys) h = absurd (omega arith)
 
 abbrev Longer : ℕ → List ℕ → List ℕ → Type 0
-Longer n = Then (Closed Small 32) (λ x. Then (Row (suc n)) (λ xs. Only (x ∷ xs)))
+Longer n = Then (ClosedNumber Small 32) (λ x. Then (Row (suc n)) (λ xs. Only (x ∷ xs)))
 
 rowLine-cons : (x n : ℕ) (xs : List ℕ) → length xs ≡ suc n → rowLine (x ∷ xs) ≡ (digits x ++ (32 ∷ [])) ++ rowLine xs
 unfolding rowLine bytes

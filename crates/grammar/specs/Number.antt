@@ -14,7 +14,7 @@ use Rattle.grammar.specs.Numbers.{within-iff, Side, Small}
 use Rattle.grammar.specs.Digits.{digits-small, digits-length, digit-value, digit-of, value-of}
 use Rattle.grammar.specs.Numeral.{value, Follows, follows-length, follows-test, first-digits, Beginnings, numeral}
 use Rattle.grammar.specs.Exact.{Exact, Any, reworded}
-use Rattle.grammar.specs.Closing.{closedBy, Closed, first-then, Begun, first-exact, begun-written, numeral-begun}
+use Rattle.grammar.specs.Closing.{closedBy, ClosedNumber, first-then, BegunNumber, first-exact, begun-written, numeral-begun}
 
 -- ---- numbers of one to seven digits
 
@@ -44,12 +44,12 @@ number-digits b ds d f = go (eqb (digitValue b) 0) refl ds f
         (digits-length (maxDigits - 1) (value (digitValue b) es) .0 (rw w (omega (arith, follows-length (λ x. true) (maxDigits - 1) (digitValue b) es i))), w)
 
 module _ (c : ℕ) (plain : isDigit c ≡ false) where
-  number-there : (n : ℕ) (t : List ℕ) → Begun c isDigit (λ x. true) room n t → Closed Small c n t
+  number-there : (n : ℕ) (t : List ℕ) → BegunNumber c isDigit (λ x. true) room n t → ClosedNumber Small c n t
   number-there n t h =
       let k = number-digits (h .value) (h .second .ds) (h .first .0) (h .second .follows) in
       (rw (h .second .whole) (k .0), begun-written c isDigit (λ x. true) room n t h (rw (h .second .whole) (k .1)))
 
-  number-back : (n : ℕ) (t : List ℕ) → Closed Small c n t → Begun c isDigit (λ x. true) room n t
+  number-back : (n : ℕ) (t : List ℕ) → ClosedNumber Small c n t → BegunNumber c isDigit (λ x. true) room n t
   unfolding maxDigits value digitValue
   number-back zero t h = record {
     value = 48;
@@ -63,7 +63,7 @@ module _ (c : ℕ) (plain : isDigit c ≡ false) where
       let x = numeral (λ y. true) (λ y l e. refl) (maxDigits - 1) (suc n) (omega arith) (h .0) refl in
       numeral-begun c isDigit (λ y. true) room (maxDigits - 1) (suc n) t x (digit-of (x .first) (x .small)) (room-after (x .first) (x .above)) (h .1)
 
-  pub number-exact : Exact (closedBy c number) (Closed Small c) Any
+  pub number-exact : Exact (closedBy c number) (ClosedNumber Small c) Any
   unfolding number first-then room
   number-exact = reworded (λ n t. (number-there n t, number-back n t)) (first-exact c plain isDigit (λ x. true) room 48 (digit-of 0 (omega arith)))
 
@@ -81,7 +81,7 @@ module _ (most : ℕ) (some : 1 ≤ most) (few : most < 100) where
   one-first = within-iff 1 most 1 .1 (omega arith, some)
 
   module _ (c : ℕ) (plain : isDigit c ≡ false) where
-    side-there : (n : ℕ) (t : List ℕ) → Begun c isFirst (within 1 most) (λ b. 1) n t → Closed (Side most) c n t
+    side-there : (n : ℕ) (t : List ℕ) → BegunNumber c isFirst (within 1 most) (λ b. 1) n t → ClosedNumber (Side most) c n t
     unfolding isFirst
     side-there n t h =
         let b = h .value in
@@ -100,7 +100,7 @@ module _ (most : ℕ) (some : 1 ≤ most) (few : most < 100) where
               (rw (h .second .whole) (first-digits (within 1 most) 1 b ds (k .0) l (h .second .follows))),
         )
 
-    side-back : (n : ℕ) (t : List ℕ) → Closed (Side most) c n t → Begun c isFirst (within 1 most) (λ b. 1) n t
+    side-back : (n : ℕ) (t : List ℕ) → ClosedNumber (Side most) c n t → BegunNumber c isFirst (within 1 most) (λ b. 1) n t
     unfolding isFirst
     side-back n t h =
         let k = within-iff 1 most n .0 (h .0) in
@@ -108,6 +108,6 @@ module _ (most : ℕ) (some : 1 ≤ most) (few : most < 100) where
         let d : isDigit (48 + x .first) ≡ true = digit-of (x .first) (x .small) in
         numeral-begun c isFirst (within 1 most) (λ b. 1) 1 n t x (rw (d, value-of (x .first)) (x .passes)) refl (h .1)
 
-    pub side-exact : Exact (closedBy c (side most)) (Closed (Side most) c) Any
+    pub side-exact : Exact (closedBy c (side most)) (ClosedNumber (Side most) c) Any
     unfolding side first-then isFirst
     side-exact = reworded (λ n t. (side-there n t, side-back n t)) (first-exact c plain isFirst (within 1 most) (λ b. 1) 49 one-first)

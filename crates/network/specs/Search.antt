@@ -8,7 +8,7 @@ use native.Mathlib.Decide.{ℕ-discrete, decLt}
 use Rattle.integers.specs.Integer.{Z, _≈_, _≼_, _≺_, nat}
 use Rattle.network.specs.Finite.{Once}
 use Rattle.network.specs.Circuit.{Circuit}
-use Rattle.network.specs.Settling.{Closed, Stuck, Brings}
+use Rattle.network.specs.Settling.{NoWayOut, Stuck, Brings}
 
 -- ---- a tree of positions
 -- Position 0 is the root, and `up k` is an earlier one: the k-th above s.
@@ -245,7 +245,7 @@ module _ {m n p q : ℕ} {P : ℕ → ℕ → Type 0} {x : ℕ → ℕ → Z} {D
     }
 
     -- Nothing more is reached: the lane is stuck.
-    pub search-ends : Closed m n P x p D
+    pub search-ends : NoWayOut m n P x p D
         → ((i j : ℕ) → p < i → i < m → j < n → C j ≡ true → ¬ (D j ≡ true) → nat 0 ≺ x i j → (k : ℕ) × (0 < k) × (k < N) × (row k ≡ i))
         → Stuck m n P x p q C
     search-ends dead h = record {

@@ -101,12 +101,12 @@ basis-single {k = k} w f g = flow-unique w (g .flow) (flow-scale (nat k) f)
 
 -- ---- when a lane is decided
 -- The columns C are closed: a row after p that has bags on one of them has no lane of P to another column.
-abbrev pub Closed : ℕ → ℕ → (ℕ → ℕ → Type 0) → (ℕ → ℕ → Z) → ℕ → (ℕ → Bool) → Type 0
-Closed m n P x p C = (i j k : ℕ) → p < i → i < m → j < n → k < n → C j ≡ true → nat 0 ≺ x i j → P i k → C k ≡ true
+abbrev pub NoWayOut : ℕ → ℕ → (ℕ → ℕ → Type 0) → (ℕ → ℕ → Z) → ℕ → (ℕ → Bool) → Type 0
+NoWayOut m n P x p C = (i j k : ℕ) → p < i → i < m → j < n → k < n → C j ≡ true → nat 0 ≺ x i j → P i k → C k ≡ true
 
 -- Nothing can be brought onto lane (p, q): column q is in C, and row p has no bags on later columns of C.
 pub record Stuck (m n : ℕ) (P : ℕ → ℕ → Type 0) (x : ℕ → ℕ → Z) (p q : ℕ) (C : ℕ → Bool) : Type 0 where
-  pub closed : Closed m n P x p C
+  pub closed : NoWayOut m n P x p C
   pub here : C q ≡ true
   pub clear : (j : ℕ) → q < j → j < n → C j ≡ true → x p j ≈ nat 0
 
@@ -313,5 +313,5 @@ module _ {m n p q K : ℕ} {P : ℕ → ℕ → Type 0} {x : ℕ → ℕ → Z} 
   pub brought-off : (i j : ℕ) → ((k : ℕ) → k < suc K → c k ≢ j) → moved r c (suc K) θ x i j ≈ x i j
   brought-off i j h = omega (arith, ⊗-cong θ (around r c (suc K) i j) (nat 0) (off-col (w .circuit) i j h))
 
-  pub brought-closed : {C : ℕ → Bool} → ((k : ℕ) → k < suc K → ¬ (C (c k) ≡ true)) → Closed m n P x p C → Closed m n P (moved r c (suc K) θ x) p C
+  pub brought-closed : {C : ℕ → Bool} → ((k : ℕ) → k < suc K → ¬ (C (c k) ≡ true)) → NoWayOut m n P x p C → NoWayOut m n P (moved r c (suc K) θ x) p C
   brought-closed h closed i j k l hi hj hk o u t = closed i j k l hi hj hk o (omega (arith, brought-off i j (λ k l d. h k l (rw d o)))) t

@@ -89,13 +89,13 @@ told-all {S} {r} {u} {u′} {v} {v′} {plan} {plan′} t =
 -- ---- what is written before the cost is told
 
 -- The rounds are those of the solution, and each lent list, as it was and as it is, holds its part of it.
-pub record Stored (S : Sheet) (made : ℕ) (u u′ v v′ : List ℤ) (plan plan′ : List ℕ) : Type 0 where
+pub record SolveStored (S : Sheet) (made : ℕ) (u u′ v v′ : List ℤ) (plan plan′ : List ℕ) : Type 0 where
   pub rounds : made ≡ solution S .rounds
   pub uHeld : u′ ≡ lentAfter (λ s. s .u) (given (solution S)) u
   pub vHeld : v′ ≡ lentAfter (λ s. s .v) (given (solution S)) v
   pub planHeld : plan′ ≡ lentAfter (λ s. s .plan) (given (solution S)) plan
 
-module _ {S : Sheet} {made : ℕ} {u u′ v v′ : List ℤ} {plan plan′ : List ℕ} (w : Stored S made u u′ v v′ plan plan′) where
+module _ {S : Sheet} {made : ℕ} {u u′ v v′ : List ℤ} {plan plan′ : List ℕ} (w : SolveStored S made u u′ v v′ plan plan′) where
   stored-plan : plan′ ≡ settled S ++ drop (length (settled S)) plan
   unfolding lentAfter solution solutionFrom
   stored-plan = w .planHeld
@@ -125,7 +125,7 @@ module _ (S : Sheet) {q e price : List ℤ} {lanes : List ℕ} {m n made : ℕ}
       (uIs : u′ ≡ table m (λ k. getD price (0 + k) (pos 0)) ++ drop m u)
       (vIs : v′ ≡ table n (λ k. getD price (m + k) (pos 0)) ++ drop n v)
       (planIs : plan′ ≡ settled S ++ drop (m * n) plan) where
-    pub stored-given : Stored S made u u′ v v′ plan plan′
+    pub stored-given : SolveStored S made u u′ v v′ plan plan′
     unfolding lentAfter solution solutionFrom problemOf sources sinks roasteries cafes
     stored-given =
         let P = problemOf S in

@@ -22,7 +22,7 @@ ghost use Rattle.transport.specs.Answers.{solveAnswer};
 ghost use Rattle.transport.specs.Statements.{Bought};
 ghost use Rattle.tree.specs.Layout.{stride};
 ghost use Rattle.dealing.specs.Dealt.{Dealt};
-ghost use Rattle.plan_calls.specs.Solve.{Stored};
+ghost use Rattle.plan_calls.specs.Solve.{SolveStored};
 
 // How many places a list of this length lacks for so many numbers.
 fn lacking(len: usize, count: usize) -> usize
@@ -61,7 +61,7 @@ fn solve_on(
         ((S : Sheet)
         → Dealt (problemOf S) (start (problemOf S)) (now (cost .entry)) (now (q .entry)) (now (e .entry))
         (now (leaf .entry)) (now (other .entry)) (now (lane .entry)) m n
-        → Stored S r (now (u .entry)) (now (u .exit)) (now (v .entry)) (now (v .exit)) (now (plan .entry)) (now (plan .exit)))
+        → SolveStored S r (now (u .entry)) (now (u .exit)) (now (v .entry)) (now (v .exit)) (now (plan .entry)) (now (plan .exit)))
         ⌝ }
 {
     let mut lane_cost: [Price; LANES] = [0; LANES];

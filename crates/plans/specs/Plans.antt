@@ -18,7 +18,7 @@ use Rattle.transport.specs.Problem.{place}
 use Rattle.transport.specs.Plan.{rowPlans, plansFor, plans}
 use Rattle.transport.specs.Statements.{Meets}
 use Rattle.plans.specs.Sorted.{Sorted, none, sorted-at, sorted-single, sorted-map, sorted-flatMap}
-use Rattle.plans.specs.RowPlans.{Row, rowPlans-sound, rowPlans-complete, Ahead, ahead-cons, rowPlans-sorted}
+use Rattle.plans.specs.RowPlans.{RowPlan, rowPlans-sound, rowPlans-complete, Ahead, ahead-cons, rowPlans-sorted}
 
 -- ---- what the sinks still want when a row is taken off
 
@@ -37,18 +37,18 @@ at-taken (d ∷ ds) (x ∷ xs) (suc j) e = at-taken ds xs j (omega arith)
 
 -- ---- a plan for sources with supplies ss and n sinks that want ds
 
-record Fits (n : ℕ) (ss ds x : List ℕ) : Type 0 where
+record FitsSides (n : ℕ) (ss ds x : List ℕ) : Type 0 where
   size : length x ≡ length ss * n
   rows : (i : ℕ) → i < length ss → sumTo n (λ j. at x (place n i j)) ≡ at ss i
   columns : (j : ℕ) → j < n → sumTo (length ss) (λ i. at x (place n i j)) ≡ at ds j
 
 -- Where no source is left, each sink has all that it wants.
-fits-nothing : (n : ℕ) (ds : List ℕ) → length ds ≡ n → all (eqb 0) ds ≡ true → Fits n [] ds []
+fits-nothing : (n : ℕ) (ds : List ℕ) → length ds ≡ n → all (eqb 0) ds ≡ true → FitsSides n [] ds []
 unfolding sumTo at
 fits-nothing n ds e f =
     record { size = omega arith; rows = λ i l. absurd (omega arith); columns = λ j l. eqb-true 0 (getD ds j 0) (all-at (eqb 0) ds 0 j f (omega arith)) }
 
-nothing-wanted : (n : ℕ) (ds x : List ℕ) → length ds ≡ n → Fits n [] ds x → all (eqb 0) ds ≡ true
+nothing-wanted : (n : ℕ) (ds x : List ℕ) → length ds ≡ n → FitsSides n [] ds x → all (eqb 0) ds ≡ true
 unfolding sumTo at
 nothing-wanted n ds x e g = all-of (eqb 0) ds 0 (λ j l. eq-eqb 0 (getD ds j 0) (g .columns j (omega arith)))
 
@@ -79,7 +79,7 @@ module _ (n : ℕ) (xs p : List ℕ) (e : length xs ≡ n) where
       )
 
   module _ (s : ℕ) (ss ds : List ℕ) (f : length ds ≡ n) where
-    fits-cons : Row s ds xs → Fits n ss (zipWith (_-_) ds xs) p → Fits n (s ∷ ss) ds (xs ++ p)
+    fits-cons : RowPlan s ds xs → FitsSides n ss (zipWith (_-_) ds xs) p → FitsSides n (s ∷ ss) ds (xs ++ p)
     unfolding at
     fits-cons r g = record { size = omega (arith, length-append xs p, g .size, suc-mul (length ss) n); rows = rows; columns = columns }
       where
@@ -90,7 +90,7 @@ module _ (n : ℕ) (xs p : List ℕ) (e : length xs ≡ n) where
         columns : (j : ℕ) → j < n → sumTo (suc (length ss)) (λ i. at (xs ++ p) (place n i j)) ≡ at ds j
         columns j l = omega (arith, column (length ss) j l, g .columns j l, at-taken ds xs j (r .size), r .wanted j)
 
-    fits-row : Fits n (s ∷ ss) ds (xs ++ p) → Row s ds xs
+    fits-row : FitsSides n (s ∷ ss) ds (xs ++ p) → RowPlan s ds xs
     unfolding at
     fits-row g = record { size = e ∙ sym f; wanted = λ j. wanted j (decLt j n); sum = sym first-row ∙ g .rows 0 (omega arith) }
       where
@@ -98,7 +98,7 @@ module _ (n : ℕ) (xs p : List ℕ) (e : length xs ≡ n) where
         wanted j (yes l) = omega (arith, column (length ss) j l, g .columns j l)
         wanted j (no l) = omega (arith, at-past xs j (omega arith))
 
-    fits-rest : Fits n (s ∷ ss) ds (xs ++ p) → Fits n ss (zipWith (_-_) ds xs) p
+    fits-rest : FitsSides n (s ∷ ss) ds (xs ++ p) → FitsSides n ss (zipWith (_-_) ds xs) p
     unfolding at
     fits-rest g =
         record {
@@ -108,11 +108,11 @@ module _ (n : ℕ) (xs p : List ℕ) (e : length xs ≡ n) where
         }
 
 -- Every list among them is such a plan: by the sources, a row first and then a plan for what is left.
-plansFor-sound : (n : ℕ) (ss ds : List ℕ) {x : List ℕ} → length ds ≡ n → List·Memᴰ x (plansFor ss ds) → Fits n ss ds x
+plansFor-sound : (n : ℕ) (ss ds : List ℕ) {x : List ℕ} → length ds ≡ n → List·Memᴰ x (plansFor ss ds) → FitsSides n ss ds x
 unfolding plansFor
 plansFor-sound n [] ds {x} e m = go (all (eqb 0) ds) refl m
   where
-    go : (b : Bool) → all (eqb 0) ds ≡ b → List·Memᴰ x (cond b ([] ∷ []) []) → Fits n [] ds x
+    go : (b : Bool) → all (eqb 0) ds ≡ b → List·Memᴰ x (cond b ([] ∷ []) []) → FitsSides n [] ds x
     go true f m = rw (List·Memᴰ·eq-of-singleton m) (fits-nothing n ds e f)
     go false f m = absurd (List·Memᴰ·not-nil m)
 plansFor-sound n (s ∷ ss) ds e m =
@@ -122,7 +122,7 @@ plansFor-sound n (s ∷ ss) ds e m =
     rw f (fits-cons n xs p (r .size ∙ e) s ss ds e r (plansFor-sound n ss (zipWith (_-_) ds xs) (length-taken ds xs (r .size) ∙ e) k))
 
 -- Every such plan is among them.
-plansFor-complete : (n : ℕ) (ss ds x : List ℕ) → length ds ≡ n → Fits n ss ds x → List·Memᴰ x (plansFor ss ds)
+plansFor-complete : (n : ℕ) (ss ds x : List ℕ) → length ds ≡ n → FitsSides n ss ds x → List·Memᴰ x (plansFor ss ds)
 unfolding plansFor
 plansFor-complete n [] ds [] e g = rw (nothing-wanted n ds [] e g) (List·Memᴰ·head refl)
 plansFor-complete n [] ds (q ∷ x) e g = absurd (omega (arith, g .size))
@@ -130,8 +130,8 @@ plansFor-complete n (s ∷ ss) ds x e g =
     let xs = take n x in
     let p = drop n x in
     let f : length xs ≡ n = length-take-le n x (omega (arith, g .size, suc-mul (length ss) n)) in
-    let g : Fits n (s ∷ ss) ds (xs ++ p) = rw (take-append-drop n x) g in
-    let r : Row s ds xs = fits-row n xs p f s ss ds e g in
+    let g : FitsSides n (s ∷ ss) ds (xs ++ p) = rw (take-append-drop n x) g in
+    let r : RowPlan s ds xs = fits-row n xs p f s ss ds e g in
     Memᴰ·cast
     (sym (take-append-drop n x))
     (member-flatMap

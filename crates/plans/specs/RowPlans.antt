@@ -32,7 +32,7 @@ sorted-downTo low high = sorted-table (suc high - low) (λ k. high - k) (λ h k 
 
 -- ---- a row: one quantity for each sink, no more than it wants, that add up to what the source has
 
-pub record Row (left : ℕ) (ds xs : List ℕ) : Type 0 where
+pub record RowPlan (left : ℕ) (ds xs : List ℕ) : Type 0 where
   pub size : length xs ≡ length ds
   pub wanted : (j : ℕ) → at xs j ≤ at ds j
   pub sum : total xs ≡ left
@@ -41,7 +41,7 @@ total-le : (xs ds : List ℕ) → length xs ≡ length ds → ((j : ℕ) → at 
 unfolding total
 total-le xs ds e h = rw e (sumTo-le (length ds) (at xs) (at ds) (λ k l. h k))
 
-row-cons : (left d x : ℕ) (ds xs : List ℕ) → x ≤ d → x ≤ left → Row (left - x) ds xs → Row left (d ∷ ds) (x ∷ xs)
+row-cons : (left d x : ℕ) (ds xs : List ℕ) → x ≤ d → x ≤ left → RowPlan (left - x) ds xs → RowPlan left (d ∷ ds) (x ∷ xs)
 unfolding at
 row-cons left d x ds xs p q r = record { size = ap suc (r .size); wanted = wanted; sum = omega (arith, total-cons x xs, r .sum) }
   where
@@ -49,7 +49,7 @@ row-cons left d x ds xs p q r = record { size = ap suc (r .size); wanted = wante
     wanted zero = p
     wanted (suc j) = r .wanted j
 
-row-rest : (left d x : ℕ) (ds xs : List ℕ) → Row left (d ∷ ds) (x ∷ xs) → Row (left - x) ds xs
+row-rest : (left d x : ℕ) (ds xs : List ℕ) → RowPlan left (d ∷ ds) (x ∷ xs) → RowPlan (left - x) ds xs
 unfolding at
 row-rest left d x ds xs r =
     record {
@@ -58,11 +58,11 @@ row-rest left d x ds xs r =
       sum = omega (arith, total-cons x xs, r .sum);
     }
 
-pub rowPlans-sound : (left : ℕ) (ds : List ℕ) {xs : List ℕ} → List·Memᴰ xs (rowPlans left ds) → Row left ds xs
+pub rowPlans-sound : (left : ℕ) (ds : List ℕ) {xs : List ℕ} → List·Memᴰ xs (rowPlans left ds) → RowPlan left ds xs
 unfolding rowPlans
 rowPlans-sound left [] {xs} m = go (eqb left 0) refl m
   where
-    go : (b : Bool) → eqb left 0 ≡ b → List·Memᴰ xs (cond b ([] ∷ []) []) → Row left [] xs
+    go : (b : Bool) → eqb left 0 ≡ b → List·Memᴰ xs (cond b ([] ∷ []) []) → RowPlan left [] xs
     go true e m =
         rw (List·Memᴰ·eq-of-singleton m) (record { size = refl; wanted = λ j. omega arith; sum = omega (arith, total-nil, eqb-true left 0 e) })
     go false e m = absurd (List·Memᴰ·not-nil m)
@@ -72,7 +72,7 @@ rowPlans-sound left (d ∷ ds) m =
     let (p, q) = downTo-member (left - total ds) (min left d) l in
     rw e (row-cons left d x ds ys (omega arith) (omega arith) (rowPlans-sound (left - x) ds k))
 
-pub rowPlans-complete : (left : ℕ) (ds xs : List ℕ) → Row left ds xs → List·Memᴰ xs (rowPlans left ds)
+pub rowPlans-complete : (left : ℕ) (ds xs : List ℕ) → RowPlan left ds xs → List·Memᴰ xs (rowPlans left ds)
 unfolding rowPlans at
 rowPlans-complete left [] [] r = rw (eq-eqb left 0 (omega (arith, r .sum, total-nil))) (List·Memᴰ·head refl)
 rowPlans-complete left [] (x ∷ xs) r = absurd (omega (arith, r .size))

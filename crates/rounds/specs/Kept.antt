@@ -5,7 +5,7 @@ use native.Mathlib.Decide.{decLt}
 use mathlib.Core.Path.{_≡_, refl, sym, ap, _∙_}
 use mathlib.Core.Logic.{by-cases}
 use mathlib.Core.Bool.{Bool, true, false, not, cond, true≢false}
-use mathlib.Core.List.{List, List·Memᴰ}
+use mathlib.Core.List.{List}
 use lib.IntN.{ℤ, pos, negsuc, natAbs, negℤ, _+ℤ_, _-ℤ_}
 use lib.Signed.{ltZ, leZ, nonNeg, mag}
 use lib.Dec.{ltb}
@@ -14,34 +14,26 @@ use mir.Syntax.{w32}
 use mir.Val as bits
 use borrow.Author.Tests.{lt-ltb, le-ltb, le-leb}
 use Rattle.integers.specs.Integer.{_≈_, _⊕_, _⊖_, neg, nat}
-use Rattle.integers.specs.Bridge.{toZ, z-add, z-neg, z-eq}
+use Rattle.integers.specs.Bridge.{toZ, z-add, z-neg}
 use Rattle.integers.specs.Tests.{lt-yes}
-use Rattle.transport.specs.Limits.{maxSide, maxCost, maxCells, costAbove}
+use Rattle.transport.specs.Limits.{maxCost, costAbove}
 use Rattle.transport.specs.Laws.ListLaws.{by-key, firstLeast-unique}
 use Rattle.transport.specs.Laws.AmountLaws.{ltZ-weak}
 use Rattle.transport.specs.Laws.RangeLaws.{abs-diff, back}
-use Rattle.transport.specs.Problem.{Problem, sources, sinks, Lane, lanes, place, laneCost}
+use Rattle.transport.specs.Problem.{Problem, sources, sinks, Lane, lanes, place}
 use Rattle.transport.specs.Laws.ProblemLaws.{lane, Placed, place-of, place-below, length-lanes, getD-lanes, all-lanes, all-lanes-at}
-use Rattle.transport.specs.Laws.Sound.{Sound}
-use Rattle.transport.specs.Tableau.{laneOf, noCell, basisOf}
-use Rattle.transport.specs.Leaf.{Strike, strikes}
-use Rattle.transport.specs.Belonging.{spans, cellsBelong}
-use Rattle.transport.specs.Potential.{potential, reducedCost, isFinished, potentialBy}
+use Rattle.transport.specs.Tableau.{laneOf, noCell}
+use Rattle.transport.specs.Potential.{potential, reducedCost, isFinished}
 use Rattle.transport.specs.Round.{entering, pivot, next}
-use Rattle.transport.specs.Statements.{Belongs}
 use Rattle.transport.specs.declared.Cell.{Cell}
-use Rattle.tableaux.specs.Lanes.{Fits}
-use Rattle.tableaux.specs.Striking.{Struck, step-of, leaf-below}
-use Rattle.tableaux.specs.Potentials.{price-size, price-limit, potential-off, potential-root, potential-tight, potential-only, potential-any}
-use Rattle.tableaux.specs.Belonging.{belongs-iff, fits-of, spans-of}
+use Rattle.tableaux.specs.Potentials.{price-size, price-limit}
+use Rattle.tableaux.specs.Belonging.{fits-of, spans-of}
 use Rattle.tableaux.specs.Entering.{entering-inside, entering-new}
 use Rattle.tree.specs.Layout.{stride, stride-is, nodeRoom, maxPotential, reducedAt}
 use Rattle.tree.specs.Mask.{has}
-use Rattle.tree.specs.Strikes.{strikes-room}
-use Rattle.tree.specs.Planting.{Tree}
 use Rattle.tree.specs.Repriced.{Repriced}
 use Rattle.board.specs.Lanes.{place-order}
-use Rattle.board.specs.Arrays.{Loaded, Board}
+use Rattle.board.specs.Arrays.{Board}
 use Rattle.board.specs.Drawing.{board-belongs}
 use Rattle.board.specs.Pivoting.{Enters, Shifts, Pivoted}
 use Rattle.rounds.specs.Costs.{Costed}

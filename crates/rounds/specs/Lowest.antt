@@ -61,7 +61,7 @@ lowest-low b f (suc n) = go (ltZ (f n) (lowest b f n)) refl (lowest-low b f n)
     }
 
 -- There is one such number.
-pub low-only : {b : ℤ} {f : ℕ → ℤ} {n : ℕ} {r s : ℤ} → Low b f n r → Low b f n s → r ≡ s
+low-only : {b : ℤ} {f : ℕ → ℤ} {n : ℕ} {r s : ℤ} → Low b f n r → Low b f n s → r ≡ s
 low-only {b} {f} {n} {r} {s} v w = eq-z r s (omega (arith, below v w, below w v))
   where
     below : {r s : ℤ} → Low b f n r → Low b f n s → toZ r ≼ toZ s
@@ -70,7 +70,7 @@ low-only {b} {f} {n} {r} {s} v w = eq-z r s (omega (arith, below v w, below w v)
         (λ (k, l, e). omega (arith, z-eq e, v .least k l))
         (w .meets)
 
-pub low-cong : {b : ℤ} {f g : ℕ → ℤ} {n : ℕ} {r : ℤ} → ((k : ℕ) → k < n → f k ≡ g k) → Low b f n r → Low b g n r
+low-cong : {b : ℤ} {f g : ℕ → ℤ} {n : ℕ} {r : ℤ} → ((k : ℕ) → k < n → f k ≡ g k) → Low b f n r → Low b g n r
 low-cong h w = record {
   cap = w .cap;
   least = λ k l. rw (← h k l) (w .least k l);
@@ -80,7 +80,7 @@ low-cong h w = record {
 -- ---- some of the numbers fall
 
 -- One number falls: the least is the less of what it was and of that number.
-pub low-falls : {b : ℤ} {f g : ℕ → ℤ} {n j : ℕ} {r : ℤ} → Low b f n r → j < n → toZ (g j) ≼ toZ (f j) → ((k : ℕ) → k < n → k ≢ j → g k ≡ f k)
+low-falls : {b : ℤ} {f g : ℕ → ℤ} {n j : ℕ} {r : ℤ} → Low b f n r → j < n → toZ (g j) ≼ toZ (f j) → ((k : ℕ) → k < n → k ≢ j → g k ≡ f k)
     → Low b g n (lesser (g j) r)
 low-falls {b} {f} {g} {n} {j} {r} w hj falls same = go (ltZ (g j) r) refl
   where

@@ -16,7 +16,7 @@ use Rattle.transport.specs.Limits.{costBelow}
 use Rattle.transport.specs.Problem.{Problem, sources, sinks, Lane, laneCost}
 use Rattle.transport.specs.Laws.Sound.{Sound}
 use Rattle.transport.specs.Tableau.{basisOf}
-use Rattle.transport.specs.Leaf.{Strike, strikes}
+use Rattle.transport.specs.Leaf.{strikes}
 use Rattle.transport.specs.Belonging.{spans, cellsBelong}
 use Rattle.transport.specs.Potential.{potential, isFinished, potentialBy}
 use Rattle.transport.specs.Round.{next, run, roundBound}

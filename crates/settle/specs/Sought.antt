@@ -12,7 +12,7 @@ use lib.Seq.{getD-set-same, getD-set-other}
 use Rattle.integers.specs.Integer.{Z, _≈_, _≺_, ≈-dec, nat}
 use Rattle.network.specs.Flow.{Nonneg}
 use Rattle.network.specs.Finite.{once-few}
-use Rattle.network.specs.Settling.{Closed, Stuck}
+use Rattle.network.specs.Settling.{NoWayOut, Stuck}
 use Rattle.network.specs.Search.{Grown, grown-more, Searched, search-start, search-grow, search-ends}
 use Rattle.transport.specs.Laws.ListLaws.{is-false}
 use Rattle.tree.specs.Mask.{has, put, cut}
@@ -55,7 +55,7 @@ pub record Sought (m n : ℕ) (t : Target) (x : ℕ → ℕ → Z) (tight holds 
   pub hold : (i j : ℕ) → i < m → j < n → (has (entry holds j) i ≡ true) ↔ (nat 0 ≺ x i j)
   pub own : (i j : ℕ) → i < m → j < n → (has (entry owns i) j ≡ true) ↔ (nat 0 ≺ x i j)
   pub goals : (j : ℕ) → j < n → (has (t .goal) j ≡ true) ↔ ((t .col < j) × ¬ (x (t .row) j ≈ nat 0))
-  pub closed : Closed m n (InMask tight) x (t .row) (has (t .dead))
+  pub closed : NoWayOut m n (InMask tight) x (t .row) (has (t .dead))
 
 -- ---- rows gathered
 

@@ -15,7 +15,7 @@ use Rattle.integers.specs.SumLaws.{sum-each}
 use Rattle.network.specs.Flow.{Nonneg}
 use Rattle.network.specs.FlowLaws.{flow-cong}
 use Rattle.network.specs.Circuit.{moved}
-use Rattle.network.specs.Settling.{DecidedTo, decided-other, decided-stuck, Closed, Stuck}
+use Rattle.network.specs.Settling.{DecidedTo, decided-other, decided-stuck, NoWayOut, Stuck}
 use Rattle.network.specs.Settling.{Brings, brought, brought-here, brought-beside, brought-off, brought-closed}
 use Rattle.network.specs.Search.{Rooted, wayRow, wayCol, grown-bags, grown-brings, grown-off}
 use Rattle.transport.specs.Limits.{maxBags}
@@ -23,7 +23,7 @@ use Rattle.tree.specs.Layout.{stride}
 use Rattle.tree.specs.Mask.{has}
 use Rattle.settle.specs.Sets.{in-none, in-and}
 use Rattle.settle.specs.Bags.{laneBags, carries-some, entry, InMask, Masked}
-use Rattle.settle.specs.Way.{Walkable, Loaded, BroughtLeast}
+use Rattle.settle.specs.Way.{Walkable, Carries, BroughtLeast}
 use Rattle.settle.specs.Sought.{Sought, Hits}
 use Rattle.settle.specs.declared.search.Target.{Target}
 
@@ -94,7 +94,7 @@ hit-walkable g hit = record {
 }
 
 pub hit-loaded : {m n s l : ℕ} {t : Target} {x : ℕ → ℕ → Z} {a b : ℕ → Z} {v : ℕ} {q : List ℤ} {tight holds owns row col up : List ℕ}
-    → Sought m n t x tight holds owns → Hits m n t x tight s l row col up → Stage m n a b v tight q holds owns → Loaded m n s l row col up q holds owns
+    → Sought m n t x tight holds owns → Hits m n t x tight s l row col up → Stage m n a b v tight q holds owns → Carries m n s l row col up q holds owns
 hit-loaded g hit e = record { walkable = hit-walkable g hit; masked = e .masked; few = stage-few e }
 
 module _ {m n s l : ℕ} {t : Target} {q : List ℤ} {tight holds owns row col up : List ℕ}
@@ -187,7 +187,7 @@ module _ {m n s l : ℕ} {t : Target} {q : List ℤ} {tight holds owns row col u
 
 -- Columns that are closed, with no bags of row p from column c on.
 pub record Dead (m n p c : ℕ) (tight : List ℕ) (q : List ℤ) (dead : ℕ) : Type 0 where
-  pub closed : Closed m n (InMask tight) (laneBags q) p (has dead)
+  pub closed : NoWayOut m n (InMask tight) (laneBags q) p (has dead)
   pub clear : (j : ℕ) → c ≤ j → j < n → has dead j ≡ true → laneBags q p j ≈ nat 0
 
 module _ {m n : ℕ} {t : Target} {q : List ℤ} {tight holds owns : List ℕ} (g : Sought m n t (laneBags q) tight holds owns) where

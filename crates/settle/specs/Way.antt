@@ -34,7 +34,7 @@ pub record Climbed (up : List ℕ) (s h at : ℕ) : Type 0 where
   pub fall : at + h ≤ s
   pub before : (g : ℕ) → g < h → 0 < above (entry up) s g
 
-pub climb-start : (up : List ℕ) (s : ℕ) → Climbed up s 0 s
+climb-start : (up : List ℕ) (s : ℕ) → Climbed up s 0 s
 climb-start up s = record { stands = refl; fall = omega arith; before = λ g l. absurd (omega arith) }
 
 module _ {up : List ℕ} {s h at : ℕ} (w : Climbed up s h at) where
@@ -65,14 +65,14 @@ pub record LeastOn (d s j : ℕ) (row col up : List ℕ) (q : List ℤ) (l : ℕ
   pub low : (k : ℕ) → k < suc d → toZ (getD q l (pos 0)) ≼ laneBags q (wayRow (entry row) (entry up) s k) (wayCol (entry col) (entry up) s j k)
 
 -- So far, at position `at`.
-pub record Lowering (s j : ℕ) (row col up : List ℕ) (q : List ℤ) (l at : ℕ) : Type 0 where
+pub record LeastTo (s j : ℕ) (row col up : List ℕ) (q : List ℤ) (l at : ℕ) : Type 0 where
   pub steps : ℕ
   pub climbed : Climbed up s steps at
   pub inRoom : l < laneRoom
   pub least : LeastOn steps s j row col up q l
 
 module _ {m n s j : ℕ} {row col up : List ℕ} (v : Walkable m n s j row col up) (q : List ℤ) where
-  pub lowering-start : Lowering s j row col up q (entry row 0 * stride + j) s
+  pub lowering-start : LeastTo s j row col up q (entry row 0 * stride + j) s
   lowering-start = record {
     steps = 0;
     climbed = climb-start up s;
@@ -80,7 +80,7 @@ module _ {m n s j : ℕ} {row col up : List ℕ} (v : Walkable m n s j row col u
     least = record { lane = 0; inside = omega arith; is = refl; low = λ k l. let z : k ≡ 0 = omega arith in rw z (omega arith) };
   }
 
-  module _ {l at : ℕ} (w : Lowering s j row col up q l at) (some : 0 < at) where
+  module _ {l at : ℕ} (w : LeastTo s j row col up q l at) (some : 0 < at) where
     abbrev next : ℕ
     next = entry row at * stride + entry col at
 
@@ -97,7 +97,7 @@ module _ {m n s j : ℕ} {row col up : List ℕ} (v : Walkable m n s j row col u
     here : next ≡ wayRow (entry row) (entry up) s (suc (w .steps)) * stride + wayCol (entry col) (entry up) s j (suc (w .steps))
     here = rw (← w .climbed .stands)
 
-    pub lowering-less : ltZ (getD q next (pos 0)) (getD q l (pos 0)) ≡ true → Lowering s j row col up q next (entry up at)
+    pub lowering-less : ltZ (getD q next (pos 0)) (getD q l (pos 0)) ≡ true → LeastTo s j row col up q next (entry up at)
     lowering-less e = record {
       steps = suc (w .steps);
       climbed = on;
@@ -112,7 +112,7 @@ module _ {m n s j : ℕ} {row col up : List ℕ} (v : Walkable m n s j row col u
       };
     }
 
-    pub lowering-keep : ltZ (getD q next (pos 0)) (getD q l (pos 0)) ≡ false → Lowering s j row col up q l (entry up at)
+    pub lowering-keep : ltZ (getD q next (pos 0)) (getD q l (pos 0)) ≡ false → LeastTo s j row col up q l (entry up at)
     lowering-keep e = record {
       steps = suc (w .steps);
       climbed = on;
@@ -127,7 +127,7 @@ module _ {m n s j : ℕ} {row col up : List ℕ} (v : Walkable m n s j row col u
       };
     }
 
-pub lowering-ends : {s j : ℕ} {row col up : List ℕ} {q : List ℤ} {l at : ℕ} → Lowering s j row col up q l at → at ≡ 0
+pub lowering-ends : {s j : ℕ} {row col up : List ℕ} {q : List ℤ} {l at : ℕ} → LeastTo s j row col up q l at → at ≡ 0
     → {d : ℕ} → Rooted (entry up) s d → LeastOn d s j row col up q l
 lowering-ends w e r = let s = climb-ends (w .climbed) e r in rw s at (w .least)
 
@@ -139,7 +139,7 @@ pub record Brought (d s j : ℕ) (row col up : List ℕ) (x : ℤ) (q q′ : Lis
       → laneBags q′ h k ≈ moved (wayRow (entry row) (entry up) s) (wayCol (entry col) (entry up) s j) (suc d) (toZ x) (laneBags q) h k
 
 -- Bags can be moved along it: the masks are right, and no lane has more bags than there are on a sheet.
-pub record Loaded (m n s j : ℕ) (row col up : List ℕ) (q : List ℤ) (holds owns : List ℕ) : Type 0 where
+pub record Carries (m n s j : ℕ) (row col up : List ℕ) (q : List ℤ) (holds owns : List ℕ) : Type 0 where
   pub walkable : Walkable m n s j row col up
   pub masked : Masked m n q holds owns
   pub few : (i k : ℕ) → i < m → k < n → natAbs (getD q (i * stride + k) (pos 0)) ≤ maxBags
@@ -152,7 +152,7 @@ pub record Bringing (s j : ℕ) (row col up : List ℕ) (x : ℤ) (q : List ℤ)
   pub most : (l : ℕ) → natAbs (getD q′ l (pos 0)) ≤ natAbs (getD q l (pos 0)) + suc steps * 2 ^ 32
   pub follow : Follow q holds owns q′ holds′ owns′
 
-module _ {m n s j : ℕ} {row col up : List ℕ} {q : List ℤ} {holds owns : List ℕ} (v : Loaded m n s j row col up q holds owns)
+module _ {m n s j : ℕ} {row col up : List ℕ} {q : List ℤ} {holds owns : List ℕ} (v : Carries m n s j row col up q holds owns)
     (x : ℤ) (amount : natAbs x ≤ maxBags) where
   small : natAbs x < 2 ^ 31
   unfolding maxBags maxSide maxAmount
@@ -266,7 +266,7 @@ pub record BroughtLeast (d s j : ℕ) (row col up : List ℕ) (q q′ : List ℤ
   pub least : LeastOn d s j row col up q place
   pub brought : Brought d s j row col up (getD q place (pos 0)) q q′
 
-module _ {m n s j d place : ℕ} {row col up : List ℕ} {q : List ℤ} {holds owns : List ℕ} (v : Loaded m n s j row col up q holds owns)
+module _ {m n s j d place : ℕ} {row col up : List ℕ} {q : List ℤ} {holds owns : List ℕ} (v : Carries m n s j row col up q holds owns)
     (r : Rooted (entry up) s d) (w : LeastOn d s j row col up q place) where
   inside : (wayRow (entry row) (entry up) s (w .lane) < m) × (wayCol (entry col) (entry up) s j (w .lane) < n)
   inside = way-inside (v .walkable) r (w .lane) (w .inside)

@@ -1,4 +1,4 @@
-// The first tight lanes of settling: those of least cost.
+// The tight lanes, on which settling moves bags: those of reduced cost 0, so of least cost together.
 use transport::MAX_SIDE;
 use tree::LANES;
 use tree::NODES;

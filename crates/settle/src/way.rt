@@ -8,7 +8,7 @@ ghost use lib.IntN.{natAbs};
 ghost use Rattle.network.specs.Search.{Rooted};
 ghost use Rattle.transport.specs.Limits.{maxBags};
 ghost use Rattle.settle.specs.Bags.{entry, Follow};
-ghost use Rattle.settle.specs.Way.{Walkable, LeastOn, Loaded, Brought, BroughtLeast};
+ghost use Rattle.settle.specs.Way.{Walkable, LeastOn, Carries, Brought, BroughtLeast};
 
 // Of the lanes that the way takes bags from, the place of one with the least.
 fn least_on(
@@ -48,7 +48,7 @@ fn bring(
     j: usize,
     x: i64,
 )
-    requires { ⌜ ((m : ℕ) × (n : ℕ) × Loaded m n s j (now row) (now col) (now up) (now q) (now holds) (now owns)) ⌝ }
+    requires { ⌜ ((m : ℕ) × (n : ℕ) × Carries m n s j (now row) (now col) (now up) (now q) (now holds) (now owns)) ⌝ }
     requires { ⌜ natAbs x ≤ maxBags ⌝ }
     ensures { λ _. ⌜
         ((d : ℕ) → Rooted (entry (now (up .entry))) s d
@@ -76,7 +76,7 @@ pub(crate) fn bring_least(
     s: usize,
     j: usize,
 )
-    requires { ⌜ ((m : ℕ) × (n : ℕ) × Loaded m n s j (now row) (now col) (now up) (now q) (now holds) (now owns)) ⌝ }
+    requires { ⌜ ((m : ℕ) × (n : ℕ) × Carries m n s j (now row) (now col) (now up) (now q) (now holds) (now owns)) ⌝ }
     ensures { λ _. ⌜
         ((d : ℕ) → Rooted (entry (now (up .entry))) s d
         → BroughtLeast d s j (now (row .entry)) (now (col .entry)) (now (up .entry)) (now (q .entry)) (now (q .exit)))

@@ -24,7 +24,7 @@ use Rattle.network.specs.FlowLaws.{flow-on}
 use Rattle.network.specs.Basis.{In, flow-unique}
 use Rattle.tableaux.specs.Lanes.{Has, Fits, member-dec, on-lane, on-lane-at, on-lane-off, on-lane-row, on-lane-column}
 use Rattle.tableaux.specs.Leaves.{Ends, row-struck, column-struck, ends-differ}
-use Rattle.tableaux.specs.Striking.{Step, Peeled, bare, peel, IsLeaf, Struck, struck-of, lane-once, spans-iff}
+use Rattle.tableaux.specs.Striking.{StrikeStep, Peeled, bare, peel, IsLeaf, Struck, struck-of, lane-once, spans-iff}
 use Rattle.tableaux.specs.Bases.{rowAt, colAt, has-in, spans-basis}
 
 -- ---- points
@@ -72,7 +72,7 @@ flow-off w (s ∷ ss) l d =
     flow-later w s ss l (λ e. d s (List·Memᴰ·head refl) (sym e)) ∙ flow-off (leftBy w s) ss l (λ t h. d t (List·Memᴰ·tail h))
 
 -- A strike adds what its lane carries.
-flow-splits : {m n : ℕ} (w : ℕ → ℤ) {s : Strike} {later : List Strike} → Step m n s later → Peeled m n later → (i j : ℕ)
+flow-splits : {m n : ℕ} (w : ℕ → ℤ) {s : Strike} {later : List Strike} → StrikeStep m n s later → Peeled m n later → (i j : ℕ)
     → toZ (flow w (s ∷ later) (lane i j)) ≈ on-lane (s .lane) (toZ (w (s .leaf))) i j ⊕ toZ (flow (leftBy w s) later (lane i j))
 flow-splits {m} {n} w {s} {later} st rest i j = by-cases (lane-dec (lane i j) (s .lane))
     (λ e. here i j (ap (λ (l : Lane). l .row) e) (ap (λ (l : Lane). l .col) e))

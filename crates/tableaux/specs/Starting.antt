@@ -346,12 +346,12 @@ start-belongs P ok = record {
     basis = staircase (stairs-first t .0) (stairs-first t .1) (stairs-last t K many .0) (stairs-last t K many .1) (λ k l. stairs-step t k (omega (arith, many)))
 
 -- The states that the rule passes through: row i and column j, whose remaining pairs are s and d, with `left` cells still to put.
-pub data Passes (P : Problem) : ℕ → ℕ → ℕ → Pair → Pair → Type 0 where
-  begins : Passes P (basisSize (sources P) (sinks P)) 0 0 (pairedSupply P 0) (pairedDemand P 0)
-  rowEmpty : {left i j : ℕ} {s d : Pair} → Passes P (suc left) i j s d → subtract s (smaller s d) ≡ nothing
-      → Passes P left (suc i) j (pairedSupply P (suc i)) (subtract d (smaller s d))
-  rowNotEmpty : {left i j : ℕ} {s d : Pair} → Passes P (suc left) i j s d → ¬ (subtract s (smaller s d) ≡ nothing)
-      → Passes P left i (suc j) (subtract s (smaller s d)) (pairedDemand P (suc j))
+pub data PassesBy (P : Problem) : ℕ → ℕ → ℕ → Pair → Pair → Type 0 where
+  begins : PassesBy P (basisSize (sources P) (sinks P)) 0 0 (pairedSupply P 0) (pairedDemand P 0)
+  rowEmpty : {left i j : ℕ} {s d : Pair} → PassesBy P (suc left) i j s d → subtract s (smaller s d) ≡ nothing
+      → PassesBy P left (suc i) j (pairedSupply P (suc i)) (subtract d (smaller s d))
+  rowNotEmpty : {left i j : ℕ} {s d : Pair} → PassesBy P (suc left) i j s d → ¬ (subtract s (smaller s d) ≡ nothing)
+      → PassesBy P left i (suc j) (subtract s (smaller s d)) (pairedDemand P (suc j))
 
 row-empty : (s d : Pair) → less d s ≡ false → subtract s (smaller s d) ≡ nothing
 row-empty s d p = rw (smaller-row s d p) (subtract-self s)
@@ -366,7 +366,7 @@ pub record Put (P : Problem) (k : ℕ) : Type 0 where
   pub column : ℕ
   pub rowPair : Pair
   pub columnPair : Pair
-  pub passes : Passes P (suc left) row column rowPair columnPair
+  pub passes : PassesBy P (suc left) row column rowPair columnPair
   pub size : k + suc left ≡ basisSize (sources P) (sinks P)
   pub cells : drop k (start P) ≡ corner P (suc left) row column rowPair columnPair
 
@@ -389,7 +389,7 @@ start-put P ok (suc k) l =
     tail : (c : Cell) (cs : List Cell) → drop k (start P) ≡ c ∷ cs → drop (suc k) (start P) ≡ cs
     tail c cs e = let f : drop k (start P) ≡ getD (start P) k noCell ∷ drop (suc k) (start P) = drop-cons (start P) k noCell (omega arith) in cc
 
-    next : (left i j : ℕ) (s d : Pair) → Passes P (suc left) i j s d → k + suc left ≡ basisSize (sources P) (sinks P)
+    next : (left i j : ℕ) (s d : Pair) → PassesBy P (suc left) i j s d → k + suc left ≡ basisSize (sources P) (sinks P)
         → drop k (start P) ≡ corner P (suc left) i j s d → (b : Bool) → less d s ≡ b → Put P (suc k)
     next zero i j s d w e f b p = absurd (omega (arith, start-belongs P ok .count))
     next (suc left) i j s d w e f true p = record {
@@ -413,7 +413,7 @@ start-put P ok (suc k) l =
       cells = rw (smaller-row s d p) (tail _ _ (f ∙ corner-down P (suc left) i j s d p));
     }
 
-passes-state : (P : Problem) → Sound P → {left i j : ℕ} {s d : Pair} → Passes P left i j s d → (k : ℕ) → left ≡ suc k → State P k i j s d
+passes-state : (P : Problem) → Sound P → {left i j : ℕ} {s d : Pair} → PassesBy P left i j s d → (k : ℕ) → left ≡ suc k → State P k i j s d
 passes-state P ok begins k e = begin P ok k e
 passes-state P ok (rowEmpty {left} {i} {j} {s} {d} w p) k e = go (less d s) refl (passes-state P ok w (suc k) (ap suc e))
   where
@@ -428,7 +428,7 @@ passes-state P ok (rowNotEmpty {left} {i} {j} {s} {d} w p) k e = go (less d s) r
 
 -- Both are empty together at the last cell, and only there: with equal pairs left, the marks of the rows so far, 1 to m, are those of the columns so far, 0
 -- or m.
-pub both-empty : (P : Problem) → Sound P → (left i j : ℕ) (s d : Pair) → Passes P (suc left) i j s d
+pub both-empty : (P : Problem) → Sound P → (left i j : ℕ) (s d : Pair) → PassesBy P (suc left) i j s d
     → ((subtract s (smaller s d) ≡ nothing) × (subtract d (smaller s d) ≡ nothing)) ↔ ((i ≡ sources P - 1) × (j ≡ sinks P - 1))
 both-empty P ok left i j s d w = (
   (λ e. end (subtract-nothing s (smaller s d) (e .0) ∙ sym (subtract-nothing d (smaller s d) (e .1)))),

@@ -81,7 +81,7 @@ strike-of m nodes (suc most) B t h = go (firstLeaf m nodes B) refl (λ k. strike
             record { member = without-member m (s .leaf) B (t .lane) (r .member) .0; ends = r .ends; listed = r .listed }
 
 -- A strike and those after it: no later strike touches its leaf.
-pub record Step (m n : ℕ) (s : Strike) (later : List Strike) : Type 0 where
+pub record StrikeStep (m n : ℕ) (s : Strike) (later : List Strike) : Type 0 where
   pub ends : Ends m s
   pub row : s .lane .row < m
   pub col : s .lane .col < n
@@ -90,7 +90,7 @@ pub record Step (m n : ℕ) (s : Strike) (later : List Strike) : Type 0 where
 
 pub data Peeled (m n : ℕ) : List Strike → Type 0 where
   bare : Peeled m n []
-  peel : {s : Strike} {later : List Strike} → Step m n s later → Peeled m n later → Peeled m n (s ∷ later)
+  peel : {s : Strike} {later : List Strike} → StrikeStep m n s later → Peeled m n later → Peeled m n (s ∷ later)
 
 ends-clear : {m k : ℕ} {t : Strike} → Ends m t → touches m k (t .lane) ≡ false → (t .leaf ≢ k) × (t .other ≢ k)
 ends-clear {m} {k} {t} (row-struck p q) e = let (a, b) = touches-false m k (t .lane) e in (rw p a, rw q b)
@@ -170,7 +170,7 @@ times-once k (peel {s} {later} st rest) = by-cases (ℕ-discrete (s .leaf) k)
     (λ e. omega (arith, times-none later k (λ t h q. st .clear t h .0 (q ∙ sym e)), bit-le (eqb (s .leaf) k)))
     (λ e. omega (arith, one-off (s .leaf) k e, times-once k rest))
 
-pub leaf-below : {m n : ℕ} {s : Strike} {later : List Strike} → Step m n s later → s .leaf < m + n
+pub leaf-below : {m n : ℕ} {s : Strike} {later : List Strike} → StrikeStep m n s later → s .leaf < m + n
 leaf-below {m} {n} {s} st = go (st .ends)
   where
     go : Ends m s → s .leaf < m + n
@@ -214,12 +214,12 @@ every-leaf {m} {n} {ss} peels e k z l = go (leaf-or ss k)
 -- ---- the strikes of lanes that span
 
 -- Each strike has its place in the list.
-pub step-of : {m n : ℕ} {ss : List Strike} → Peeled m n ss → (s : Strike) → List·Memᴰ s ss → (later : List Strike) × Step m n s later
+pub step-of : {m n : ℕ} {ss : List Strike} → Peeled m n ss → (s : Strike) → List·Memᴰ s ss → (later : List Strike) × StrikeStep m n s later
 step-of bare s h = absurd (List·Memᴰ·not-nil h)
 step-of {m} {n} (peel {s} {later} st rest) t h = ⊎-elim (λ e. (later, rw e st)) (step-of rest t) (List·Memᴰ·cases-cons h)
 
 -- No later strike has the lane of an earlier one.
-pub lane-once : {m n : ℕ} {s : Strike} {later : List Strike} → Step m n s later → Peeled m n later → (t : Strike) → List·Memᴰ t later → t .lane ≢ s .lane
+pub lane-once : {m n : ℕ} {s : Strike} {later : List Strike} → StrikeStep m n s later → Peeled m n later → (t : Strike) → List·Memᴰ t later → t .lane ≢ s .lane
 lane-once {m} {n} {s} {later} st rest t h e = let (ts, step) = step-of rest t h in go (st .ends) (step .ends) (st .clear t h)
   where
     go : Ends m s → Ends m t → (t .leaf ≢ s .leaf) × (t .other ≢ s .leaf) → ⊥
@@ -310,10 +310,10 @@ live-later d (inr (t, h, e)) = ⊎-elim (λ q. absurd (d (ap (λ (v : Strike). v
 abbrev pub Hung : List Strike → Type 0
 Hung ss = (s : Strike) → List·Memᴰ s ss → Live ss (s .other)
 
-pub hung-later : {m n : ℕ} {s : Strike} {later : List Strike} → Step m n s later → Hung (s ∷ later) → Hung later
+pub hung-later : {m n : ℕ} {s : Strike} {later : List Strike} → StrikeStep m n s later → Hung (s ∷ later) → Hung later
 hung-later st hang t h = live-later (λ e. st .clear t h .1 (sym e)) (hang t (List·Memᴰ·tail h))
 
-pub hung-first : {m n : ℕ} {s : Strike} {later : List Strike} → Step m n s later → Hung (s ∷ later) → Live later (s .other)
+pub hung-first : {m n : ℕ} {s : Strike} {later : List Strike} → StrikeStep m n s later → Hung (s ∷ later) → Live later (s .other)
 hung-first {m} {n} {s} st hang = live-later (ends-differ (st .ends) (st .row)) (hang s (List·Memᴰ·head refl))
 
 -- From the last strike back, each leaf is on the root's side of a split without a lane across: so is the node that it hangs on.
@@ -334,7 +334,7 @@ struck-live w k l = by-cases (ℕ-discrete k 0) inl (λ e. inr (w .leaves k e l)
 pub struck-hung : {m n : ℕ} {B : List Lane} {ss : List Strike} → Struck m n B ss → Hung ss
 struck-hung {m} {n} {B} {ss} w s h = let (later, st) = step-of (w .peels) s h in struck-live w (s .other) (below st (st .ends))
   where
-    below : {later : List Strike} → Step m n s later → Ends m s → s .other < m + n
+    below : {later : List Strike} → StrikeStep m n s later → Ends m s → s .other < m + n
     below st (row-struck a b) = omega (arith, st .col)
     below st (column-struck a b) = omega (arith, st .row)
 
@@ -364,11 +364,11 @@ struck-joined {m} {n} {B} {ss} p w = record {
         across : (s : Strike) → List·Memᴰ s ss → side A C (s .leaf) ≡ side A C (s .other)
         across s h = let (later, st) = step-of (w .peels) s h in ends st (st .ends)
           where
-            same : {later : List Strike} → Step m n s later → side A C (s .lane .row) ≡ side A C (m + s .lane .col)
+            same : {later : List Strike} → StrikeStep m n s later → side A C (s .lane .row) ≡ side A C (m + s .lane .col)
             same st = side-row A C (s .lane .row) (st .row) ∙ closed (s .lane .row) (s .lane .col) (st .row) (st .col) (w .lanes s h)
                 ∙ sym (side-col A C (s .lane .col))
 
-            ends : {later : List Strike} → Step m n s later → Ends m s → side A C (s .leaf) ≡ side A C (s .other)
+            ends : {later : List Strike} → StrikeStep m n s later → Ends m s → side A C (s .leaf) ≡ side A C (s .other)
             ends st (row-struck a b) = ap (side A C) a ∙ same st ∙ ap (side A C) (sym b)
             ends st (column-struck a b) = ap (side A C) a ∙ sym (same st) ∙ ap (side A C) (sym b)
 

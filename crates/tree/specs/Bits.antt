@@ -42,15 +42,6 @@ has-or a b k = rw (bit-or a b k) (by-digits max _||_ refl refl refl refl (bit a 
 pub has-one : (j k : ℕ) → has (put 0 j) k ≡ eqb k j
 has-one j k = has-put 0 j k ∙ rw (has-zero k) (or-false (eqb k j))
 
--- A bit as a number.
-pub bit-has : (x k : ℕ) → bit x k ≡ cond (has x k) 1 0
-bit-has x k = go (bit x k) (omega arith)
-  where
-    go : (d : ℕ) → d < 2 → d ≡ cond (eqb d 1) 1 0
-    go zero p = refl
-    go (suc zero) p = refl
-    go (suc (suc d)) p = absurd (omega arith)
-
 -- ---- a mask without its least bit
 
 -- Bit r is the least bit of x.

@@ -38,8 +38,7 @@ slots-apart {m} {at = at} {far = far} w t k p q e = by-cases (ℕ-discrete k t) 
 -- ---- the loop of an entering lane
 
 -- The sign of a basic lane whose ends lie on the sides a and b of its cut, where the ends of the entering lane lie on the sides p and q: 0 where the entering
--- lane
--- does not go across; else minus where both go across the same way.
+-- lane does not go across; else minus where both go across the same way.
 abbrev pub signBy : Bool → Bool → Bool → ℤ
 signBy a p q = cond (xor p q) (cond (xor a p) (pos 1) (negsuc 0)) (pos 0)
 

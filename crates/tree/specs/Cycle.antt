@@ -23,7 +23,7 @@ onLoop path row sink = bitXor (getD path row 0) (getD path sink 0)
 abbrev pub rowFar : List ℕ → List ℕ → ℕ → Bool
 rowFar path lanes t = has (getD path (getD lanes t 0 / stride) 0) t
 
-abbrev pub against : List ℕ → List ℕ → ℕ → ℕ → Bool
+abbrev against : List ℕ → List ℕ → ℕ → ℕ → Bool
 against path lanes row t = xor (rowFar path lanes t) (has (getD path row 0) t)
 
 -- A lane of the loop loses the step where its row lies on the same side of its cut as the entering lane's row, and gains it otherwise.

@@ -59,7 +59,7 @@ lt-pow zero = omega arith
 lt-pow (suc x) = omega (arith, lt-pow x)
 
 -- A mask that is not 0 has a bit.
-pub has-some : (x : ℕ) → 0 < x → (y : ℕ) × (has x y ≡ true)
+has-some : (x : ℕ) → 0 < x → (y : ℕ) × (has x y ≡ true)
 has-some x p = (trailingZeros x x, eq-eqb (bit x (trailingZeros x x)) 1 (first-in x x p (lt-pow x)))
 
 pub ones-some : (x : ℕ) → ones x ≡ 1 → (y : ℕ) × (has x y ≡ true)
@@ -101,7 +101,7 @@ end-col m x i p = rw (le-ltb x m p)
 pub own-row : (m i : ℕ) → i < m → ownBit m i ≡ i
 own-row m i p = rw (lt-ltb i m p)
 
-pub own-col : (m x : ℕ) → m ≤ x → ownBit m x ≡ x - m
+own-col : (m x : ℕ) → m ≤ x → ownBit m x ≡ x - m
 own-col m x p = rw (le-ltb x m p)
 
 pub own-le : (m x : ℕ) → ownBit m x ≤ x

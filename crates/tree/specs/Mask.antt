@@ -25,18 +25,18 @@ bit-or a b k = rw (or-shr a b k) (omega (arith, or-step (a / 2 ^ k) (b / 2 ^ k))
 pub bit-and : (a b k : ℕ) → bit (bitAnd a b) k ≡ min (bit a k) (bit b k)
 bit-and a b k = rw (and-shr a b k) (omega (arith, and-step (a / 2 ^ k) (b / 2 ^ k)))
 
-pub bit-pow-same : (j : ℕ) → bit (1 * 2 ^ j) j ≡ 1
+bit-pow-same : (j : ℕ) → bit (1 * 2 ^ j) j ≡ 1
 bit-pow-same j = rw (shl-shr 1 j)
 
 pow-even : (d k : ℕ) → 2 ^ (d + 1 + k) / 2 ^ k % 2 ≡ 0
 pow-even d k = rw (pow-add 2 (d + 1) k, shl-shr (2 ^ (d + 1)) k, pow-add 2 d 1) (omega arith)
 
-pub bit-pow-below : (j k : ℕ) → k < j → bit (1 * 2 ^ j) k ≡ 0
+bit-pow-below : (j k : ℕ) → k < j → bit (1 * 2 ^ j) k ≡ 0
 bit-pow-below j k p =
     let e : j ≡ (j - k - 1) + 1 + k = omega arith in
     rw one-mul (subst (λ (n : ℕ). 2 ^ n / 2 ^ k % 2 ≡ 0) (sym e) (pow-even (j - k - 1) k))
 
-pub bit-pow-above : (j k : ℕ) → j < k → bit (1 * 2 ^ j) k ≡ 0
+bit-pow-above : (j k : ℕ) → j < k → bit (1 * 2 ^ j) k ≡ 0
 bit-pow-above j k p = rw (one-mul, div-eq-of-lt (pow-lt p))
 
 pub bit-xor : (a b k : ℕ) → bit (bitXor a b) k ≡ differ (bit a k) (bit b k)

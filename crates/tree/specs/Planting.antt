@@ -162,7 +162,7 @@ pub record Tree (m n : ℕ) (B : List Lane) (sub path lanes : List ℕ) : Type 0
   pub turns : (t p : ℕ) → t < m + n - 1 → has (getD sub t 0) p ≡ ltb p (m + n) && has (getD path p 0) t
 
 -- The paths are those of the tree of the strikes: the two ends of a lane differ in its own slot alone.
-pub hung-cuts : {m n : ℕ} {B : List Lane} (leaf other lanes path : List ℕ) (count : ℕ) → Struck m n B (strikesOf leaf other lanes count)
+hung-cuts : {m n : ℕ} {B : List Lane} (leaf other lanes path : List ℕ) (count : ℕ) → Struck m n B (strikesOf leaf other lanes count)
     → Order leaf other count → Hanging leaf other count path 0
     → Cuts m n B count (λ t. laneAt (getD lanes t 0)) (λ t p. has (getD path p 0) t)
 unfolding strikesOf

@@ -22,7 +22,7 @@ toward-abs true z H p = p
 toward-abs false z H p = rw (abs-neg z) p
 
 -- The bits from m on.
-pub has-high : (far m k : ℕ) → has (bitXor far (bitAnd far (firstBits m))) k ≡ not (ltb k m) && has far k
+has-high : (far m k : ℕ) → has (bitXor far (bitAnd far (firstBits m))) k ≡ not (ltb k m) && has far k
 unfolding xor
 has-high far m k = has-xor far (bitAnd far (firstBits m)) k ∙ (rw (has-low far m k)) ∙ go (ltb k m) (has far k)
   where

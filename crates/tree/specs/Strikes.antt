@@ -8,9 +8,9 @@ use lib.ListN.{length, getD}
 use Rattle.transport.specs.Laws.ListLaws.{member-at}
 use Rattle.transport.specs.Problem.{Lane}
 use Rattle.transport.specs.Leaf.{Strike}
-use Rattle.tree.specs.Layout.{stride, nodeRoom, laneRoom, laneAt, Distinct, StrikesInRoom, strikeOf, strikesOf, length-strikes, getD-strikes}
+use Rattle.tree.specs.Layout.{stride, nodeRoom, laneRoom, laneAt, DistinctLanes, StrikesInRoom, strikeOf, strikesOf, length-strikes, getD-strikes}
 use Rattle.tableaux.specs.Leaves.{Ends, row-struck, column-struck}
-use Rattle.tableaux.specs.Striking.{Step, Peeled, bare, peel, Struck, step-of, leaf-below, lane-once}
+use Rattle.tableaux.specs.Striking.{StrikeStep, Peeled, bare, peel, Struck, step-of, leaf-below, lane-once}
 
 lanes-apart : {m n : ℕ} {ss : List Strike} (d : Strike) → Peeled m n ss → (i k : ℕ) → i < k → k < length ss → getD ss k d .lane ≢ getD ss i d .lane
 lanes-apart d bare i k l r = absurd (omega arith)
@@ -20,7 +20,7 @@ lanes-apart d (peel {s} {later} st rest) zero (suc k) l r =
 lanes-apart d (peel {s} {later} st rest) (suc i) (suc k) l r = lanes-apart d rest i k (omega arith) (omega arith)
 
 module _ (m n : ℕ) (leaf other lane : List ℕ) (count : ℕ) (p : Peeled m n (strikesOf leaf other lane count)) where
-  step-at : (k : ℕ) → k < count → (later : List Strike) × Step m n (strikeOf leaf other lane k) later
+  step-at : (k : ℕ) → k < count → (later : List Strike) × StrikeStep m n (strikeOf leaf other lane k) later
   step-at k l =
       let s = strikeOf leaf other lane k in
       step-of p s (rw (getD-strikes leaf other lane count k s l) at
@@ -39,7 +39,7 @@ module _ (m n : ℕ) (leaf other lane : List ℕ) (count : ℕ) (p : Peeled m n 
   pub lane-in : m ≤ stride → (k : ℕ) → k < count → getD lane k 0 < laneRoom
   lane-in h k l = omega (arith, step-at k l .1 .row)
 
-  pub strikes-distinct : Distinct lane count
+  pub strikes-distinct : DistinctLanes lane count
   strikes-distinct i k l r e =
       let s = strikeOf leaf other lane 0 in
       lanes-apart s p i k l (omega (arith, length-strikes leaf other lane count))

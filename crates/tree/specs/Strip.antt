@@ -24,7 +24,7 @@ use Rattle.tree.specs.Layout.{nodeRoom}
 use Rattle.tableaux.specs.Lanes.{Has}
 use Rattle.tableaux.specs.Leaves.{Ends, row-struck, column-struck, Leaf, Linked, Others, at-node, without, unless, found, leaf-exists, leaf-struck, leaf-member}
 use Rattle.tableaux.specs.Leaves.{leaf-lane, length-without, has-lane, touches-true, touches-false}
-use Rattle.tableaux.specs.Striking.{no-members, nodes-others, Step, Peeled, bare, peel, Struck, every-leaf, strike-once, struck-joined, joined-linked}
+use Rattle.tableaux.specs.Striking.{no-members, nodes-others, StrikeStep, Peeled, bare, peel, Struck, every-leaf, strike-once, struck-joined, joined-linked}
 use Rattle.tableaux.specs.Striking.{spans-iff}
 use Rattle.tree.specs.Links.{Links, Masks, otherEnd, ownBit, tied, single, iff-same, end-row, end-col, end-back, Seen, of-row, of-col, seen}
 use Rattle.tree.specs.Links.{without-lane, gone-from, gone-to}
@@ -52,7 +52,7 @@ keep-single {A} p d y (x ∷ xs) distinct h e u = go (p x) refl (keep-single p d
 
 -- ---- one strike more at the end
 
-peeled-last : {m n : ℕ} {ss : List Strike} {s : Strike} → Peeled m n ss → Step m n s []
+peeled-last : {m n : ℕ} {ss : List Strike} {s : Strike} → Peeled m n ss → StrikeStep m n s []
     → ((t : Strike) → List·Memᴰ t ss → (s .leaf ≢ t .leaf) × (s .other ≢ t .leaf))
     → Peeled m n (ss ++ (s ∷ []))
 peeled-last bare st clear = peel st bare
@@ -133,7 +133,7 @@ module _ {m n : ℕ} {live : List ℕ} (w : Links m n live) where
 
 -- ---- what is left of B
 
-abbrev pub liveOf : List ℕ → List Lane → List Lane
+abbrev liveOf : List ℕ → List Lane → List Lane
 liveOf live B = keep (alive live) B
 
 abbrev pub WasStruck : List Strike → Lane → Type 0

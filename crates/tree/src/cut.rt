@@ -1,6 +1,5 @@
 // The fundamental cuts of a spanning tree as masks, kept from round to round. The basic lanes stand in slots; for each slot `sub` has the nodes that its lane
-// cuts
-// off from the root, and for each node `path` has the slots on its path to the root. An exchange of lanes turns over one part of each.
+// cuts off from the root, and for each node `path` has the slots on its path to the root. An exchange of lanes turns over one part of each.
 use crate::NODES;
 use crate::mask;
 use transport::MAX_SIDE;
@@ -87,8 +86,7 @@ pub struct Loop {
 }
 
 // The loop that an entering lane from the node `row` to the node `sink` closes: the slots on one of the two paths. A lane of it loses the step where its row
-// lies
-// on the same side of its cut as `row`.
+// lies on the same side of its cut as `row`.
 pub fn loop_slots(path: &[u64; NODES], lane: &[usize; NODES], row: usize, sink: usize) -> Loop
     requires { ⌜ (row < nodeRoom) × (sink < nodeRoom) ⌝ }
     requires { ⌜ ((t : ℕ) → has (onLoop (now path) row sink) t ≡ true → getD (now lane) t 0 / stride < nodeRoom) ⌝ }

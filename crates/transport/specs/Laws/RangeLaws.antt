@@ -82,6 +82,6 @@ module _ (w : Width) (a b : ℤ) (p : natAbs a + natAbs b < 2 ^ hbits w) where
 -- ---- pairs
 
 -- Both parts are at most `most` away from 0.
-pub record Within (most : ℕ) (a : Pair) : Type 0 where
+pub record PairWithin (most : ℕ) (a : Pair) : Type 0 where
   pub q : natAbs (a .q) ≤ most
   pub e : natAbs (a .e) ≤ most

@@ -2,7 +2,6 @@
 use Prim.Native.Nat.{_≤_}
 use native.Mathlib.Omega.{arith}
 use mathlib.Core.Path.{_∙_, ap}
-use borrow.Author.Needs.{needs}
 use Rattle.transport.specs.Tableau.{tableauOf}
 use Rattle.tree.specs.Layout.{stride, stride-is}
 use Rattle.board.specs.Drawing.{lane-rows, board-masks, board-gathered}

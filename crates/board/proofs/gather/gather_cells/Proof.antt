@@ -9,12 +9,12 @@ use Rattle.transport.specs.Tableau.{noCell}
 use Rattle.transport.specs.declared.Pair.{Pair}
 use Rattle.tree.specs.Layout.{laneRoom}
 use Rattle.board.specs.Cells.{cellRoom}
-use Rattle.board.specs.Lanes.{Filled, lane-in, filled-none, filled-one, filled-all}
+use Rattle.board.specs.Lanes.{FilledTo, lane-in, filled-none, filled-one, filled-all}
 use Rattle.board.proofs.gather.gather_cells.Statement.{statement}
 use Rattle.board.proofs.gather.gather_cells.Tie as tie
 
 abbrev Inv-loop : tie.InvT-loop
-Inv-loop adj q e m lanes count t₀ k₀ t k = Filled lanes q e count k t
+Inv-loop adj q e m lanes count t₀ k₀ t k = FilledTo lanes q e count k t
 
 abbrev μ-loop : tie.MeasureT-loop
 μ-loop adj q e m lanes count t₀ k₀ t k = count - k

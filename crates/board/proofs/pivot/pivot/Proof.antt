@@ -2,11 +2,9 @@
 -- (`pivot-is`). The hops lead from each call back to the one before it.
 use Prim.Native.Nat.{_<_, _≤_}
 use native.Mathlib.Omega.{arith}
-use mathlib.Core.Path.{_≡_, _∙_}
-use borrow.Author.Needs.{needs}
-use lib.ListN.{length}
+use mathlib.Core.Path.{_∙_}
 use Rattle.transport.specs.Amount.{nothing}
-use Rattle.tree.specs.Layout.{stride, nodeRoom, laneRoom}
+use Rattle.tree.specs.Layout.{stride, nodeRoom}
 use Rattle.board.specs.Pivoting.{pivot-room, loop-rows, loses-some, minus-slots, plus-slots, slot-room, held-inside, back-fits, minus-fits, plus-fits}
 use Rattle.board.specs.Pivoting.{pivot-is}
 use Rattle.board.proofs.pivot.pivot.Statement.{statement}

@@ -18,7 +18,7 @@ use Rattle.transport.specs.Tableau.{cellsOf}
 use Rattle.transport.specs.Belonging.{belongs}
 use Rattle.transport.specs.Potential.{isFinished}
 use Rattle.sheet.specs.Check.{accepted-none, refused-some}
-use Rattle.board.specs.Drawing.{Redrawn, lane-rows}
+use Rattle.board.specs.Drawing.{lane-rows}
 use Rattle.rounds.specs.Runs.{Begun, Judged}
 use Rattle.dealing.specs.Dealt.{Dealt, dealt-costs, dealt-begun, dealt-loaded}
 use Rattle.plan_calls.specs.Finished.{Finished, board-finished}

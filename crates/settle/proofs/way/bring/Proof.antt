@@ -10,13 +10,13 @@ use mir.Syntax.{w64}
 use mir.Val.{toZ, ofZ}
 use Rattle.tree.specs.Layout.{stride, nodeRoom}
 use Rattle.settle.specs.Bags.{entry}
-use Rattle.settle.specs.Way.{Loaded, Bringing, bring-first, bringing-start, bringing-inside, bringing-next, bringing-on, bringing-ends}
+use Rattle.settle.specs.Way.{Carries, Bringing, bring-first, bringing-start, bringing-inside, bringing-next, bringing-on, bringing-ends}
 use Rattle.settle.proofs.way.bring.Statement.{statement}
 use Rattle.settle.proofs.way.bring.Tie as tie
 
 abbrev Inv-loop : tie.InvT-loop
 Inv-loop q₀ holds₀ owns₀ row col up s j x at₀ q holds owns at =
-    (m n : ℕ) (q′ : List ℤ) (holds′ owns′ : List ℕ) → Loaded m n s j row col up q′ holds′ owns′
+    (m n : ℕ) (q′ : List ℤ) (holds′ owns′ : List ℕ) → Carries m n s j row col up q′ holds′ owns′
     → Bringing s j row col up (toZ w64 x) q′ holds′ owns′ s q₀ holds₀ owns₀ → Bringing s j row col up (toZ w64 x) q′ holds′ owns′ at q holds owns
 
 abbrev μ-loop : tie.MeasureT-loop

@@ -1,4 +1,4 @@
--- `settle::way::least_on` meets its contract. The loop's invariant: `least` is the place of the least of the lanes passed (`Lowering`); the measure is the
+-- `settle::way::least_on` meets its contract. The loop's invariant: `least` is the place of the least of the lanes passed (`LeastTo`); the measure is the
 -- position.
 use mathlib.Core.Path.{_≡_}
 use mathlib.Core.Logic.{⊎-elim}
@@ -11,12 +11,12 @@ use mir.Syntax.{w64}
 use mir.Val.{toZ, ofZ}
 use Rattle.tree.specs.Layout.{stride}
 use Rattle.settle.specs.Bags.{entry}
-use Rattle.settle.specs.Way.{Lowering, lowering-start, lowering-inside, lowering-less, lowering-keep, lowering-ends}
+use Rattle.settle.specs.Way.{LeastTo, lowering-start, lowering-inside, lowering-less, lowering-keep, lowering-ends}
 use Rattle.settle.proofs.way.least_on.Statement.{statement}
 use Rattle.settle.proofs.way.least_on.Tie as tie
 
 abbrev Inv-loop : tie.InvT-loop
-Inv-loop q row col up s j least₀ at₀ least at = Lowering s j row col up q least at
+Inv-loop q row col up s j least₀ at₀ least at = LeastTo s j row col up q least at
 
 abbrev μ-loop : tie.MeasureT-loop
 μ-loop q row col up s j least₀ at₀ least at = at

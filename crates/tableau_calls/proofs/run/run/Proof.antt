@@ -10,13 +10,13 @@ use lib.ListN.{length}
 use Rattle.transport.specs.Laws.Sound.{accepted-sound}
 use Rattle.transport.specs.Sheet.{Sheet, problemOf, refusal, sheetTests, sheetOf}
 use Rattle.transport.specs.Laws.SheetLaws.{accepted}
-use Rattle.transport.specs.Tableau.{cellsOf, tableauOf}
+use Rattle.transport.specs.Tableau.{cellsOf}
 use Rattle.transport.specs.Belonging.{belongs}
 use Rattle.transport.specs.Round.{run}
 use Rattle.transport.specs.Answers.{runAnswer}
 use Rattle.sheet.specs.Check.{accepted-none, refused-some}
 use Rattle.dealing.specs.Dealt.{Dealt, dealt-loaded}
-use Rattle.tableau_calls.specs.CallCases.{Ended, run-early, run-astray, run-given, run-finished, run-spent}
+use Rattle.tableau_calls.specs.CallCases.{run-early, run-astray, run-given, run-finished, run-spent}
 use Rattle.tableau_calls.proofs.run.run.Statement.{statement}
 use Rattle.tableau_calls.proofs.run.run.Tie as tie
 
@@ -98,20 +98,11 @@ run-on-requires c κs =
 abbrev elseBefore : tie.After-run-on → tie.Else1
 elseBefore c = c .before .before .before .before .before .before
 
-ended : (c : tie.After-run-on)
-    → let s = startBefore (elseBefore c) in
-    let l = c .run-on .last .1 .1 .1 in
-    Ended (problemOf (sheetAt s)) (cellsOf (s .args .t)) (s .args .allowance) (l .0) (l .1 .0) (l .1 .1 .1 .1 .0)
-    (length (s .args .supply .now)) (length (s .args .demand .now)) (c .run-on .result .finished) (c .run-on .result .made)
-ended c = c .run-on .ensures _ _ (dealt (elseBefore c))
-
 gather-requires : tie.Need-gather-requires
-gather-requires c κs = let r = ended (c .before .before .before) in (_, _, r .sub, r .path, r .board)
-
-last-is : (c : tie.After-gather)
-    → let s = startBefore (elseBefore (c .before .before .before .before)) in
-    c .gather .result ≡ tableauOf (run (problemOf (sheetAt s)) (s .args .allowance) (cellsOf (s .args .t)) .tableau)
-last-is c = c .gather .ensures _ _ _ _ (ended (c .before .before .before .before) .board)
+gather-requires c κs =
+    let a = c .before .before .before in
+    let r = a .run-on .ensures _ _ (dealt (elseBefore a)) in
+    (_, _, r .sub, r .path, r .board)
 
 returns-3 : tie.Need-returns-3
 returns-3 c =
@@ -120,8 +111,8 @@ returns-3 c =
     let s = startBefore d in
     let S = sheetAt s in
     let t = s .args .t in
-    let r = ended a in
-    run-finished (run (problemOf S) (s .args .allowance) (cellsOf t)) (r .rounds) (last-is (c .before)) (r .done ∙ c .if2 .taken)
+    let r = a .run-on .ensures _ _ (dealt d) in
+    run-finished (run (problemOf S) (s .args .allowance) (cellsOf t)) (r .rounds) (c .before .gather .ensures _ _ _ _ (r .board)) (r .done ∙ c .if2 .taken)
     ∙ ap runAnswer (sym (run-given S t (s .args .allowance) (passed (toldBefore d)) (within d)))
 
 returns-4 : tie.Need-returns-4
@@ -131,8 +122,8 @@ returns-4 c =
     let s = startBefore d in
     let S = sheetAt s in
     let t = s .args .t in
-    let r = ended a in
-    run-spent (run (problemOf S) (s .args .allowance) (cellsOf t)) (r .rounds) (last-is (c .before)) (r .done ∙ c .if2 .left)
+    let r = a .run-on .ensures _ _ (dealt d) in
+    run-spent (run (problemOf S) (s .args .allowance) (cellsOf t)) (r .rounds) (c .before .gather .ensures _ _ _ _ (r .board)) (r .done ∙ c .if2 .left)
     ∙ ap runAnswer (sym (run-given S t (s .args .allowance) (passed (toldBefore d)) (within d)))
 
 pub run-spec : {M : Type 1} → statement M
