@@ -18,7 +18,7 @@ use Rattle.transport.specs.Amount.{eqZ}
 use Rattle.transport.specs.Laws.AmountLaws.{eqZ-true, eqZ-same}
 use Rattle.transport.specs.Leaf.{Strike}
 use Rattle.transport.specs.Round.{flow}
-use Rattle.tree.specs.Layout.{nodeRoom, laneAt, strikesOf, DistinctLanes, StrikesInRoom}
+use Rattle.tree.specs.Layout.{nodeRoom, laneAt, strikesOf, LanesApart, StrikesInRoom}
 use Rattle.belonging.specs.FlowLaws.{size, weightsOf, Needed, flow-now, needed-step}
 
 -- Two numbers in range with the same bits are the same.
@@ -76,7 +76,7 @@ passed-none leaf other lane count amount weight l =
 
 -- If lane k carries what its leaf needs, that is taken from both its ends.
 pub passed-more : {start : ℕ → ℤ} {leaf other lane : List ℕ} {count : ℕ} {amount weight : List ℤ} {k : ℕ} → StrikesInRoom leaf other lane count → k < count
-    → Passed start leaf other lane count amount weight k → DistinctLanes lane count → getD amount (getD lane k 0) (pos 0) ≡ getD weight (getD leaf k 0) (pos 0)
+    → Passed start leaf other lane count amount weight k → LanesApart lane count → getD amount (getD lane k 0) (pos 0) ≡ getD weight (getD leaf k 0) (pos 0)
     → let mid = set weight (getD leaf k 0) (pos 0) in
     Passed start leaf other lane count amount (set mid (getD other k 0) (getD mid (getD other k 0) (pos 0) -ℤ getD weight (getD leaf k 0) (pos 0))) (k + 1)
 passed-more {k = k} w p h d e = record {

@@ -19,7 +19,7 @@ use Rattle.transport.specs.Leaf.{Strike}
 use Rattle.transport.specs.Round.{takeFrom, flow}
 use Rattle.transport.specs.Laws.RoundLaws.{leftBy, flow-here, flow-later}
 use Rattle.transport.specs.Laws.RangeLaws.{abs-diff}
-use Rattle.tree.specs.Layout.{nodeRoom, laneAt, placeOf, place-laneAt, strikeOf, strikesOf, strikesFrom, strikesFrom-cons, getD-set, DistinctLanes, StrikesInRoom}
+use Rattle.tree.specs.Layout.{nodeRoom, laneAt, placeOf, place-laneAt, strikeOf, strikesOf, strikesFrom, strikesFrom-cons, getD-set, LanesApart, StrikesInRoom}
 
 -- ---- one strike
 
@@ -134,7 +134,7 @@ module _ {start : ℕ → ℤ} {most : ℕ} {leaf other lane : List ℕ} {count 
       ∙ flow-here (weightsOf need) (strikeOf leaf other lane k) (strikesFrom leaf other lane count (suc k))
 
   -- .. and that is taken from both its ends.
-  pub needed-step : DistinctLanes lane count
+  pub needed-step : LanesApart lane count
       → let mid = set need (getD leaf k 0) (pos 0) in
       Needed start most leaf other lane count (set mid (getD other k 0) (getD mid (getD other k 0) (pos 0) -ℤ y)) (k + 1)
   needed-step n =

@@ -2,7 +2,7 @@
 use tree::LANES;
 use tree::NODES;
 ghost use mathlib.Core.Path.{_≡_};
-ghost use Rattle.tree.specs.Layout.{DistinctLanes, StrikesInRoom, strikesOf};
+ghost use Rattle.tree.specs.Layout.{LanesApart, StrikesInRoom, strikesOf};
 ghost use Rattle.belonging.specs.FlowLaws.{weightsOf};
 ghost use Rattle.belonging.specs.Carried.{Light, carries};
 
@@ -17,7 +17,7 @@ pub(crate) fn flows_match(
     count: usize,
 ) -> bool
     requires { ⌜ StrikesInRoom (now leaf) (now other) (now lane) count ⌝ }
-    requires { ⌜ DistinctLanes (now lane) count ⌝ }
+    requires { ⌜ LanesApart (now lane) count ⌝ }
     requires { ⌜ Light (now weight) ⌝ }
     ensures { λ r. ⌜
         r ≡ carries (weightsOf (now (weight .entry))) (strikesOf (now (leaf .entry)) (now (other .entry)) (now (lane .entry)) count)

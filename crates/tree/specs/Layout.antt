@@ -112,8 +112,8 @@ getD-all (suc n) zero d = refl
 getD-all (suc n) (suc k) d = getD-all n k d
 
 -- No number comes twice among the first n.
-abbrev pub DistinctLanes : List ℕ → ℕ → Type 0
-DistinctLanes xs n = (i k : ℕ) → i < k → k < n → getD xs k 0 ≡ getD xs i 0 → ⊥
+abbrev pub LanesApart : List ℕ → ℕ → Type 0
+LanesApart xs n = (i k : ℕ) → i < k → k < n → getD xs k 0 ≡ getD xs i 0 → ⊥
 
 -- Nodes and lanes are within the room. (Of an array that is lent the logic knows no length: where one counts, contracts say it.)
 pub record StrikesInRoom (leaf other lane : List ℕ) (count : ℕ) : Type 0 where

@@ -8,7 +8,7 @@ use lib.ListN.{length, getD}
 use Rattle.transport.specs.Laws.ListLaws.{member-at}
 use Rattle.transport.specs.Problem.{Lane}
 use Rattle.transport.specs.Leaf.{Strike}
-use Rattle.tree.specs.Layout.{stride, nodeRoom, laneRoom, laneAt, DistinctLanes, StrikesInRoom, strikeOf, strikesOf, length-strikes, getD-strikes}
+use Rattle.tree.specs.Layout.{stride, nodeRoom, laneRoom, laneAt, LanesApart, StrikesInRoom, strikeOf, strikesOf, length-strikes, getD-strikes}
 use Rattle.tableaux.specs.Leaves.{Ends, row-struck, column-struck}
 use Rattle.tableaux.specs.Striking.{StrikeStep, Peeled, bare, peel, Struck, step-of, leaf-below, lane-once}
 
@@ -39,7 +39,7 @@ module _ (m n : ℕ) (leaf other lane : List ℕ) (count : ℕ) (p : Peeled m n 
   pub lane-in : m ≤ stride → (k : ℕ) → k < count → getD lane k 0 < laneRoom
   lane-in h k l = omega (arith, step-at k l .1 .row)
 
-  pub strikes-distinct : DistinctLanes lane count
+  pub strikes-distinct : LanesApart lane count
   strikes-distinct i k l r e =
       let s = strikeOf leaf other lane 0 in
       lanes-apart s p i k l (omega (arith, length-strikes leaf other lane count))

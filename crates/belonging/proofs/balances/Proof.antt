@@ -11,7 +11,7 @@ use lib.ListN.{length}
 use Rattle.transport.specs.declared.Cell.{Cell}
 use Rattle.transport.specs.Belonging.{balanced}
 use Rattle.transport.specs.Laws.ProblemLaws.{problem}
-use Rattle.tree.specs.Layout.{strikesOf, DistinctLanes, StrikesInRoom}
+use Rattle.tree.specs.Layout.{strikesOf, LanesApart, StrikesInRoom}
 use Rattle.belonging.specs.FlowLaws.{weightsOf}
 use Rattle.tree.specs.Strikes.{strikes-room, strikes-distinct}
 use Rattle.belonging.specs.Carried.{carries}
@@ -35,7 +35,7 @@ sub-count c = omega (arith, sound-sides (c .before .before .before .before .befo
 strikes : (c : tie.Start)
     → let a = c .args in
     let count = length (a .supply .now) + length (a .demand .now) - 1 in
-    StrikesInRoom (a .leaf .now) (a .other .now) (a .lane .now) count × DistinctLanes (a .lane .now) count
+    StrikesInRoom (a .leaf .now) (a .other .now) (a .lane .now) count × LanesApart (a .lane .now) count
 strikes c =
     let s = sound-sides (c .pre .0 .1) in
     let (T, h) = c .pre .1 in (
