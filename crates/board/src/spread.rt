@@ -19,7 +19,7 @@ ghost use Rattle.board.specs.Cells.{cellRoom};
 ghost use Rattle.board.specs.Held.{Held, linked, Cleared};
 
 // The lane from `row` to `col` becomes basic: a bit in its row's mask, and one in its column's.
-pub fn link(adj: &mut [u64; NODES], m: usize, row: usize, col: usize)
+pub(crate) fn link(adj: &mut [u64; NODES], m: usize, row: usize, col: usize)
     requires { ⌜ (row < m) × (m ≤ stride) × (col < stride) ⌝ }
     ensures { λ _. ⌜ now (adj .exit) ≡ linked m row col (now (adj .entry)) ⌝ }
 {

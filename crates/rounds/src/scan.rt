@@ -41,7 +41,7 @@ fn take_column(cost: &[Price; LANES], j: usize, v: Price, slack: &mut [Price; MA
 }
 
 // Takes the columns `cols` into the minima of all rows, where the other columns are in already.
-pub fn relax_slacks(
+fn relax_slacks(
     cost: &[Price; LANES],
     price: &[Price; NODES],
     m: usize,
@@ -62,7 +62,7 @@ pub fn relax_slacks(
 }
 
 // The least slack of each row, whatever was known before.
-pub fn scan_slacks(
+pub(crate) fn scan_slacks(
     cost: &[Price; LANES],
     price: &[Price; NODES],
     m: usize,
@@ -78,7 +78,7 @@ pub fn scan_slacks(
 
 // The same after a pivot in row `row` that moved the prices of the nodes `far`. Where the row is among them, the columns among them rose, and these alone are
 // looked at; where it is not, they fell.
-pub fn refresh_slacks(
+pub(crate) fn refresh_slacks(
     cost: &[Price; LANES],
     price: &[Price; NODES],
     m: usize,
@@ -153,7 +153,7 @@ pub struct PricedLane {
 }
 
 // The entering lane: it has the least reduced cost, and is the first among equals. Where no reduced cost is negative, the answer's is 0.
-pub fn entering(
+pub(crate) fn entering(
     cost: &[Price; LANES],
     price: &[Price; NODES],
     slack: &[Price; MAX_SIDE],

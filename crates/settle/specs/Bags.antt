@@ -132,12 +132,12 @@ module _ (q : List ℤ) (i j : ℕ) (x : ℤ) (hi : i < stride) (hj : j < stride
       (λ e. rw (getD-set-other q (i * stride + j) l (getD q (i * stride + j) (pos 0) +ℤ x) (pos 0) e) (omega arith))
 
 -- x bags of column j have moved from one row to another.
-pub record Shifted (from to j : ℕ) (x : ℤ) (q q′ : List ℤ) : Type 0 where
+pub record BagsShifted (from to j : ℕ) (x : ℤ) (q q′ : List ℤ) : Type 0 where
   pub bags : (h k : ℕ) → k < stride → laneBags q′ h k ≈ laneBags q h k ⊕ toZ x ⊗ (spot to j h k ⊖ spot from j h k)
   pub most : (l : ℕ) → natAbs (getD q′ l (pos 0)) ≤ natAbs (getD q l (pos 0)) + 2 * natAbs x
 
 pub shifted-by : (from to j : ℕ) (x : ℤ) (q : List ℤ) → from < stride → to < stride → j < stride → length q ≡ laneRoom
-    → Shifted from to j x q (added (added q from j (negℤ x)) to j x)
+    → BagsShifted from to j x q (added (added q from j (negℤ x)) to j x)
 shifted-by from to j x q hf ht hj long =
     let long′ : length (added q from j (negℤ x)) ≡ laneRoom = simp length-set long in
     record {

@@ -16,7 +16,7 @@ use Rattle.network.specs.Circuit.{spot, moved, moved-more}
 use Rattle.network.specs.Search.{above, above-next, Rooted, rooted, wayRow, wayCol}
 use Rattle.transport.specs.Limits.{maxBags, maxSide, maxAmount}
 use Rattle.tree.specs.Layout.{stride, nodeRoom, laneRoom}
-use Rattle.settle.specs.Bags.{laneBags, entry, Masked, Follow, follow-both, Shifted}
+use Rattle.settle.specs.Bags.{laneBags, entry, Masked, Follow, follow-both, BagsShifted}
 
 -- A way can be gone from position s and column j: its rows and columns are among m and n, and `up` leads to earlier positions.
 pub record Walkable (m n s j : ℕ) (row col up : List ℕ) : Type 0 where
@@ -176,7 +176,7 @@ module _ {m n s j : ℕ} {row col up : List ℕ} {q : List ℤ} {holds owns : Li
         omega (arith, few-small (entry row s) j r′ (w .goal), small),
       )
 
-  pub bringing-start : {q′ : List ℤ} {holds′ owns′ : List ℕ} → Shifted (entry row 0) (entry row s) j x q q′ → Follow q holds owns q′ holds′ owns′
+  pub bringing-start : {q′ : List ℤ} {holds′ owns′ : List ℕ} → BagsShifted (entry row 0) (entry row s) j x q q′ → Follow q holds owns q′ holds′ owns′
       → Bringing s j row col up x q holds owns s q′ holds′ owns′
   bringing-start f g = record {
     steps = 0;
@@ -220,7 +220,7 @@ module _ {m n s j : ℕ} {row col up : List ℕ} {q : List ℤ} {holds owns : Li
         )
 
     -- One lane more: what the way has moved is a sum over its lanes.
-    pub bringing-on : {q″ : List ℤ} {holds″ owns″ : List ℕ} → Shifted from to across x q′ q″ → Follow q′ holds′ owns′ q″ holds″ owns″
+    pub bringing-on : {q″ : List ℤ} {holds″ owns″ : List ℕ} → BagsShifted from to across x q′ q″ → Follow q′ holds′ owns′ q″ holds″ owns″
         → Bringing s j row col up x q holds owns (entry up at) q″ holds″ owns″
     bringing-on {q″} f g = record {
       steps = suc (w .steps);

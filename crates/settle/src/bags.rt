@@ -15,7 +15,7 @@ ghost use lib.ListN.{length, getD, set};
 ghost use Rattle.tree.specs.Layout.{stride};
 ghost use Rattle.tree.specs.Mask.{has, put};
 ghost use Rattle.tree.specs.Bits.{Touched};
-ghost use Rattle.settle.specs.Bags.{carries, Masked, Follow, Shifted, OnBasics};
+ghost use Rattle.settle.specs.Bags.{carries, Masked, Follow, BagsShifted, OnBasics};
 
 // The mask with bit k in it if `on`, and without it if not.
 fn with_bit(mask: u64, k: usize, on: bool) -> u64
@@ -67,7 +67,7 @@ pub(crate) fn shift(
         (natAbs (getD (now q) (from * stride + j) (pos 0)) + natAbs x < 2 ^ 62)
         × (natAbs (getD (now q) (to * stride + j) (pos 0)) + natAbs x < 2 ^ 62)
         ⌝ }
-    ensures { λ _. ⌜ Shifted from to j x (now (q .entry)) (now (q .exit)) ⌝ }
+    ensures { λ _. ⌜ BagsShifted from to j x (now (q .entry)) (now (q .exit)) ⌝ }
     ensures { λ _. ⌜ Follow (now (q .entry)) (now (holds .entry)) (now (owns .entry)) (now (q .exit)) (now (holds .exit)) (now (owns .exit)) ⌝ }
 {
     add_bags(q, holds, owns, from, j, 0 - x);
