@@ -25,7 +25,7 @@ use Rattle.tableaux.specs.Belonging.{belongs-iff, fits-of, spans-of}
 use Rattle.tableaux.specs.Potentials.{price-size, price-limit}
 use Rattle.tree.specs.Layout.{stride, stride-is, maxPotential}
 use Rattle.board.specs.Arrays.{Loaded, Board}
-use Rattle.rounds.specs.Costs.{Spread, spread-costed}
+use Rattle.pricing.specs.Costs.{Spread, spread-costed}
 use Rattle.rounds.specs.Runs.{Begun, Rounded}
 
 -- The problem P, of m sources and n sinks and with these costs, is sound, and its tableau T is laid out over the arrays: its amounts, and the strikes of its

@@ -35,7 +35,7 @@ use Rattle.reduction.specs.Reduction.{optimal-settled}
 use Rattle.board.specs.Held.{Held, row-basic, basic-row}
 use Rattle.board.specs.Arrays.{Board}
 use Rattle.board.specs.Drawing.{Redrawn, board-held}
-use Rattle.rounds.specs.Costs.{Costed}
+use Rattle.pricing.specs.Costs.{Costed}
 use Rattle.settle.specs.Bags.{laneBags, InMask, OnBasics}
 use Rattle.settle.specs.Rows.{Settleable}
 use Rattle.settle.specs.Tight.{Ranged, TightLanes, tight-same, tight-ranged}

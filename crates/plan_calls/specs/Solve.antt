@@ -25,7 +25,7 @@ use Rattle.tableaux.specs.Ending.{start-finished}
 use Rattle.demands.specs.Bought.{bought}
 use Rattle.demands.specs.Demand3.{settled-length}
 use Rattle.board.specs.Drawing.{Redrawn}
-use Rattle.rounds.specs.Costs.{Costed}
+use Rattle.pricing.specs.Costs.{Costed}
 use Rattle.rounds.specs.Runs.{Ran}
 use Rattle.dealing.specs.Dealt.{source-prices, sink-prices}
 use Rattle.plan_calls.specs.Cost.{Summable, settled-summable, settled-cost}

@@ -1,7 +1,7 @@
 // Settle: from a finished tableau of a sheet to its settled plan.
 use crate::finished::settle_board;
 use board::gather::draw;
-use rounds::costs;
+use pricing::costs;
 use rounds::run::is_finished;
 use sheet::SheetCheck;
 use transport::SettleAnswer;

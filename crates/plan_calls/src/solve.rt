@@ -5,7 +5,7 @@ use board::gather::draw;
 use board::spread::lay_out;
 use dealing::corner::first_tableau;
 use dealing::prices::write_prices;
-use rounds::costs::spread_costs;
+use pricing::costs::spread_costs;
 use rounds::run::finish;
 use sheet::SheetCheck;
 use transport::SolveAnswer;

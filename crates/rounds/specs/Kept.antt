@@ -36,9 +36,9 @@ use Rattle.board.specs.Lanes.{place-order}
 use Rattle.board.specs.Arrays.{Board}
 use Rattle.board.specs.Drawing.{board-belongs}
 use Rattle.board.specs.Pivoting.{Enters, Shifts, Pivoted}
-use Rattle.rounds.specs.Costs.{Costed}
-use Rattle.rounds.specs.Slacks.{InRange, Slacks, Stale}
-use Rattle.rounds.specs.Scan.{Found, Scanned}
+use Rattle.pricing.specs.Costs.{Costed}
+use Rattle.pricing.specs.Slacks.{InRange, Slacks, Stale}
+use Rattle.pricing.specs.Scan.{Found, Scanned}
 
 -- The prices of T, 0 past the nodes.
 pub record Prices (P : Problem) (T : List Cell) (price : List ℤ) (m n : ℕ) : Type 0 where
@@ -100,7 +100,7 @@ module _ {P : Problem} {T : List Cell} {q e cost price : List ℤ} {sub path tre
       (λ l. rw (prices .none k (omega arith) r) (omega arith))
 
   pub in-range : InRange cost price m n
-  in-range = record { rows = board-sides .1; columns = board-sides .3; costs = costs .small; prices = price-small }
+  in-range = record { rows = board-sides .1; some = board-sides .2; columns = board-sides .3; costs = costs .small; prices = price-small }
 
 module _ {P : Problem} {T : List Cell} {bags marks cost price slack : List ℤ} {sub path tree : List ℕ} {m n : ℕ}
     (h : Kept P T bags marks cost price slack sub path tree m n) where
@@ -202,8 +202,7 @@ module _ {P : Problem} {T : List Cell} {bags marks cost price slack : List ℤ} 
             new = rw (scanned-enters t) at (entering-new (b .sound) T unfinished (board-belongs b));
           }
 
-      pub reduced-small : natAbs reduced ≤ 2 ^ 29
-      unfolding costAbove maxCost
+      reduced-small : natAbs reduced ≤ costAbove + 2 * maxPotential
       reduced-small =
           let c = getD cost (col * stride + row) (pos 0) in
           let u = getD price row (pos 0) in
@@ -216,6 +215,10 @@ module _ {P : Problem} {T : List Cell} {bags marks cost price slack : List ℤ} 
             kept-range .prices row (omega (arith, found t .rowIn, kept-sides)),
             kept-range .prices (m + col) (omega (arith, found t .colIn, kept-sides)),
           ))
+
+      pub reduced-room : natAbs reduced ≤ 2 ^ 29
+      unfolding costAbove maxCost
+      reduced-room = omega (arith, reduced-small)
 
       module _ {bags′ marks′ price′ : List ℤ} {sub′ path′ tree′ : List ℕ} {far : ℕ} (v : Pivoted P T m n row col bags′ marks′ sub′ path′ tree′ far)
           (r : Repriced m far (cond (has far row) reduced (negℤ reduced)) price price′) where
@@ -266,8 +269,10 @@ module _ {P : Problem} {T : List Cell} {bags marks cost price slack : List ℤ} 
 
         pub slacks-stale : Stale cost price price′ m n far row reduced slack
         slacks-stale = record {
+          range = kept-range;
           slacks = h .slacks;
           negative = t;
+          small = reduced-small;
           moved = r;
           nodes = λ k s. by-cases (decLt k (m + n)) (λ l. l)
               (λ l. absurd (true≢false (sym s ∙ v .inside k (omega arith))));

@@ -36,8 +36,8 @@ use Rattle.tree.specs.Strikes.{strikes-room}
 use Rattle.tree.specs.Planting.{Tree}
 use Rattle.board.specs.Arrays.{Loaded, Board}
 use Rattle.board.specs.Drawing.{board-belongs}
-use Rattle.rounds.specs.Costs.{Costed}
-use Rattle.rounds.specs.Slacks.{InRange, Slacks}
+use Rattle.pricing.specs.Costs.{Costed}
+use Rattle.pricing.specs.Slacks.{InRange, Slacks}
 use Rattle.rounds.specs.Kept.{Prices, Kept, Advanced, in-range}
 
 -- ---- how it begins

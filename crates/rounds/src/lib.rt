@@ -1,4 +1,2 @@
-// Rounds on flat arrays: the costs spread by column, the scan for the lane that enters, and runs of rounds.
-pub mod costs;
+// Rounds on flat arrays: one round, and runs of rounds.
 pub mod run;
-pub mod scan;

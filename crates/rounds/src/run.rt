@@ -1,8 +1,8 @@
 // Runs: rounds made until a tableau is finished, or an allowance is spent. The tree, the prices and the least slacks of the rows are kept between rounds.
-use crate::scan::entering;
-use crate::scan::refresh_slacks;
-use crate::scan::scan_slacks;
 use board::pivot::pivot;
+use pricing::scan::entering;
+use pricing::scan::refresh_slacks;
+use pricing::scan::scan_slacks;
 use transport::MAX_SIDE;
 use tree::LANES;
 use tree::NODES;
@@ -44,7 +44,8 @@ fn begin(
 {
     potentials(cost, leaf, other, lane, m + n - 1, price);
     plant(leaf, other, lane, m, n, path, sub);
-    scan_slacks(cost, price, m, n, slack);
+    let least = scan_slacks(cost, price, m, n);
+    *slack = least;
 }
 
 // Whether the tableau is finished. `price` then has its prices.
@@ -116,7 +117,8 @@ fn advance(
     let reduced = enter.reduced;
     let far = pivot(q, e, path, sub, lane, m, row, col);
     reprice(price, m, far, row, reduced);
-    refresh_slacks(cost, price, m, n, far, row, slack);
+    let least = refresh_slacks(cost, price, m, n, far, row, reduced, *slack);
+    *slack = least;
     false
 }
 

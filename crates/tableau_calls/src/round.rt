@@ -2,7 +2,7 @@
 use board::gather;
 use dealing::prices::write_prices;
 use dealing::tableau;
-use rounds::costs;
+use pricing::costs;
 use sheet::SheetCheck;
 use transport::MAX_SIDE;
 use transport::RoundAnswer;

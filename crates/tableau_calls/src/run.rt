@@ -1,7 +1,7 @@
 // Run: rounds within an allowance.
 use board::gather;
 use dealing::tableau;
-use rounds::costs;
+use pricing::costs;
 use rounds::run::Made;
 use sheet::SheetCheck;
 use transport::RunAnswer;

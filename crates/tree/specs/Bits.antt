@@ -84,10 +84,19 @@ rest-less x p = omega (arith, and-le-r x (x - 1))
 
 -- ---- the bits below a bound
 
+pub has-first : (m k : ℕ) → has (firstBits m) k ≡ ltb k m
+has-first m k = by-cases (decLt k m)
+    (λ l. rw (first-below m k l, lt-ltb k m l))
+    (λ l. rw (first-above m k (omega arith), le-ltb k m (omega arith)))
+
 pub has-low : (x m k : ℕ) → has (bitAnd x (firstBits m)) k ≡ ltb k m && has x k
-has-low x m k = rw (bit-and x (firstBits m) k) (by-cases (decLt k m)
-    (λ l. let e : min (bit x k) 1 ≡ bit x k = omega arith in rw (first-below m k l, lt-ltb k m l, e))
-    (λ l. let e : min (bit x k) 0 ≡ 0 = omega arith in rw (first-above m k (omega arith), le-ltb k m (omega arith), e)))
+has-low x m k = has-and x (firstBits m) k ∙ (rw (has-first m k)) ∙ go (has x k) (ltb k m)
+  where
+    go : (a b : Bool) → a && b ≡ b && a
+    go true true = refl
+    go true false = refl
+    go false true = refl
+    go false false = refl
 
 -- ---- the elements of an array changed at the bits of a mask
 

@@ -11,7 +11,7 @@ use lib.Signed.{ltZ, mag}
 use mir.Syntax.{w32}
 use mir.Val.{toZ, ofZ}
 use Rattle.transport.specs.Laws.RangeLaws.{back, mag-abs}
-use Rattle.rounds.specs.Kept.{sign-is, kept-range, kept-sides, kept-prices, advanced-stays, lane-enters, reduced-small, range-next, slacks-stale}
+use Rattle.rounds.specs.Kept.{sign-is, kept-range, kept-sides, kept-prices, advanced-stays, lane-enters, reduced-room, range-next, slacks-stale}
 use Rattle.rounds.specs.Kept.{advanced-moves}
 use Rattle.rounds.proofs.run.advance.Statement.{statement}
 use Rattle.rounds.proofs.run.advance.Tie as tie
@@ -56,7 +56,7 @@ pivot-requires c κs =
 same : (c : tie.Else1) → let r = scanned c .entering .result .reduced in toZ w32 (ofZ w32 r) ≡ r
 same c =
     let r = scanned c .entering .result .reduced in
-    let small = reduced-small (start (scanned c) .pre .2) (scanned c .entering .ensures) (falls c) in
+    let small = reduced-room (start (scanned c) .pre .2) (scanned c .entering .ensures) (falls c) in
     back w32 r (omega (arith, mag-abs r))
 
 reprice-requires : tie.Need-reprice-requires
@@ -65,7 +65,7 @@ reprice-requires c κs =
     let a = scanned g in
     let k = start a .pre .2 in
     let s = kept-sides k in (
-      (s .1, omega (arith, s, a .entering .ensures .found (falls g) .rowIn), rw (same g) (reduced-small k (a .entering .ensures) (falls g))),
+      (s .1, omega (arith, s, a .entering .ensures .found (falls g) .rowIn), rw (same g) (reduced-room k (a .entering .ensures) (falls g))),
       (k .prices .long, kept-prices k),
     )
 
@@ -79,7 +79,7 @@ refresh-slacks-requires c κs =
     let w = a .entering .ensures in
     let moved = v .pivot .ensures P T _ (k .board) (lane-enters k w (falls g)) in
     let repriced = rw (same g) at (p .reprice .ensures) in
-    (range-next k w (falls g) moved repriced, (w .found (falls g) .rowIn, (_, _, slacks-stale k w (falls g) moved repriced)))
+    (range-next k w (falls g) moved repriced, (w .found (falls g) .rowIn, (start a .args .price .now, rw (same g) (slacks-stale k w (falls g) moved repriced))))
 
 returns-2 : tie.Need-returns-2
 returns-2 c P T k =

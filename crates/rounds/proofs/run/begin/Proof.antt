@@ -27,14 +27,14 @@ plant-requires c κs =
 
 scan-slacks-requires : tie.Need-scan-slacks-requires
 scan-slacks-requires c κs =
-    let p = c .before .before in
+    let p = c .before in
     let d = start p .pre .4 in
     let v = priced p .potentials .ensures in
     begun-range d (v .0) (v .1) (p .plant .ensures _ (d .loaded .struck))
 
 returns : tie.Need-returns
 returns c P T q e d =
-    let p = c .before .before .before in
+    let p = c .before .before in
     let v = priced p .potentials .ensures in
     begun-kept d (v .0) (v .1) (p .plant .ensures _ (d .loaded .struck)) (c .scan-slacks .ensures)
 

@@ -1,12 +1,12 @@
--- `rounds::scan::lesser` meets its contract: the test of the code is that of the definition.
+-- `pricing::scan::lesser` meets its contract: the test of the code is that of the definition.
 use mathlib.Core.Path.{_≡_, _∙_}
 use mathlib.Core.Bool.{true, false}
 use borrow.Author.Needs.{needs}
 use lib.Signed.{ltZ}
 use mir.Syntax.{w32}
 use mir.Val.{toZ, ofZ}
-use Rattle.rounds.proofs.scan.lesser.Statement.{statement}
-use Rattle.rounds.proofs.scan.lesser.Tie as tie
+use Rattle.pricing.proofs.scan.lesser.Statement.{statement}
+use Rattle.pricing.proofs.scan.lesser.Tie as tie
 
 returns : tie.Need-returns
 returns c =

@@ -1,4 +1,4 @@
--- `rounds::scan::take_column` meets its contract. The loop's invariant: the column is taken in for the rows before i; the measure is what is left of them.
+-- `pricing::scan::take_column` meets its contract. The loop's invariant: the column is taken in for the rows before i; the measure is what is left of them.
 use Prim.Native.Nat.{_+_, _-_, _*_, _≤_, _<_, _^_}
 use mathlib.Core.Path.{_≡_, _∙_}
 use native.Mathlib.Omega.{arith}
@@ -11,32 +11,32 @@ use mir.Facts.{toZ-ofZ}
 use Rattle.transport.specs.Limits.{maxCost, costAbove}
 use Rattle.transport.specs.Laws.RangeLaws.{diff-in, diff-back}
 use Rattle.tree.specs.Layout.{stride}
-use Rattle.rounds.specs.Lowest.{lesser}
-use Rattle.rounds.specs.Slacks.{Lowering, lowering-start, lowering-step, lowering-end}
-use Rattle.rounds.proofs.scan.take_column.Statement.{statement}
-use Rattle.rounds.proofs.scan.take_column.Tie as tie
+use Rattle.pricing.specs.Lowest.{lesser}
+use Rattle.pricing.specs.Slacks.{Changing, lowering, changing-start, changing-step, changing-end}
+use Rattle.pricing.proofs.scan.take_column.Statement.{statement}
+use Rattle.pricing.proofs.scan.take_column.Tie as tie
 
 abbrev Inv-loop : tie.InvT-loop
-Inv-loop cost j v slack least₀ i₀ least i = (i ≤ stride) × Lowering cost j (toZ w32 v) slack i least
+Inv-loop cost j v slack i₀ least i = (i ≤ stride) × Changing (lowering cost j (toZ w32 v)) slack i least
 
 abbrev μ-loop : tie.MeasureT-loop
-μ-loop cost j v slack least₀ i₀ least i = stride - i
+μ-loop cost j v slack i₀ least i = stride - i
 
 loop-holds : tie.Need-loop-holds Inv-loop μ-loop
 loop-holds c =
-    let a = c .before .args in
-    (omega arith, lowering-start (a .cost .now) (a .j) (toZ w32 (ofZ w32 (a .v))) (a .slack .now) (c .before .pre .3))
+    let a = c .args in
+    (omega arith, changing-start (lowering (a .cost .now) (a .j) (toZ w32 (ofZ w32 (a .v)))) (a .slack) (search needs))
 
 -- The turn of the loop in which a row is taken in.
 abbrev turn : tie.After-lesser-arg Inv-loop μ-loop → tie.At-loop Inv-loop μ-loop
 turn c = c .before .before
 
 room : (c : tie.After-lesser-arg Inv-loop μ-loop)
-    → let a = turn c .before .before .args in
+    → let a = turn c .before .args in
     natAbs (getD (a .cost .now) (a .j * stride + turn c .loop .i) (pos 0)) + natAbs (a .v) < 2 ^ 31
 unfolding costAbove maxCost
 room c =
-    let s = turn c .before .before in
+    let s = turn c .before in
     omega (arith, s .pre .2 (s .args .j * stride + turn c .loop .i))
 
 sub-lesser : tie.Need-sub-lesser Inv-loop μ-loop
@@ -45,7 +45,7 @@ sub-lesser c = search (needs, diff-in, room c)
 loop-again : tie.Need-loop-again Inv-loop μ-loop
 loop-again c =
     let l = turn (c .before .before) .loop in
-    let a = turn (c .before .before) .before .before .args in
+    let a = turn (c .before .before) .before .args in
     let x = getD (a .cost .now) (a .j * stride + l .i) (pos 0) in
     let y = getD (l .least) (l .i) (pos 0) in
     let back-v : toZ w32 (ofZ w32 (a .v)) ≡ a .v = search needs in
@@ -54,13 +54,13 @@ loop-again c =
     let taken : toZ w32 (ofZ w32 (c .lesser .result)) ≡ lesser (x -ℤ toZ w32 (ofZ w32 (a .v))) y =
     toZ-ofZ (search needs) ∙ c .lesser .ensures ∙ rw (own, back-y, back-v)
     in
-    (omega arith, rw taken (lowering-step (a .cost .now) (a .j) (toZ w32 (ofZ w32 (a .v))) (a .slack .now) (l .inv .1) (omega arith)))
+    (omega arith, rw taken (changing-step (lowering (a .cost .now) (a .j) (toZ w32 (ofZ w32 (a .v)))) (a .slack) (l .inv .1) (omega arith)))
 
 returns : tie.Need-returns Inv-loop μ-loop
 returns c =
-    let a = c .before .before .before .args in
+    let a = c .before .before .args in
     let back-v : toZ w32 (ofZ w32 (a .v)) ≡ a .v = search needs in
-    rw back-v at (lowering-end (a .cost .now) (a .j) (toZ w32 (ofZ w32 (a .v))) (a .slack .now) (c .before .loop .inv .1) (omega arith))
+    rw back-v at (changing-end (lowering (a .cost .now) (a .j) (toZ w32 (ofZ w32 (a .v)))) (a .slack) (c .before .loop .inv .1) (omega arith))
 
 pub take-column-spec : {M : Type 1} → statement M
 take-column-spec =

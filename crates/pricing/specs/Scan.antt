@@ -9,12 +9,13 @@ use native.Mathlib.Decide.{decLt}
 use lib.IntN.{ℤ, pos, natAbs, negℤ, _-ℤ_}
 use lib.ListN.{getD}
 use lib.Signed.{ltZ}
+use Rattle.transport.specs.Limits.{costAbove}
 use Rattle.integers.specs.Integer.{_≈_, _≼_, _≺_, _⊖_}
 use Rattle.integers.specs.Bridge.{toZ, eq-z, z-eq, z-add, z-neg, z-ev, !, _-'_}
 use Rattle.integers.specs.Tests.{lt-yes, lt-no, yes-lt, no-lt, abs-z}
 use Rattle.tree.specs.Layout.{stride, maxPotential, slackAt, reducedAt}
-use Rattle.rounds.specs.Lowest.{lowest, Low, lowest-low, FirstAt, FirstLow, low-first}
-use Rattle.rounds.specs.Slacks.{far, InRange, Slacks, slacks-low, slacks-room}
+use Rattle.pricing.specs.Lowest.{lowest, Low, lowest-low, FirstAt, FirstLow, low-first}
+use Rattle.pricing.specs.Slacks.{far, InRange, Slacks, slacks-low, slacks-abs}
 
 -- The least reduced cost of row i, from its least slack.
 abbrev pub rowReduced : List ℤ → List ℤ → ℕ → ℤ
@@ -36,7 +37,7 @@ pub record Scanned (cost price : List ℤ) (m n row col : ℕ) (reduced : ℤ) :
 -- The rows' least reduced costs are in range.
 pub record RowsFit (slack price : List ℤ) (m : ℕ) : Type 0 where
   pub rows : m ≤ stride
-  pub room : (i : ℕ) → i < m → natAbs (getD slack i (pos 0)) + natAbs (getD price i (pos 0)) ≤ far + maxPotential
+  pub room : (i : ℕ) → i < m → natAbs (getD slack i (pos 0)) + natAbs (getD price i (pos 0)) ≤ costAbove + 2 * maxPotential
 
 -- A reduced cost is the slack less the source's potential.
 reduced-z : (c u v : ℤ) → toZ (c -ℤ u -ℤ v) ≈ toZ (c -ℤ v) ⊖ toZ u
@@ -48,7 +49,10 @@ near s u p l = omega (arith, z-add s (negℤ u), z-neg u, abs-z u)
 
 module _ {cost price slack : List ℤ} {m n : ℕ} (w : InRange cost price m n) (s : Slacks cost price m n slack) where
   pub rows-fit : RowsFit slack price m
-  rows-fit = record { rows = w .rows; room = slacks-room w s }
+  rows-fit = record {
+    rows = w .rows;
+    room = λ i p. omega (arith, w .rows, slacks-abs w s i (omega (arith, w .rows)), w .prices i (omega (arith, w .rows)));
+  }
 
   -- No reduced cost of a row is below the row's least.
   row-least : (i j : ℕ) → i < m → j < n → toZ (rowReduced slack price i) ≼ toZ (reducedAt cost price m i j)
@@ -57,7 +61,7 @@ module _ {cost price slack : List ℤ} {m n : ℕ} (w : InRange cost price m n) 
       let u = getD price i (pos 0) in
       let v = getD price (m + j) (pos 0) in
       let r = getD slack i (pos 0) in
-      omega (arith, slacks-low w s i p .least j q, reduced-z c u v, z-add r (negℤ u), z-neg u)
+      omega (arith, slacks-low w s i (omega (arith, w .rows)) .least j q, reduced-z c u v, z-add r (negℤ u), z-neg u)
 
   module _ (best : ℤ) (e : best ≡ lowest (pos 0) (rowReduced slack price) m) where
     best-low : Low (pos 0) (rowReduced slack price) m best
@@ -88,7 +92,7 @@ module _ {cost price slack : List ℤ} {m n : ℕ} (w : InRange cost price m n) 
               (omega (arith, z-eq (rows .is), lt-yes best (pos 0) h))
 
           columns : FirstLow (slackAt cost price m row) (getD slack row (pos 0)) n col
-          columns = low-first (slacks-low w s row scanned-row) low b
+          columns = low-first (slacks-low w s row (omega (arith, w .rows, scanned-row))) low b
 
           -- The reduced cost in that row.
           own : (j : ℕ) → toZ (reducedAt cost price m row j) ≈ toZ (slackAt cost price m row j) ⊖ toZ u

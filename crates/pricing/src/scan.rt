@@ -1,5 +1,5 @@
-// The scan for the lane that enters. Of each row the least slack (a lane's cost less its sink's potential) is kept between rounds. The loop that takes a
-// column into these minima goes over all rows that there is room for, on a local array, so that the compiler turns it into vector code.
+// The scan for the lane that enters. Of each row the least slack (a lane's cost less its sink's potential) is kept between rounds. The minima go by value, and
+// the loop that takes a column into them goes over all rows that there is room for: so the compiler turns it into vector code, with the minima in registers.
 use transport::MAX_SIDE;
 use tree::LANES;
 use tree::MAX_POTENTIAL;
@@ -8,17 +8,19 @@ use tree::Price;
 use tree::mask;
 ghost use mathlib.Core.Path.{_≡_};
 ghost use mathlib.Core.List.{List};
-ghost use Prim.Native.Nat.{ℕ, _<_, _≤_};
+ghost use mathlib.Core.Bool.{true};
+ghost use Prim.Native.Nat.{ℕ, _+_, _<_, _≤_, _^_};
 ghost use lib.IntN.{ℤ, pos, natAbs};
 ghost use lib.ListN.{length, getD};
 ghost use Rattle.transport.specs.Limits.{costAbove};
 ghost use Rattle.tree.specs.Layout.{stride, maxPotential, slackAt};
-ghost use Rattle.rounds.specs.Lowest.{lesser, lowest, FirstAt};
-ghost use Rattle.rounds.specs.Slacks.{InRange, Slacks, Lowered, Pending, Stale};
-ghost use Rattle.rounds.specs.Scan.{rowReduced, RowsFit, Scanned};
+ghost use Rattle.tree.specs.Mask.{has};
+ghost use Rattle.pricing.specs.Lowest.{lesser, lowest, FirstAt};
+ghost use Rattle.pricing.specs.Slacks.{InRange, Slacks, Changed, lowering, raising, Relaxed, Stale};
+ghost use Rattle.pricing.specs.Scan.{rowReduced, RowsFit, Scanned};
 
-// Greater than every slack: where a minimum starts.
-const FAR: Price = 2 * MAX_POTENTIAL;
+// Greater than every slack, also one that is raised by a reduced cost: where a minimum starts.
+const FAR: Price = 4 * MAX_POTENTIAL;
 
 fn lesser(a: Price, b: Price) -> Price
     ensures { λ r. ⌜ r ≡ lesser a b ⌝ }
@@ -26,77 +28,98 @@ fn lesser(a: Price, b: Price) -> Price
     if a < b { a } else { b }
 }
 
-// Takes column j, whose sink has the potential v, into the minima of all rows.
-fn take_column(cost: &[Price; LANES], j: usize, v: Price, slack: &mut [Price; MAX_SIDE])
-    requires { ⌜ (j < stride) × (natAbs v ≤ maxPotential) × ((l : ℕ) → natAbs (getD (now cost) l (pos 0)) ≤ costAbove) × (length (now slack) ≡ stride) ⌝ }
-    ensures { λ _. ⌜ Lowered (now (cost .entry)) j v (now (slack .entry)) (now (slack .exit)) ⌝ }
+// The minima of all rows with column j, whose sink has the potential v, taken in.
+fn take_column(
+    cost: &[Price; LANES],
+    j: usize,
+    v: Price,
+    slack: [Price; MAX_SIDE],
+) -> [Price; MAX_SIDE]
+    requires { ⌜ (j < stride) × (natAbs v ≤ maxPotential) × ((l : ℕ) → natAbs (getD (now cost) l (pos 0)) ≤ costAbove) ⌝ }
+    ensures { λ r. ⌜ Changed (lowering (now (cost .entry)) j v) slack r ⌝ }
 {
-    let mut least = *slack;
+    let mut least = slack;
     let mut i = 0;
     while i < MAX_SIDE {
         least[i] = lesser(cost[j * MAX_SIDE + i] - v, least[i]);
         i += 1;
     }
-    *slack = least;
+    least
 }
 
-// Takes the columns `cols` into the minima of all rows, where the other columns are in already.
+// The minima of all rows with the columns `cols` taken in.
 fn relax_slacks(
     cost: &[Price; LANES],
     price: &[Price; NODES],
     m: usize,
-    n: usize,
     cols: u64,
-    slack: &mut [Price; MAX_SIDE],
-)
-    requires { ⌜ InRange (now cost) (now price) m n ⌝ }
-    requires { ⌜ ((old : ℕ → ℕ → ℤ) × Pending (now cost) (now price) m n cols old (now slack)) ⌝ }
-    ensures { λ _. ⌜ Slacks (now (cost .entry)) (now (price .entry)) m n (now (slack .exit)) ⌝ }
+    slack: [Price; MAX_SIDE],
+) -> [Price; MAX_SIDE]
+    requires { ⌜ ((n : ℕ) × InRange (now cost) (now price) m n × ((j : ℕ) → has cols j ≡ true → j < n)) ⌝ }
+    ensures { λ r. ⌜ Relaxed (now (cost .entry)) (now (price .entry)) m cols slack r ⌝ }
 {
+    let mut least = slack;
     let mut bits = cols;
     while bits > 0 {
         let j = mask::first_bit(bits);
         bits = mask::rest(bits);
-        take_column(cost, j, price[m + j], slack);
+        let lower = take_column(cost, j, price[m + j], least);
+        least = lower;
     }
+    least
 }
 
 // The least slack of each row, whatever was known before.
-pub(crate) fn scan_slacks(
+pub fn scan_slacks(
     cost: &[Price; LANES],
     price: &[Price; NODES],
     m: usize,
     n: usize,
-    slack: &mut [Price; MAX_SIDE],
-)
+) -> [Price; MAX_SIDE]
     requires { ⌜ InRange (now cost) (now price) m n ⌝ }
-    ensures { λ _. ⌜ Slacks (now (cost .entry)) (now (price .entry)) m n (now (slack .exit)) ⌝ }
+    ensures { λ r. ⌜ Slacks (now (cost .entry)) (now (price .entry)) m n r ⌝ }
 {
-    *slack = [FAR; MAX_SIDE];
-    relax_slacks(cost, price, m, n, mask::first_bits(n), slack);
+    let none = [FAR; MAX_SIDE];
+    relax_slacks(cost, price, m, mask::first_bits(n), none)
 }
 
-// The same after a pivot in row `row` that moved the prices of the nodes `far`. Where the row is among them, the columns among them rose, and these alone are
-// looked at; where it is not, they fell.
-pub(crate) fn refresh_slacks(
+// All slacks raised by x.
+fn raised(slack: [Price; MAX_SIDE], x: Price) -> [Price; MAX_SIDE]
+    requires { ⌜ ((i : ℕ) → i < stride → natAbs (getD slack i (pos 0)) + natAbs x < 2 ^ 31) ⌝ }
+    ensures { λ r. ⌜ Changed (raising x) slack r ⌝ }
+{
+    let mut higher = slack;
+    let mut i = 0;
+    while i < MAX_SIDE {
+        higher[i] = higher[i] + x;
+        i += 1;
+    }
+    higher
+}
+
+// The least slacks after a pivot in row `row`, which entered at the reduced cost `reduced` and moved the prices of the nodes `far`. Where the row is among
+// them, the columns among them rose, and their slacks fell. Where it is not, the columns fell, and their slacks rose: against them, all others fell.
+pub fn refresh_slacks(
     cost: &[Price; LANES],
     price: &[Price; NODES],
     m: usize,
     n: usize,
     far: u64,
     row: usize,
-    slack: &mut [Price; MAX_SIDE],
-)
+    reduced: Price,
+    slack: [Price; MAX_SIDE],
+) -> [Price; MAX_SIDE]
     requires { ⌜ InRange (now cost) (now price) m n ⌝ }
     requires { ⌜ row < m ⌝ }
-    requires { ⌜ ((old : List ℤ) × (reduced : ℤ) × Stale (now cost) old (now price) m n far row reduced (now slack)) ⌝ }
-    ensures { λ _. ⌜ Slacks (now (cost .entry)) (now (price .entry)) m n (now (slack .exit)) ⌝ }
+    requires { ⌜ ((old : List ℤ) × Stale (now cost) old (now price) m n far row reduced slack) ⌝ }
+    ensures { λ r. ⌜ Slacks (now (cost .entry)) (now (price .entry)) m n r ⌝ }
 {
+    let moved = far >> m;
     if mask::has_bit(far, row) {
-        relax_slacks(cost, price, m, n, far >> m, slack);
-    } else {
-        scan_slacks(cost, price, m, n, slack);
+        return relax_slacks(cost, price, m, moved, slack);
     }
+    let others = mask::first_bits(n) ^ moved;
+    relax_slacks(cost, price, m, others, raised(slack, 0 - reduced))
 }
 
 // The least reduced cost of all rows; 0 where none is negative. A row's is its least slack less the potential of its source.
@@ -153,7 +176,7 @@ pub struct PricedLane {
 }
 
 // The entering lane: it has the least reduced cost, and is the first among equals. Where no reduced cost is negative, the answer's is 0.
-pub(crate) fn entering(
+pub fn entering(
     cost: &[Price; LANES],
     price: &[Price; NODES],
     slack: &[Price; MAX_SIDE],

@@ -1,4 +1,4 @@
--- `rounds::scan::least_reduced` meets its contract. The loop's invariant: the least of the rows before i; the measure is what is left of them.
+-- `pricing::scan::least_reduced` meets its contract. The loop's invariant: the least of the rows before i; the measure is what is left of them.
 use Prim.Native.Nat.{_+_, _-_, _≤_, _<_, _^_}
 use mathlib.Core.Path.{_≡_, sym, _∙_}
 use native.Mathlib.Omega.{arith}
@@ -10,10 +10,10 @@ use mir.Val.{toZ}
 use mir.Facts.{toZ-ofZ}
 use Rattle.transport.specs.Limits.{maxCost, costAbove}
 use Rattle.transport.specs.Laws.RangeLaws.{diff-in, diff-back}
-use Rattle.rounds.specs.Lowest.{lesser, lowest, lowest-zero, lowest-one}
-use Rattle.rounds.specs.Scan.{rowReduced}
-use Rattle.rounds.proofs.scan.least_reduced.Statement.{statement}
-use Rattle.rounds.proofs.scan.least_reduced.Tie as tie
+use Rattle.pricing.specs.Lowest.{lesser, lowest, lowest-zero, lowest-one}
+use Rattle.pricing.specs.Scan.{rowReduced}
+use Rattle.pricing.proofs.scan.least_reduced.Statement.{statement}
+use Rattle.pricing.proofs.scan.least_reduced.Tie as tie
 
 abbrev Inv-loop : tie.InvT-loop
 Inv-loop price slack m least₀ i₀ least i = (i ≤ m) × (toZ w32 least ≡ lowest (pos 0) (rowReduced slack price) i)

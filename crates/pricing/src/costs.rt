@@ -8,7 +8,7 @@ ghost use lib.ListN.{length};
 ghost use Rattle.transport.specs.Lists.{at};
 ghost use Rattle.transport.specs.Limits.{maxCost};
 ghost use Rattle.tree.specs.Layout.{stride};
-ghost use Rattle.rounds.specs.Costs.{Spread};
+ghost use Rattle.pricing.specs.Costs.{Spread};
 
 // Where there is no lane, the cost is 0: no scan looks at it.
 pub fn spread_costs(cost: &[u64], m: usize, n: usize, out: &mut [Price; LANES])

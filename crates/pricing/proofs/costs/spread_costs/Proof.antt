@@ -1,4 +1,4 @@
--- `rounds::costs::spread_costs` meets its contract. The loops' invariants: the rows before i are filled in, and of row i the columns before j.
+-- `pricing::costs::spread_costs` meets its contract. The loops' invariants: the rows before i are filled in, and of row i the columns before j.
 use Prim.Native.Nat.{_+_, _-_, _*_, _≤_, _<_}
 use native.Mathlib.Omega.{arith}
 use borrow.Author.Needs.{needs}
@@ -12,9 +12,9 @@ use Rattle.transport.specs.Limits.{maxCost}
 use Rattle.transport.specs.Problem.{place}
 use Rattle.transport.specs.Laws.ProblemLaws.{place-below}
 use Rattle.tree.specs.Layout.{stride, laneRoom}
-use Rattle.rounds.specs.Costs.{Part, part-none, part-one, part-row, part-all}
-use Rattle.rounds.proofs.costs.spread_costs.Statement.{statement}
-use Rattle.rounds.proofs.costs.spread_costs.Tie as tie
+use Rattle.pricing.specs.Costs.{Part, part-none, part-one, part-row, part-all}
+use Rattle.pricing.proofs.costs.spread_costs.Statement.{statement}
+use Rattle.pricing.proofs.costs.spread_costs.Tie as tie
 
 abbrev Inv-loop2 : tie.InvT-loop2
 Inv-loop2 cost m n out₀ i j₀ out j = (j ≤ n) × Part cost n i j out

@@ -1,4 +1,4 @@
--- `rounds::scan::first_row` meets its contract. The loop's invariant: every row before `row` has a greater number; the measure is what is left of the rows.
+-- `pricing::scan::first_row` meets its contract. The loop's invariant: every row before `row` has a greater number; the measure is what is left of the rows.
 use Prim.Native.Nat.{_+_, _-_, _≤_, _<_, _^_}
 use mathlib.Core.Path.{_≡_}
 use native.Mathlib.Omega.{arith}
@@ -9,10 +9,10 @@ use mir.Syntax.{w32}
 use mir.Val.{toZ, ofZ}
 use Rattle.transport.specs.Limits.{maxCost, costAbove}
 use Rattle.transport.specs.Laws.RangeLaws.{diff-in, diff-back}
-use Rattle.rounds.specs.Lowest.{Above, above-start, above-step, above-stop, above-end}
-use Rattle.rounds.specs.Scan.{rowReduced}
-use Rattle.rounds.proofs.scan.first_row.Statement.{statement}
-use Rattle.rounds.proofs.scan.first_row.Tie as tie
+use Rattle.pricing.specs.Lowest.{Above, above-start, above-step, above-stop, above-end}
+use Rattle.pricing.specs.Scan.{rowReduced}
+use Rattle.pricing.proofs.scan.first_row.Statement.{statement}
+use Rattle.pricing.proofs.scan.first_row.Tie as tie
 
 abbrev Inv-loop : tie.InvT-loop
 Inv-loop price slack m reduced row₀ row = (row ≤ m) × Above (rowReduced slack price) (toZ w32 reduced) row

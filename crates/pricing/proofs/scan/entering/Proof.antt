@@ -1,4 +1,4 @@
--- `rounds::scan::entering` meets its contract: the row of the least reduced cost, and its column, are those of the laws of the scan.
+-- `pricing::scan::entering` meets its contract: the row of the least reduced cost, and its column, are those of the laws of the scan.
 use Prim.Native.Nat.{_<_}
 use mathlib.Core.Path.{_≡_, _∙_}
 use native.Mathlib.Omega.{arith}
@@ -8,10 +8,10 @@ use lib.IntN.{pos}
 use mir.Syntax.{w32}
 use mir.Val.{toZ, ofZ}
 use mir.Facts.{toZ-ofZ}
-use Rattle.rounds.specs.Lowest.{lowest}
-use Rattle.rounds.specs.Scan.{rowReduced, rows-fit, scanned-no, scanned-yes, scanned-row}
-use Rattle.rounds.proofs.scan.entering.Statement.{statement}
-use Rattle.rounds.proofs.scan.entering.Tie as tie
+use Rattle.pricing.specs.Lowest.{lowest}
+use Rattle.pricing.specs.Scan.{rowReduced, rows-fit, scanned-no, scanned-yes, scanned-row}
+use Rattle.pricing.proofs.scan.entering.Statement.{statement}
+use Rattle.pricing.proofs.scan.entering.Tie as tie
 
 -- The least reduced cost, as the code keeps it.
 least-is : (c : tie.After-least-reduced)

@@ -1,21 +1,21 @@
--- The least of some numbers: taken number by number, kept where some of the numbers fall, and the first place that has it.
+-- The least of some numbers: taken number by number, kept where all of them rise or some fall, and the first place that has it.
 use mathlib.Core.Path.{_≡_, refl, sym, ap, _∙_}
 use mathlib.Core.Logic.{_≢_, _⊎_, inl, inr, ⊎-elim, by-cases}
-use mathlib.Core.Bool.{Bool, true, false, cond}
+use mathlib.Core.Bool.{Bool, true, false, cond, true≢false}
 use Prim.Native.Nat.{ℕ, zero, suc, _+_, _-_, _<_, _≤_}
 use native.Mathlib.Omega.{arith}
 use native.Mathlib.Numerals.{add-one}
 use native.Mathlib.Decide.{ℕ-discrete}
 use native.Mathlib.Nat.{eq-or-lt-of-le}
-use borrow.Author.Tests.{eq-eqb, ne-eqb}
+use borrow.Author.Tests.{ne-eqb}
 use lib.Bits.{bitAnd}
-use lib.IntN.{ℤ}
+use lib.IntN.{ℤ, _+ℤ_}
 use lib.Signed.{ltZ}
 use Rattle.integers.specs.Integer.{_≼_, _≺_}
-use Rattle.integers.specs.Bridge.{toZ, eq-z, z-eq}
+use Rattle.integers.specs.Bridge.{toZ, eq-z, z-eq, z-add}
 use Rattle.integers.specs.Tests.{lt-yes, lt-no}
 use Rattle.tree.specs.Mask.{has, has-zero}
-use Rattle.tree.specs.Bits.{Least, has-least, has-rest}
+use Rattle.tree.specs.Bits.{Least, has-rest}
 
 -- ---- the least of b and f 0, .., f (n − 1)
 
@@ -70,67 +70,70 @@ low-only {b} {f} {n} {r} {s} v w = eq-z r s (omega (arith, below v w, below w v)
         (λ (k, l, e). omega (arith, z-eq e, v .least k l))
         (w .meets)
 
-low-cong : {b : ℤ} {f g : ℕ → ℤ} {n : ℕ} {r : ℤ} → ((k : ℕ) → k < n → f k ≡ g k) → Low b f n r → Low b g n r
-low-cong h w = record {
-  cap = w .cap;
-  least = λ k l. rw (← h k l) (w .least k l);
-  meets = ⊎-elim inl (λ (k, l, e). inr (k, l, sym (h k l) ∙ e)) (w .meets);
+-- All numbers are raised by x, and b is another bound.
+pub low-raised : {b c : ℤ} {f : ℕ → ℤ} {n : ℕ} {r : ℤ} (x : ℤ) → Low b f n r → toZ r ≺ toZ b → toZ (r +ℤ x) ≼ toZ c → Low c (λ k. f k +ℤ x) n (r +ℤ x)
+low-raised {f = f} {r = r} x w below cap = record {
+  cap = cap;
+  least = λ k l. omega (arith, z-add r x, z-add (f k) x, w .least k l);
+  meets = ⊎-elim (λ e. absurd (omega (arith, z-eq e))) (λ (k, l, e). inr (k, l, ap (λ y. y +ℤ x) e)) (w .meets);
 }
 
 -- ---- some of the numbers fall
 
--- One number falls: the least is the less of what it was and of that number.
-low-falls : {b : ℤ} {f g : ℕ → ℤ} {n j : ℕ} {r : ℤ} → Low b f n r → j < n → toZ (g j) ≼ toZ (f j) → ((k : ℕ) → k < n → k ≢ j → g k ≡ f k)
-    → Low b g n (lesser (g j) r)
-low-falls {b} {f} {g} {n} {j} {r} w hj falls same = go (ltZ (g j) r) refl
+-- r is the least of s and of the numbers at those bits of `at` that are not in `bits`.
+pub record LeastOver (f : ℕ → ℤ) (at bits : ℕ) (s r : ℤ) : Type 0 where
+  pub cap : toZ r ≼ toZ s
+  pub least : (k : ℕ) → has at k ≡ true → has bits k ≡ false → toZ r ≼ toZ (f k)
+  pub meets : (r ≡ s) ⊎ ((k : ℕ) × (has at k ≡ true) × (f k ≡ r))
+
+-- The numbers are taken in one by one ..
+pub over-start : (f : ℕ → ℤ) (at : ℕ) (s : ℤ) → LeastOver f at at s s
+over-start f at s = record { cap = omega arith; least = λ k e d. absurd (true≢false (sym e ∙ d)); meets = inl refl }
+
+pub over-step : {f : ℕ → ℤ} {at bits j : ℕ} {s r : ℤ} → LeastOver f at bits s r → Least bits j → has at j ≡ true
+    → LeastOver f at (bitAnd bits (bits - 1)) s (lesser (f j) r)
+over-step {f} {at} {bits} {j} {s} {r} w l on = go (ltZ (f j) r) refl
   where
-    go : (t : Bool) → ltZ (g j) r ≡ t → Low b g n (cond t (g j) r)
+    -- What is out of the mask now is j, or was before.
+    out : (k : ℕ) → has (bitAnd bits (bits - 1)) k ≡ false → k ≢ j → has bits k ≡ false
+    out k e d = sym (rw (has-rest bits j k l, ne-eqb k j d)) ∙ e
+
+    go : (t : Bool) → ltZ (f j) r ≡ t → LeastOver f at (bitAnd bits (bits - 1)) s (cond t (f j) r)
     go true e = record {
-      cap = omega (arith, lt-yes (g j) r e, w .cap);
-      least = λ k l. by-cases (ℕ-discrete k j) (λ s. rw s (omega arith)) (λ d. rw (same k l d) (omega (arith, lt-yes (g j) r e, w .least k l)));
-      meets = inr (j, hj, refl);
+      cap = omega (arith, lt-yes (f j) r e, w .cap);
+      least = λ k p q. by-cases (ℕ-discrete k j) (λ d. rw d (omega arith)) (λ d. omega (arith, lt-yes (f j) r e, w .least k p (out k q d)));
+      meets = inr (j, on, refl);
     }
     go false e = record {
       cap = w .cap;
-      least = λ k l. by-cases (ℕ-discrete k j) (λ s. rw s (lt-no (g j) r e)) (λ d. rw (same k l d) (w .least k l));
-      meets = ⊎-elim inl (λ (k, l, s). inr (
-        k,
-        l,
-        by-cases (ℕ-discrete k j)
-            (λ d. rw d (eq-z (g j) r (omega (arith, lt-no (g j) r e, z-eq (ap f (sym d) ∙ s)))))
-            (λ d. same k l d ∙ s),
-      )) (w .meets);
+      least = λ k p q. by-cases (ℕ-discrete k j) (λ d. rw d (lt-no (f j) r e)) (λ d. w .least k p (out k q d));
+      meets = w .meets;
     }
 
--- r is the least, with the numbers at the bits of `bits` still as they were.
-pub record Relaxing (b : ℤ) (old new : ℕ → ℤ) (n bits : ℕ) (r : ℤ) : Type 0 where
-  pub low : Low b (λ j. cond (has bits j) (old j) (new j)) n r
-
--- It starts with the least of the old numbers, which off the mask are the new ones ..
-pub relax-start : {b : ℤ} {old new : ℕ → ℤ} {n : ℕ} {r : ℤ} (at : ℕ) → Low b old n r → ((k : ℕ) → k < n → has at k ≡ false → new k ≡ old k)
-    → Relaxing b old new n at r
-relax-start {b} {old} {new} {n} at w h = record { low = low-cong (λ k l. go k l (has at k) refl) w }
+-- .. and where s was the least of older numbers, of which those at `at` have not risen and the others are as they were, r is the least of them all.
+pub over-end : {b : ℤ} {old new : ℕ → ℤ} {n at bits : ℕ} {s r : ℤ} → Low b old n s → ((k : ℕ) → has at k ≡ true → k < n)
+    → ((k : ℕ) → has at k ≡ true → toZ (new k) ≼ toZ (old k)) → ((k : ℕ) → k < n → has at k ≡ false → new k ≡ old k)
+    → LeastOver new at bits s r → bits ≡ 0 → r ≡ lowest b new n
+over-end {b} {old} {new} {n} {at} {bits} {s} {r} w inside falls same o none = low-only now (lowest-low b new n)
   where
-    go : (k : ℕ) → k < n → (t : Bool) → has at k ≡ t → old k ≡ cond t (old k) (new k)
-    go k l true e = refl
-    go k l false e = sym (h k l e)
+    least : (k : ℕ) → k < n → (t : Bool) → has at k ≡ t → toZ r ≼ toZ (new k)
+    least k l true e = o .least k e (rw (none, has-zero k))
+    least k l false e = rw (same k l e) (omega (arith, o .cap, w .least k l))
 
--- .. takes them in one by one ..
-pub relax-step : {b : ℤ} {old new : ℕ → ℤ} {n bits j : ℕ} {r : ℤ} → Relaxing b old new n bits r → Least bits j → j < n → toZ (new j) ≼ toZ (old j)
-    → Relaxing b old new n (bitAnd bits (bits - 1)) (lesser (new j) r)
-relax-step {b} {old} {new} {n} {bits} {j} {r} w f hj falls = record {
-  low = rw here at (low-falls {g = after} (w .low) hj (rw (here, has-least f) falls) (λ k l d. rw (has-rest bits j k f, ne-eqb k j d)));
-}
-  where
-    after : ℕ → ℤ
-    after k = cond (has (bitAnd bits (bits - 1)) k) (old k) (new k)
+    -- The older least is at k: if k is among those that fell, it is the least still.
+    stays : r ≡ s → (k : ℕ) → k < n → old k ≡ s → (t : Bool) → has at k ≡ t → new k ≡ r
+    stays e k l d true h = eq-z (new k) r (omega (arith, least k l true h, falls k h, z-eq d, z-eq e))
+    stays e k l d false h = same k l h ∙ d ∙ sym e
 
-    here : after j ≡ new j
-    here = rw (has-rest bits j j f, eq-eqb j j refl)
-
--- .. and ends with the least of the new ones.
-pub relax-end : {b : ℤ} {old new : ℕ → ℤ} {n bits : ℕ} {r : ℤ} → Relaxing b old new n bits r → bits ≡ 0 → r ≡ lowest b new n
-relax-end {b} {old} {new} {n} {bits} w e = low-only (low-cong (λ k l. rw (e, has-zero k)) (w .low)) (lowest-low b new n)
+    now : Low b new n r
+    now = record {
+      cap = omega (arith, o .cap, w .cap);
+      least = λ k l. least k l (has at k) refl;
+      meets = ⊎-elim
+          (λ e. ⊎-elim (λ d. inl (e ∙ d)) (λ (k, l, d). inr (k, l, stays e k l d (has at k) refl)) (w .meets))
+          (λ (k, h, e). inr (k, inside k h, e))
+          (o .meets);
+    }
 
 -- ---- the place of the least
 

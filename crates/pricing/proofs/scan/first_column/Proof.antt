@@ -1,4 +1,4 @@
--- `rounds::scan::first_column` meets its contract. The loop's invariant: every column before `col` has a greater slack; the measure is what is left of them.
+-- `pricing::scan::first_column` meets its contract. The loop's invariant: every column before `col` has a greater slack; the measure is what is left of them.
 use Prim.Native.Nat.{_+_, _-_, _*_, _≤_, _<_, _^_}
 use mathlib.Core.Path.{_≡_}
 use native.Mathlib.Omega.{arith}
@@ -10,10 +10,10 @@ use mir.Val.{toZ, ofZ}
 use Rattle.transport.specs.Limits.{maxCost, costAbove}
 use Rattle.transport.specs.Laws.RangeLaws.{diff-in, diff-back}
 use Rattle.tree.specs.Layout.{stride, slackAt}
-use Rattle.rounds.specs.Lowest.{Above, above-start, above-step, above-stop, above-end}
-use Rattle.rounds.specs.Slacks.{slack-room}
-use Rattle.rounds.proofs.scan.first_column.Statement.{statement}
-use Rattle.rounds.proofs.scan.first_column.Tie as tie
+use Rattle.pricing.specs.Lowest.{Above, above-start, above-step, above-stop, above-end}
+use Rattle.pricing.specs.Slacks.{slack-room}
+use Rattle.pricing.proofs.scan.first_column.Statement.{statement}
+use Rattle.pricing.proofs.scan.first_column.Tie as tie
 
 abbrev Inv-loop : tie.InvT-loop
 Inv-loop cost price m n row slack col₀ col = (col ≤ n) × Above (slackAt cost price m row) (toZ w32 slack) col

@@ -1,0 +1,4 @@
+pub mod Costs
+pub mod Lowest
+pub mod Slacks
+pub mod Scan
