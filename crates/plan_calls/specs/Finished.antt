@@ -36,7 +36,7 @@ use Rattle.board.specs.Held.{Held, row-basic, basic-row}
 use Rattle.board.specs.Arrays.{Board}
 use Rattle.board.specs.Drawing.{Redrawn, board-held}
 use Rattle.pricing.specs.Costs.{Costed}
-use Rattle.settle.specs.Bags.{laneBags, InMask, OnBasics}
+use Rattle.augment.specs.Bags.{laneBags, InMask, OnBasics}
 use Rattle.settle.specs.Rows.{Settleable}
 use Rattle.settle.specs.Tight.{Ranged, TightLanes, tight-same, tight-ranged}
 use Rattle.settle.specs.Plan.{bagsIn, NoDebt, Written, debtless, plan-carries}

@@ -1,8 +1,3 @@
-pub mod Sets
-pub mod Bags
-pub mod Way
-pub mod Sought
-pub mod Answer
 pub mod Stage
 pub mod Rows
 pub mod Tight

@@ -16,7 +16,7 @@ use Rattle.transport.specs.Problem.{place}
 use Rattle.transport.specs.Laws.ProblemLaws.{place-injective, place-below}
 use Rattle.tableaux.specs.PlanView.{carried}
 use Rattle.tree.specs.Layout.{stride}
-use Rattle.settle.specs.Bags.{laneBags}
+use Rattle.augment.specs.Bags.{laneBags}
 
 -- The bags on the lane at place k in sheet order, among n columns.
 unfoldable pub bagsIn : ℕ → List ℤ → ℕ → ℕ

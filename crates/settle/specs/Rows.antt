@@ -16,9 +16,9 @@ use Rattle.transport.specs.Limits.{maxBags}
 use Rattle.tree.specs.Mask.{bit, has}
 use Rattle.tree.specs.MaskLaws.{firstBits, minus, some-bit}
 use Rattle.tree.specs.Bits.{Least}
-use Rattle.settle.specs.Sets.{in-bit, in-none, in-minus, in-and, in-rest, in-between}
-use Rattle.settle.specs.Bags.{laneBags, carries-some, entry, InMask, Masked, OnBasics}
-use Rattle.settle.specs.Sought.{Sought}
+use Rattle.augment.specs.Sets.{in-bit, in-none, in-minus, in-and, in-rest, in-between}
+use Rattle.augment.specs.Bags.{laneBags, carries-some, entry, InMask, Masked, OnBasics}
+use Rattle.augment.specs.Sought.{Sought}
 use Rattle.settle.specs.Stage.{Stage, Reaches, reaches-none, reaches-on, reaches-decided, Dead}
 
 -- ---- along a row

@@ -21,11 +21,11 @@ use Rattle.network.specs.Search.{Rooted, wayRow, wayCol, grown-bags, grown-brin
 use Rattle.transport.specs.Limits.{maxBags}
 use Rattle.tree.specs.Layout.{stride}
 use Rattle.tree.specs.Mask.{has}
-use Rattle.settle.specs.Sets.{in-none, in-and}
-use Rattle.settle.specs.Bags.{laneBags, carries-some, entry, InMask, Masked}
-use Rattle.settle.specs.Way.{Walkable, Carries, BroughtLeast}
-use Rattle.settle.specs.Sought.{Sought, Hits}
-use Rattle.settle.specs.declared.search.Target.{Target}
+use Rattle.augment.specs.Sets.{in-none, in-and}
+use Rattle.augment.specs.Bags.{laneBags, carries-some, entry, InMask, Masked}
+use Rattle.augment.specs.Way.{Walkable, Carries, BroughtLeast}
+use Rattle.augment.specs.Sought.{Sought, Hits}
+use Rattle.augment.specs.declared.search.Target.{Target}
 
 -- ---- a stage
 

@@ -1,10 +1,10 @@
 // Lanes decided in sheet order: bags are brought onto a lane from later ones as long as there are any that can be, over tight lanes only, so at no cost. Lanes
 // before it are left alone.
-use crate::bags::mask_bags;
-use crate::search::Reached;
-use crate::search::Target;
-use crate::search::search;
-use crate::way::bring_least;
+use augment::bags::mask_bags;
+use augment::search::Reached;
+use augment::search::Target;
+use augment::search::search;
+use augment::way::bring_least;
 use transport::MAX_SIDE;
 use tree::LANES;
 use tree::NODES;
@@ -20,8 +20,8 @@ ghost use Prim.Native.Nat.{ℕ, suc, _+_, _*_, _<_, _≤_};
 ghost use Rattle.integers.specs.Integer.{Z};
 ghost use Rattle.network.specs.Settling.{DecidedTo};
 ghost use Rattle.tree.specs.Layout.{stride};
-ghost use Rattle.settle.specs.Bags.{laneBags, InMask};
-ghost use Rattle.settle.specs.Sought.{Sought, Rooms};
+ghost use Rattle.augment.specs.Bags.{laneBags, InMask};
+ghost use Rattle.augment.specs.Sought.{Sought, Rooms};
 ghost use Rattle.settle.specs.Stage.{Stage, Reaches, Dead};
 ghost use Rattle.settle.specs.Rows.{OnlyBasics, Settleable};
 

@@ -1,7 +1,4 @@
 // Settling: from the bags of a finished tableau to the settled plan, lane by lane in sheet order. Lanes lie as in the crate tree.
-pub mod bags;
 pub mod lanes;
 pub mod plan;
-pub mod search;
 pub mod tight;
-pub mod way;

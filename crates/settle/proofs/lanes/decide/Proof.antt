@@ -9,14 +9,14 @@ use lib.ListN.{getD}
 use Rattle.network.specs.Search.{Rooted}
 use Rattle.transport.specs.Limits.{maxBags}
 use Rattle.tree.specs.Layout.{stride}
-use Rattle.settle.specs.Bags.{laneBags, entry, Masked}
-use Rattle.settle.specs.Way.{way-rooted}
-use Rattle.settle.specs.Sought.{Rooms, Sought, Hits}
-use Rattle.settle.specs.Answer.{Answers}
+use Rattle.augment.specs.Bags.{laneBags, entry, Masked}
+use Rattle.augment.specs.Way.{way-rooted}
+use Rattle.augment.specs.Sought.{Rooms, Sought, Hits}
+use Rattle.augment.specs.Answer.{Answers}
 use Rattle.settle.specs.Stage.{Stage, Reaches, reaches-none, reaches-on, abs-less, stage-few, aimed, hit-walkable, hit-loaded}
 use Rattle.settle.specs.Stage.{turn-stage, turn-more, turn-sought, stuck-reaches, goalless-reaches, dead-after, dead-reached}
-use Rattle.settle.specs.declared.search.Reached.{Reached}
-use Rattle.settle.specs.declared.search.Target.{Target}
+use Rattle.augment.specs.declared.search.Reached.{Reached}
+use Rattle.augment.specs.declared.search.Target.{Target}
 use Rattle.settle.proofs.lanes.decide.Statement.{statement}
 use Rattle.settle.proofs.lanes.decide.Tie as tie
 

@@ -6,7 +6,7 @@ use native.Mathlib.Omega.{arith}
 use borrow.Author.Count.{below-more}
 use borrow.Author.Needs.{needs}
 use Rattle.tree.specs.MaskLaws.{minus}
-use Rattle.settle.specs.Bags.{entry}
+use Rattle.augment.specs.Bags.{entry}
 use Rattle.settle.specs.Rows.{OnlyBasics, row-basics, row-others}
 use Rattle.settle.proofs.lanes.only_basics.Statement.{statement}
 use Rattle.settle.proofs.lanes.only_basics.Tie as tie

@@ -2,7 +2,7 @@
 use mathlib.Core.Path.{_≡_, refl}
 use Prim.Native.Nat.{_+_, _-_, _*_, _≤_}
 use native.Mathlib.Omega.{arith}
-use Rattle.settle.specs.Sought.{Rooms}
+use Rattle.augment.specs.Sought.{Rooms}
 use Rattle.settle.specs.Stage.{Stage, Reaches, reaches-none, reaches-on}
 use Rattle.settle.specs.Rows.{settleable-done, settleable-stage}
 use Rattle.settle.proofs.lanes.settle_lanes.Statement.{statement}

@@ -10,8 +10,8 @@ use Rattle.tree.specs.Mask.{has}
 use Rattle.tree.specs.MaskLaws.{firstBits, minus}
 use Rattle.tree.specs.Bits.{Least}
 use Rattle.tree.specs.Layout.{stride}
-use Rattle.settle.specs.Sets.{rest-less}
-use Rattle.settle.specs.Sought.{Rooms}
+use Rattle.augment.specs.Sets.{rest-less}
+use Rattle.augment.specs.Sought.{Rooms}
 use Rattle.settle.specs.Stage.{Stage}
 use Rattle.settle.specs.Rows.{Along, along-start, along-ends, along-low, along-here, along-goalless, along-dead, along-sought, along-decided}
 use Rattle.settle.proofs.lanes.settle_row.Statement.{statement}

@@ -1,0 +1,5 @@
+pub mod Sets
+pub mod Bags
+pub mod Way
+pub mod Sought
+pub mod Answer
