@@ -22,7 +22,7 @@ ghost use Rattle.tree.specs.Layout.{nodeRoom};
 ghost use Rattle.rounds.specs.Kept.{Kept, Advanced};
 ghost use Rattle.rounds.specs.Runs.{Begun, Judged, Ran, Rounded};
 
-// The tree, the prices and the least slacks of a tableau whose basis the strikes strike off.
+// The tree and the prices of a tableau whose basis the strikes strike off; gives the least slacks of its rows.
 fn begin(
     cost: &[Price; LANES],
     leaf: &[usize; NODES],
@@ -33,19 +33,17 @@ fn begin(
     path: &mut [u64; NODES],
     sub: &mut [u64; NODES],
     price: &mut [Price; NODES],
-    slack: &mut [Price; MAX_SIDE],
-)
+) -> [Price; MAX_SIDE]
     requires { ⌜ ((P : Problem) × (T : List Cell) × (q : List ℤ) × (e : List ℤ) × Begun P T q e (now cost) (now leaf) (now other) (now lane) m n) ⌝ }
-    ensures { λ _. ⌜
+    ensures { λ r. ⌜
         ((P : Problem) (T : List Cell) (q e : List ℤ)
         → Begun P T q e (now (cost .entry)) (now (leaf .entry)) (now (other .entry)) (now (lane .entry)) m n
-        → Kept P T q e (now (cost .entry)) (now (price .exit)) (now (slack .exit)) (now (sub .exit)) (now (path .exit)) (now (lane .entry)) m n)
+        → Kept P T q e (now (cost .entry)) (now (price .exit)) r (now (sub .exit)) (now (path .exit)) (now (lane .entry)) m n)
         ⌝ }
 {
     potentials(cost, leaf, other, lane, m + n - 1, price);
     plant(leaf, other, lane, m, n, path, sub);
-    let least = scan_slacks(cost, price, m, n);
-    *slack = least;
+    scan_slacks(cost, price, m, n)
 }
 
 // Whether the tableau is finished. `price` then has its prices.
@@ -67,19 +65,7 @@ pub fn is_finished(
 {
     let mut path = [0u64; NODES];
     let mut sub = [0u64; NODES];
-    let mut slack: [Price; MAX_SIDE] = [0; MAX_SIDE];
-    begin(
-        cost,
-        leaf,
-        other,
-        lane,
-        m,
-        n,
-        &mut path,
-        &mut sub,
-        price,
-        &mut slack,
-    );
+    let slack = begin(cost, leaf, other, lane, m, n, &mut path, &mut sub, price);
     let enter = entering(cost, price, &slack, m, n);
     enter.reduced >= 0
 }
@@ -143,19 +129,7 @@ pub fn make_round(
 {
     let mut path = [0u64; NODES];
     let mut sub = [0u64; NODES];
-    let mut slack: [Price; MAX_SIDE] = [0; MAX_SIDE];
-    begin(
-        cost,
-        leaf,
-        other,
-        lane,
-        m,
-        n,
-        &mut path,
-        &mut sub,
-        price,
-        &mut slack,
-    );
+    let mut slack = begin(cost, leaf, other, lane, m, n, &mut path, &mut sub, price);
     advance(
         q,
         e,
@@ -198,19 +172,7 @@ pub fn rounds(
 {
     let mut path = [0u64; NODES];
     let mut sub = [0u64; NODES];
-    let mut slack: [Price; MAX_SIDE] = [0; MAX_SIDE];
-    begin(
-        cost,
-        leaf,
-        other,
-        lane,
-        m,
-        n,
-        &mut path,
-        &mut sub,
-        price,
-        &mut slack,
-    );
+    let mut slack = begin(cost, leaf, other, lane, m, n, &mut path, &mut sub, price);
     let mut left = allowance;
     let mut made = 0;
     while left > 0 {
@@ -263,19 +225,7 @@ pub fn finish(
 {
     let mut path = [0u64; NODES];
     let mut sub = [0u64; NODES];
-    let mut slack: [Price; MAX_SIDE] = [0; MAX_SIDE];
-    begin(
-        cost,
-        leaf,
-        other,
-        lane,
-        m,
-        n,
-        &mut path,
-        &mut sub,
-        price,
-        &mut slack,
-    );
+    let mut slack = begin(cost, leaf, other, lane, m, n, &mut path, &mut sub, price);
     let mut made = 0u64;
     while !advance(
         q,

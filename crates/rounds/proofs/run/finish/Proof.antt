@@ -26,19 +26,20 @@ abbrev μ-loop : tie.MeasureT-loop
     boardValue q e cost m n
 
 begin-requires : tie.Need-begin-requires Inv-loop μ-loop
-begin-requires c κs = let (P, T, d) = c .before .before .before .before .before .pre in (P, T, _, _, d)
+begin-requires c κs = let (P, T, d) = c .before .before .before .before .pre in (P, T, _, _, d)
 
 loop-holds : tie.Need-loop-holds Inv-loop μ-loop
 loop-holds c P T d = rw (sub-zero (roundBound P)) (going-start (c .begin .ensures P T _ _ d))
 
+abbrev start : tie.At-loop Inv-loop μ-loop → tie.Start Inv-loop μ-loop
+start l = l .before .before .before .before .before .before
+
 advance-requires : tie.Need-advance-requires Inv-loop μ-loop
 advance-requires c κs =
-    let (P, T, d) = c .before .before .before .before .before .before .before .before .before .before .before .before .before .before .pre in
-    let g = c .before .before .before .before .before .before .before .loop .inv P T d in
+    let l = c .before .before .before .before .before .before .before in
+    let (P, T, d) = start l .pre in
+    let g = l .loop .inv P T d in
     (P, g .here, g .kept)
-
-abbrev start : tie.After-advance Inv-loop μ-loop → tie.Start Inv-loop μ-loop
-start c = c .before .before .before .before .before .before .before .before .before .before .before .before .before .before .before
 
 abbrev turn : tie.After-advance Inv-loop μ-loop → tie.At-loop Inv-loop μ-loop
 turn c = c .before .before .before .before .before .before .before .before
@@ -50,7 +51,7 @@ goes c = not-true _ (c .if1 .taken)
 add-made : tie.Need-add-made Inv-loop μ-loop
 add-made c =
     let a = c .before in
-    let (P, T, d) = start a .pre in
+    let (P, T, d) = start (turn a) .pre in
     let g = turn a .loop .inv P T d in
     let r = a .advance .ensures P (g .here) (g .kept) in
     omega (arith, going-left g (begun-ends d) (r .done ∙ goes c), roundBound-fits (d .sound))
@@ -58,7 +59,7 @@ add-made c =
 loop-less : tie.Need-loop-less Inv-loop μ-loop
 loop-less c =
     let a = c .before in
-    let (P, T, d) = start a .pre in
+    let (P, T, d) = start (turn a) .pre in
     let g = turn a .loop .inv P T d in
     let r = a .advance .ensures P (g .here) (g .kept) in
     value-falls (g .kept) (r .done ∙ goes c) (kept-next r (goes c))

@@ -9,12 +9,12 @@ use Rattle.rounds.proofs.run.is_finished.Statement.{statement}
 use Rattle.rounds.proofs.run.is_finished.Tie as tie
 
 begin-requires : tie.Need-begin-requires
-begin-requires c κs = c .before .before .before .before .pre
+begin-requires c κs = c .before .before .before .pre
 
 entering-requires : tie.Need-entering-requires
 entering-requires c κs =
     let b = c .before .before in
-    let (P, T, q, e, d) = b .before .before .before .before .before .pre in
+    let (P, T, q, e, d) = b .before .before .before .before .pre in
     let k = b .begin .ensures P T q e d in
     (kept-range k, k .slacks)
 

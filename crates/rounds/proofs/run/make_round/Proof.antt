@@ -4,12 +4,12 @@ use Rattle.rounds.proofs.run.make_round.Statement.{statement}
 use Rattle.rounds.proofs.run.make_round.Tie as tie
 
 begin-requires : tie.Need-begin-requires
-begin-requires c κs = let (P, T, d) = c .before .before .before .before .before .pre in (P, T, _, _, d)
+begin-requires c κs = let (P, T, d) = c .before .before .before .before .pre in (P, T, _, _, d)
 
 advance-requires : tie.Need-advance-requires
 advance-requires c κs =
     let s = c .before .before .before .before .before .before .before in
-    let (P, T, d) = s .before .before .before .before .before .before .pre in
+    let (P, T, d) = s .before .before .before .before .before .pre in
     (P, T, s .begin .ensures P T _ _ d)
 
 returns : tie.Need-returns

@@ -24,15 +24,19 @@ abbrev μ-loop : tie.MeasureT-loop
     left
 
 begin-requires : tie.Need-begin-requires Inv-loop μ-loop
-begin-requires c κs = let (P, T, d) = c .before .before .before .before .before .pre in (P, T, _, _, d)
+begin-requires c κs = let (P, T, d) = c .before .before .before .before .pre in (P, T, _, _, d)
 
 loop-holds : tie.Need-loop-holds Inv-loop μ-loop
 loop-holds c = (omega arith, λ P T d. going-start (c .begin .ensures P T _ _ d))
 
+abbrev start : tie.At-loop Inv-loop μ-loop → tie.Start Inv-loop μ-loop
+start l = l .before .before .before .before .before .before
+
 advance-requires : tie.Need-advance-requires Inv-loop μ-loop
 advance-requires c κs =
-    let (P, T, d) = c .before .before .before .before .before .before .before .before .before .before .before .before .before .before .before .pre in
-    let g = c .before .before .before .before .before .before .before .before .loop .inv .1 P T d in
+    let l = c .before .before .before .before .before .before .before .before in
+    let (P, T, d) = start l .pre in
+    let g = l .loop .inv .1 P T d in
     (P, g .here, g .kept)
 
 abbrev turn : tie.After-advance Inv-loop μ-loop → tie.At-loop Inv-loop μ-loop
@@ -48,7 +52,7 @@ sub-left : tie.Need-sub-left Inv-loop μ-loop
 sub-left c = omega arith
 
 add-made : tie.Need-add-made Inv-loop μ-loop
-add-made c = omega (arith, turn (c .before) .loop .inv .0, turn (c .before) .before .before .before .before .before .before .before .fits .allowance .fits)
+add-made c = omega (arith, turn (c .before) .loop .inv .0, start (turn (c .before)) .fits .allowance .fits)
 
 loop-less : tie.Need-loop-less Inv-loop μ-loop
 loop-less c = omega arith
@@ -65,8 +69,9 @@ loop-again c = (
 
 entering-requires : tie.Need-entering-requires Inv-loop μ-loop
 entering-requires c κs =
-    let (P, T, d) = c .before .before .before .before .before .before .before .before .before .before .pre in
-    let k = c .before .before .before .loop .inv .1 P T d .kept in
+    let l = c .before .before .before in
+    let (P, T, d) = start l .pre in
+    let k = l .loop .inv .1 P T d .kept in
     (kept-range k, k .slacks)
 
 returns-2 : tie.Need-returns-2 Inv-loop μ-loop
