@@ -1,4 +1,3 @@
-pub mod Reading
 pub mod LinesRead
 pub mod SheetRead
 pub mod SheetAnswer

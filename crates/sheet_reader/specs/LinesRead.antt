@@ -9,7 +9,7 @@ use lib.ListN.{drop}
 use Rattle.transport.specs.Text.{bytes}
 use Rattle.transport.specs.SheetText.{Reading, stuck, got, Reader, _>>=_, _>>_, pure, times, word, number, line, row}
 use Rattle.sections.specs.Lines.{ending, leftAfter, ending-last, ending-more, left-last, left-more}
-use Rattle.sheet_reader.specs.Reading.{byteNext, bind-got, bind-stuck, endReading, end-stuck, end-yes, end-no, one-yes, one-no, line-end}
+use Rattle.tokens.specs.Reading.{byteNext, bind-got, bind-stuck, endReading, end-stuck, end-yes, end-no, one-yes, one-no, line-end}
 
 module _ {A : Type 0} where
   -- Values that were read before.

@@ -12,7 +12,9 @@ use Rattle.transport.specs.Limits.{maxSources, maxSinks}
 use Rattle.transport.specs.Text.{bytes}
 use Rattle.transport.specs.Sheet.{Sheet as SheetRecord}
 use Rattle.transport.specs.SheetText.{Reading, stuck, got, Reader, _>>=_, pure, sheetReader}
-use Rattle.sheet_reader.specs.Reading.{Taken, Got, Stuck, readingOf, placeOf, valueIs, valueSide, bind-got, bind-stuck}
+use Rattle.tokens.specs.declared.Taken.{Taken}
+use Rattle.tokens.specs.declared.Taken.the-variants.{Got, Stuck}
+use Rattle.tokens.specs.Reading.{readingOf, placeOf, valueIs, valueSide, bind-got, bind-stuck}
 use Rattle.sheet_reader.specs.SheetRead.{listReader, costReader, afterDemand, afterSupply, costs-more, costs-end, sheet-then}
 
 -- The rest of the text from a place on stands for the place. `f` gives the value that was read for the counts in the answer.

@@ -10,7 +10,7 @@ use Rattle.transport.specs.Sheet.{Sheet}
 use Rattle.transport.specs.SheetText.{Reading, stuck, got, Reader, _>>=_, _>>_, pure, times, word, end, number, side, line, row, sheetReader}
 use Rattle.sections.specs.Front.{front, front-take}
 use Rattle.sections.specs.Lines.{ended, head-line}
-use Rattle.sheet_reader.specs.Reading.{bind-got, bind-stuck, bind-inside, bind-same, bind-assoc, then-got, then-stuck, then-same, then-assoc}
+use Rattle.tokens.specs.Reading.{bind-got, bind-stuck, bind-inside, bind-same, bind-assoc, then-got, then-stuck, then-same, then-assoc}
 use Rattle.sheet_reader.specs.LinesRead.{readLines, column-lines, rows-lines, flat}
 
 -- ---- a list after its head line

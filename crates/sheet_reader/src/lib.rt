@@ -1,7 +1,5 @@
-// Read sheet. Each reader starts at a place of the text, and its answer says where it ended.
-pub mod bytes;
+// Read sheet, section by section.
 pub mod lists;
-pub mod numbers;
 pub mod storing;
 pub mod whole_text;
 
@@ -16,12 +14,6 @@ use transport::MAX_LANES;
 use transport::MAX_SINKS;
 use transport::MAX_SOURCES;
 use transport::ReadAnswer;
-
-// What a reader finds from its place on: a value, with the place after it; or the place before the first byte that cannot come there.
-pub enum Taken {
-    Got { value: u64, next: usize },
-    Stuck(usize),
-}
 
 // Read sheet: the counts of sources and sinks, which then stand in the lent lists with the costs; or the refusal, and the lists are as they were.
 // The text is read into lists of the largest sheet first, so that nothing is stored before all of it is known to be good.

@@ -9,7 +9,7 @@ use lib.ListN.{length, take, drop, length-set}
 use lib.Seq.{take-suc-set}
 use Rattle.transport.specs.SheetText.{stuck, got, number}
 use Rattle.sections.specs.Lines.{ending, left-pos}
-use Rattle.sheet_reader.specs.Reading.{readingOf, endReading}
+use Rattle.tokens.specs.Reading.{readingOf, endReading}
 use Rattle.sheet_reader.specs.LinesRead.{readLines, read-none, read-stuck, read-got, after, after-nil, after-stuck, after-got, after-after}
 use Rattle.sheet_reader.proofs.lists.read_lines.Statement.{statement}
 use Rattle.sheet_reader.proofs.lists.read_lines.Tie as tie

@@ -6,7 +6,7 @@ use lib.ListN.{length, drop}
 use Rattle.transport.specs.SheetText.{got, word, line, side}
 use Rattle.transport.specs.Laws.SheetLaws.{within-true}
 use Rattle.sections.specs.Lines.{ending-last}
-use Rattle.sheet_reader.specs.Reading.{readingOf, side-value, line-end, line-side-within}
+use Rattle.tokens.specs.Reading.{readingOf, side-value, line-end, line-side-within}
 use Rattle.sheet_reader.specs.SheetRead.{list-unnamed, list-uncounted, list-counted}
 use borrow.Author.Needs.{needs}
 use Rattle.sheet_reader.proofs.lists.read_list.Statement.{statement}

@@ -5,7 +5,7 @@ ghost use lib.ListN.{length, drop};
 ghost use Rattle.transport.specs.Text.{kindOf};
 ghost use Rattle.transport.specs.SheetText.{word};
 ghost use Rattle.sections.specs.Lines.{ending};
-ghost use Rattle.sheet_reader.specs.Reading.{kindNext, byteNext, digitNext, readingOf, placeOf};
+ghost use Rattle.tokens.specs.Reading.{kindNext, byteNext, digitNext, readingOf, placeOf};
 use crate::Taken;
 use transport::ByteKind;
 
@@ -71,7 +71,7 @@ fn byte_at(text: &[u8], at: usize, byte: u8) -> bool
 }
 
 // These bytes.
-pub(crate) fn read_word(text: &[u8], at: usize, expected: &[u8]) -> Taken
+pub fn read_word(text: &[u8], at: usize, expected: &[u8]) -> Taken
     requires { ⌜ at ≤ length (now text) ⌝ }
     ensures { λ r. ⌜
         (word (now (expected .entry)) (drop at (now (text .entry))) ≡ readingOf (now (text .entry)) (λ v. tt) r)

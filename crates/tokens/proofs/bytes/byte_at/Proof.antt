@@ -1,9 +1,9 @@
 -- At the end no byte comes next, and before it the byte at the place does.
 use mathlib.Core.Path.{sym}
-use Rattle.sheet_reader.specs.Reading.{byte-end, byte-here}
+use Rattle.tokens.specs.Reading.{byte-end, byte-here}
 use borrow.Author.Needs.{needs}
-use Rattle.sheet_reader.proofs.bytes.byte_at.Statement.{statement}
-use Rattle.sheet_reader.proofs.bytes.byte_at.Tie as tie
+use Rattle.tokens.proofs.bytes.byte_at.Statement.{statement}
+use Rattle.tokens.proofs.bytes.byte_at.Tie as tie
 
 returns : tie.Need-returns
 returns c = sym (byte-end (c .before .args .text .now) (c .before .args .at) (c .before .args .byte) (c .if1 .taken))

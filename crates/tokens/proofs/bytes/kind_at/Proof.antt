@@ -1,9 +1,9 @@
 -- At the end no byte comes next, and before it the byte at the place does.
 use mathlib.Core.Path.{sym, _∙_}
-use Rattle.sheet_reader.specs.Reading.{kind-end, kind-here}
+use Rattle.tokens.specs.Reading.{kind-end, kind-here}
 use borrow.Author.Needs.{needs}
-use Rattle.sheet_reader.proofs.bytes.kind_at.Statement.{statement}
-use Rattle.sheet_reader.proofs.bytes.kind_at.Tie as tie
+use Rattle.tokens.proofs.bytes.kind_at.Statement.{statement}
+use Rattle.tokens.proofs.bytes.kind_at.Tie as tie
 
 returns : tie.Need-returns
 returns c = sym (kind-end (c .before .before .args .text .now) (c .before .before .args .at) (c .if1 .taken))

@@ -6,9 +6,9 @@ use native.Mathlib.Omega.{arith}
 use borrow.Author.Tests.{not-true, not-false}
 use lib.ListN.{length, drop, getD}
 use Rattle.transport.specs.SheetText.{moreDigits}
-use Rattle.sheet_reader.specs.Reading.{always, DigitAt, digit-at, more-none, more-stop, more-step, value-next, value-fits}
-use Rattle.sheet_reader.proofs.numbers.more_digits.Statement.{statement}
-use Rattle.sheet_reader.proofs.numbers.more_digits.Tie as tie
+use Rattle.tokens.specs.Reading.{always, DigitAt, digit-at, more-none, more-stop, more-step, value-next, value-fits}
+use Rattle.tokens.proofs.numbers.more_digits.Statement.{statement}
+use Rattle.tokens.proofs.numbers.more_digits.Tie as tie
 
 abbrev Inv-loop : tie.InvT-loop
 Inv-loop text at first most value₀ next₀ count₀ value next count = (count ≤ most) × (value < 10 ^ count) × (next ≤ length text)

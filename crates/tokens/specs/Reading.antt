@@ -21,8 +21,8 @@ use Rattle.transport.specs.Laws.SheetLaws.{within-true, true-within, within-low
 use Rattle.transport.specs.declared.ByteKind.{ByteKind}
 use Rattle.transport.specs.declared.ByteKind.the-variants.{Digit, Space, LineEnd, Letter, Other}
 use Rattle.sections.specs.Lines.{ending}
-pub use Rattle.sheet_reader.specs.declared.Taken.{Taken}
-pub use Rattle.sheet_reader.specs.declared.Taken.the-variants.{Got, Stuck}
+pub use Rattle.tokens.specs.declared.Taken.{Taken}
+pub use Rattle.tokens.specs.declared.Taken.the-variants.{Got, Stuck}
 
 -- The rest of the text from a place on stands for the place. `f` gives the value that was read for the number in the answer.
 abbrev pub readingOf : {A : Type 0} → List ℕ → (ℕ → A) → Taken → Reading A

@@ -4,9 +4,9 @@ use native.Mathlib.Omega.{arith}
 use Rattle.transport.specs.Lists.{within}
 use Rattle.transport.specs.Text.{kindOf}
 use Rattle.transport.specs.Laws.SheetLaws.{within-low, within-high}
-use Rattle.sheet_reader.specs.Reading.{kind-digit, kind-letter, kind-other}
-use Rattle.sheet_reader.proofs.bytes.kind_of.Statement.{statement}
-use Rattle.sheet_reader.proofs.bytes.kind_of.Tie as tie
+use Rattle.tokens.specs.Reading.{kind-digit, kind-letter, kind-other}
+use Rattle.tokens.proofs.bytes.kind_of.Statement.{statement}
+use Rattle.tokens.proofs.bytes.kind_of.Tie as tie
 
 returns : tie.Need-returns
 unfolding kindOf within

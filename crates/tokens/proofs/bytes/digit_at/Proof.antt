@@ -1,9 +1,9 @@
 -- Each kind says whether the byte is a digit.
 use mathlib.Core.Path.{sym, _∙_}
-use Rattle.sheet_reader.specs.Reading.{digit-told}
+use Rattle.tokens.specs.Reading.{digit-told}
 use borrow.Author.Needs.{needs}
-use Rattle.sheet_reader.proofs.bytes.digit_at.Statement.{statement}
-use Rattle.sheet_reader.proofs.bytes.digit_at.Tie as tie
+use Rattle.tokens.proofs.bytes.digit_at.Statement.{statement}
+use Rattle.tokens.proofs.bytes.digit_at.Tie as tie
 
 kind-at-requires : tie.Need-kind-at-requires
 kind-at-requires c κs = search needs

@@ -6,10 +6,10 @@ use native.Mathlib.Omega.{arith}
 use borrow.Author.Tests.{not-true, not-false}
 use lib.ListN.{length, drop}
 use Rattle.sections.specs.Lines.{ending}
-use Rattle.sheet_reader.specs.Reading.{byteNext, byte-inside, drop-next, end-stuck, end-no, end-yes, Got}
+use Rattle.tokens.specs.Reading.{byteNext, byte-inside, drop-next, end-stuck, end-no, end-yes, Got}
 use borrow.Author.Needs.{needs}
-use Rattle.sheet_reader.proofs.numbers.read_end.Statement.{statement}
-use Rattle.sheet_reader.proofs.numbers.read_end.Tie as tie
+use Rattle.tokens.proofs.numbers.read_end.Statement.{statement}
+use Rattle.tokens.proofs.numbers.read_end.Tie as tie
 
 enum-known-number : tie.Need-enum-known-number
 enum-known-number c = search needs

@@ -4,7 +4,7 @@ ghost use Prim.Native.Nat.{_-_, _≤_, _<_};
 ghost use lib.ListN.{length, drop};
 ghost use Rattle.transport.specs.SheetText.{moreDigits, number, side};
 ghost use Rattle.sections.specs.Lines.{ending};
-ghost use Rattle.sheet_reader.specs.Reading.{readingOf, placeOf, always, endReading};
+ghost use Rattle.tokens.specs.Reading.{readingOf, placeOf, always, endReading};
 use crate::Taken;
 use crate::bytes::digit_at;
 use crate::bytes::end_at;
@@ -35,7 +35,7 @@ fn more_digits(text: &[u8], at: usize, first: u64, most: usize) -> Taken
 }
 
 // A number of one to seven digits, with no leading 0 except 0 itself.
-pub(crate) fn read_number(text: &[u8], at: usize) -> Taken
+pub fn read_number(text: &[u8], at: usize) -> Taken
     requires { ⌜ at ≤ length (now text) ⌝ }
     ensures { λ r. ⌜ (number (drop at (now (text .entry))) ≡ readingOf (now (text .entry)) (λ v. v) r) × (placeOf r ≤ length (now (text .entry))) ⌝ }
 {
@@ -51,7 +51,7 @@ pub(crate) fn read_number(text: &[u8], at: usize) -> Taken
 }
 
 // A count of sources or sinks: 1 to `most`, which has two digits or is 9.
-pub(crate) fn read_side(text: &[u8], at: usize, most: u64) -> Taken
+pub fn read_side(text: &[u8], at: usize, most: u64) -> Taken
     requires { ⌜ (at ≤ length (now text)) × (9 ≤ most) ⌝ }
     ensures { λ r. ⌜
         (side most (drop at (now (text .entry))) ≡ readingOf (now (text .entry)) (λ v. v) r)
@@ -80,7 +80,7 @@ pub(crate) fn read_side(text: &[u8], at: usize, most: u64) -> Taken
 }
 
 // The end of a number that was read.
-pub(crate) fn read_end(text: &[u8], number: Taken, left: usize) -> Taken
+pub fn read_end(text: &[u8], number: Taken, left: usize) -> Taken
     requires { ⌜ placeOf number ≤ length (now text) ⌝ }
     ensures { λ r. ⌜
         (endReading (ending left) (readingOf (now (text .entry)) (λ v. v) number) ≡ readingOf (now (text .entry)) (λ v. v) r)

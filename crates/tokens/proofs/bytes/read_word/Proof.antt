@@ -10,9 +10,9 @@ use borrow.Author.Tests.{not-true, not-false}
 use lib.ListN.{length, drop, getD, drop-of-length-le}
 use lib.Seq.{drop-cons}
 use Rattle.transport.specs.SheetText.{word}
-use Rattle.sheet_reader.specs.Reading.{byteNext, byte-inside, drop-next, word-nil, word-yes, word-no}
-use Rattle.sheet_reader.proofs.bytes.read_word.Statement.{statement}
-use Rattle.sheet_reader.proofs.bytes.read_word.Tie as tie
+use Rattle.tokens.specs.Reading.{byteNext, byte-inside, drop-next, word-nil, word-yes, word-no}
+use Rattle.tokens.proofs.bytes.read_word.Statement.{statement}
+use Rattle.tokens.proofs.bytes.read_word.Tie as tie
 
 abbrev Inv-loop : tie.InvT-loop
 Inv-loop text at expected next₀ i₀ next i = (i ≤ length expected) × (next ≤ length text)

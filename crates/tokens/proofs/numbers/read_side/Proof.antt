@@ -4,10 +4,10 @@ use Prim.Native.Nat.{_+_}
 use native.Mathlib.Omega.{arith}
 use borrow.Author.Tests.{not-true, not-false}
 use Rattle.transport.specs.Laws.SheetLaws.{true-within, within-high}
-use Rattle.sheet_reader.specs.Reading.{DigitAt, digit-at, more-none, more-stop, more-step, more-over, side-stuck, side-zero, side-more}
+use Rattle.tokens.specs.Reading.{DigitAt, digit-at, more-none, more-stop, more-step, more-over, side-stuck, side-zero, side-more}
 use borrow.Author.Needs.{needs}
-use Rattle.sheet_reader.proofs.numbers.read_side.Statement.{statement}
-use Rattle.sheet_reader.proofs.numbers.read_side.Tie as tie
+use Rattle.tokens.proofs.numbers.read_side.Statement.{statement}
+use Rattle.tokens.proofs.numbers.read_side.Tie as tie
 
 digit-at-requires : tie.Need-digit-at-requires
 digit-at-requires c κs = search needs

@@ -3,10 +3,10 @@ use mathlib.Core.Path.{sym, _∙_}
 use native.Mathlib.Omega.{arith}
 use borrow.Author.Tests.{not-true, not-false}
 use Rattle.transport.specs.Limits.{maxDigits}
-use Rattle.sheet_reader.specs.Reading.{DigitAt, digit-at, number-stuck, number-zero, number-more}
+use Rattle.tokens.specs.Reading.{DigitAt, digit-at, number-stuck, number-zero, number-more}
 use borrow.Author.Needs.{needs}
-use Rattle.sheet_reader.proofs.numbers.read_number.Statement.{statement}
-use Rattle.sheet_reader.proofs.numbers.read_number.Tie as tie
+use Rattle.tokens.proofs.numbers.read_number.Statement.{statement}
+use Rattle.tokens.proofs.numbers.read_number.Tie as tie
 
 digit-at-requires : tie.Need-digit-at-requires
 digit-at-requires c κs = search needs

@@ -1,0 +1,10 @@
+// What a sheet text is read by: bytes of a kind, words, numbers and the bytes that end them. Each reader starts at a place of the text, and its answer says where
+// it ended.
+pub mod bytes;
+pub mod numbers;
+
+// What a reader finds from its place on: a value, with the place after it; or the place before the first byte that cannot come there.
+pub enum Taken {
+    Got { value: u64, next: usize },
+    Stuck(usize),
+}
