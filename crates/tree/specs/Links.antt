@@ -115,12 +115,12 @@ place-col m x i p = rw (le-ltb x m p)
 
 module _ {m n : ℕ} {live : List ℕ} (w : Links m n live) where
   -- Lane y of node x, seen from the sheet: x is row x and y the column, or x is column x − m and y the row.
-  pub data Seen (x y : ℕ) : Type 0 where
-    of-row : x < m → y < n → Seen x y
-    of-col : m ≤ x → x - m < n → y < m → tied live (m + (x - m)) y ≡ true → Seen x y
+  pub data RowOrCol (x y : ℕ) : Type 0 where
+    of-row : x < m → y < n → RowOrCol x y
+    of-col : m ≤ x → x - m < n → y < m → tied live (m + (x - m)) y ≡ true → RowOrCol x y
 
-  pub seen : (x y : ℕ) → x < m + n → tied live x y ≡ true → Seen x y
-  seen x y l e = by-cases (decLt x m)
+  pub row-or-col : (x y : ℕ) → x < m + n → tied live x y ≡ true → RowOrCol x y
+  row-or-col x y l e = by-cases (decLt x m)
       (λ p. of-row p (w .inRow x y p e))
       (λ p. let s : m + (x - m) ≡ x = omega arith in
       let h : tied live (m + (x - m)) y ≡ true = rw s e in
@@ -128,37 +128,37 @@ module _ {m n : ℕ} {live : List ℕ} (w : Links m n live) where
 
   module _ (x y : ℕ) (l : x < m + n) (e : tied live x y ≡ true) where
     pub end-below : otherEnd m x y < m + n
-    end-below = go (seen x y l e)
+    end-below = go (row-or-col x y l e)
       where
-        go : Seen x y → otherEnd m x y < m + n
+        go : RowOrCol x y → otherEnd m x y < m + n
         go (of-row p q) = omega (arith, end-row m x y p)
         go (of-col p q r h) = omega (arith, end-col m x y p)
 
     pub end-apart : otherEnd m x y ≢ x
-    end-apart = go (seen x y l e)
+    end-apart = go (row-or-col x y l e)
       where
-        go : Seen x y → otherEnd m x y ≢ x
+        go : RowOrCol x y → otherEnd m x y ≢ x
         go (of-row p q) = omega (arith, end-row m x y p)
         go (of-col p q r h) = omega (arith, end-col m x y p)
 
     pub end-back : tied live (otherEnd m x y) (ownBit m x) ≡ true
-    end-back = go (seen x y l e)
+    end-back = go (row-or-col x y l e)
       where
-        go : Seen x y → tied live (otherEnd m x y) (ownBit m x) ≡ true
+        go : RowOrCol x y → tied live (otherEnd m x y) (ownBit m x) ≡ true
         go (of-row p q) = rw (end-row m x y p, own-row m x p) (w .same x y p q ∙ e)
         go (of-col p q r h) = rw (end-col m x y p, own-col m x p) (sym (w .same y (x - m) r q) ∙ h)
 
     pub end-end : otherEnd m (otherEnd m x y) (ownBit m x) ≡ x
-    end-end = go (seen x y l e)
+    end-end = go (row-or-col x y l e)
       where
-        go : Seen x y → otherEnd m (otherEnd m x y) (ownBit m x) ≡ x
+        go : RowOrCol x y → otherEnd m (otherEnd m x y) (ownBit m x) ≡ x
         go (of-row p q) = rw (end-row m x y p, own-row m x p, end-col m (m + y) x (omega arith))
         go (of-col p q r h) = rw (end-col m x y p, own-col m x p, end-row m y (x - m) r) (omega arith)
 
     pub own-end : ownBit m (otherEnd m x y) ≡ y
-    own-end = go (seen x y l e)
+    own-end = go (row-or-col x y l e)
       where
-        go : Seen x y → ownBit m (otherEnd m x y) ≡ y
+        go : RowOrCol x y → ownBit m (otherEnd m x y) ≡ y
         go (of-row p q) = rw (end-row m x y p, own-col m (m + y) (omega arith)) (omega arith)
         go (of-col p q r h) = rw (end-col m x y p, own-row m y r)
 

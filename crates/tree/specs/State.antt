@@ -12,7 +12,7 @@ use Rattle.transport.specs.Problem.{Lane}
 use Rattle.transport.specs.Laws.ProblemLaws.{lane}
 use Rattle.tree.specs.Mask.{cut}
 use Rattle.tree.specs.Layout.{stride, nodeRoom, laneAt, strikeOf, strikesOf, length-strikes}
-use Rattle.tree.specs.Links.{Links, Masks, otherEnd, ownBit, laneTo, joins, tied, Seen, of-row, of-col, seen, without-lane, links-without}
+use Rattle.tree.specs.Links.{Links, Masks, otherEnd, ownBit, laneTo, joins, tied, RowOrCol, of-row, of-col, row-or-col, without-lane, links-without}
 use Rattle.tree.specs.Links.{place-row, place-col}
 use Rattle.tree.specs.Queue.{Queue, room, leaf-low, leaf-few, queue-struck}
 use Rattle.tree.specs.Strip.{Strip, Stripped, nodeLane, nodeStrike, lane-row, lane-col, strip-start, strip-next, stripped-empty, stripped-lost}
@@ -58,9 +58,9 @@ module _ {m n : ℕ} {adj live leaf other lane : List ℕ} {k tail : ℕ} (s : S
     k-room = omega (arith, room (omega (arith, s .links .rowsLow)) (s .queue), s .links .rowsHigh, s .links .colsHigh)
 
     lane-placed : laneAt place ≡ nodeLane m now b
-    lane-placed = go (seen (s .links) now b (s .queue .nodes k waits .1) e)
+    lane-placed = go (row-or-col (s .links) now b (s .queue .nodes k waits .1) e)
       where
-        go : Seen (s .links) now b → laneAt place ≡ nodeLane m now b
+        go : RowOrCol (s .links) now b → laneAt place ≡ nodeLane m now b
         go (of-row p q) =
             let u : (now * stride + b) / stride ≡ now = omega (arith, s .links .colsHigh) in
             let v : (now * stride + b) % stride ≡ b = omega (arith, s .links .colsHigh) in

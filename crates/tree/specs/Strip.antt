@@ -26,7 +26,7 @@ use Rattle.tableaux.specs.Leaves.{Ends, row-struck, column-struck, Leaf, Linked
 use Rattle.tableaux.specs.Leaves.{leaf-lane, length-without, has-lane, touches-true, touches-false}
 use Rattle.tableaux.specs.Striking.{no-members, nodes-others, StrikeStep, Peeled, bare, peel, Struck, every-leaf, strike-once, struck-joined, joined-linked}
 use Rattle.tableaux.specs.Striking.{spans-iff}
-use Rattle.tree.specs.Links.{Links, Masks, otherEnd, ownBit, tied, single, iff-same, end-row, end-col, end-back, Seen, of-row, of-col, seen}
+use Rattle.tree.specs.Links.{Links, Masks, otherEnd, ownBit, tied, single, iff-same, end-row, end-col, end-back, RowOrCol, of-row, of-col, row-or-col}
 use Rattle.tree.specs.Links.{without-lane, gone-from, gone-to}
 use Rattle.tree.specs.Queue.{Queue, leaf-low, leaf-few}
 
@@ -102,9 +102,9 @@ record NodeLane (m n : ℕ) (live : List ℕ) (x y : ℕ) : Type 0 where
 module _ {m n : ℕ} {live : List ℕ} (w : Links m n live) where
   laid : (x y : ℕ) → x < m + n → tied live x y ≡ true → NodeLane m n live x y
   unfolding touches
-  laid x y l e = go (seen w x y l e)
+  laid x y l e = go (row-or-col w x y l e)
     where
-      go : Seen w x y → NodeLane m n live x y
+      go : RowOrCol w x y → NodeLane m n live x y
       go (of-row p q) =
           let r = lane-row m x y p in
           record { row = rw r p; col = rw r q; lives = rw r e; touch = rw (r, eq-eqb x x refl); ends = row-struck (rw r) (rw (r, end-row m x y p)) }

@@ -51,6 +51,10 @@ module _ (w : Width) where
   pub diff-fits : (a b : ℤ) → natAbs a + natAbs b < 2 ^ hbits w → SFits w (a -ℤ b)
   diff-fits a b p = abs-fits (a -ℤ b) (omega (arith, abs-diff a b))
 
+  -- Either way round, so that a program that subtracts the wrong way round is in range too, and what shuts it out is its contract.
+  pub diff-turned : (a b : ℤ) → natAbs b + natAbs a < 2 ^ hbits w → SFits w (a -ℤ b)
+  diff-turned a b p = diff-fits a b (omega arith)
+
   -- The number of the bits of a number in range.
   pub back : (a : ℤ) → mag a < 2 ^ hbits w → toZ w (ofZ w a) ≡ a
   back a p = toZ-ofZ {w = w} (record { sfits = p })
