@@ -19,7 +19,7 @@ ghost use Rattle.transport.specs.Sheet.{Sheet, problemOf, sheetOf};
 ghost use Rattle.transport.specs.Tableau.{start};
 ghost use Rattle.transport.specs.Calls.{lentAfter, solveCall};
 ghost use Rattle.transport.specs.Answers.{solveAnswer};
-ghost use Rattle.transport.specs.Statements.{Bought};
+ghost use Rattle.transport.specs.Statements.{Accepted, Bought};
 ghost use Rattle.tree.specs.Layout.{stride};
 ghost use Rattle.dealing.specs.Dealt.{Dealt};
 ghost use Rattle.plan_calls.specs.Solve.{SolveStored};
@@ -76,6 +76,58 @@ fn solve_on(
     rounds
 }
 
+// Solves a sheet that passed its check, from its first tableau on: the rounds made. Prices and plan then stand in their lists.
+fn solve_checked(
+    supply: &[u64],
+    demand: &[u64],
+    cost: &[u64],
+    u: &mut [i64],
+    v: &mut [i64],
+    plan: &mut [u64],
+) -> u64
+    requires { ⌜ Accepted (sheetOf (now supply) (now demand) (now cost)) ⌝ }
+    requires { ⌜
+        (length (now supply) ≤ length (now u))
+        × (length (now demand) ≤ length (now v))
+        × (length (now supply) * length (now demand) ≤ length (now plan))
+        ⌝ }
+    ensures { λ r.
+        let S = sheetOf (now (supply .entry)) (now (demand .entry)) (now (cost .entry)) in
+        ⌜ SolveStored S r (now (u .entry)) (now (u .exit)) (now (v .entry)) (now (v .exit)) (now (plan .entry)) (now (plan .exit)) ⌝ }
+{
+    let m = supply.len();
+    let n = demand.len();
+    let mut q = [0i64; LANES];
+    let mut e = [0i64; LANES];
+    let mut leaf = [0usize; NODES];
+    let mut other = [0usize; NODES];
+    let mut lane = [0usize; NODES];
+    let first = first_tableau(supply, demand);
+    lay_out(
+        first,
+        m,
+        n,
+        &mut q,
+        &mut e,
+        &mut leaf,
+        &mut other,
+        &mut lane,
+    );
+    solve_on(
+        cost,
+        m,
+        n,
+        &mut q,
+        &mut e,
+        &leaf,
+        &other,
+        &mut lane,
+        u,
+        v,
+        plan,
+    )
+}
+
 // Solve: cost and rounds in its answer; the prices of the first finished tableau, and the settled plan, in the lent lists. It refuses what the sheet check
 // refuses, and by 8 lists that are too short.
 pub fn solve(
@@ -108,35 +160,7 @@ pub fn solve(
     if lacking_room(u.len(), v.len(), plan.len(), m, n) > 0 {
         return too_short;
     }
-    let mut q = [0i64; LANES];
-    let mut e = [0i64; LANES];
-    let mut leaf = [0usize; NODES];
-    let mut other = [0usize; NODES];
-    let mut lane = [0usize; NODES];
-    let first = first_tableau(supply, demand);
-    lay_out(
-        first,
-        m,
-        n,
-        &mut q,
-        &mut e,
-        &mut leaf,
-        &mut other,
-        &mut lane,
-    );
-    let rounds = solve_on(
-        cost,
-        m,
-        n,
-        &mut q,
-        &mut e,
-        &leaf,
-        &other,
-        &mut lane,
-        u,
-        v,
-        plan,
-    );
+    let rounds = solve_checked(supply, demand, cost, u, v, plan);
     let total = plan_cost(plan, cost);
     let solved = SolveAnswer::Solved {
         cost: total,
