@@ -47,7 +47,13 @@ fn refused_round(number: u8) -> RoundAnswer
     }
 }
 
-// The round on a tableau that belongs to its sheet, of m sources and n sinks: whether it is finished, and its prices. If it is not, the arrays hold the next.
+// What a round gives: whether the tableau is finished, and the prices of the one that the arrays then hold.
+struct Turn {
+    finished: bool,
+    price: [Price; NODES],
+}
+
+// The round on a tableau that belongs to its sheet, of m sources and n sinks. The arrays then hold it, or the next one if it is not finished.
 fn round_on(
     cost: &[u64],
     m: usize,
@@ -57,18 +63,19 @@ fn round_on(
     leaf: &[usize; NODES],
     other: &[usize; NODES],
     lane: &mut [usize; NODES],
-    price: &mut [Price; NODES],
-) -> bool
+) -> Turn
     requires { ⌜ ((P : Problem) × (T : List Cell) × Dealt P T (now cost) (now q) (now e) (now leaf) (now other) (now lane) m n) ⌝ }
     ensures { λ r. ⌜
         ((P : Problem) (T : List Cell)
         → Dealt P T (now (cost .entry)) (now (q .entry)) (now (e .entry)) (now (leaf .entry)) (now (other .entry)) (now (lane .entry)) m n
-        → Rounded P T (now (q .exit)) (now (e .exit)) (now (price .exit)) (now (lane .exit)) m n r)
+        → Rounded P T (now (q .exit)) (now (e .exit)) (r .price) (now (lane .exit)) m n (r .finished))
         ⌝ }
 {
     let mut lane_cost: [Price; LANES] = [0; LANES];
+    let mut price: [Price; NODES] = [0; NODES];
     costs::spread_costs(cost, m, n, &mut lane_cost);
-    rounds::run::make_round(q, e, &lane_cost, leaf, other, lane, m, n, price)
+    let finished = rounds::run::make_round(q, e, &lane_cost, leaf, other, lane, m, n, &mut price);
+    Turn { finished, price }
 }
 
 // Round: the next tableau, or that this one is finished, with its prices. It refuses what the sheet check refuses, and by 6 a tableau that does not belong.
@@ -88,7 +95,6 @@ pub fn round(supply: &[u64], demand: &[u64], cost: &[u64], t: Tableau) -> RoundA
     let mut leaf = [0usize; NODES];
     let mut other = [0usize; NODES];
     let mut lane = [0usize; NODES];
-    let mut price: [Price; NODES] = [0; NODES];
     if !belonging::load(
         supply,
         demand,
@@ -101,17 +107,7 @@ pub fn round(supply: &[u64], demand: &[u64], cost: &[u64], t: Tableau) -> RoundA
     ) {
         return refused_round(6);
     }
-    let finished = round_on(
-        cost,
-        m,
-        n,
-        &mut q,
-        &mut e,
-        &leaf,
-        &other,
-        &mut lane,
-        &mut price,
-    );
+    let Turn { finished, price } = round_on(cost, m, n, &mut q, &mut e, &leaf, &other, &mut lane);
     if finished {
         return RoundAnswer {
             outcome: RoundOutcome::Finished,
