@@ -212,9 +212,9 @@ module _ {cost old price slack : List ℤ} {m n side row : ℕ} {reduced : ℤ} 
       rises : (j : ℕ) → has moving j ≡ true → toZ (v j) ≼ toZ (getD price (m + j) (pos 0))
       rises j h = rw (moves j h, e) (omega (arith, z-add (v j) (negℤ reduced), z-neg reduced, lt-yes reduced (pos 0) (w .negative)))
 
-  -- Where it is not, they fell by some x, and no column rose. A row's least old slack, raised by x, is the least of all its old slacks raised by x. Of these the
-  -- columns that moved have their new slacks, just so; the others have theirs raised by x, so that their new slacks, which are their old ones, are lower. To
-  -- take in the columns that did not move is then to relax again, and gives the least of the new slacks. No column that moved is looked at.
+  -- Where it is not, they fell by some x, and no column rose. A row's least old slack, raised by x, is the least of all its old slacks raised by x. Of these
+  -- the columns that moved have their new slacks, just so; the others have theirs raised by x, so that their new slacks, which are their old ones, are lower.
+  -- To take in the columns that did not move is then to relax again, and gives the least of the new slacks. No column that moved is looked at.
   module _ {first : ℕ} (all : first ≡ firstBits n) where
     -- The columns that did not move.
     abbrev resting : ℕ

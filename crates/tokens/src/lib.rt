@@ -1,5 +1,5 @@
-// What a sheet text is read by: bytes of a kind, words, numbers and the bytes that end them. Each reader starts at a place of the text, and its answer says where
-// it ended.
+// What a sheet text is read by: bytes of a kind, words, numbers and the bytes that end them. Each reader starts at a place of the text, and its answer says
+// where it ended.
 pub mod bytes;
 pub mod numbers;
 

@@ -1,5 +1,5 @@
--- `augment::search::reach` meets its contract. The loop's invariant: the columns that are not left reach, and their rows are gathered; the measure is the mask of
--- those left.
+-- `augment::search::reach` meets its contract. The loop's invariant: the columns that are not left hang on the position, and their rows are gathered; the
+-- measure is the mask of those left.
 use Prim.Native.Nat.{ℕ, _<_}
 use native.Mathlib.Omega.{arith}
 use Rattle.tree.specs.MaskLaws.{minus}

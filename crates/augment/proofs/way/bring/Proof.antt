@@ -1,5 +1,5 @@
--- `augment::way::bring` meets its contract. The loop's invariant: whatever the bags were before the first move, they have moved along the way up to the position
--- (`Bringing`), which is the measure.
+-- `augment::way::bring` meets its contract. The loop's invariant: whatever the bags were before the first move, they have moved along the way up to the
+-- position (`Bringing`), which is the measure.
 use mathlib.Core.Path.{_≡_}
 use mathlib.Core.List.{List}
 use Prim.Native.Nat.{ℕ, _<_}
