@@ -17,7 +17,6 @@ use Rattle.transport.specs.Laws.Sound.{Sound}
 use Rattle.transport.specs.Tableau.{noCell, laneOf, basisOf, basisSize, cellsOf, tableauOf, noTableau, lentTableau}
 use Rattle.transport.specs.Belonging.{onSheet, inOrder, aboveZero, balanced, spans, cellsBelong, belongs}
 use Rattle.transport.specs.declared.Cell.{Cell}
-use Rattle.transport.specs.declared.Tableau.{Tableau}
 use Rattle.cells.specs.Lent.{maxCount, addCell, added}
 
 pub added-none : (T : List Cell) → added T 0 ≡ noTableau

@@ -11,7 +11,7 @@ ghost use mathlib.Core.List.{List};
 ghost use mathlib.Core.Bool.{true};
 ghost use Prim.Native.Nat.{ℕ, _+_, _<_, _≤_, _^_};
 ghost use lib.IntN.{ℤ, pos, natAbs};
-ghost use lib.ListN.{length, getD};
+ghost use lib.ListN.{getD};
 ghost use Rattle.transport.specs.Limits.{costAbove};
 ghost use Rattle.tree.specs.Layout.{stride, maxPotential, slackAt};
 ghost use Rattle.tree.specs.Mask.{has};

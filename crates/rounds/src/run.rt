@@ -10,15 +10,12 @@ use tree::Price;
 use tree::cut::plant;
 use tree::potential::potentials;
 use tree::potential::reprice;
-ghost use mathlib.Core.Path.{_≡_};
 ghost use mathlib.Core.Bool.{true};
 ghost use mathlib.Core.List.{List};
 ghost use lib.IntN.{ℤ};
-ghost use lib.ListN.{length};
 ghost use Rattle.transport.specs.Problem.{Problem};
 ghost use Rattle.transport.specs.Round.{roundBound};
 ghost use Rattle.transport.specs.declared.Cell.{Cell};
-ghost use Rattle.tree.specs.Layout.{nodeRoom};
 ghost use Rattle.rounds.specs.Kept.{Kept, Advanced};
 ghost use Rattle.rounds.specs.Runs.{Begun, Judged, Ran, Rounded};
 

@@ -6,13 +6,13 @@ ghost use Rattle.transport.specs.Limits.{maxSources, maxSinks};
 ghost use Rattle.tokens.specs.Reading.{readingOf, placeOf, valueIs, valueSide};
 ghost use Rattle.sheet_reader.specs.LinesRead.{readLines};
 ghost use Rattle.sheet_reader.specs.SheetRead.{listReader, costReader};
+use sections::lines;
+use sections::section;
 use tokens::Taken;
 use tokens::bytes::read_word;
 use tokens::numbers::read_end;
 use tokens::numbers::read_number;
 use tokens::numbers::read_side;
-use sections::lines;
-use sections::section;
 
 // So many numbers, in lines of `width`, into the front of the list.
 fn read_lines(text: &[u8], at: usize, width: usize, count: usize, list: &mut [u64]) -> Taken
