@@ -1,5 +1,2 @@
-pub mod Cost
-pub mod Finished
-pub mod First
 pub mod Settle
 pub mod Solve

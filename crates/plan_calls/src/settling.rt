@@ -1,9 +1,9 @@
 // Settle: from a finished tableau of a sheet to its settled plan.
-use crate::finished::settle_board;
 use board::gather::draw;
 use pricing::costs;
 use rounds::run::is_finished;
 use sheet::SheetCheck;
+use solving::finished::settle_board;
 use transport::SettleAnswer;
 use transport::Tableau;
 use tree::LANES;

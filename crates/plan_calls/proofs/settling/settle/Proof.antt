@@ -21,7 +21,7 @@ use Rattle.sheet.specs.Check.{accepted-none, refused-some}
 use Rattle.board.specs.Drawing.{lane-rows}
 use Rattle.rounds.specs.Runs.{Begun, Judged}
 use Rattle.dealing.specs.Dealt.{Dealt, dealt-costs, dealt-begun, dealt-loaded}
-use Rattle.plan_calls.specs.Finished.{Finished, board-finished}
+use Rattle.solving.specs.Finished.{Finished, board-finished}
 use Rattle.plan_calls.specs.Settle.{sheet-refuses, tableau-refuses, unfinished-refuses, short-refuses, none-refuses, settle-refused, settle-given}
 use Rattle.plan_calls.proofs.settling.settle.Statement.{statement}
 use Rattle.plan_calls.proofs.settling.settle.Tie as tie

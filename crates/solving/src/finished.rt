@@ -15,11 +15,11 @@ ghost use Rattle.transport.specs.Problem.{Problem};
 ghost use Rattle.transport.specs.Sheet.{Sheet, problemOf};
 ghost use Rattle.transport.specs.Plan.{settled};
 ghost use Rattle.transport.specs.declared.Cell.{Cell};
-ghost use Rattle.plan_calls.specs.Finished.{Finished};
+ghost use Rattle.solving.specs.Finished.{Finished};
 
 // Settles the board of a finished tableau: the settled plan stands in the first m × n places of the list, and the rest of it is as it was.
 // The bags become the plan's.
-pub(crate) fn settle_board(
+pub fn settle_board(
     adj: &[u64; NODES],
     q: &mut [i64; LANES],
     cost: &[Price; LANES],

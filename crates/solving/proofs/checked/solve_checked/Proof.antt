@@ -1,4 +1,4 @@
--- `plan_calls::solve::solve_checked` meets its contract: the first tableau of the sheet is laid out, and what is solved from it is the solution of the sheet.
+-- `solving::checked::solve_checked` meets its contract: the first tableau of the sheet is laid out, and what is solved from it is the solution of the sheet.
 use mathlib.Core.Path.{refl}
 use borrow.Author.Needs.{needs}
 use lib.ListN.{length}
@@ -7,9 +7,9 @@ use Rattle.transport.specs.Laws.Sound.{sound}
 use Rattle.transport.specs.Tableau.{start}
 use Rattle.dealing.specs.Corner.{sound-costless}
 use Rattle.dealing.specs.Dealt.{Dealt}
-use Rattle.plan_calls.specs.First.{first-fits, first-dealt}
-use Rattle.plan_calls.proofs.solve.solve_checked.Statement.{statement}
-use Rattle.plan_calls.proofs.solve.solve_checked.Tie as tie
+use Rattle.solving.specs.First.{first-fits, first-dealt}
+use Rattle.solving.proofs.checked.solve_checked.Statement.{statement}
+use Rattle.solving.proofs.checked.solve_checked.Tie as tie
 
 abbrev sheetAt : tie.Start → Sheet
 sheetAt s = sheetOf (s .args .supply .now) (s .args .demand .now) (s .args .cost .now)

@@ -1,4 +1,4 @@
--- `plan_calls::cost::plan_cost` meets its contract. The loop's invariant: the sum over the lanes before l, each of which is at most maxAmount * maxCost.
+-- `solving::cost::plan_cost` meets its contract. The loop's invariant: the sum over the lanes before l, each of which is at most maxAmount * maxCost.
 use Prim.Native.Nat.{ℕ, _*_, _-_, _≤_}
 use native.Mathlib.Omega.{arith}
 use native.Mathlib.Nat.{mul-le-mul}
@@ -7,8 +7,8 @@ use lib.ListN.{length, getD}
 use Rattle.transport.specs.Lists.{at, sumTo}
 use Rattle.transport.specs.Laws.ListLaws.{sumTo-zero, sumTo-one}
 use Rattle.transport.specs.Limits.{maxSources, maxSinks, maxAmount, maxCost}
-use Rattle.plan_calls.proofs.cost.plan_cost.Statement.{statement}
-use Rattle.plan_calls.proofs.cost.plan_cost.Tie as tie
+use Rattle.solving.proofs.cost.plan_cost.Statement.{statement}
+use Rattle.solving.proofs.cost.plan_cost.Tie as tie
 
 abbrev Inv-loop : tie.InvT-loop
 Inv-loop plan cost sum₀ l₀ sum l = (l ≤ length cost) × (sum ≤ l * (maxAmount * maxCost)) × (sum ≡ sumTo l (λ k. at plan k * at cost k))

@@ -1,4 +1,4 @@
--- `plan_calls::solve::solve_on` meets its contract: the rounds come to the finished tableau, whose prices and settled plan are written.
+-- `solving::checked::solve_on` meets its contract: the rounds come to the finished tableau, whose prices and settled plan are written.
 use native.Mathlib.Omega.{arith}
 use mathlib.Core.Bool.{true}
 use borrow.Author.Needs.{needs}
@@ -9,9 +9,9 @@ use Rattle.transport.specs.Round.{roundBound}
 use Rattle.board.specs.Drawing.{lane-rows}
 use Rattle.rounds.specs.Runs.{Ran}
 use Rattle.dealing.specs.Dealt.{Dealt, dealt-costs, dealt-begun, prices-small}
-use Rattle.plan_calls.specs.Solve.{ran-finished, stored-given}
-use Rattle.plan_calls.proofs.solve.solve_on.Statement.{statement}
-use Rattle.plan_calls.proofs.solve.solve_on.Tie as tie
+use Rattle.solving.specs.Stored.{ran-finished, stored-given}
+use Rattle.solving.proofs.checked.solve_on.Statement.{statement}
+use Rattle.solving.proofs.checked.solve_on.Tie as tie
 
 abbrev spreads : tie.After-finish → tie.After-spread-costs
 spreads c = c .before .before .before .before .before .before

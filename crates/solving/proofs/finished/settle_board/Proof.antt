@@ -1,10 +1,10 @@
--- `plan_calls::finished::settle_board` meets its contract: settling starts from the tight lanes, and ends with the settled plan.
+-- `solving::finished::settle_board` meets its contract: settling starts from the tight lanes, and ends with the settled plan.
 use borrow.Author.Needs.{needs}
 use Rattle.transport.specs.Sheet.{problemOf}
 use Rattle.tableaux.specs.PlanView.{supplies, demands}
-use Rattle.plan_calls.specs.Finished.{finished-ranged, finished-settleable, settled-debtless, settled-written}
-use Rattle.plan_calls.proofs.finished.settle_board.Statement.{statement}
-use Rattle.plan_calls.proofs.finished.settle_board.Tie as tie
+use Rattle.solving.specs.Finished.{finished-ranged, finished-settleable, settled-debtless, settled-written}
+use Rattle.solving.proofs.finished.settle_board.Statement.{statement}
+use Rattle.solving.proofs.finished.settle_board.Tie as tie
 
 tight-lanes-requires : tie.Need-tight-lanes-requires
 tight-lanes-requires c κs = finished-ranged (c .before .before .pre .0 .3)

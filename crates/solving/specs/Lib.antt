@@ -1,0 +1,4 @@
+pub mod Cost
+pub mod Finished
+pub mod First
+pub mod Stored

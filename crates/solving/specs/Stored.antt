@@ -1,0 +1,57 @@
+-- What solve has stored before its cost is told: the prices of the first finished tableau and the settled plan, each in its list, with the rounds made.
+use mathlib.Core.Path.{_≡_, sym, ap, _∙_}
+use mathlib.Core.Bool.{true}
+use mathlib.Core.List.{List, _++_}
+use Prim.Native.Nat.{ℕ, _+_, _*_, _-_}
+use lib.IntN.{ℤ, pos}
+use lib.ListN.{length, drop, getD}
+use Rattle.transport.specs.Lists.{table}
+use Rattle.transport.specs.Laws.ListLaws.{length-table}
+use Rattle.transport.specs.Problem.{sources, sinks}
+use Rattle.transport.specs.Sheet.{Sheet, roasteries, cafes, problemOf}
+use Rattle.transport.specs.Calls.{solutionFrom, given, lentAfter, solution}
+use Rattle.transport.specs.Tableau.{start}
+use Rattle.transport.specs.Potential.{sourcePrices, sinkPrices}
+use Rattle.transport.specs.Round.{run, roundBound}
+use Rattle.transport.specs.Plan.{settled}
+use Rattle.tableaux.specs.Ending.{start-finished}
+use Rattle.demands.specs.Demand3.{settled-length}
+use Rattle.board.specs.Drawing.{Redrawn}
+use Rattle.pricing.specs.Costs.{Costed}
+use Rattle.rounds.specs.Runs.{Ran}
+use Rattle.dealing.specs.Dealt.{source-prices, sink-prices}
+use Rattle.solving.specs.Finished.{Finished, board-finished}
+
+-- The rounds are those of the solution, and each lent list, as it was and as it is, holds its part of it.
+pub record SolveStored (S : Sheet) (made : ℕ) (u u′ v v′ : List ℤ) (plan plan′ : List ℕ) : Type 0 where
+  pub rounds : made ≡ solution S .rounds
+  pub uHeld : u′ ≡ lentAfter (λ s. s .u) (given (solution S)) u
+  pub vHeld : v′ ≡ lentAfter (λ s. s .v) (given (solution S)) v
+  pub planHeld : plan′ ≡ lentAfter (λ s. s .plan) (given (solution S)) plan
+
+-- The rounds have come from the start to the finished tableau.
+module _ (S : Sheet) {q e price : List ℤ} {lanes : List ℕ} {m n made : ℕ}
+    (r : Ran (problemOf S) (start (problemOf S)) (roundBound (problemOf S)) q e price lanes m n true made) where
+  pub ran-finished : {cost : List ℤ} {adj : List ℕ} → Costed (problemOf S) cost → Redrawn m lanes (m + n - 1) adj
+      → Finished (problemOf S) (run (problemOf S) (roundBound (problemOf S)) (start (problemOf S)) .tableau) adj q e cost price m n
+  ran-finished costs w = board-finished price (r .board) costs w (start-finished (r .board .sound)) (r .prices)
+
+  module _ {u u′ v v′ : List ℤ} {plan plan′ : List ℕ}
+      (uIs : u′ ≡ table m (λ k. getD price (0 + k) (pos 0)) ++ drop m u)
+      (vIs : v′ ≡ table n (λ k. getD price (m + k) (pos 0)) ++ drop n v)
+      (planIs : plan′ ≡ settled S ++ drop (m * n) plan) where
+    pub stored-given : SolveStored S made u u′ v v′ plan plan′
+    unfolding lentAfter solution solutionFrom problemOf sources sinks roasteries cafes
+    stored-given =
+        let P = problemOf S in
+        let rows = source-prices (r .board) price (r .prices) in
+        let columns = sink-prices (r .board) price (r .prices) in
+        let uLong : length (sourcePrices P (run P (roundBound P) (start P) .tableau)) ≡ m = ap length (sym rows) ∙ length-table _ m in
+        let vLong : length (sinkPrices P (run P (roundBound P) (start P) .tableau)) ≡ n = ap length (sym columns) ∙ length-table _ n in
+        let planLong : length (settled S) ≡ m * n = settled-length S (r .board .sound) ∙ rw (r .board .rows, r .board .columns) in
+        record {
+          rounds = sym (r .rounds);
+          uHeld = uIs ∙ rw (rows, uLong);
+          vHeld = vIs ∙ rw (columns, vLong);
+          planHeld = planIs ∙ rw planLong;
+        }
