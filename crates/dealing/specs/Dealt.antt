@@ -18,7 +18,7 @@ use Rattle.transport.specs.Laws.Sound.{Sound, sound}
 use Rattle.transport.specs.Statements.{Accepted}
 use Rattle.transport.specs.Tableau.{cellsOf, basisSize}
 use Rattle.transport.specs.Belonging.{cellsBelong, belongs}
-use Rattle.transport.specs.Round.{next}
+use Rattle.transport.specs.Round.{next, run}
 use Rattle.transport.specs.Potential.{potential, sourcePrices, sinkPrices}
 use Rattle.integers.specs.Bridge.{z-eq, z-le}
 use Rattle.tableaux.specs.Belonging.{belongs-iff, fits-of, spans-of}
@@ -26,7 +26,7 @@ use Rattle.tableaux.specs.Potentials.{price-size, price-limit}
 use Rattle.tree.specs.Layout.{stride, stride-is, maxPotential}
 use Rattle.board.specs.Arrays.{Loaded, Board}
 use Rattle.pricing.specs.Costs.{Spread, spread-costed}
-use Rattle.rounds.specs.Runs.{Begun, Rounded}
+use Rattle.rounds.specs.Runs.{Begun, Rounded, Ran}
 
 -- The problem P, of m sources and n sinks and with these costs, is sound, and its tableau T is laid out over the arrays: its amounts, and the strikes of its
 -- basis.
@@ -60,6 +60,18 @@ module _ {P : Problem} {T : List Cell} {cost : List ℕ} {q e : List ℤ} {leaf 
     costs = spread-costed P cost out (d .costs) (rw (← d .rows, ← d .columns) s);
     loaded = d .loaded;
   }
+
+-- The run of an allowance on T has ended after `made` rounds, and the arrays hold its last tableau.
+pub record Ended (P : Problem) (T : List Cell) (allowance : ℕ) (q e : List ℤ) (lanes : List ℕ) (m n : ℕ) (finished : Bool) (made : ℕ) : Type 0 where
+  pub done : run P allowance T .finished ≡ finished
+  pub rounds : run P allowance T .rounds ≡ made
+  pub sub : List ℕ
+  pub path : List ℕ
+  pub board : Board P (run P allowance T .tableau) q e sub path lanes m n
+
+pub ended : {P : Problem} {T : List Cell} {allowance : ℕ} {q e price : List ℤ} {lanes : List ℕ} {m n : ℕ} {finished : Bool} {made : ℕ}
+    → Ran P T allowance q e price lanes m n finished made → Ended P T allowance q e lanes m n finished made
+ended r = record { done = r .done; rounds = r .rounds; sub = r .sub; path = r .path; board = r .board }
 
 -- A tableau that was loaded, of an accepted sheet.
 pub dealt-loaded : (S : Sheet) (t : Tableau) {q e : List ℤ} {leaf other lanes : List ℕ} → Accepted S → belongs (problemOf S) t ≡ true

@@ -17,21 +17,7 @@ use Rattle.transport.specs.Potential.{sourcePrices, sinkPrices, isFinished}
 use Rattle.transport.specs.Round.{finished, moved, round, next, Run, run}
 use Rattle.transport.specs.Calls.{given, refusedBy, tableauTests, roundCall, runCall}
 use Rattle.transport.specs.Laws.CallLaws.{unless-before, unless-last, unless-none}
-use Rattle.board.specs.Arrays.{Board}
-use Rattle.rounds.specs.Runs.{Ran}
 use Rattle.transport.specs.Answers.{prices, noPrices, roundAnswer, runAnswer, runOutcome}
-
--- The run of an allowance on T has ended after `made` rounds, and the arrays hold its last tableau.
-pub record Ended (P : Problem) (T : List Cell) (allowance : ℕ) (q e : List ℤ) (lanes : List ℕ) (m n : ℕ) (finished : Bool) (made : ℕ) : Type 0 where
-  pub done : run P allowance T .finished ≡ finished
-  pub rounds : run P allowance T .rounds ≡ made
-  pub sub : List ℕ
-  pub path : List ℕ
-  pub board : Board P (run P allowance T .tableau) q e sub path lanes m n
-
-pub ended : {P : Problem} {T : List Cell} {allowance : ℕ} {q e price : List ℤ} {lanes : List ℕ} {m n : ℕ} {finished : Bool} {made : ℕ}
-    → Ran P T allowance q e price lanes m n finished made → Ended P T allowance q e lanes m n finished made
-ended r = record { done = r .done; rounds = r .rounds; sub = r .sub; path = r .path; board = r .board }
 
 -- ---- round, case by case
 

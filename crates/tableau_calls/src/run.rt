@@ -1,24 +1,17 @@
 // Run: rounds within an allowance.
 use board::gather;
+use dealing::dealt::run_on;
 use dealing::tableau;
-use pricing::costs;
-use rounds::run::Made;
 use sheet::SheetCheck;
 use transport::RunAnswer;
 use transport::RunOutcome;
 use transport::Tableau;
 use tree::LANES;
 use tree::NODES;
-use tree::Price;
 ghost use mathlib.Core.Path.{_≡_};
-ghost use mathlib.Core.List.{List};
-ghost use Rattle.transport.specs.Problem.{Problem};
 ghost use Rattle.transport.specs.Sheet.{sheetOf};
 ghost use Rattle.transport.specs.Calls.{refusedBy, runCall};
 ghost use Rattle.transport.specs.Answers.{runAnswer};
-ghost use Rattle.transport.specs.declared.Cell.{Cell};
-ghost use Rattle.dealing.specs.Dealt.{Dealt};
-ghost use Rattle.tableau_calls.specs.CallCases.{Ended};
 
 fn refused_run(number: u8) -> RunAnswer
     ensures { λ r. ⌜ r ≡ runAnswer (refusedBy number) ⌝ }
@@ -27,42 +20,6 @@ fn refused_run(number: u8) -> RunAnswer
         outcome: RunOutcome::Refused(number),
         tableau: tableau::empty_tableau(),
     }
-}
-
-// The run on a tableau that belongs to its sheet, of m sources and n sinks: how it ended. The arrays then hold its last tableau.
-fn run_on(
-    cost: &[u64],
-    m: usize,
-    n: usize,
-    q: &mut [i64; LANES],
-    e: &mut [i64; LANES],
-    leaf: &[usize; NODES],
-    other: &[usize; NODES],
-    lane: &mut [usize; NODES],
-    allowance: u64,
-) -> Made
-    requires { ⌜ ((P : Problem) × (T : List Cell) × Dealt P T (now cost) (now q) (now e) (now leaf) (now other) (now lane) m n) ⌝ }
-    ensures { λ r. ⌜
-        ((P : Problem) (T : List Cell)
-        → Dealt P T (now (cost .entry)) (now (q .entry)) (now (e .entry)) (now (leaf .entry)) (now (other .entry)) (now (lane .entry)) m n
-        → Ended P T allowance (now (q .exit)) (now (e .exit)) (now (lane .exit)) m n (r .finished) (r .made))
-        ⌝ }
-{
-    let mut lane_cost: [Price; LANES] = [0; LANES];
-    let mut price: [Price; NODES] = [0; NODES];
-    costs::spread_costs(cost, m, n, &mut lane_cost);
-    rounds::run::rounds(
-        q,
-        e,
-        &lane_cost,
-        leaf,
-        other,
-        lane,
-        m,
-        n,
-        &mut price,
-        allowance,
-    )
 }
 
 // Run makes rounds: `finished` with the tableau and the number of rounds, if it finishes within the allowance; else `spent`, after exactly that many.

@@ -1,7 +1,7 @@
--- `tableau_calls::round::round_on` meets its contract: with the costs spread the rounds can begin.
+-- `dealing::dealt::round_on` meets its contract: with the costs spread the rounds can begin.
 use Rattle.dealing.specs.Dealt.{dealt-costs, dealt-begun}
-use Rattle.tableau_calls.proofs.round.round_on.Statement.{statement}
-use Rattle.tableau_calls.proofs.round.round_on.Tie as tie
+use Rattle.dealing.proofs.dealt.round_on.Statement.{statement}
+use Rattle.dealing.proofs.dealt.round_on.Tie as tie
 
 spread-costs-requires : tie.Need-spread-costs-requires
 spread-costs-requires c κs = dealt-costs (c .before .before .pre .2)

@@ -1,4 +1,4 @@
--- `tableau_calls::round::side_prices` meets its contract: the prices are written, and zeros follow.
+-- `dealing::prices::side_prices` meets its contract: the prices are written, and zeros follow.
 use mathlib.Core.Path.{_∙_}
 use borrow.Author.Needs.{needs}
 use Prim.Native.Nat.{_+_}
@@ -7,9 +7,9 @@ use lib.ListN.{getD}
 use Rattle.transport.specs.Limits.{maxSide}
 use Rattle.transport.specs.Answers.{prices}
 use Rattle.tree.specs.Layout.{stride}
 use Rattle.dealing.specs.Filling.{padded-fill}
-use Rattle.tableau_calls.proofs.round.side_prices.Statement.{statement}
-use Rattle.tableau_calls.proofs.round.side_prices.Tie as tie
+use Rattle.dealing.proofs.prices.side_prices.Statement.{statement}
+use Rattle.dealing.proofs.prices.side_prices.Tie as tie
 
 slice-aggregate-write-prices : tie.Need-slice-aggregate-write-prices
 slice-aggregate-write-prices c = search needs

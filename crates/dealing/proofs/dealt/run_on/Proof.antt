@@ -1,8 +1,7 @@
--- `tableau_calls::run::run_on` meets its contract: the run on the board ends as the specification's.
-use Rattle.dealing.specs.Dealt.{dealt-costs, dealt-begun}
-use Rattle.tableau_calls.specs.CallCases.{ended}
-use Rattle.tableau_calls.proofs.run.run_on.Statement.{statement}
-use Rattle.tableau_calls.proofs.run.run_on.Tie as tie
+-- `dealing::dealt::run_on` meets its contract: the run on the board ends as the specification's.
+use Rattle.dealing.specs.Dealt.{dealt-costs, dealt-begun, ended}
+use Rattle.dealing.proofs.dealt.run_on.Statement.{statement}
+use Rattle.dealing.proofs.dealt.run_on.Tie as tie
 
 spread-costs-requires : tie.Need-spread-costs-requires
 spread-costs-requires c κs = dealt-costs (c .before .before .pre .2)
