@@ -1,5 +1,3 @@
-pub mod Lanes
-pub mod Sections
 pub mod Solved
 pub mod Shown
 pub mod Longest

@@ -41,7 +41,7 @@ use Rattle.tableaux.specs.Running.{run-rounds}
 use Rattle.tableaux.specs.Ending.{roundBound-most}
 use Rattle.demands.specs.Demand3.{solution-finished, solution-best}
 use Rattle.solving.specs.Cost.{meets-small}
-use Rattle.plan_text.specs.Sections.{total-line}
+use Rattle.plan_lines.specs.Sections.{total-line}
 use Rattle.plan_text.specs.Shown.{sheetShown, shown-plan, shown-refusal, check-number, printed-place, printed-sheet}
 
 -- ---- lines

@@ -18,8 +18,8 @@ use Rattle.transport.specs.Laws.CallLaws.{unless-before, unless-none, rooms-iff
 use Rattle.transport.specs.Answers.{solveAnswer}
 use Rattle.transport.specs.PlanText.{planText}
 use Rattle.demands.specs.Demand3.{Fills, solve-fills}
-use Rattle.plan_text.specs.Lanes.{usedNumbers}
-use Rattle.plan_text.specs.Sections.{planSections, plan-sections}
+use Rattle.plan_lines.specs.Lanes.{usedNumbers}
+use Rattle.plan_lines.specs.Sections.{planSections, plan-sections}
 
 -- An accepted sheet fits lists of the largest side.
 rooms-enough : (S : Sheet) → refusal (sheetTests S) ≡ none → (roasteries S ≤ maxSide) × (cafes S ≤ maxSide)

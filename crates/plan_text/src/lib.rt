@@ -1,7 +1,5 @@
 // Plan texts: write plan, and what the program shows for what stands on its input.
 pub mod display;
-pub mod lanes;
-pub mod plan_sections;
 pub mod writer;
 
 pub use display::show;

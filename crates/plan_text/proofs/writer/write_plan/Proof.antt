@@ -13,8 +13,8 @@ use Rattle.transport.specs.Statements.{Accepted}
 use Rattle.transport.specs.PlanText.{planText, writePlanCall}
 use Rattle.sections.specs.Front.{front, front-take}
 use Rattle.sections.specs.WriteCall.{wrote-check, wrote-short, wrote-given}
-use Rattle.plan_text.specs.Lanes.{usedNumbers}
-use Rattle.plan_text.specs.Sections.{planSections}
+use Rattle.plan_lines.specs.Lanes.{usedNumbers}
+use Rattle.plan_lines.specs.Sections.{planSections}
 use Rattle.plan_text.specs.Solved.{FoundPlan, found, found-sections, refused-check}
 use borrow.Author.Needs.{needs}
 use Rattle.plan_text.proofs.writer.write_plan.Statement.{statement}

@@ -4,7 +4,7 @@ ghost use Prim.Native.Nat.{_*_, _≤_, _<_};
 ghost use lib.ListN.{length};
 ghost use Rattle.transport.specs.Limits.{maxSide};
 ghost use Rattle.sections.specs.Front.{front};
-ghost use Rattle.plan_text.specs.Lanes.{laneNumbers, usedNumbers};
+ghost use Rattle.plan_lines.specs.Lanes.{laneNumbers, usedNumbers};
 
 // The numbers of the lane at a place, among n columns, at the front of the list, and their count: none if it hasBag no bag.
 fn put_lane(place: usize, n: usize, bags: u64, list: &mut [u64]) -> usize
@@ -23,7 +23,7 @@ fn put_lane(place: usize, n: usize, bags: u64, list: &mut [u64]) -> usize
 }
 
 // The numbers of the lanes that carry a bag, at the front of the list, and their count.
-pub(crate) fn used_lanes(plan: &[u64], n: usize, list: &mut [u64]) -> usize
+pub fn used_lanes(plan: &[u64], n: usize, list: &mut [u64]) -> usize
     requires { ⌜ (length (now plan) ≤ maxSide * maxSide) × (1 ≤ n) × (length (now plan) * 3 ≤ length (now list)) ⌝ }
     ensures { λ r.
         let numbers = usedNumbers n (now (plan .entry)) (length (now (plan .entry))) in

@@ -6,10 +6,10 @@ use native.Mathlib.Nat.{div-le-self, mod-le}
 use lib.ListN.{length-set}
 use Rattle.transport.specs.Limits.{maxSide}
 use Rattle.sections.specs.Front.{front-nil, front-three}
-use Rattle.plan_text.specs.Lanes.{numbers-none, numbers-three}
+use Rattle.plan_lines.specs.Lanes.{numbers-none, numbers-three}
 use borrow.Author.Needs.{needs}
-use Rattle.plan_text.proofs.lanes.put_lane.Statement.{statement}
-use Rattle.plan_text.proofs.lanes.put_lane.Tie as tie
+use Rattle.plan_lines.proofs.lanes.put_lane.Statement.{statement}
+use Rattle.plan_lines.proofs.lanes.put_lane.Tie as tie
 
 returns : tie.Need-returns
 returns c =

@@ -2,10 +2,10 @@
 use native.Mathlib.Omega.{arith}
 use Rattle.transport.specs.Text.{bytes}
 use Rattle.sections.specs.Front.{FirstWritten, first-room, second-start, second-room, both-length, both-written}
-use Rattle.plan_text.specs.Sections.{pricesText, lanesText}
+use Rattle.plan_lines.specs.Sections.{pricesText, lanesText}
 use borrow.Author.Needs.{needs}
-use Rattle.plan_text.proofs.plan_sections.write_after_figures.Statement.{statement}
-use Rattle.plan_text.proofs.plan_sections.write_after_figures.Tie as tie
+use Rattle.plan_lines.proofs.plan_sections.write_after_figures.Statement.{statement}
+use Rattle.plan_lines.proofs.plan_sections.write_after_figures.Tie as tie
 
 write-price-sections-requires : tie.Need-write-price-sections-requires
 unfolding lanesText bytes

@@ -6,7 +6,7 @@ use Prim.Native.Nat.{ℕ, _+_, _*_, _/_, _≤_}
 use native.Mathlib.Omega.{arith}
 use lib.IntN.{ℤ, natAbs}
 use lib.ListN.{length, length-append}
-use Rattle.plan_text.specs.declared.plan_sections.Figures.{Figures}
+use Rattle.plan_lines.specs.declared.plan_sections.Figures.{Figures}
 use Rattle.transport.specs.Sheet.{Sheet, roasteries, cafes}
 use Rattle.transport.specs.Text.{bytes, wholeDigits, headLine, numberLine}
 use Rattle.transport.specs.Calls.{Solution, solutionFrom, solution}
@@ -16,7 +16,7 @@ use Rattle.transport.specs.Laws.PlanLaws.{planCost-natural}
 use Rattle.demands.specs.Demand3.{Fills}
 use Rattle.sections.specs.Lines.{sectionText, linesFrom, section-of, lines-column}
 use Rattle.sections.specs.Wholes.{wholeSection, whole-section-of}
-use Rattle.plan_text.specs.Lanes.{usedNumbers, used-whole}
+use Rattle.plan_lines.specs.Lanes.{usedNumbers, used-whole}
 
 unfoldable pub figuresText : Figures → List ℕ
 figuresText f = sectionText (bytes "total ") 1 1 (f .total ∷ []) ++ sectionText (bytes "rounds ") 1 1 (f .rounds ∷ [])

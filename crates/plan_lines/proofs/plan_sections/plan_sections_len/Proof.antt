@@ -4,10 +4,10 @@ use native.Mathlib.Omega.{arith}
 use Rattle.transport.specs.Limits.{maxSide}
 use Rattle.transport.specs.Text.{bytes}
 use Rattle.sections.specs.Lines.{length-section}
-use Rattle.plan_text.specs.Sections.{sections-length}
+use Rattle.plan_lines.specs.Sections.{sections-length}
 use borrow.Author.Needs.{needs}
-use Rattle.plan_text.proofs.plan_sections.plan_sections_len.Statement.{statement}
-use Rattle.plan_text.proofs.plan_sections.plan_sections_len.Tie as tie
+use Rattle.plan_lines.proofs.plan_sections.plan_sections_len.Statement.{statement}
+use Rattle.plan_lines.proofs.plan_sections.plan_sections_len.Tie as tie
 
 slice-aggregate-section-len : tie.Need-slice-aggregate-section-len
 slice-aggregate-section-len c = search needs

@@ -7,9 +7,9 @@ use lib.ListN.{length}
 use Rattle.transport.specs.Limits.{maxSide}
 use Rattle.transport.specs.Lists.{at}
 use Rattle.sections.specs.Front.{front, front-nil, length-front, FirstWritten, second-start, both-length, both-written, lent-length}
-use Rattle.plan_text.specs.Lanes.{laneNumbers, usedNumbers, used-zero, used-one, used-most}
-use Rattle.plan_text.proofs.lanes.used_lanes.Statement.{statement}
-use Rattle.plan_text.proofs.lanes.used_lanes.Tie as tie
+use Rattle.plan_lines.specs.Lanes.{laneNumbers, usedNumbers, used-zero, used-one, used-most}
+use Rattle.plan_lines.proofs.lanes.used_lanes.Statement.{statement}
+use Rattle.plan_lines.proofs.lanes.used_lanes.Tie as tie
 
 abbrev Inv-loop : tie.InvT-loop
 Inv-loop plan n list₀ at₀ l₀ list at l = (l ≤ length plan) × (length list ≡ length list₀) × (at ≡ length (usedNumbers n plan l))

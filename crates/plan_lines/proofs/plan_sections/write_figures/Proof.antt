@@ -4,10 +4,10 @@ use native.Mathlib.Omega.{arith}
 use Rattle.transport.specs.Text.{bytes}
 use Rattle.sections.specs.Front.{FirstWritten, first-room, second-start, second-room, both-length, both-written}
 use Rattle.sections.specs.Lines.{sectionText}
-use Rattle.plan_text.specs.Sections.{figuresText}
+use Rattle.plan_lines.specs.Sections.{figuresText}
 use borrow.Author.Needs.{needs}
-use Rattle.plan_text.proofs.plan_sections.write_figures.Statement.{statement}
-use Rattle.plan_text.proofs.plan_sections.write_figures.Tie as tie
+use Rattle.plan_lines.proofs.plan_sections.write_figures.Statement.{statement}
+use Rattle.plan_lines.proofs.plan_sections.write_figures.Tie as tie
 
 slice-aggregate-write-section : tie.Need-slice-aggregate-write-section
 slice-aggregate-write-section c = search needs

@@ -3,10 +3,10 @@ use native.Mathlib.Omega.{arith}
 use Rattle.transport.specs.Text.{bytes}
 use Rattle.sections.specs.Front.{FirstWritten, first-room, second-start, second-room, both-length, both-written}
 use Rattle.sections.specs.Wholes.{wholeSection}
-use Rattle.plan_text.specs.Sections.{pricesText}
+use Rattle.plan_lines.specs.Sections.{pricesText}
 use borrow.Author.Needs.{needs}
-use Rattle.plan_text.proofs.plan_sections.write_price_sections.Statement.{statement}
-use Rattle.plan_text.proofs.plan_sections.write_price_sections.Tie as tie
+use Rattle.plan_lines.proofs.plan_sections.write_price_sections.Statement.{statement}
+use Rattle.plan_lines.proofs.plan_sections.write_price_sections.Tie as tie
 
 slice-aggregate-write-whole-section : tie.Need-slice-aggregate-write-whole-section
 slice-aggregate-write-whole-section c = search needs

@@ -5,7 +5,7 @@ ghost use Prim.Native.Nat.{_*_, _≤_};
 ghost use lib.ListN.{length};
 ghost use Rattle.transport.specs.Limits.{maxSide};
 ghost use Rattle.sections.specs.Front.{front};
-ghost use Rattle.plan_text.specs.Sections.{figuresText, pricesText, lanesText, planSections};
+ghost use Rattle.plan_lines.specs.Sections.{figuresText, pricesText, lanesText, planSections};
 use sections::section;
 use sections::wholes;
 
@@ -50,7 +50,7 @@ fn write_after_figures(count: usize, u: &[i64], v: &[i64], numbers: &[u64], out:
 }
 
 // The whole text.
-pub(crate) fn write_plan_sections(
+pub fn write_plan_sections(
     figures: Figures,
     u: &[i64],
     v: &[i64],
@@ -68,7 +68,7 @@ pub(crate) fn write_plan_sections(
 }
 
 // Its length.
-pub(crate) fn plan_sections_len(figures: Figures, u: &[i64], v: &[i64], numbers: &[u64]) -> usize
+pub fn plan_sections_len(figures: Figures, u: &[i64], v: &[i64], numbers: &[u64]) -> usize
     requires { ⌜ (length (now u) ≤ maxSide) × (length (now v) ≤ maxSide) × (length (now numbers) ≤ maxSide * maxSide * 3) ⌝ }
     ensures { λ r. ⌜ r ≡ length (planSections figures (now (u .entry)) (now (v .entry)) (now (numbers .entry))) ⌝ }
 {

@@ -2,10 +2,10 @@
 use mathlib.Core.List.{_++_}
 use native.Mathlib.Omega.{arith}
 use Rattle.sections.specs.Front.{FirstWritten, first-room, second-start, second-room, both-length, both-written}
-use Rattle.plan_text.specs.Sections.{figuresText, pricesText, lanesText, planSections}
+use Rattle.plan_lines.specs.Sections.{figuresText, pricesText, lanesText, planSections}
 use borrow.Author.Needs.{needs}
-use Rattle.plan_text.proofs.plan_sections.write_plan_sections.Statement.{statement}
-use Rattle.plan_text.proofs.plan_sections.write_plan_sections.Tie as tie
+use Rattle.plan_lines.proofs.plan_sections.write_plan_sections.Statement.{statement}
+use Rattle.plan_lines.proofs.plan_sections.write_plan_sections.Tie as tie
 
 write-figures-requires : tie.Need-write-figures-requires
 unfolding planSections
