@@ -1,15 +1,19 @@
 // What programs in C and Rust link: every call of paper 01. A result is a struct by value; its `refusal` is the number of the refusal, or 0, and where it is
 // not 0 the other fields are zeros but for the place with 9, and no lent list is changed.
+use border::ReadOut;
+use border::RoundOut;
+use border::RunOut;
+use border::SolveOut;
+use border::StartOut;
+use border::WriteOut;
+use border::round_from;
+use border::run_from;
+use border::settle_from;
+use border::write_out;
 use transport::Cell;
-use transport::MAX_SIDE;
 use transport::ReadAnswer;
-use transport::RoundOutcome;
-use transport::RunOutcome;
-use transport::SettleAnswer;
 use transport::SolveAnswer;
 use transport::StartOutcome;
-use transport::Tableau;
-use transport::WriteAnswer;
 ghost use mathlib.Core.Path.{_≡_};
 ghost use lib.ListN.{length};
 ghost use Rattle.transport.specs.Sheet.{sheetOf};
@@ -17,58 +21,7 @@ ghost use Rattle.transport.specs.Tableau.{lentTableau};
 ghost use Rattle.transport.specs.Calls.{lentAfter, startCall, roundCall, runCall, settleCall, solveCall};
 ghost use Rattle.transport.specs.SheetText.{readSheetCall, writeSheetCall};
 ghost use Rattle.transport.specs.PlanText.{writePlanCall};
-ghost use Rattle.exports.specs.Border.{startOut, roundOut, runOut, numberOf, solveOut, readOut, writeOut};
-ghost use Rattle.exports.specs.Crossing.{written};
-
-// The first tableau.
-#[repr(C)]
-pub struct StartOut {
-    pub refusal: u8,
-    pub tableau: Tableau,
-}
-
-// The next tableau, or, if the one given is finished, its prices.
-#[repr(C)]
-pub struct RoundOut {
-    pub refusal: u8,
-    pub finished: bool,
-    pub tableau: Tableau,
-    pub u: [i64; MAX_SIDE],
-    pub v: [i64; MAX_SIDE],
-}
-
-// The last tableau, whether it is finished, and the rounds made.
-#[repr(C)]
-pub struct RunOut {
-    pub refusal: u8,
-    pub finished: bool,
-    pub rounds: u64,
-    pub tableau: Tableau,
-}
-
-// The cost of the plan, and the rounds made.
-#[repr(C)]
-pub struct SolveOut {
-    pub refusal: u8,
-    pub cost: u64,
-    pub rounds: u64,
-}
-
-// The counts of sources and sinks; with refusal 9, the place.
-#[repr(C)]
-pub struct ReadOut {
-    pub refusal: u8,
-    pub sources: usize,
-    pub sinks: usize,
-    pub place: usize,
-}
-
-// The length of the text.
-#[repr(C)]
-pub struct WriteOut {
-    pub refusal: u8,
-    pub length: usize,
-}
+ghost use Rattle.border.specs.Border.{startOut, roundOut, runOut, numberOf, solveOut, readOut, writeOut};
 
 #[no_mangle]
 pub extern "C" fn panel_start(supply: &[u64], demand: &[u64], cost: &[u64]) -> StartOut
@@ -93,41 +46,6 @@ pub extern "C" fn panel_start(supply: &[u64], demand: &[u64], cost: &[u64]) -> S
 
 // The calls on tableaux take a list of cells: what is passed on is the tableau that the list is.
 
-fn round_from(supply: &[u64], demand: &[u64], cost: &[u64], t: Tableau) -> RoundOut
-    ensures { λ r.
-        let S = sheetOf (now (supply .entry)) (now (demand .entry)) (now (cost .entry)) in
-        ⌜ r ≡ roundOut (roundCall S t) ⌝ }
-{
-    let answer = tableau_calls::round::round(supply, demand, cost, t);
-    let tableau = answer.tableau;
-    let u = answer.u;
-    let v = answer.v;
-    let outcome = answer.outcome;
-    match outcome {
-        RoundOutcome::Moved => RoundOut {
-            refusal: 0,
-            finished: false,
-            tableau,
-            u,
-            v,
-        },
-        RoundOutcome::Finished => RoundOut {
-            refusal: 0,
-            finished: true,
-            tableau,
-            u,
-            v,
-        },
-        RoundOutcome::Refused(number) => RoundOut {
-            refusal: number,
-            finished: false,
-            tableau,
-            u,
-            v,
-        },
-    }
-}
-
 #[no_mangle]
 pub extern "C" fn panel_round(
     supply: &[u64],
@@ -140,36 +58,6 @@ pub extern "C" fn panel_round(
         ⌜ r ≡ roundOut (roundCall S (lentTableau (now (cells .entry)))) ⌝ }
 {
     round_from(supply, demand, cost, cells::lent_tableau(cells))
-}
-
-fn run_from(supply: &[u64], demand: &[u64], cost: &[u64], t: Tableau, allowance: u32) -> RunOut
-    ensures { λ r.
-        let S = sheetOf (now (supply .entry)) (now (demand .entry)) (now (cost .entry)) in
-        ⌜ r ≡ runOut (runCall S t allowance) ⌝ }
-{
-    let answer = tableau_calls::run::run(supply, demand, cost, t, allowance);
-    let tableau = answer.tableau;
-    let outcome = answer.outcome;
-    match outcome {
-        RunOutcome::Finished(rounds) => RunOut {
-            refusal: 0,
-            finished: true,
-            rounds,
-            tableau,
-        },
-        RunOutcome::Spent(rounds) => RunOut {
-            refusal: 0,
-            finished: false,
-            rounds,
-            tableau,
-        },
-        RunOutcome::Refused(number) => RunOut {
-            refusal: number,
-            finished: false,
-            rounds: 0,
-            tableau,
-        },
-    }
 }
 
 #[no_mangle]
@@ -188,19 +76,6 @@ pub extern "C" fn panel_run(
 }
 
 // Settle: 0, or the number of the refusal.
-fn settle_from(supply: &[u64], demand: &[u64], cost: &[u64], t: Tableau, plan: &mut [u64]) -> u8
-    ensures { λ r.
-        let S = sheetOf (now (supply .entry)) (now (demand .entry)) (now (cost .entry)) in
-        let a = settleCall S t (length (now (plan .entry))) in
-        ⌜ (r ≡ numberOf a) × (now (plan .exit) ≡ lentAfter (λ x. x) a (now (plan .entry))) ⌝ }
-{
-    let answer = plan_calls::settling::settle(supply, demand, cost, t, plan);
-    match answer {
-        SettleAnswer::Settled => 0,
-        SettleAnswer::Refused(number) => number,
-    }
-}
-
 #[no_mangle]
 pub extern "C" fn panel_settle(
     supply: &[u64],
@@ -289,18 +164,6 @@ pub extern "C" fn panel_read_sheet(
             sources: 0,
             sinks: 0,
             place: 0,
-        },
-    }
-}
-
-fn write_out(answer: WriteAnswer) -> WriteOut
-    ensures { λ r. ⌜ r ≡ written answer ⌝ }
-{
-    match answer {
-        WriteAnswer::Written(length) => WriteOut { refusal: 0, length },
-        WriteAnswer::Refused(number) => WriteOut {
-            refusal: number,
-            length: 0,
         },
     }
 }

@@ -45,14 +45,15 @@ use Rattle.cells.proofs.lent_tableau as lent
 use Rattle.cells.proofs.lent_tableau.Symbol as lent-def
 use Rattle.cells.proofs.lent_tableau.Symbol.{name as #lent-tableau}
 use Rattle.cells.proofs.lent_tableau.Met as lent-thm
-use Rattle.exports.specs.Border.{RoundOut, roundOut}
-use Rattle.exports.proofs.RoundOut as R
-use Rattle.exports.proofs.RoundOut.Laws as R′
+use Rattle.border.specs.declared.RoundOut.{RoundOut}
+use Rattle.border.specs.Border.{roundOut}
+use Rattle.border.proofs.RoundOut as R
+use Rattle.border.proofs.RoundOut.Laws as R′
 use Rattle.exports.proofs.Lending.{Lent, lent-is, listVal, cellsVal, OwnList, OwnCells, Tok, to-lent, goes-lent}
-use Rattle.exports.proofs.round_from as round-from
-use Rattle.exports.proofs.round_from.Symbol as round-from-def
-use Rattle.exports.proofs.round_from.Symbol.{name as #round-from}
-use Rattle.exports.proofs.round_from.Met as round-from-thm
+use Rattle.border.proofs.round_from as round-from
+use Rattle.border.proofs.round_from.Symbol as round-from-def
+use Rattle.border.proofs.round_from.Symbol.{name as #round-from}
+use Rattle.border.proofs.round_from.Met as round-from-thm
 use Rattle.exports.proofs.panel_round.Key.{name as #panel-round}
 use Rattle.exports.proofs.panel_round as panel-round
 use Rattle.exports.proofs.panel_round.Statement as stated
@@ -254,5 +255,5 @@ panel-round-spec 𝓤 H 𝓜 𝓖 𝓡 =
     (tables 𝓤 H 𝓜 𝓡 code.env .C) (tables 𝓤 H 𝓜 𝓡 code.env .Λ) #panel-round code.function (code.unfolded 𝓤 H 𝓜 𝓡)
     (meets 𝓤 H (𝓖 .A) (givenOf 𝓤 H 𝓜 𝓖) (𝓜 .mem) (𝓡 .run) (tablesOf 𝓤 H 𝓜 (tables 𝓤 H 𝓜 𝓡 code.env))
     (cited 𝓤 H (Lent 𝓤 H (𝓖 .A) (𝓜 .mem) (𝓡 .run)) 𝓜 𝓡 code.env #lent-tableau lent-def.routine code.calls-cells·lent-tableau (lent-thm.met 𝓤 H 𝓜 𝓖 𝓡))
-    (cited 𝓤 H (From 𝓤 H (𝓖 .A) (𝓜 .mem) (𝓡 .run)) 𝓜 𝓡 code.env #round-from round-from-def.routine code.calls-exports·round-from
+    (cited 𝓤 H (From 𝓤 H (𝓖 .A) (𝓜 .mem) (𝓡 .run)) 𝓜 𝓡 code.env #round-from round-from-def.routine code.calls-border·round-from
     (round-from-thm.met 𝓤 H 𝓜 𝓖 𝓡)))

@@ -47,14 +47,15 @@ use Rattle.cells.proofs.lent_tableau as lent
 use Rattle.cells.proofs.lent_tableau.Symbol as lent-def
 use Rattle.cells.proofs.lent_tableau.Symbol.{name as #lent-tableau}
 use Rattle.cells.proofs.lent_tableau.Met as lent-thm
-use Rattle.exports.specs.Border.{RunOut, runOut}
-use Rattle.exports.proofs.RunOut as R
-use Rattle.exports.proofs.RunOut.Laws as R′
+use Rattle.border.specs.declared.RunOut.{RunOut}
+use Rattle.border.specs.Border.{runOut}
+use Rattle.border.proofs.RunOut as R
+use Rattle.border.proofs.RunOut.Laws as R′
 use Rattle.exports.proofs.Lending.{Lent, lent-is, listVal, cellsVal, OwnList, OwnCells, Tok, to-lent, goes-lent}
-use Rattle.exports.proofs.run_from as run-from
-use Rattle.exports.proofs.run_from.Symbol as run-from-def
-use Rattle.exports.proofs.run_from.Symbol.{name as #run-from}
-use Rattle.exports.proofs.run_from.Met as run-from-thm
+use Rattle.border.proofs.run_from as run-from
+use Rattle.border.proofs.run_from.Symbol as run-from-def
+use Rattle.border.proofs.run_from.Symbol.{name as #run-from}
+use Rattle.border.proofs.run_from.Met as run-from-thm
 use Rattle.exports.proofs.panel_run.Key.{name as #panel-run}
 use Rattle.exports.proofs.panel_run as panel-run
 use Rattle.exports.proofs.panel_run.Statement as stated
@@ -258,4 +259,4 @@ panel-run-spec 𝓤 H 𝓜 𝓖 𝓡 =
     (tables 𝓤 H 𝓜 𝓡 code.env .C) (tables 𝓤 H 𝓜 𝓡 code.env .Λ) #panel-run code.function (code.unfolded 𝓤 H 𝓜 𝓡)
     (meets 𝓤 H (𝓖 .A) (givenOf 𝓤 H 𝓜 𝓖) (𝓜 .mem) (𝓡 .run) (tablesOf 𝓤 H 𝓜 (tables 𝓤 H 𝓜 𝓡 code.env))
     (cited 𝓤 H (Lent 𝓤 H (𝓖 .A) (𝓜 .mem) (𝓡 .run)) 𝓜 𝓡 code.env #lent-tableau lent-def.routine code.calls-cells·lent-tableau (lent-thm.met 𝓤 H 𝓜 𝓖 𝓡))
-    (cited 𝓤 H (From 𝓤 H (𝓖 .A) (𝓜 .mem) (𝓡 .run)) 𝓜 𝓡 code.env #run-from run-from-def.routine code.calls-exports·run-from (run-from-thm.met 𝓤 H 𝓜 𝓖 𝓡)))
+    (cited 𝓤 H (From 𝓤 H (𝓖 .A) (𝓜 .mem) (𝓡 .run)) 𝓜 𝓡 code.env #run-from run-from-def.routine code.calls-border·run-from (run-from-thm.met 𝓤 H 𝓜 𝓖 𝓡)))

@@ -50,12 +50,12 @@ use Rattle.cells.proofs.lent_tableau as lent
 use Rattle.cells.proofs.lent_tableau.Symbol as lent-def
 use Rattle.cells.proofs.lent_tableau.Symbol.{name as #lent-tableau}
 use Rattle.cells.proofs.lent_tableau.Met as lent-thm
-use Rattle.exports.specs.Border.{numberOf}
+use Rattle.border.specs.Border.{numberOf}
 use Rattle.exports.proofs.Lending.{Lent, lent-is, listVal, cellsVal, OwnList, OwnCells, Tok, to-lent, goes-lent}
-use Rattle.exports.proofs.settle_from as settle-from
-use Rattle.exports.proofs.settle_from.Symbol as settle-from-def
-use Rattle.exports.proofs.settle_from.Symbol.{name as #settle-from}
-use Rattle.exports.proofs.settle_from.Met as settle-from-thm
+use Rattle.border.proofs.settle_from as settle-from
+use Rattle.border.proofs.settle_from.Symbol as settle-from-def
+use Rattle.border.proofs.settle_from.Symbol.{name as #settle-from}
+use Rattle.border.proofs.settle_from.Met as settle-from-thm
 use Rattle.exports.proofs.panel_settle.Key.{name as #panel-settle}
 use Rattle.exports.proofs.panel_settle as panel-settle
 use Rattle.exports.proofs.panel_settle.Statement as stated
@@ -280,5 +280,5 @@ panel-settle-spec 𝓤 H 𝓜 𝓖 𝓡 =
     (tables 𝓤 H 𝓜 𝓡 code.env .C) (tables 𝓤 H 𝓜 𝓡 code.env .Λ) #panel-settle code.function (code.unfolded 𝓤 H 𝓜 𝓡)
     (meets 𝓤 H (𝓖 .A) (givenOf 𝓤 H 𝓜 𝓖) (𝓜 .mem) (𝓡 .run) (tablesOf 𝓤 H 𝓜 (tables 𝓤 H 𝓜 𝓡 code.env))
     (cited 𝓤 H (Lent 𝓤 H (𝓖 .A) (𝓜 .mem) (𝓡 .run)) 𝓜 𝓡 code.env #lent-tableau lent-def.routine code.calls-cells·lent-tableau (lent-thm.met 𝓤 H 𝓜 𝓖 𝓡))
-    (cited 𝓤 H (From 𝓤 H (𝓖 .A) (𝓜 .mem) (𝓡 .run)) 𝓜 𝓡 code.env #settle-from settle-from-def.routine code.calls-exports·settle-from
+    (cited 𝓤 H (From 𝓤 H (𝓖 .A) (𝓜 .mem) (𝓡 .run)) 𝓜 𝓡 code.env #settle-from settle-from-def.routine code.calls-border·settle-from
     (settle-from-thm.met 𝓤 H 𝓜 𝓖 𝓡)))

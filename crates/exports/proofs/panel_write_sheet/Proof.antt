@@ -3,7 +3,7 @@ use mathlib.Core.Path.{ap, _∙_}
 use lib.ListN.{length}
 use Rattle.transport.specs.Sheet.{Sheet, sheetOf}
 use Rattle.transport.specs.SheetText.{writeSheetCall}
-use Rattle.exports.specs.Crossing.{written, written-is}
+use Rattle.border.specs.Crossing.{written, written-is}
 use borrow.Author.Needs.{needs}
 use Rattle.exports.proofs.panel_write_sheet.Statement.{statement}
 use Rattle.exports.proofs.panel_write_sheet.Tie as tie

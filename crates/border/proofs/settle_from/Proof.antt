@@ -3,10 +3,10 @@ use mathlib.Core.Path.{sym, ap, _∙_}
 use lib.ListN.{length}
 use Rattle.transport.specs.Sheet.{Sheet, sheetOf}
 use Rattle.transport.specs.Calls.{settleCall}
-use Rattle.exports.specs.Crossing.{settledAs, settled-is}
+use Rattle.border.specs.Crossing.{settledAs, settled-is}
 use borrow.Author.Needs.{needs}
-use Rattle.exports.proofs.settle_from.Statement.{statement}
-use Rattle.exports.proofs.settle_from.Tie as tie
+use Rattle.border.proofs.settle_from.Statement.{statement}
+use Rattle.border.proofs.settle_from.Tie as tie
 
 settle-requires : tie.Need-settle-requires
 settle-requires c κs = search needs

@@ -5,12 +5,12 @@ use mathlib.Core.Option.{none, some}
 use Prim.Native.Nat.{ℕ}
 use lib.IntN.{natAbs}
 use lib.ListN.{length}
-pub use Rattle.exports.specs.declared.StartOut.{StartOut}
-pub use Rattle.exports.specs.declared.RoundOut.{RoundOut}
-pub use Rattle.exports.specs.declared.RunOut.{RunOut}
-pub use Rattle.exports.specs.declared.SolveOut.{SolveOut}
-pub use Rattle.exports.specs.declared.ReadOut.{ReadOut}
-pub use Rattle.exports.specs.declared.WriteOut.{WriteOut}
+pub use Rattle.border.specs.declared.StartOut.{StartOut}
+pub use Rattle.border.specs.declared.RoundOut.{RoundOut}
+pub use Rattle.border.specs.declared.RunOut.{RunOut}
+pub use Rattle.border.specs.declared.SolveOut.{SolveOut}
+pub use Rattle.border.specs.declared.ReadOut.{ReadOut}
+pub use Rattle.border.specs.declared.WriteOut.{WriteOut}
 use Rattle.transport.specs.Sheet.{Sheet, roasteries, cafes}
 use Rattle.transport.specs.Tableau.{tableauOf, noTableau}
 use Rattle.transport.specs.Round.{Round, finished, moved, Run}

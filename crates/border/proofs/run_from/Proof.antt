@@ -4,10 +4,10 @@ use Rattle.transport.specs.declared.RunAnswer.{RunAnswer}
 use Rattle.transport.specs.declared.RunOutcome.{RunOutcome}
 use Rattle.transport.specs.Sheet.{Sheet, sheetOf}
 use Rattle.transport.specs.Calls.{runCall}
-use Rattle.exports.specs.Crossing.{ran, ran-is}
+use Rattle.border.specs.Crossing.{ran, ran-is}
 use borrow.Author.Needs.{needs}
-use Rattle.exports.proofs.run_from.Statement.{statement}
-use Rattle.exports.proofs.run_from.Tie as tie
+use Rattle.border.proofs.run_from.Statement.{statement}
+use Rattle.border.proofs.run_from.Tie as tie
 
 run-requires : tie.Need-run-requires
 run-requires c κs = search needs

@@ -1,9 +1,9 @@
 -- Each way out is a case of the answer.
 use mathlib.Core.Path.{sym, ap}
-use Rattle.exports.specs.Crossing.{written}
+use Rattle.border.specs.Crossing.{written}
 use borrow.Author.Needs.{needs}
-use Rattle.exports.proofs.write_out.Statement.{statement}
-use Rattle.exports.proofs.write_out.Tie as tie
+use Rattle.border.proofs.write_out.Statement.{statement}
+use Rattle.border.proofs.write_out.Tie as tie
 
 enum-known-answer : tie.Need-enum-known-answer
 enum-known-answer c = search needs

@@ -4,10 +4,10 @@ use Rattle.transport.specs.declared.RoundAnswer.{RoundAnswer}
 use Rattle.transport.specs.declared.RoundOutcome.{RoundOutcome}
 use Rattle.transport.specs.Sheet.{Sheet, sheetOf}
 use Rattle.transport.specs.Calls.{roundCall}
-use Rattle.exports.specs.Crossing.{rounded, rounded-is}
+use Rattle.border.specs.Crossing.{rounded, rounded-is}
 use borrow.Author.Needs.{needs}
-use Rattle.exports.proofs.round_from.Statement.{statement}
-use Rattle.exports.proofs.round_from.Tie as tie
+use Rattle.border.proofs.round_from.Statement.{statement}
+use Rattle.border.proofs.round_from.Tie as tie
 
 round-requires : tie.Need-round-requires
 round-requires c κs = search needs

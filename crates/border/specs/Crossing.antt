@@ -1,0 +1,62 @@
+-- The declared answers of round, run, settle and the two writers cross the border as Border says.
+use mathlib.Core.Path.{_≡_, refl}
+use mathlib.Core.Bool.{Bool, true, false}
+use mathlib.Core.List.{List}
+use Prim.Native.Nat.{ℕ}
+use lib.IntN.{ℤ}
+use Rattle.transport.specs.declared.Tableau.{Tableau}
+use Rattle.transport.specs.declared.RoundOutcome.{RoundOutcome}
+use Rattle.transport.specs.declared.RoundOutcome.the-variants as RoundOutcome
+use Rattle.transport.specs.declared.RunOutcome.{RunOutcome}
+use Rattle.transport.specs.declared.RunOutcome.the-variants as RunOutcome
+use Rattle.transport.specs.declared.SettleAnswer.{SettleAnswer}
+use Rattle.transport.specs.declared.SettleAnswer.the-variants as SettleAnswer
+use Rattle.transport.specs.declared.WriteAnswer.{WriteAnswer}
+use Rattle.transport.specs.declared.WriteAnswer.the-variants as WriteAnswer
+use Rattle.transport.specs.Round.{Round, finished, moved, Run}
+use Rattle.transport.specs.Calls.{Answer, refused, given}
+use Rattle.transport.specs.Answers.{roundAnswer, runOutcome, runAnswer, settleAnswer, writeAnswer}
+use Rattle.border.specs.Border.{RoundOut, roundOut, RunOut, runOut, numberOf, WriteOut, writeOut}
+
+abbrev pub rounded : RoundOutcome → Tableau → List ℤ → List ℤ → RoundOut
+rounded RoundOutcome.Moved t u v = record { refusal = 0; finished = false; tableau = t; u = u; v = v }
+rounded RoundOutcome.Finished t u v = record { refusal = 0; finished = true; tableau = t; u = u; v = v }
+rounded (RoundOutcome.Refused k) t u v = record { refusal = k; finished = false; tableau = t; u = u; v = v }
+
+pub rounded-is : (a : Answer Round) → rounded (roundAnswer a .outcome) (roundAnswer a .tableau) (roundAnswer a .u) (roundAnswer a .v) ≡ roundOut a
+unfolding roundAnswer roundOut
+rounded-is (refused r) = refl
+rounded-is (given (finished u v)) = refl
+rounded-is (given (moved T)) = refl
+
+abbrev pub ran : RunOutcome → Tableau → RunOut
+ran (RunOutcome.Finished k) t = record { refusal = 0; finished = true; rounds = k; tableau = t }
+ran (RunOutcome.Spent k) t = record { refusal = 0; finished = false; rounds = k; tableau = t }
+ran (RunOutcome.Refused k) t = record { refusal = k; finished = false; rounds = 0; tableau = t }
+
+pub ran-is : (a : Answer Run) → ran (runAnswer a .outcome) (runAnswer a .tableau) ≡ runOut a
+unfolding runAnswer runOut runOutcome
+ran-is (refused r) = refl
+ran-is (given r) = go (r .finished) refl
+  where
+    go : (b : Bool) → r .finished ≡ b → ran (runAnswer (given r) .outcome) (runAnswer (given r) .tableau) ≡ runOut (given r)
+    go true e = rw (e, runOutcome)
+    go false e = rw (e, runOutcome)
+
+abbrev pub settledAs : SettleAnswer → ℕ
+settledAs SettleAnswer.Settled = 0
+settledAs (SettleAnswer.Refused k) = k
+
+pub settled-is : (a : Answer (List ℕ)) → settledAs (settleAnswer a) ≡ numberOf a
+unfolding settleAnswer numberOf
+settled-is (refused r) = refl
+settled-is (given x) = refl
+
+abbrev pub written : WriteAnswer → WriteOut
+written (WriteAnswer.Written k) = record { refusal = 0; length = k }
+written (WriteAnswer.Refused k) = record { refusal = k; length = 0 }
+
+pub written-is : (a : Answer (List ℕ)) → written (writeAnswer a) ≡ writeOut a
+unfolding writeAnswer writeOut
+written-is (refused r) = refl
+written-is (given t) = refl

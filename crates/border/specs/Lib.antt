@@ -1,0 +1,2 @@
+pub mod Border
+pub mod Crossing

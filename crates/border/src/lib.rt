@@ -1,0 +1,154 @@
+// The structs that cross the border to programs in C and Rust, and the functions that the exported calls on tableaux and texts stand on.
+use transport::MAX_SIDE;
+use transport::RoundOutcome;
+use transport::RunOutcome;
+use transport::SettleAnswer;
+use transport::Tableau;
+use transport::WriteAnswer;
+ghost use mathlib.Core.Path.{_≡_};
+ghost use lib.ListN.{length};
+ghost use Rattle.transport.specs.Sheet.{sheetOf};
+ghost use Rattle.transport.specs.Calls.{lentAfter, roundCall, runCall, settleCall};
+ghost use Rattle.border.specs.Border.{roundOut, runOut, numberOf};
+ghost use Rattle.border.specs.Crossing.{written};
+
+// The first tableau.
+#[repr(C)]
+pub struct StartOut {
+    pub refusal: u8,
+    pub tableau: Tableau,
+}
+
+// The next tableau, or, if the one given is finished, its prices.
+#[repr(C)]
+pub struct RoundOut {
+    pub refusal: u8,
+    pub finished: bool,
+    pub tableau: Tableau,
+    pub u: [i64; MAX_SIDE],
+    pub v: [i64; MAX_SIDE],
+}
+
+// The last tableau, whether it is finished, and the rounds made.
+#[repr(C)]
+pub struct RunOut {
+    pub refusal: u8,
+    pub finished: bool,
+    pub rounds: u64,
+    pub tableau: Tableau,
+}
+
+// The cost of the plan, and the rounds made.
+#[repr(C)]
+pub struct SolveOut {
+    pub refusal: u8,
+    pub cost: u64,
+    pub rounds: u64,
+}
+
+// The counts of sources and sinks; with refusal 9, the place.
+#[repr(C)]
+pub struct ReadOut {
+    pub refusal: u8,
+    pub sources: usize,
+    pub sinks: usize,
+    pub place: usize,
+}
+
+// The length of the text.
+#[repr(C)]
+pub struct WriteOut {
+    pub refusal: u8,
+    pub length: usize,
+}
+
+pub fn round_from(supply: &[u64], demand: &[u64], cost: &[u64], t: Tableau) -> RoundOut
+    ensures { λ r.
+        let S = sheetOf (now (supply .entry)) (now (demand .entry)) (now (cost .entry)) in
+        ⌜ r ≡ roundOut (roundCall S t) ⌝ }
+{
+    let answer = tableau_calls::round::round(supply, demand, cost, t);
+    let tableau = answer.tableau;
+    let u = answer.u;
+    let v = answer.v;
+    let outcome = answer.outcome;
+    match outcome {
+        RoundOutcome::Moved => RoundOut {
+            refusal: 0,
+            finished: false,
+            tableau,
+            u,
+            v,
+        },
+        RoundOutcome::Finished => RoundOut {
+            refusal: 0,
+            finished: true,
+            tableau,
+            u,
+            v,
+        },
+        RoundOutcome::Refused(number) => RoundOut {
+            refusal: number,
+            finished: false,
+            tableau,
+            u,
+            v,
+        },
+    }
+}
+
+pub fn run_from(supply: &[u64], demand: &[u64], cost: &[u64], t: Tableau, allowance: u32) -> RunOut
+    ensures { λ r.
+        let S = sheetOf (now (supply .entry)) (now (demand .entry)) (now (cost .entry)) in
+        ⌜ r ≡ runOut (runCall S t allowance) ⌝ }
+{
+    let answer = tableau_calls::run::run(supply, demand, cost, t, allowance);
+    let tableau = answer.tableau;
+    let outcome = answer.outcome;
+    match outcome {
+        RunOutcome::Finished(rounds) => RunOut {
+            refusal: 0,
+            finished: true,
+            rounds,
+            tableau,
+        },
+        RunOutcome::Spent(rounds) => RunOut {
+            refusal: 0,
+            finished: false,
+            rounds,
+            tableau,
+        },
+        RunOutcome::Refused(number) => RunOut {
+            refusal: number,
+            finished: false,
+            rounds: 0,
+            tableau,
+        },
+    }
+}
+
+// Settle: 0, or the number of the refusal.
+pub fn settle_from(supply: &[u64], demand: &[u64], cost: &[u64], t: Tableau, plan: &mut [u64]) -> u8
+    ensures { λ r.
+        let S = sheetOf (now (supply .entry)) (now (demand .entry)) (now (cost .entry)) in
+        let a = settleCall S t (length (now (plan .entry))) in
+        ⌜ (r ≡ numberOf a) × (now (plan .exit) ≡ lentAfter (λ x. x) a (now (plan .entry))) ⌝ }
+{
+    let answer = plan_calls::settling::settle(supply, demand, cost, t, plan);
+    match answer {
+        SettleAnswer::Settled => 0,
+        SettleAnswer::Refused(number) => number,
+    }
+}
+
+pub fn write_out(answer: WriteAnswer) -> WriteOut
+    ensures { λ r. ⌜ r ≡ written answer ⌝ }
+{
+    match answer {
+        WriteAnswer::Written(length) => WriteOut { refusal: 0, length },
+        WriteAnswer::Refused(number) => WriteOut {
+            refusal: number,
+            length: 0,
+        },
+    }
+}
