@@ -16,7 +16,7 @@ use Rattle.transport.specs.Laws.ProblemLaws.{lane, length-lanes, getD-lanes}
 use Rattle.transport.specs.PlanText.{carried, used, laneLine}
 use Rattle.sections.specs.Lines.{linesFrom, lines-nil, lines-row}
 
--- The numbers of the lane at a place, among n columns: its row and its column, both from 1, and its bags; none if it hasBag no bag.
+-- The numbers of the lane at a place, among n columns: its row and its column, both from 1, and its bags; none if it carries no bag.
 unfoldable pub laneNumbers : ℕ → ℕ → ℕ → List ℕ
 laneNumbers n l bags = cond (eqb bags 0) [] (suc (l / n) ∷ suc (l % n) ∷ bags ∷ [])
 
@@ -82,7 +82,7 @@ module _ (n : ℕ) (plan : List ℕ) where
   unfolding carried place
   carried-at k = rw (div-add-mod' k n)
 
-  -- One place more: a lane that hasBag a bag, with its three numbers, or neither.
+  -- One place more: a lane that carries a bag, with its three numbers, or neither.
   record Next (k : ℕ) : Type 0 where
     last : List Lane
     lanesNext : usedTo (suc k) ≡ usedTo k ++ last

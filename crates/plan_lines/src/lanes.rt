@@ -6,7 +6,7 @@ ghost use Rattle.transport.specs.Limits.{maxSide};
 ghost use Rattle.sections.specs.Front.{front};
 ghost use Rattle.plan_lines.specs.Lanes.{laneNumbers, usedNumbers};
 
-// The numbers of the lane at a place, among n columns, at the front of the list, and their count: none if it hasBag no bag.
+// The numbers of the lane at a place, among n columns, at the front of the list, and their count: none if it carries no bag.
 fn put_lane(place: usize, n: usize, bags: u64, list: &mut [u64]) -> usize
     requires { ⌜ (place < maxSide * maxSide) × (1 ≤ n) × (3 ≤ length (now list)) ⌝ }
     ensures { λ r.
