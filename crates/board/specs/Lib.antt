@@ -4,5 +4,4 @@ pub mod Held
 pub mod Lanes
 pub mod Arrays
 pub mod Slots
-pub mod Pivoting
 pub mod Drawing

@@ -8,7 +8,7 @@ ghost use Rattle.tree.specs.Layout.{laneRoom};
 ghost use Rattle.board.specs.Slots.{pairAt};
 
 // The pair on a lane.
-pub(crate) fn pair_at(q: &[i64; LANES], e: &[i64; LANES], lane: usize) -> Pair
+pub fn pair_at(q: &[i64; LANES], e: &[i64; LANES], lane: usize) -> Pair
     requires { ⌜ lane < laneRoom ⌝ }
     ensures { λ r. ⌜ r ≡ pairAt (now (q .entry)) (now (e .entry)) lane ⌝ }
 {
@@ -19,7 +19,7 @@ pub(crate) fn pair_at(q: &[i64; LANES], e: &[i64; LANES], lane: usize) -> Pair
 }
 
 // The lane then has this pair.
-pub(crate) fn put_pair(q: &mut [i64; LANES], e: &mut [i64; LANES], lane: usize, x: Pair)
+pub fn put_pair(q: &mut [i64; LANES], e: &mut [i64; LANES], lane: usize, x: Pair)
     requires { ⌜ lane < laneRoom ⌝ }
     ensures { λ _. ⌜ (now (q .exit) ≡ set (now (q .entry)) lane (x .q)) × (now (e .exit) ≡ set (now (e .entry)) lane (x .e)) ⌝ }
 {

@@ -2,6 +2,4 @@
 pub mod amount;
 pub mod fit;
 pub mod gather;
-pub mod pivot;
 pub mod spread;
-pub mod step;

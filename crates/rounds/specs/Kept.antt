@@ -35,7 +35,7 @@ use Rattle.tree.specs.Repriced.{Repriced}
 use Rattle.board.specs.Lanes.{place-order}
 use Rattle.board.specs.Arrays.{Board}
 use Rattle.board.specs.Drawing.{board-belongs}
-use Rattle.board.specs.Pivoting.{Enters, Shifts, Pivoted}
+use Rattle.pivoting.specs.Pivoting.{Enters, Shifts, Pivoted}
 use Rattle.pricing.specs.Costs.{Costed}
 use Rattle.pricing.specs.Slacks.{InRange, Slacks, Stale}
 use Rattle.pricing.specs.Scan.{Found, Scanned}

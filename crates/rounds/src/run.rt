@@ -1,5 +1,5 @@
 // Runs: rounds made until a tableau is finished, or an allowance is spent. The tree, the prices and the least slacks of the rows are kept between rounds.
-use board::pivot::pivot;
+use pivoting::pivot::pivot;
 use pricing::scan::entering;
 use pricing::scan::refresh_slacks;
 use pricing::scan::scan_slacks;

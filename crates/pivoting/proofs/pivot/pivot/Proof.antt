@@ -1,14 +1,14 @@
--- `board::pivot::pivot` meets its contract: the loop's slots, the least of the minus slots and the amounts carried round the loop are those of the pivot
+-- `pivoting::pivot::pivot` meets its contract: the loop's slots, the least of the minus slots and the amounts carried round the loop are those of the pivot
 -- (`pivot-is`). The hops lead from each call back to the one before it.
 use Prim.Native.Nat.{_<_, _≤_}
 use native.Mathlib.Omega.{arith}
 use mathlib.Core.Path.{_∙_}
 use Rattle.transport.specs.Amount.{nothing}
 use Rattle.tree.specs.Layout.{stride, nodeRoom}
-use Rattle.board.specs.Pivoting.{pivot-room, loop-rows, loses-some, minus-slots, plus-slots, slot-room, held-inside, back-fits, minus-fits, plus-fits}
-use Rattle.board.specs.Pivoting.{pivot-is}
-use Rattle.board.proofs.pivot.pivot.Statement.{statement}
-use Rattle.board.proofs.pivot.pivot.Tie as tie
+use Rattle.pivoting.specs.Pivoting.{pivot-room, loop-rows, loses-some, minus-slots, plus-slots, slot-room, held-inside, back-fits, minus-fits, plus-fits}
+use Rattle.pivoting.specs.Pivoting.{pivot-is}
+use Rattle.pivoting.proofs.pivot.pivot.Statement.{statement}
+use Rattle.pivoting.proofs.pivot.pivot.Tie as tie
 
 abbrev start : tie.After-loop-slots → tie.Start
 start c = c .before .before .before

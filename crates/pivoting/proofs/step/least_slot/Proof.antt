@@ -1,12 +1,12 @@
--- `board::step::least_slot` meets its contract: `least-less` and `least-stays` are the turns of the loop. The measure is the bits that are left, as a number.
+-- `pivoting::step::least_slot` meets its contract: `least-less` and `least-stays` are the turns of the loop. The measure is the bits that are left, as a number.
 use mathlib.Core.Path.{_≡_, sym, _∙_}
 use mathlib.Core.Logic.{⊎-elim}
 use native.Mathlib.Omega.{arith}
 use borrow.Author.Needs.{needs}
 use Rattle.tree.specs.Bits.{Least, rest-less, has-least}
 use Rattle.board.specs.Slots.{slotPair, LeastSlot, least-start, least-here, least-less, least-stays}
-use Rattle.board.proofs.step.least_slot.Statement.{statement}
-use Rattle.board.proofs.step.least_slot.Tie as tie
+use Rattle.pivoting.proofs.step.least_slot.Statement.{statement}
+use Rattle.pivoting.proofs.step.least_slot.Tie as tie
 
 abbrev Inv-loop : tie.InvT-loop
 Inv-loop q e lane slots at₀ least₀ bits₀ at least bits = LeastSlot q e lane slots bits at × (least ≡ slotPair q e lane at)

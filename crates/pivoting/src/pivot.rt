@@ -1,8 +1,8 @@
 // The pivot of a round: a lane enters the basis, the step goes round the loop that it closes, and the lane that held the step leaves.
-use crate::amount::pair_at;
-use crate::amount::put_pair;
 use crate::step::carry;
 use crate::step::least_slot;
+use board::amount::pair_at;
+use board::amount::put_pair;
 use transport::MAX_SIDE;
 use transport::Pair;
 use tree::LANES;
@@ -13,8 +13,8 @@ ghost use mathlib.Core.List.{List};
 ghost use Prim.Native.Nat.{ℕ};
 ghost use Rattle.transport.specs.Problem.{Problem};
 ghost use Rattle.transport.specs.declared.Cell.{Cell};
 ghost use Rattle.board.specs.Arrays.{Board};
-ghost use Rattle.board.specs.Pivoting.{Enters, Pivoted};
+ghost use Rattle.pivoting.specs.Pivoting.{Enters, Pivoted};
 
 // The lane from `row` to `col`, which is not basic, enters. Gives the nodes whose price moves.
 pub fn pivot(

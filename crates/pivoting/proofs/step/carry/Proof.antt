@@ -1,4 +1,4 @@
--- `board::step::carry` meets its contract: `add-step` is a turn of the loop, for the bags and for the marks. The measure is the bits that are left, as a
+-- `pivoting::step::carry` meets its contract: `add-step` is a turn of the loop, for the bags and for the marks. The measure is the bits that are left, as a
 -- number.
 use mathlib.Core.Path.{_≡_}
 use mathlib.Core.Bool.{true}
@@ -7,9 +7,9 @@ use borrow.Author.Needs.{needs}
 use Rattle.transport.specs.Amount.{add}
 use Rattle.tree.specs.Mask.{has}
 use Rattle.tree.specs.Bits.{Least, rest-less, has-least}
 use Rattle.board.specs.Slots.{Added, add-start, add-step}
-use Rattle.board.proofs.step.carry.Statement.{statement}
-use Rattle.board.proofs.step.carry.Tie as tie
+use Rattle.pivoting.proofs.step.carry.Statement.{statement}
+use Rattle.pivoting.proofs.step.carry.Tie as tie
 
 abbrev Inv-loop : tie.InvT-loop
 Inv-loop q₀ e₀ lane slots x bits₀ q e bits = Added (x .q) lane slots bits q₀ q × Added (x .e) lane slots bits e₀ e

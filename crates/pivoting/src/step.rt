@@ -1,6 +1,6 @@
 // The step round a loop: the slot whose lane holds it, and the amounts after it. The basic lanes stand in slots, and a loop is a mask of slots.
-use crate::amount::pair_at;
-use crate::amount::put_pair;
+use board::amount::pair_at;
+use board::amount::put_pair;
 use transport::Pair;
 use tree::LANES;
 use tree::NODES;
