@@ -1,4 +1,5 @@
--- `pivoting::step::least_slot` meets its contract: `least-less` and `least-stays` are the turns of the loop. The measure is the bits that are left, as a number.
+-- `pivoting::step::least_slot` meets its contract: `least-less` and `least-stays` are the turns of the loop. The measure is the bits that are left, as a
+-- number.
 use mathlib.Core.Path.{_≡_, sym, _∙_}
 use mathlib.Core.Logic.{⊎-elim}
 use native.Mathlib.Omega.{arith}
