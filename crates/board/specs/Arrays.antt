@@ -16,7 +16,7 @@ use Rattle.tableaux.specs.Belonging.{fits-inside}
 use Rattle.tree.specs.Layout.{stride, nodeRoom, laneRoom, strikesOf}
 use Rattle.tree.specs.Links.{Links, Masks}
 use Rattle.tree.specs.Drawn.{Drawn, drawn-links, drawn-masks}
-use Rattle.tree.specs.Planting.{Tree}
+use Rattle.cuts.specs.Planting.{Tree}
 use Rattle.board.specs.Held.{Held, row-lanes, column-lanes, lanes-apart}
 
 -- There are 1 to `stride` rows and 1 to `stride` columns.

@@ -43,9 +43,9 @@ use Rattle.tableaux.specs.Pivoting.{pivot-leaves, pivot-no-tie, pivot-belongs}
 use Rattle.tree.specs.Mask.{has, has-zero}
 use Rattle.tree.specs.Bits.{has-xor}
 use Rattle.tree.specs.Layout.{stride, stride-is, nodeRoom, laneRoom, laneAt, placeOf, place-laneAt, laneAt-place}
-use Rattle.tree.specs.Cuts.{signBy, sign-by, slots-apart, Exchanged, Shifted, shifted-root, shifted-tight}
-use Rattle.tree.specs.Cycle.{onLoop, rowFar, LoopSlots}
-use Rattle.tree.specs.Exchange.{Regrafted, loop-slot, loop-across, tree-exchanged}
+use Rattle.cuts.specs.Cuts.{signBy, sign-by, slots-apart, Exchanged, Shifted, shifted-root, shifted-tight}
+use Rattle.cuts.specs.Cycle.{onLoop, rowFar, LoopSlots}
+use Rattle.cuts.specs.Exchange.{Regrafted, loop-slot, loop-across, tree-exchanged}
 use Rattle.board.specs.Arrays.{Amounts, Board}
 use Rattle.board.specs.Slots.{pairAt, Slotted, LeastSlot, Added}
 

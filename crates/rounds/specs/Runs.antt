@@ -33,7 +33,7 @@ use Rattle.tableaux.specs.Running.{run-done, run-none, run-more}
 use Rattle.tableaux.specs.Ending.{mostValue, allValue-high, raised, raised-nonneg, next-falls, run-ends}
 use Rattle.tree.specs.Layout.{stride, stride-is, nodeRoom, costOf, strikesOf, StrikesInRoom}
 use Rattle.tree.specs.Strikes.{strikes-room}
-use Rattle.tree.specs.Planting.{Tree}
+use Rattle.cuts.specs.Planting.{Tree}
 use Rattle.board.specs.Arrays.{Loaded, Board}
 use Rattle.board.specs.Drawing.{board-belongs}
 use Rattle.pricing.specs.Costs.{Costed}

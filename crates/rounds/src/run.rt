@@ -1,4 +1,5 @@
 // Runs: rounds made until a tableau is finished, or an allowance is spent. The tree, the prices and the least slacks of the rows are kept between rounds.
+use cuts::cut::plant;
 use pivoting::pivot::pivot;
 use pricing::scan::entering;
 use pricing::scan::refresh_slacks;
@@ -7,7 +8,6 @@ use transport::MAX_SIDE;
 use tree::LANES;
 use tree::NODES;
 use tree::Price;
-use tree::cut::plant;
 use tree::potential::potentials;
 use tree::potential::reprice;
 ghost use mathlib.Core.Bool.{true};

@@ -9,8 +9,4 @@ pub mod State
 pub mod Strikes
 pub mod Drawn
 pub mod PotentialLaws
-pub mod Cuts
-pub mod Planting
-pub mod Cycle
-pub mod Exchange
 pub mod Repriced

@@ -15,11 +15,11 @@ use Rattle.transport.specs.Problem.{Lane}
 use Rattle.transport.specs.Leaf.{Strike}
 use Rattle.tableaux.specs.Leaves.{Ends, row-struck, column-struck, ends-differ}
 use Rattle.tableaux.specs.Striking.{Peeled, bare, peel, Struck, step-of, Live, struck-hung, root-no-leaf}
 use Rattle.tree.specs.Mask.{has, put, has-put, has-zero}
 use Rattle.tree.specs.Layout.{stride, nodeRoom, laneAt, strikeOf, strikesOf, length-strikes, getD-strikes}
 use Rattle.tree.specs.Strikes.{leaf-in, other-in}
 use Rattle.tree.specs.Bits.{has-one, Grafted, grafted-bit}
-use Rattle.tree.specs.Cuts.{Cuts, xor-false}
+use Rattle.cuts.specs.Cuts.{Cuts, xor-false}
 
 -- ---- the order of strikes
 

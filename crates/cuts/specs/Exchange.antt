@@ -13,12 +13,12 @@ use Rattle.transport.specs.Laws.ListLaws.{and-right}
 use Rattle.transport.specs.Problem.{Lane}
 use Rattle.transport.specs.Laws.ProblemLaws.{lane}
 use Rattle.tableaux.specs.Lanes.{Fits}
 use Rattle.tree.specs.Mask.{has, cut, has-cut}
 use Rattle.tree.specs.Layout.{stride, laneAt, laneAt-place}
 use Rattle.tree.specs.Bits.{has-xor, Grafted, grafted-bit}
-use Rattle.tree.specs.Cuts.{Exchanged, turned, exchange, xor-false}
-use Rattle.tree.specs.Cycle.{onLoop}
-use Rattle.tree.specs.Planting.{Tree, xor-of}
+use Rattle.cuts.specs.Cuts.{Exchanged, turned, exchange, xor-false}
+use Rattle.cuts.specs.Cycle.{onLoop}
+use Rattle.cuts.specs.Planting.{Tree, xor-of}
 
 -- The lane of slot s gave way to the one at the place `into`, from the node `row` to the node `sink`; `moved` is the far side of slot s.
 pub record Regrafted (row sink s into : ℕ) (sub path lanes sub′ path′ lanes′ : List ℕ) (moved : ℕ) : Type 0 where

@@ -1,14 +1,14 @@
--- `tree::cut::loop_slots` meets its contract: `far-step` is a turn of the loop. The measure is the bits that are left, as a number.
+-- `cuts::cut::loop_slots` meets its contract: `far-step` is a turn of the loop. The measure is the bits that are left, as a number.
 use mathlib.Core.Path.{_≡_}
 use Prim.Native.Nat.{_/_, _<_}
 use native.Mathlib.Omega.{arith}
 use lib.ListN.{getD}
 use borrow.Author.Needs.{needs}
 use Rattle.tree.specs.Layout.{stride, nodeRoom}
 use Rattle.tree.specs.Bits.{Least, rest-less, has-least}
-use Rattle.tree.specs.Cycle.{FarRows, far-start, far-step, loop-slots}
-use Rattle.tree.proofs.cut.loop_slots.Statement.{statement}
-use Rattle.tree.proofs.cut.loop_slots.Tie as tie
+use Rattle.cuts.specs.Cycle.{FarRows, far-start, far-step, loop-slots}
+use Rattle.cuts.proofs.cut.loop_slots.Statement.{statement}
+use Rattle.cuts.proofs.cut.loop_slots.Tie as tie
 
 abbrev Inv-loop : tie.InvT-loop
 Inv-loop path lane row sink own cycle far₀ bits₀ far bits = FarRows path lane cycle bits far

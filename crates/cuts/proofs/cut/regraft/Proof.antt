@@ -1,8 +1,8 @@
--- `tree::cut::regraft` meets its contract, by what `clear_bit` and `graft` ensure.
+-- `cuts::cut::regraft` meets its contract, by what `clear_bit` and `graft` ensure.
 use mathlib.Core.Path.{refl}
 use borrow.Author.Needs.{needs}
-use Rattle.tree.proofs.cut.regraft.Statement.{statement}
-use Rattle.tree.proofs.cut.regraft.Tie as tie
+use Rattle.cuts.proofs.cut.regraft.Statement.{statement}
+use Rattle.cuts.proofs.cut.regraft.Tie as tie
 
 returns : tie.Need-returns
 returns c = record {

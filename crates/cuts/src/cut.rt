@@ -1,8 +1,8 @@
 // The fundamental cuts of a spanning tree as masks, kept from round to round. The basic lanes stand in slots; for each slot `sub` has the nodes that its lane
 // cuts off from the root, and for each node `path` has the slots on its path to the root. An exchange of lanes turns over one part of each.
-use crate::NODES;
-use crate::mask;
 use transport::MAX_SIDE;
+use tree::NODES;
+use tree::mask;
 ghost use mathlib.Core.Path.{_≡_};
 ghost use mathlib.Core.Bool.{true};
 ghost use mathlib.Core.List.{List};
@@ -10,12 +10,12 @@ ghost use Prim.Native.Nat.{ℕ, _+_, _-_, _/_, _<_, _≤_};
 ghost use lib.ListN.{length, getD};
 ghost use Rattle.transport.specs.Problem.{Lane};
 ghost use Rattle.tableaux.specs.Striking.{Struck};
 ghost use Rattle.tree.specs.Mask.{has};
 ghost use Rattle.tree.specs.Layout.{stride, nodeRoom, strikesOf};
 ghost use Rattle.tree.specs.Bits.{Grafted};
-ghost use Rattle.tree.specs.Planting.{Order, Hanging, Turning, Tree};
-ghost use Rattle.tree.specs.Cycle.{onLoop, LoopSlots};
-ghost use Rattle.tree.specs.Exchange.{Regrafted};
+ghost use Rattle.cuts.specs.Planting.{Order, Hanging, Turning, Tree};
+ghost use Rattle.cuts.specs.Cycle.{onLoop, LoopSlots};
+ghost use Rattle.cuts.specs.Exchange.{Regrafted};
 
 // Turns over the bits of x in each mask whose place is a bit of `at`.
 fn graft(masks: &mut [u64; NODES], at: u64, x: u64)

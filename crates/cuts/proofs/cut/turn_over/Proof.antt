@@ -1,12 +1,12 @@
--- `tree::cut::turn_over` meets its contract: `turning-step` is a turn of the loop.
+-- `cuts::cut::turn_over` meets its contract: `turning-step` is a turn of the loop.
 use mathlib.Core.Path.{_≡_, refl}
 use native.Mathlib.Omega.{arith}
 use borrow.Author.Needs.{needs}
 use Prim.Native.Nat.{_-_, _≤_}
 use Rattle.tree.specs.Layout.{nodeRoom, getD-all}
-use Rattle.tree.specs.Planting.{Turning, turning-start, turning-step}
-use Rattle.tree.proofs.cut.turn_over.Statement.{statement}
-use Rattle.tree.proofs.cut.turn_over.Tie as tie
+use Rattle.cuts.specs.Planting.{Turning, turning-start, turning-step}
+use Rattle.cuts.proofs.cut.turn_over.Statement.{statement}
+use Rattle.cuts.proofs.cut.turn_over.Tie as tie
 
 abbrev Inv-loop : tie.InvT-loop
 Inv-loop path nodes sub₀ p₀ sub p = (p ≤ nodes) × Turning path p sub

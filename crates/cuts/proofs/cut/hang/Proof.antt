@@ -1,12 +1,12 @@
--- `tree::cut::hang` meets its contract: `hang-step` is a turn of the loop, from the last strike back.
+-- `cuts::cut::hang` meets its contract: `hang-step` is a turn of the loop, from the last strike back.
 use mathlib.Core.Path.{_≡_, refl}
 use Prim.Native.Nat.{suc, _-_}
 use native.Mathlib.Omega.{arith}
 use borrow.Author.Needs.{needs}
 use Rattle.tree.specs.Layout.{nodeRoom, getD-all}
-use Rattle.tree.specs.Planting.{Hanging, hang-start, hang-step}
-use Rattle.tree.proofs.cut.hang.Statement.{statement}
-use Rattle.tree.proofs.cut.hang.Tie as tie
+use Rattle.cuts.specs.Planting.{Hanging, hang-start, hang-step}
+use Rattle.cuts.proofs.cut.hang.Statement.{statement}
+use Rattle.cuts.proofs.cut.hang.Tie as tie
 
 abbrev Inv-loop : tie.InvT-loop
 Inv-loop leaf other count path₀ k₀ path k = Hanging leaf other count path k

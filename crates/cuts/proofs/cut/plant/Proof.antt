@@ -1,9 +1,9 @@
--- `tree::cut::plant` meets its contract: the paths of the strikes, turned over, are a tree.
+-- `cuts::cut::plant` meets its contract: the paths of the strikes, turned over, are a tree.
 use mathlib.Core.Path.{refl}
 use borrow.Author.Needs.{needs}
-use Rattle.tree.specs.Planting.{struck-order, planted}
-use Rattle.tree.proofs.cut.plant.Statement.{statement}
-use Rattle.tree.proofs.cut.plant.Tie as tie
+use Rattle.cuts.specs.Planting.{struck-order, planted}
+use Rattle.cuts.proofs.cut.plant.Statement.{statement}
+use Rattle.cuts.proofs.cut.plant.Tie as tie
 
 hang-requires : tie.Need-hang-requires
 hang-requires c κs = let s = c .before in struck-order _ _ _ _ (s .pre .0 .1) (s .pre .1 .1) (s .pre .1 .2)

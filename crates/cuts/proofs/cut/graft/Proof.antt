@@ -1,11 +1,11 @@
--- `tree::cut::graft` meets its contract: `touch-step` is a turn of the loop. The measure is the bits that are left, as a number.
+-- `cuts::cut::graft` meets its contract: `touch-step` is a turn of the loop. The measure is the bits that are left, as a number.
 use Prim.Native.Nat.{ℕ}
 use native.Mathlib.Omega.{arith}
 use lib.Bits.{bitXor}
 use borrow.Author.Needs.{needs}
 use Rattle.tree.specs.Bits.{Least, rest-less, Touching, touch-start, touch-still, touch-step, touch-end}
-use Rattle.tree.proofs.cut.graft.Statement.{statement}
-use Rattle.tree.proofs.cut.graft.Tie as tie
+use Rattle.cuts.proofs.cut.graft.Statement.{statement}
+use Rattle.cuts.proofs.cut.graft.Tie as tie
 
 abbrev Inv-loop : tie.InvT-loop
 Inv-loop masks₀ at x bits₀ masks bits = Touching (λ (y : ℕ). bitXor y x) 0 masks₀ at bits masks

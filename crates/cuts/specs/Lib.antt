@@ -1,0 +1,4 @@
+pub mod Cuts
+pub mod Planting
+pub mod Cycle
+pub mod Exchange
