@@ -29,7 +29,7 @@ pub extern "C" fn panel_start(supply: &[u64], demand: &[u64], cost: &[u64]) -> S
         let S = sheetOf (now (supply .entry)) (now (demand .entry)) (now (cost .entry)) in
         ⌜ r ≡ startOut (startCall S) ⌝ }
 {
-    let answer = tableau_calls::start::start(supply, demand, cost);
+    let answer = start_call::start(supply, demand, cost);
     let tableau = answer.tableau;
     let outcome = answer.outcome;
     match outcome {

@@ -1,4 +1,3 @@
-// The calls on tableaux: start, round and run.
+// The calls that take a tableau and give the next or a later one: round and run.
 pub mod round;
 pub mod run;
-pub mod start;

@@ -5,10 +5,10 @@ use Rattle.transport.specs.Laws.Sound.{accepted-sound}
 use Rattle.transport.specs.Sheet.{Sheet, problemOf, refusal, sheetTests, sheetOf}
 use Rattle.sheet.specs.Check.{accepted-none, refused-some}
 use Rattle.dealing.specs.Corner.{sound-costless, sound-turned, start-costless}
-use Rattle.tableau_calls.specs.Start.{start-refused, start-given}
+use Rattle.start_call.specs.Start.{start-refused, start-given}
 use borrow.Author.Needs.{needs}
-use Rattle.tableau_calls.proofs.start.start.Statement.{statement}
-use Rattle.tableau_calls.proofs.start.start.Tie as tie
+use Rattle.start_call.proofs.start.Statement.{statement}
+use Rattle.start_call.proofs.start.Tie as tie
 
 abbrev sheetAt : (c : tie.Start) → Sheet
 sheetAt c = sheetOf (c .args .supply .now) (c .args .demand .now) (c .args .cost .now)
