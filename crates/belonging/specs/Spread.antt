@@ -13,7 +13,6 @@ use Rattle.transport.specs.Laws.ListLaws.{and-left, and-right, all-at, member-t
 use Rattle.transport.specs.Problem.{Problem, sources, sinks}
 use Rattle.transport.specs.Laws.ProblemLaws.{lane}
 use Rattle.transport.specs.Laws.Sound.{Sound, supply-most, demand-most}
-use Rattle.transport.specs.Limits.{maxSide}
 use Rattle.transport.specs.Tableau.{noCell, laneOf, basisOf, basisSize, cellsOf}
 use Rattle.transport.specs.Belonging.{onSheet, inOrder, aboveZero, balanced, spans, cellsBelong, belongs}
 use Rattle.transport.specs.Round.{flow}
@@ -27,7 +26,7 @@ use Rattle.tableaux.specs.Order.{ordered-by, ordered-distinct}
 use Rattle.tree.specs.Layout.{stride, nodeRoom, laneAt, placeOf, place-laneAt, strikeOf, strikesOf}
 use Rattle.belonging.specs.FlowLaws.{weightsOf}
 use Rattle.board.specs.CellTests.{onBoard, cellsFit}
-use Rattle.board.specs.Arrays.{Sides, Amounts}
+use Rattle.board.specs.Arrays.{Sides, sound-sides, Amounts}
 use Rattle.tree.specs.Links.{iff-same}
 use Rattle.tree.specs.Strip.{Stripped}
 use Rattle.belonging.specs.Carried.{carries, carries-true, carries-at}
@@ -37,12 +36,12 @@ use Rattle.belonging.specs.Weighing.{Modest}
 -- ---- the sheet
 
 module _ {supply demand : List ℕ} {cost : List ℤ} (ok : Sound (problem supply demand cost)) where
-  pub sound-sides : Sides (length supply) (length demand)
-  unfolding sources sinks maxSide
-  sound-sides = record { rowsLow = ok .sourcesLow; rowsHigh = ok .sourcesHigh; colsLow = ok .sinksLow; colsHigh = ok .sinksHigh }
+  pub list-sides : Sides (length supply) (length demand)
+  unfolding sources sinks
+  list-sides = sound-sides ok refl refl
 
   pub sound-modest : Modest supply × Modest demand
-  sound-modest = (record { few = sound-sides .rowsHigh; high = supply-most ok }, record { few = sound-sides .colsHigh; high = demand-most ok })
+  sound-modest = (record { few = list-sides .rowsHigh; high = supply-most ok }, record { few = list-sides .colsHigh; high = demand-most ok })
 
 -- ---- the basis
 

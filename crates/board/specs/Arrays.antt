@@ -3,6 +3,7 @@ use mathlib.Core.Path.{_≡_}
 use mathlib.Core.Bool.{true}
 use mathlib.Core.List.{List}
 use Prim.Native.Nat.{ℕ, _+_, _-_, _*_, _<_, _≤_}
+use native.Mathlib.Omega.{arith}
 use lib.IntN.{ℤ, pos}
 use lib.ListN.{length, getD}
 use Rattle.transport.specs.Problem.{Problem, sources, sinks}
@@ -13,7 +14,7 @@ use Rattle.transport.specs.declared.Cell.{Cell}
 use Rattle.tableaux.specs.View.{Distinct, Inside, amountAt}
 use Rattle.tableaux.specs.Striking.{Struck}
 use Rattle.tableaux.specs.Belonging.{fits-inside}
-use Rattle.tree.specs.Layout.{stride, nodeRoom, laneRoom, strikesOf}
+use Rattle.tree.specs.Layout.{stride, stride-is, nodeRoom, laneRoom, strikesOf}
 use Rattle.tree.specs.Links.{Links, Masks}
 use Rattle.tree.specs.Drawn.{Drawn, drawn-links, drawn-masks}
 use Rattle.cuts.specs.Planting.{Tree}
@@ -25,6 +26,15 @@ pub record Sides (m n : ℕ) : Type 0 where
   pub rowsHigh : m ≤ stride
   pub colsLow : 1 ≤ n
   pub colsHigh : n ≤ stride
+
+-- So it is of a sound problem.
+pub sound-sides : {P : Problem} {m n : ℕ} → Sound P → m ≡ sources P → n ≡ sinks P → Sides m n
+sound-sides ok rows columns = record {
+  rowsLow = omega (arith, rows, ok .sourcesLow);
+  rowsHigh = omega (arith, rows, stride-is, ok .sourcesHigh);
+  colsLow = omega (arith, columns, ok .sinksLow);
+  colsHigh = omega (arith, columns, stride-is, ok .sinksHigh);
+}
 
 -- The amounts of the cells lie on their lanes, (0, 0) on every other.
 pub record Amounts (m n : ℕ) (T : List Cell) (q e : List ℤ) : Type 0 where

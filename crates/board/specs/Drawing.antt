@@ -22,10 +22,10 @@ use Rattle.transport.specs.Statements.{Belongs}
 use Rattle.tableaux.specs.Order.{Ordered, ordered-by}
 use Rattle.tableaux.specs.Belonging.{belongs-iff, inside-of, fits-of}
 use Rattle.tree.specs.Mask.{has, has-zero}
-use Rattle.tree.specs.Layout.{stride, stride-is, nodeRoom, laneAt}
+use Rattle.tree.specs.Layout.{stride, nodeRoom, laneAt}
 use Rattle.board.specs.Held.{isBasic, isBasic-true, true-isBasic, linked, length-linked, linked-row, linked-column, Held}
 use Rattle.tree.specs.Links.{iff-same}
-use Rattle.board.specs.Arrays.{Board}
+use Rattle.board.specs.Arrays.{sound-sides, Board}
 use Rattle.board.specs.Lanes.{RowMasks, gathered, gathered-is, held-masks}
 
 -- The lane of row i and column j stands in the first k places.
@@ -112,7 +112,7 @@ module _ {P : Problem} {T : List Cell} {q e : List ℤ} {sub path lanes : List �
     }
 
     high : (m ≤ stride) × (n ≤ stride)
-    high = (omega (arith, stride-is, b .rows, b .sound .sourcesHigh), omega (arith, stride-is, b .columns, b .sound .sinksHigh))
+    high = let s = sound-sides (b .sound) (b .rows) (b .columns) in (s .rowsHigh, s .colsHigh)
 
     inside : Inside m n T
     inside = rw (b .rows, b .columns) (inside-of (b .sound) board-belongs)

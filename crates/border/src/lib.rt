@@ -67,7 +67,7 @@ pub fn round_from(supply: &[u64], demand: &[u64], cost: &[u64], t: Tableau) -> R
         let S = sheetOf (now (supply .entry)) (now (demand .entry)) (now (cost .entry)) in
         ⌜ r ≡ roundOut (roundCall S t) ⌝ }
 {
-    let answer = tableau_calls::round::round(supply, demand, cost, t);
+    let answer = round_call::round(supply, demand, cost, t);
     let tableau = answer.tableau;
     let u = answer.u;
     let v = answer.v;
@@ -102,7 +102,7 @@ pub fn run_from(supply: &[u64], demand: &[u64], cost: &[u64], t: Tableau, allowa
         let S = sheetOf (now (supply .entry)) (now (demand .entry)) (now (cost .entry)) in
         ⌜ r ≡ runOut (runCall S t allowance) ⌝ }
 {
-    let answer = tableau_calls::run::run(supply, demand, cost, t, allowance);
+    let answer = run_call::run(supply, demand, cost, t, allowance);
     let tableau = answer.tableau;
     let outcome = answer.outcome;
     match outcome {
@@ -134,7 +134,7 @@ pub fn settle_from(supply: &[u64], demand: &[u64], cost: &[u64], t: Tableau, pla
         let a = settleCall S t (length (now (plan .entry))) in
         ⌜ (r ≡ numberOf a) × (now (plan .exit) ≡ lentAfter (λ x. x) a (now (plan .entry))) ⌝ }
 {
-    let answer = plan_calls::settling::settle(supply, demand, cost, t, plan);
+    let answer = settle_call::settle(supply, demand, cost, t, plan);
     match answer {
         SettleAnswer::Settled => 0,
         SettleAnswer::Refused(number) => number,

@@ -1,6 +1,4 @@
-// What the calls on tableaux and those on plans share: the first tableau, rounds on a tableau that is dealt over arrays, the tableau of an answer that gives
-// none, and the prices that an answer shows.
+// What the calls on tableaux and those on plans share: the first tableau, the tableau of an answer that gives none, and the prices that an answer shows.
 pub mod corner;
-pub mod dealt;
 pub mod prices;
 pub mod tableau;

@@ -14,7 +14,8 @@ use Rattle.transport.specs.Calls.{Answer, refused, given, refusedBy, lentAfter,
 use Rattle.transport.specs.Answers.{solveAnswer}
 use Rattle.transport.specs.Statements.{Balanced, Best, Bought}
 use Rattle.transport.specs.Laws.PlanLaws.{planCost-size}
-use Rattle.demands.specs.Demand3.{Solved, Fills, demand3, solve-fills}
+use Rattle.transport.specs.Laws.CallLaws.{Fills}
+use Rattle.demands.specs.Demand3.{Solved, demand3, solve-fills}
 
 solved≢refused : {cost rounds k : ℕ} → SolveAnswer.Solved cost rounds ≡ SolveAnswer.Refused k → ⊥
 solved≢refused e = let n : _≡_ {A = ℕ} 0 1 = cc in omega arith

@@ -13,7 +13,7 @@ use Rattle.transport.specs.Calls.{Answer, given, refusedBy, Solution, solutionF
 use Rattle.transport.specs.Statements.{WithinLimits, Balanced, LongEnough, Best, FromFirstFinished}
 use Rattle.transport.specs.Laws.ListLaws.{length-table}
 use Rattle.transport.specs.Laws.Sound.{Sound, sound, accepted-sound}
-use Rattle.transport.specs.Laws.CallLaws.{unless-given-iff, refusal-last}
+use Rattle.transport.specs.Laws.CallLaws.{Fills, unless-given-iff, refusal-last}
 use Rattle.tableaux.specs.ProblemPlans.{flowCost}
 use Rattle.tableaux.specs.Running.{run-reached, run-tableau}
 use Rattle.tableaux.specs.Ending.{start-ends, start-finished, start-last}
@@ -22,12 +22,6 @@ use Rattle.reduction.specs.Reduction.{cost-same, optimal-best, optimal-settled}
 use Rattle.demands.specs.Refusing.{solve-refuses, solve-gives}
 
 -- ---- the solution
-
--- The solution fills m, n and m × n places of the lent lists.
-pub record Fills (S : Sheet) (s : Solution) : Type 0 where
-  pub u : length (s .u) ≡ roasteries S
-  pub v : length (s .v) ≡ cafes S
-  pub plan : length (s .plan) ≡ roasteries S * cafes S
 
 module _ (S : Sheet) (ok : Sound (problemOf S)) where
   pub solution-finished : FromFirstFinished (problemOf S) (solution S)

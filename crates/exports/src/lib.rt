@@ -111,7 +111,7 @@ pub extern "C" fn panel_solve(
         × (now (plan .exit) ≡ lentAfter (λ s. s .plan) a (now (plan .entry)))
         ⌝ }
 {
-    let answer = plan_calls::solve::solve(supply, demand, cost, u, v, plan);
+    let answer = solve_call::solve(supply, demand, cost, u, v, plan);
     match answer {
         SolveAnswer::Solved {
             cost: total,

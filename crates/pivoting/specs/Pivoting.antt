@@ -42,11 +42,12 @@ use Rattle.tableaux.specs.PivotView.{amount-elsewhere, pivot-basic}
 use Rattle.tableaux.specs.Pivoting.{pivot-leaves, pivot-no-tie, pivot-belongs}
 use Rattle.tree.specs.Mask.{has, has-zero}
 use Rattle.tree.specs.Bits.{has-xor}
-use Rattle.tree.specs.Layout.{stride, stride-is, nodeRoom, laneRoom, laneAt, placeOf, place-laneAt, laneAt-place}
+use Rattle.tree.specs.Layout.{stride, nodeRoom, laneRoom, laneAt, placeOf, place-laneAt, laneAt-place}
 use Rattle.cuts.specs.Cuts.{signBy, sign-by, slots-apart, Exchanged, Shifted, shifted-root, shifted-tight}
 use Rattle.cuts.specs.Cycle.{onLoop, rowFar, LoopSlots}
 use Rattle.cuts.specs.Exchange.{Regrafted, loop-slot, loop-across, tree-exchanged}
-use Rattle.board.specs.Arrays.{Amounts, Board}
+use Rattle.board.specs.Arrays.{sound-sides, Amounts, Board}
+use Rattle.board.specs.Drawing.{board-belongs}
 use Rattle.board.specs.Slots.{pairAt, Slotted, LeastSlot, Added}
 
 -- The lane from row to col is one of the problem, and not basic.
@@ -161,17 +162,14 @@ module _ {P : Problem} {T : List Cell} {q e : List ℤ} {sub path lanes : List �
   abbrev signOf : Lane → ℤ
   signOf = signs (sources P) (sinks P) T (lane row col)
 
-  board-belongs : Belongs P T
-  board-belongs = belongs-iff P T (b .sound .sourcesLow) (b .sound .sinksLow) .0 (b .belongs)
-
   high : (sources P ≤ stride) × (sinks P ≤ stride)
-  high = (omega (arith, stride-is, b .sound .sourcesHigh), omega (arith, stride-is, b .sound .sinksHigh))
+  high = let s = sound-sides (b .sound) refl refl in (s .rowsHigh, s .colsHigh)
 
   fits : Fits M N (basisOf T)
-  fits = fits-of (b .sound) board-belongs
+  fits = fits-of (b .sound) (board-belongs b)
 
   spanned : spans M N (basisOf T) ≡ true
-  spanned = spans-of (b .sound) board-belongs
+  spanned = spans-of (b .sound) (board-belongs b)
 
   -- The lane in slot t ..
   slot-on : (t : ℕ) → t < count → (getD lanes t 0 / stride < M) × (getD lanes t 0 % stride < N)
@@ -198,7 +196,7 @@ module _ {P : Problem} {T : List Cell} {q e : List ℤ} {sub path lanes : List �
   pub slot-light : (t : ℕ) → t < sources P + sinks P - 1
       → (natAbs (pairAt q e (getD lanes t 0) .q) ≤ maxBags) × (natAbs (pairAt q e (getD lanes t 0) .e) ≤ maxSide)
   slot-light t p =
-      let a = amount-bound (b .sound) board-belongs _ _ (slot-basic t p) in
+      let a = amount-bound (b .sound) (board-belongs b) _ _ (slot-basic t p) in
       (rw (ap (λ (x : Pair). x .q) (slot-pair t p)) (a .0), rw (ap (λ (x : Pair). x .e) (slot-pair t p)) (a .1))
 
   pub slots-lie : (slots : ℕ) → ((t : ℕ) → has slots t ≡ true → t < sources P + sinks P - 1) → Slotted lanes slots
@@ -224,7 +222,7 @@ module _ {P : Problem} {T : List Cell} {q e : List ℤ} {sub path lanes : List �
   out = leaver (sources P) (sinks P) T (lane row col)
 
   leaves : Leaves signOf T out
-  leaves = pivot-leaves (b .sound) board-belongs (h .inRow) (h .inCol) (h .new)
+  leaves = pivot-leaves (b .sound) (board-belongs b) (h .inRow) (h .inCol) (h .new)
 
   module _ {minus plus : ℕ} (g : LoopSlots path lanes row (sources P + col) minus plus) where
     pub minus-in : (t : ℕ) → has minus t ≡ true → t < sources P + sinks P - 1
@@ -246,7 +244,7 @@ module _ {P : Problem} {T : List Cell} {q e : List ℤ} {sub path lanes : List �
     unfolding laneOf
     out-slot =
         let (t, p, s) = lane-slot (out .row) (out .col) (basic-member (leaves .member)) in
-        let (hi, hj) = inside-member (inside-of (b .sound) board-belongs) (leaves .member) in
+        let (hi, hj) = inside-member (inside-of (b .sound) (board-belongs b)) (leaves .member) in
         let is : laneAt (getD lanes t 0) ≡ lane (out .row) (out .col) = ap laneAt s ∙ laneAt-place (out .row) (out .col) (omega (arith, high)) in
         (t, minus-sign t p ∙ ap (λ l. isMinus (signOf l)) is ∙ leaves .minus, s)
 
@@ -261,10 +259,10 @@ module _ {P : Problem} {T : List Cell} {q e : List ℤ} {sub path lanes : List �
 
       held-by : {c : Cell} → List·Memᴰ c T → (t : ℕ) → getD lanes t 0 ≡ c .row * stride + c .col → pairAt q e (getD lanes t 0) ≡ c .amount
       held-by {c} mem t is =
-          let (hi, hj) = inside-member (inside-of (b .sound) board-belongs) mem in
+          let (hi, hj) = inside-member (inside-of (b .sound) (board-belongs b)) mem in
           let x = b .amounts .bags (c .row) (c .col) hi hj in
           let y = b .amounts .marks (c .row) (c .col) hi hj in
-          ap (pairAt q e) is ∙ (λ i. record { q = x i; e = y i }) ∙ amount-member (distinct-of (b .sound) board-belongs) mem
+          ap (pairAt q e) is ∙ (λ i. record { q = x i; e = y i }) ∙ amount-member (distinct-of (b .sound) (board-belongs b)) mem
 
       slot-leaves : getD lanes s 0 ≡ out .row * stride + out .col
       unfolding laneOf
@@ -283,7 +281,7 @@ module _ {P : Problem} {T : List Cell} {q e : List ℤ} {sub path lanes : List �
               in
               let same : c .amount ≡ out .amount = less-tie (c .amount) (out .amount) (leaves .least c mem minus-cell) above in
               place ∙ ap (λ (c : Cell). c .row * stride + c .col)
-              (pivot-no-tie (b .sound) board-belongs (h .inRow) (h .inCol) (h .new) mem minus-cell same)
+              (pivot-no-tie (b .sound) (board-belongs b) (h .inRow) (h .inCol) (h .new) mem minus-cell same)
 
       step-is : pairAt q e (getD lanes s 0) ≡ step (sources P) (sinks P) T (lane row col)
       step-is = held-by (leaves .member) s slot-leaves
@@ -291,7 +289,7 @@ module _ {P : Problem} {T : List Cell} {q e : List ℤ} {sub path lanes : List �
       -- ---- after the step went round
 
       order : Ordered N T
-      order = ordered-by N T (board-belongs .order)
+      order = ordered-by N T (board-belongs b .order)
 
       -- Off the entering lane every amount gains by its sign.
       amount-gains : (i j : ℕ) → ¬ ((i ≡ row) × (j ≡ col)) → amountAt (pivot M N T enter) i j ≡ gain (signOf (lane i j)) (out .amount) (amountAt T i j)
@@ -303,11 +301,11 @@ module _ {P : Problem} {T : List Cell} {q e : List ℤ} {sub path lanes : List �
           gains-minus (negsuc k) a p = subtract-self a
 
           go : Dec (Basic T i j) → Dec (Stands out i j) → amountAt (pivot M N T enter) i j ≡ gain (signOf (lane i j)) (out .amount) (amountAt T i j)
-          go (no d′) o = amount-elsewhere order (board-belongs .onSheet) (h .inCol) (h .new) i j d′ d ∙ rw (sign-none i j d′, amount-none T i j d′)
-          go (yes y) (no o) = amount-stays order (board-belongs .onSheet) (h .inCol) (h .new) i j y o
+          go (no d′) o = amount-elsewhere order (board-belongs b .onSheet) (h .inCol) (h .new) i j d′ d ∙ rw (sign-none i j d′, amount-none T i j d′)
+          go (yes y) (no o) = amount-stays order (board-belongs b .onSheet) (h .inCol) (h .new) i j y o
           go (yes y) (yes o) = rw (o .0, o .1)
-              (amount-leaves order (board-belongs .onSheet) (h .inCol) (h .new) (leaves .member)
-              ∙ sym (ap (gain (signOf (laneOf out)) (out .amount)) (amount-member (distinct-of (b .sound) board-belongs) (leaves .member))
+              (amount-leaves order (board-belongs b .onSheet) (h .inCol) (h .new) (leaves .member)
+              ∙ sym (ap (gain (signOf (laneOf out)) (out .amount)) (amount-member (distinct-of (b .sound) (board-belongs b)) (leaves .member))
               ∙ gains-minus (signOf (laneOf out)) (out .amount) (leaves .minus)))
 
       -- What an addition on slots does to the lane of any slot.
@@ -329,7 +327,7 @@ module _ {P : Problem} {T : List Cell} {q e : List ℤ} {sub path lanes : List �
           → getD (set ys (row * stride + col) (part (out .amount))) (i * stride + j) (pos 0) ≡ part (amountAt (pivot M N T enter) i j)
       turned-part part f₁ f₂ {xs} {mid} {ys} long lie down up i j hi hj = by-cases (Dec·and (ℕ-discrete i row) (ℕ-discrete j col))
           (λ s. rw (s .0, s .1) (getD-set-same ys (row * stride + col) _ (pos 0) (omega (arith, high, h .inRow, h .inCol))
-          ∙ sym (ap part (amount-enters order (board-belongs .onSheet) (h .inCol) (h .new)))))
+          ∙ sym (ap part (amount-enters order (board-belongs b .onSheet) (h .inCol) (h .new)))))
           (λ d. getD-set-other ys (row * stride + col) (i * stride + j) _ (pos 0) (λ s. d (omega (arith, high, h .inCol)))
           ∙ here
           ∙ sym (gain-part part f₁ f₂ (signOf (lane i j)) (out .amount) (amountAt T i j))
@@ -355,7 +353,7 @@ module _ {P : Problem} {T : List Cell} {q e : List ℤ} {sub path lanes : List �
 
       slot-is : laneAt (getD lanes s 0) ≡ lane (out .row) (out .col)
       slot-is =
-          let (hi, hj) = inside-member (inside-of (b .sound) board-belongs) (leaves .member) in
+          let (hi, hj) = inside-member (inside-of (b .sound) (board-belongs b)) (leaves .member) in
           ap laneAt slot-leaves ∙ laneAt-place (out .row) (out .col) (omega (arith, high))
 
       slot-on-loop : has (onLoop path row (M + col)) s ≡ true
@@ -380,7 +378,7 @@ module _ {P : Problem} {T : List Cell} {q e : List ℤ} {sub path lanes : List �
               x))
 
       belongs-after : Belongs P after
-      belongs-after = pivot-belongs (b .sound) board-belongs (h .inRow) (h .inCol) (h .new)
+      belongs-after = pivot-belongs (b .sound) (board-belongs b) (h .inRow) (h .inCol) (h .new)
 
       module _ {sub′ path′ lanes′ : List ℕ} {far : ℕ} (w : Regrafted row (sources P + col) s (row * stride + col) sub path lanes sub′ path′ lanes′ far) where
         in-far : (k : ℕ) → k < M + N → has far k ≡ has (getD path k 0) s

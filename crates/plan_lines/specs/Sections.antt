@@ -13,7 +13,7 @@ use Rattle.transport.specs.Calls.{Solution, solutionFrom, solution}
 use Rattle.transport.specs.PlanText.{wholeLine, used, laneLine, planText}
 use Rattle.transport.specs.Plan.{settled}
 use Rattle.transport.specs.Laws.PlanLaws.{planCost-natural}
-use Rattle.demands.specs.Demand3.{Fills}
+use Rattle.transport.specs.Laws.CallLaws.{Fills}
 use Rattle.sections.specs.Lines.{sectionText, linesFrom, section-of, lines-column}
 use Rattle.sections.specs.Wholes.{wholeSection, whole-section-of}
 use Rattle.plan_lines.specs.Lanes.{usedNumbers, used-whole}

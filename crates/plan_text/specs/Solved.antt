@@ -14,10 +14,10 @@ use Rattle.transport.specs.Sheet.{Sheet, roasteries, cafes, sheetTests, refusal
 use Rattle.transport.specs.Laws.SheetLaws.{accepted}
 use Rattle.transport.specs.Laws.Sound.{sources-room, sinks-room}
 use Rattle.transport.specs.Calls.{Answer, given, refusedBy, lentAfter, Solution, solution, solveCall}
-use Rattle.transport.specs.Laws.CallLaws.{unless-before, unless-none, rooms-iff}
+use Rattle.transport.specs.Laws.CallLaws.{Fills, unless-before, unless-none, rooms-iff}
 use Rattle.transport.specs.Answers.{solveAnswer}
 use Rattle.transport.specs.PlanText.{planText}
-use Rattle.demands.specs.Demand3.{Fills, solve-fills}
+use Rattle.demands.specs.Demand3.{solve-fills}
 use Rattle.plan_lines.specs.Lanes.{usedNumbers}
 use Rattle.plan_lines.specs.Sections.{planSections, plan-sections}
 

@@ -29,11 +29,11 @@ use Rattle.transport.specs.declared.Cell.{Cell}
 use Rattle.tableaux.specs.Potentials.{price-size, price-limit}
 use Rattle.tableaux.specs.Belonging.{fits-of, spans-of}
 use Rattle.tableaux.specs.Entering.{entering-inside, entering-new}
-use Rattle.tree.specs.Layout.{stride, stride-is, nodeRoom, maxPotential, reducedAt}
+use Rattle.tree.specs.Layout.{stride, nodeRoom, maxPotential, reducedAt}
 use Rattle.tree.specs.Mask.{has}
 use Rattle.tree.specs.Repriced.{Repriced}
 use Rattle.board.specs.Lanes.{place-order}
-use Rattle.board.specs.Arrays.{Board}
+use Rattle.board.specs.Arrays.{Sides, sound-sides, Board}
 use Rattle.board.specs.Drawing.{board-belongs}
 use Rattle.pivoting.specs.Pivoting.{Enters, Shifts, Pivoted}
 use Rattle.pricing.specs.Costs.{Costed}
@@ -80,14 +80,6 @@ sign-is z p = rw (back w32 z p) (go z)
 
 module _ {P : Problem} {T : List Cell} {q e cost price : List ℤ} {sub path tree : List ℕ} {m n : ℕ} (b : Board P T q e sub path tree m n)
     (costs : Costed P cost) (prices : Prices P T price m n) where
-  pub board-sides : (1 ≤ m) × (m ≤ stride) × (1 ≤ n) × (n ≤ stride)
-  board-sides = (
-    omega (arith, b .rows, b .sound .sourcesLow),
-    omega (arith, b .rows, stride-is, b .sound .sourcesHigh),
-    omega (arith, b .columns, b .sound .sinksLow),
-    omega (arith, b .columns, stride-is, b .sound .sinksHigh),
-  )
-
   price-small : (k : ℕ) → k < nodeRoom → natAbs (getD price k (pos 0)) ≤ maxPotential
   unfolding costAbove maxCost
   price-small k r = by-cases (decLt k (m + n))
@@ -100,7 +92,9 @@ module _ {P : Problem} {T : List Cell} {q e cost price : List ℤ} {sub path tre
       (λ l. rw (prices .none k (omega arith) r) (omega arith))
 
   pub in-range : InRange cost price m n
-  in-range = record { rows = board-sides .1; some = board-sides .2; columns = board-sides .3; costs = costs .small; prices = price-small }
+  in-range =
+      let s = sound-sides (b .sound) (b .rows) (b .columns) in
+      record { rows = s .rowsHigh; some = s .colsLow; columns = s .colsHigh; costs = costs .small; prices = price-small }
 
 module _ {P : Problem} {T : List Cell} {bags marks cost price slack : List ℤ} {sub path tree : List ℕ} {m n : ℕ}
     (h : Kept P T bags marks cost price slack sub path tree m n) where
@@ -110,8 +104,8 @@ module _ {P : Problem} {T : List Cell} {bags marks cost price slack : List ℤ} 
   pub kept-range : InRange cost price m n
   kept-range = in-range b (h .costs) (h .prices)
 
-  pub kept-sides : (1 ≤ m) × (m ≤ stride) × (1 ≤ n) × (n ≤ stride)
-  kept-sides = board-sides b (h .costs) (h .prices)
+  pub kept-sides : Sides m n
+  kept-sides = sound-sides (b .sound) (b .rows) (b .columns)
 
   pub kept-prices : (k : ℕ) → k < nodeRoom → natAbs (getD price k (pos 0)) ≤ 2 ^ 29
   unfolding costAbove maxCost
@@ -164,7 +158,7 @@ module _ {P : Problem} {T : List Cell} {bags marks cost price slack : List ℤ} 
                 (λ i j x y r. rw (is-reduced, ← reduced-are i j x y) (found .least i j x y));
             first = λ k l. at-place k (omega (arith, below, length-lanes M N)) (λ t. ltZ (reducedCost P T (lane row col)) (reducedCost P T t) ≡ true)
                 (λ i j x y r. rw (is-reduced, ← reduced-are i j x y)
-                (found .first i j x y (place-order N i j row col (omega (arith, b .columns)) (on-sheet .1) (omega (arith, b .columns, kept-sides))
+                (found .first i j x y (place-order N i j row col (omega (arith, b .columns)) (on-sheet .1) (omega (arith, b .columns, kept-sides .colsHigh))
                 (omega arith))));
           })
 
@@ -212,8 +206,8 @@ module _ {P : Problem} {T : List Cell} {bags marks cost price slack : List ℤ} 
             abs-diff (c -ℤ u) v,
             abs-diff c u,
             kept-range .costs (col * stride + row),
-            kept-range .prices row (omega (arith, found t .rowIn, kept-sides)),
-            kept-range .prices (m + col) (omega (arith, found t .colIn, kept-sides)),
+            kept-range .prices row (omega (arith, found t .rowIn, kept-sides .rowsHigh)),
+            kept-range .prices (m + col) (omega (arith, found t .colIn, kept-sides .rowsHigh, kept-sides .colsHigh)),
           ))
 
       pub reduced-room : natAbs reduced ≤ 2 ^ 29

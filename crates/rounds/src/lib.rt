@@ -1,2 +1,2 @@
-// Rounds on flat arrays: one round, and runs of rounds.
-pub mod run;
+// One round on flat arrays, and what is kept from one to the next.
+pub mod round;

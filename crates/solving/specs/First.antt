@@ -19,9 +19,9 @@ use Rattle.demands.specs.Says.{cells-of}
 use Rattle.tree.specs.Layout.{stride-is, nodeRoom, strikesOf}
 use Rattle.tree.specs.Strip.{Stripped}
 use Rattle.board.specs.Cells.{cellRoom}
-use Rattle.board.specs.Arrays.{Sides, Amounts}
+use Rattle.board.specs.Arrays.{Sides, sound-sides, Amounts}
 use Rattle.dealing.specs.Corner.{costless, start-costless, length-start}
-use Rattle.dealing.specs.Dealt.{Dealt}
+use Rattle.rounds.specs.Dealt.{Dealt}
 
 module _ {S : Sheet} (ok : Accepted S) {t : Tableau} (first : t ≡ tableauOf (start (costless (S .supply) (S .demand)))) where
   abbrev P : Problem
@@ -40,12 +40,7 @@ module _ {S : Sheet} (ok : Accepted S) {t : Tableau} (first : t ≡ tableauOf (s
       let b = start-belongs P h in
       rw (begins, cells-of (start P)) (
         omega (arith, length-start P h, stride-is, h .sourcesHigh, h .sinksHigh),
-        record {
-          rowsLow = h .sourcesLow;
-          rowsHigh = omega (arith, stride-is, h .sourcesHigh);
-          colsLow = h .sinksLow;
-          colsHigh = omega (arith, stride-is, h .sinksHigh);
-        },
+        sound-sides h refl refl,
         b .onSheet,
         distinct-of h b,
       )

@@ -18,8 +18,8 @@ use Rattle.tableaux.specs.Ending.{start-finished}
 use Rattle.demands.specs.Demand3.{settled-length}
 use Rattle.board.specs.Drawing.{Redrawn}
 use Rattle.pricing.specs.Costs.{Costed}
-use Rattle.rounds.specs.Runs.{Ran}
-use Rattle.dealing.specs.Dealt.{source-prices, sink-prices}
+use Rattle.runs.specs.Runs.{Ran}
+use Rattle.rounds.specs.Dealt.{source-prices, sink-prices}
 use Rattle.solving.specs.Finished.{Finished, board-finished}
 
 -- The rounds are those of the solution, and each lent list, as it was and as it is, holds its part of it.

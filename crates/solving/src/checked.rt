@@ -5,7 +5,7 @@ use board::spread::lay_out;
 use dealing::corner::first_tableau;
 use dealing::prices::write_prices;
 use pricing::costs::spread_costs;
-use rounds::run::finish;
+use runs::run::finish;
 use tree::LANES;
 use tree::NODES;
 use tree::Price;
@@ -14,7 +14,7 @@ ghost use lib.ListN.{length};
 ghost use Rattle.transport.specs.Sheet.{Sheet, problemOf, sheetOf};
 ghost use Rattle.transport.specs.Tableau.{start};
 ghost use Rattle.transport.specs.Statements.{Accepted};
-ghost use Rattle.dealing.specs.Dealt.{Dealt};
+ghost use Rattle.rounds.specs.Dealt.{Dealt};
 ghost use Rattle.solving.specs.Stored.{SolveStored};
 
 // Solves from the first tableau of a sheet of m sources and n sinks, which is laid out over the arrays: the rounds made. Prices and plan then stand in their

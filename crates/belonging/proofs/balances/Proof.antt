@@ -15,7 +15,7 @@ use Rattle.tree.specs.Layout.{strikesOf, LanesApart, StrikesInRoom}
 use Rattle.belonging.specs.FlowLaws.{weightsOf}
 use Rattle.tree.specs.Strikes.{strikes-room, strikes-distinct}
 use Rattle.belonging.specs.Carried.{carries}
-use Rattle.belonging.specs.Spread.{sound-sides, sound-modest, Balancing, balanced-is}
+use Rattle.belonging.specs.Spread.{list-sides, sound-modest, Balancing, balanced-is}
 use Rattle.belonging.proofs.balances.Statement.{statement}
 use Rattle.belonging.proofs.balances.Tie as tie
 
@@ -26,10 +26,10 @@ weigh-bags-requires : tie.Need-weigh-bags-requires
 weigh-bags-requires c κs = sound-modest (c .before .before .before .pre .0 .1)
 
 weigh-marks-requires : tie.Need-weigh-marks-requires
-weigh-marks-requires c κs = let s = sound-sides (c .before .before .before .before .before .pre .0 .1) in (s .rowsHigh, s .colsLow, s .colsHigh)
+weigh-marks-requires c κs = let s = list-sides (c .before .before .before .before .before .pre .0 .1) in (s .rowsHigh, s .colsLow, s .colsHigh)
 
 sub-count : tie.Need-sub-count
-sub-count c = omega (arith, sound-sides (c .before .before .before .before .before .before .pre .0 .1) .rowsLow)
+sub-count c = omega (arith, list-sides (c .before .before .before .before .before .before .pre .0 .1) .rowsLow)
 
 -- The strikes are within their room, and no lane comes twice.
 strikes : (c : tie.Start)
@@ -37,7 +37,7 @@ strikes : (c : tie.Start)
     let count = length (a .supply .now) + length (a .demand .now) - 1 in
     StrikesInRoom (a .leaf .now) (a .other .now) (a .lane .now) count × LanesApart (a .lane .now) count
 strikes c =
-    let s = sound-sides (c .pre .0 .1) in
+    let s = list-sides (c .pre .0 .1) in
     let (T, h) = c .pre .1 in (
       strikes-room _ _ _ _ _ _ (s .rowsHigh) (s .colsHigh) (h .long) (h .spanning .struck),
       strikes-distinct _ _ _ _ _ _ (h .spanning .struck .peels),

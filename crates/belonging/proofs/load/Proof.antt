@@ -10,12 +10,12 @@ use Rattle.transport.specs.Tableau.{cellsOf, basisSize}
 use Rattle.board.specs.Cells.{cellRoom, long, length-cells}
 use Rattle.board.specs.CellTests.{cellsFit}
 use Rattle.board.specs.Arrays.{Sides}
-use Rattle.belonging.specs.Spread.{sound-sides, struck-apart, struck-spans, Balancing, fit-inside, fit-distinct, other-count, other-cells, belongs-whole}
+use Rattle.belonging.specs.Spread.{list-sides, struck-apart, struck-spans, Balancing, fit-inside, fit-distinct, other-count, other-cells, belongs-whole}
 use Rattle.belonging.proofs.load.Statement.{statement}
 use Rattle.belonging.proofs.load.Tie as tie
 
 sides : (c : tie.Start) → Sides (length (c .args .supply .now)) (length (c .args .demand .now))
-sides c = sound-sides (c .pre .0 .1)
+sides c = list-sides (c .pre .0 .1)
 
 sub-if1 : tie.Need-sub-if1
 sub-if1 c = omega (arith, sides (c .before .before) .rowsLow)

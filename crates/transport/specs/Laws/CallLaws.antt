@@ -4,13 +4,13 @@ use mathlib.Core.Logic.{_↔_}
 use mathlib.Core.Bool.{Bool, true, false, _||_, true≢false}
 use mathlib.Core.List.{List, [], _∷_, _++_}
 use mathlib.Core.Option.{Option, none, some}
-use Prim.Native.Nat.{ℕ, _≤_, _<_}
+use Prim.Native.Nat.{ℕ, _*_, _≤_, _<_}
 use native.Mathlib.Omega.{arith}
 use borrow.Author.Tests.{ltb-false, lt-ltb, le-ltb}
 use lib.ListN.{length, drop}
-use Rattle.transport.specs.Sheet.{refusal}
+use Rattle.transport.specs.Sheet.{Sheet, roasteries, cafes, refusal}
 use Rattle.transport.specs.Laws.SheetLaws.{refusal-yes, refusal-no, refusal-clear, refusal-pass, refusal-stands}
-use Rattle.transport.specs.Calls.{Refusal, refused, given, refusedBy, unless, lentAfter, tooShort}
+use Rattle.transport.specs.Calls.{Refusal, refused, given, refusedBy, unless, lentAfter, tooShort, Solution}
 
 -- ---- answers
 
@@ -111,3 +111,9 @@ rooms-iff a x b y c z = (
       or-false-iff (tooShort a x || tooShort b y) (tooShort c z) .1
       (or-false-iff (tooShort a x) (tooShort b y) .1 (room-iff a x .1 (h .0), room-iff b y .1 (h .1)), room-iff c z .1 (h .2)),
 )
+
+-- The solution fills m, n and m × n places of the lent lists.
+pub record Fills (S : Sheet) (s : Solution) : Type 0 where
+  pub u : length (s .u) ≡ roasteries S
+  pub v : length (s .v) ≡ cafes S
+  pub plan : length (s .plan) ≡ roasteries S * cafes S

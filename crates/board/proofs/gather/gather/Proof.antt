@@ -3,14 +3,16 @@ use Prim.Native.Nat.{_≤_}
 use native.Mathlib.Omega.{arith}
 use mathlib.Core.Path.{_∙_, ap}
 use Rattle.transport.specs.Tableau.{tableauOf}
-use Rattle.tree.specs.Layout.{stride, stride-is}
+use Rattle.tree.specs.Layout.{stride}
+use Rattle.board.specs.Arrays.{sound-sides}
 use Rattle.board.specs.Drawing.{lane-rows, board-masks, board-gathered}
 use Rattle.board.proofs.gather.gather.Statement.{statement}
 use Rattle.board.proofs.gather.gather.Tie as tie
 
 high : (c : tie.Start) → (c .args .m ≤ stride) × (c .args .n ≤ stride)
-high c = let b = c .pre .4 in
-    (omega (arith, stride-is, b .rows, b .sound .sourcesHigh), omega (arith, stride-is, b .columns, b .sound .sinksHigh))
+high c =
+    let b = c .pre .4 in
+    let s = sound-sides (b .sound) (b .rows) (b .columns) in (s .rowsHigh, s .colsHigh)
 
 add-draw : tie.Need-add-draw
 add-draw c = omega (arith, high c)

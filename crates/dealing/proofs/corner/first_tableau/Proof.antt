@@ -7,7 +7,7 @@ use lib.ListN.{length, set}
 use Rattle.transport.specs.Limits.{maxSide, maxCells}
 use Rattle.transport.specs.Problem.{Problem, sources, sinks}
 use Rattle.transport.specs.Tableau.{start}
-use Rattle.board.specs.Cells.{cellRoom}
+use Rattle.tree.specs.Layout.{nodeRoom}
 use Rattle.dealing.specs.Corner.{costless, cellOf, next-number, Standing, standing-first, standing-room, standing-cell, standing-next, length-start}
 use Rattle.dealing.specs.Filling.{filled, filled-none, filled-one, filled-all}
 use Rattle.dealing.proofs.corner.first_tableau.Statement.{statement}
@@ -24,7 +24,7 @@ abbrev sheetAt : (c : tie.At-loop Inv-loop μ-loop) → Problem
 sheetAt c = costless (c .before .before .before .before .before .args .supply .now) (c .before .before .before .before .before .args .demand .now)
 
 -- Cell k has its place in the array ..
-room : (c : tie.At-loop Inv-loop μ-loop) → c .loop .k < cellRoom
+room : (c : tie.At-loop Inv-loop μ-loop) → c .loop .k < nodeRoom - 1
 unfolding maxCells maxSide
 room c = rw (c .loop .inv .0) (standing-room (sheetAt c) (c .before .before .before .before .before .pre) (c .loop .at) (c .loop .inv .1))
 

@@ -6,7 +6,7 @@ use Rattle.transport.specs.Sheet.{Sheet, problemOf, sheetOf}
 use Rattle.transport.specs.Laws.Sound.{sound}
 use Rattle.transport.specs.Tableau.{start}
 use Rattle.dealing.specs.Corner.{sound-costless}
-use Rattle.dealing.specs.Dealt.{Dealt}
+use Rattle.rounds.specs.Dealt.{Dealt}
 use Rattle.solving.specs.First.{first-fits, first-dealt}
 use Rattle.solving.proofs.checked.solve_checked.Statement.{statement}
 use Rattle.solving.proofs.checked.solve_checked.Tie as tie

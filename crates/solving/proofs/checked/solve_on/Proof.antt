@@ -7,8 +7,8 @@ use Rattle.transport.specs.Sheet.{Sheet, problemOf}
 use Rattle.transport.specs.Tableau.{start}
 use Rattle.transport.specs.Round.{roundBound}
 use Rattle.board.specs.Drawing.{lane-rows}
-use Rattle.rounds.specs.Runs.{Ran}
-use Rattle.dealing.specs.Dealt.{Dealt, dealt-costs, dealt-begun, prices-small}
+use Rattle.runs.specs.Runs.{Ran}
+use Rattle.rounds.specs.Dealt.{Dealt, dealt-costs, dealt-begun, prices-small}
 use Rattle.solving.specs.Stored.{ran-finished, stored-given}
 use Rattle.solving.proofs.checked.solve_on.Statement.{statement}
 use Rattle.solving.proofs.checked.solve_on.Tie as tie

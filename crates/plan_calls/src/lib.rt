@@ -1,3 +1,0 @@
-// Plans: the calls settle and solve.
-pub mod settling;
-pub mod solve;

@@ -1,0 +1,2 @@
+// Runs of rounds on flat arrays.
+pub mod run;

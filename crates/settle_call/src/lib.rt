@@ -1,0 +1,68 @@
+// Settle: from a finished tableau of a sheet to its settled plan.
+use board::gather::draw;
+use pricing::costs;
+use rounds::round::is_finished;
+use sheet::SheetCheck;
+use solving::finished::settle_board;
+use transport::SettleAnswer;
+use transport::Tableau;
+use tree::LANES;
+use tree::NODES;
+use tree::Price;
+ghost use mathlib.Core.Path.{_≡_};
+ghost use lib.ListN.{length};
+ghost use Rattle.transport.specs.Sheet.{sheetOf};
+ghost use Rattle.transport.specs.Calls.{lentAfter, settleCall};
+ghost use Rattle.transport.specs.Answers.{settleAnswer};
+
+// Settle writes the m × n quantities of the settled plan. Sheet check, then 6 if the tableau does not belong to the sheet, 7 if it is not finished, and 8 if
+// the list is too short.
+pub fn settle(
+    supply: &[u64],
+    demand: &[u64],
+    cost: &[u64],
+    t: Tableau,
+    plan: &mut [u64],
+) -> SettleAnswer
+    ensures { λ r.
+        let S = sheetOf (now (supply .entry)) (now (demand .entry)) (now (cost .entry)) in
+        let a = settleCall S t (length (now (plan .entry))) in
+        ⌜ (r ≡ settleAnswer a) × (now (plan .exit) ≡ lentAfter (λ x. x) a (now (plan .entry))) ⌝ }
+{
+    let check = sheet::check_sheet(supply, demand, cost);
+    if let SheetCheck::Refused(number) = check {
+        return SettleAnswer::Refused(number);
+    }
+    let m = supply.len();
+    let n = demand.len();
+    let mut q = [0i64; LANES];
+    let mut e = [0i64; LANES];
+    let mut leaf = [0usize; NODES];
+    let mut other = [0usize; NODES];
+    let mut lane = [0usize; NODES];
+    if !belonging::load(
+        supply,
+        demand,
+        t,
+        &mut q,
+        &mut e,
+        &mut leaf,
+        &mut other,
+        &mut lane,
+    ) {
+        return SettleAnswer::Refused(6);
+    }
+    let mut lane_cost: [Price; LANES] = [0; LANES];
+    let mut price: [Price; NODES] = [0; NODES];
+    costs::spread_costs(cost, m, n, &mut lane_cost);
+    if !is_finished(&lane_cost, &leaf, &other, &lane, m, n, &mut price) {
+        return SettleAnswer::Refused(7);
+    }
+    if plan.len() < m * n {
+        return SettleAnswer::Refused(8);
+    }
+    let mut adj = [0u64; NODES];
+    draw(&lane, m, m + n - 1, &mut adj);
+    settle_board(&adj, &mut q, &lane_cost, &price, plan, m, n);
+    SettleAnswer::Settled
+}
