@@ -116,7 +116,7 @@ module _ (q : List ℤ) (i j : ℕ) (z : ℤ) (hi : i < stride) (hj : j < stride
       in-row k hh hk (no e) = rw (ne-eqb k j e, lane-other i k (omega (arith, w .cols)) (λ s. e (s .1))) (w .own i k hh hk)
 
 -- x more on lane (i, j).
-abbrev pub added : List ℤ → ℕ → ℕ → ℤ → List ℤ
+abbrev added : List ℤ → ℕ → ℕ → ℤ → List ℤ
 added q i j x = set q (i * stride + j) (getD q (i * stride + j) (pos 0) +ℤ x)
 
 module _ (q : List ℤ) (i j : ℕ) (x : ℤ) (hi : i < stride) (hj : j < stride) (long : length q ≡ laneRoom) where

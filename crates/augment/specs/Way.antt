@@ -38,7 +38,7 @@ climb-start : (up : List ℕ) (s : ℕ) → Climbed up s 0 s
 climb-start up s = record { stands = refl; fall = omega arith; before = λ g l. absurd (omega arith) }
 
 module _ {up : List ℕ} {s h at : ℕ} (w : Climbed up s h at) where
-  pub climb-on : 0 < at → entry up at < at → Climbed up s (suc h) (entry up at)
+  climb-on : 0 < at → entry up at < at → Climbed up s (suc h) (entry up at)
   climb-on some below = record {
     stands = ap (entry up) (w .stands) ∙ sym (above-next (entry up) s h);
     fall = omega (arith, w .fall);
@@ -46,7 +46,7 @@ module _ {up : List ℕ} {s h at : ℕ} (w : Climbed up s h at) where
   }
 
   -- It has come to the root.
-  pub climb-ends : at ≡ 0 → {d : ℕ} → Rooted (entry up) s d → h ≡ d
+  climb-ends : at ≡ 0 → {d : ℕ} → Rooted (entry up) s d → h ≡ d
   climb-ends e {d} r = by-cases (decLt d h)
       (λ l. absurd (omega (arith, w .before d l, r .root)))
       (λ l. by-cases (decLt h d) (λ l′. absurd (omega (arith, r .below h l′, w .stands))) (λ l′. omega arith))

@@ -54,7 +54,7 @@ abbrev pub Carry : List Cell → List Strike → (Pair → ℤ) → (ℕ → ℤ
 Carry T ss part w = (i j : ℕ) → Has (basisOf T) i j → part (amountAt T i j) ≡ flow w ss (lane i j)
 
 -- Rows and columns add up to the weights.
-abbrev pub AddUp : ℕ → ℕ → List Cell → (Pair → ℤ) → (ℕ → ℤ) → Type 0
+abbrev AddUp : ℕ → ℕ → List Cell → (Pair → ℤ) → (ℕ → ℤ) → Type 0
 AddUp m n T part w = ((i : ℕ) → i < m → part (rowTotal T i) ≡ w i) × ((j : ℕ) → j < n → part (columnTotal T j) ≡ w (m + j))
 
 module _ {m n : ℕ} {T : List Cell} {ss : List Strike} (t : Spanning m n T ss) (part : Pair → ℤ) (part-zero : part nothing ≡ pos 0)
@@ -102,7 +102,7 @@ module _ {m n : ℕ} {T : List Cell} {ss : List Strike} (t : Spanning m n T ss) 
         cols = λ j l. omega (arith, column j, z-eq (h .1 j l));
       }
 
-  pub carry-iff : Carry T ss part w ↔ AddUp m n T part w
+  carry-iff : Carry T ss part w ↔ AddUp m n T part w
   carry-iff = (carry-even, even-carry)
 
 -- ---- both parts

@@ -33,7 +33,7 @@ carries weight ss amount lane count = all (λ k. eqZ (getD amount (getD lane k 0
 
 module _ (weight : ℕ → ℤ) (ss : List Strike) (amount : List ℤ) (lane : List ℕ) where
   -- Lane k carries the flow.
-  abbrev pub CarriedAt : ℕ → Type 0
+  abbrev CarriedAt : ℕ → Type 0
   CarriedAt k = getD amount (getD lane k 0) (pos 0) ≡ flow weight ss (laneAt (getD lane k 0))
 
   pub carries-true : (count : ℕ) → ((k : ℕ) → k < count → CarriedAt k) → carries weight ss amount lane count ≡ true

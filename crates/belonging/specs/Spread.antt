@@ -69,7 +69,7 @@ module _ {m n : ℕ} (T : List Cell) (sides : Sides m n) (inside : Inside m n T)
 module _ {m n : ℕ} {T : List Cell} (leaf other lanes : List ℕ) (count : ℕ) (t : Spanning m n T (strikesOf leaf other lanes count)) (part : Pair → ℤ)
     (amount : List ℤ)
     (lies : (i j : ℕ) → i < m → j < n → getD amount (i * stride + j) (pos 0) ≡ part (amountAt T i j)) (w : ℕ → ℤ) where
-  pub carries-iff : (carries w (strikesOf leaf other lanes count) amount lanes count ≡ true) ↔ Carry T (strikesOf leaf other lanes count) part w
+  carries-iff : (carries w (strikesOf leaf other lanes count) amount lanes count ≡ true) ↔ Carry T (strikesOf leaf other lanes count) part w
   unfolding strikesOf
   carries-iff = (to, from)
     where

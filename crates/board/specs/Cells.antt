@@ -27,7 +27,7 @@ module _ (t : Tableau) where
   unfolding cellsOf
   length-cells l = length-take-le (t .count) (t .cells) l
 
-  pub getD-cells : (k : ℕ) → k < t .count → getD (cellsOf t) k noCell ≡ getD (t .cells) k noCell
+  getD-cells : (k : ℕ) → k < t .count → getD (cellsOf t) k noCell ≡ getD (t .cells) k noCell
   unfolding cellsOf
   getD-cells k p = getD-take (t .count) (t .cells) k noCell p
 

@@ -62,7 +62,7 @@ bitsOf-first x j p here before =
     later y m = let (k, l, e) = table-member (63 - j) (λ k. j + suc k) m in rw (cut-there x j y (λ s. omega arith))
 
 -- No bit from the last column on.
-abbrev pub Narrow : ℕ → Type 0
+abbrev Narrow : ℕ → Type 0
 Narrow x = (j : ℕ) → stride ≤ j → j < 64 → has x j ≡ false
 
 narrow-bits : (x : ℕ) → Narrow x → bitsOf x ≡ keep (has x) (table stride (λ k. k))
@@ -90,7 +90,7 @@ rowLanes-first first x j p here before = rw (bitsOf-first x j p here before)
 
 -- ---- the lanes in the masks of the first m rows, in sheet order
 
-abbrev pub laneIn : List ℕ → ℕ → Bool
+abbrev laneIn : List ℕ → ℕ → Bool
 laneIn adj l = has (getD adj (l / stride) 0) (l % stride)
 
 unfoldable pub lanesOf : List ℕ → ℕ → List ℕ

@@ -32,12 +32,12 @@ pub record Slotted (lanes : List ℕ) (slots : ℕ) : Type 0 where
 
 -- A bit that is left without the least is one that was left, and another; one that is not left is the least, or was not left before.
 module _ {bits r : ℕ} (w : Least bits r) (t : ℕ) where
-  pub left-was : has (bitAnd bits (bits - 1)) t ≡ true → (has bits t ≡ true) × (t ≢ r)
+  left-was : has (bitAnd bits (bits - 1)) t ≡ true → (has bits t ≡ true) × (t ≢ r)
   left-was e = by-cases (ℕ-discrete t r)
       (λ s. absurd (true≢false (sym e ∙ has-rest bits r t w ∙ rw (eq-eqb t r s))))
       (λ d. (sym ((rw (ne-eqb t r d))) ∙ sym (has-rest bits r t w) ∙ e, d))
 
-  pub gone-was : has (bitAnd bits (bits - 1)) t ≡ false → t ≢ r → has bits t ≡ false
+  gone-was : has (bitAnd bits (bits - 1)) t ≡ false → t ≢ r → has bits t ≡ false
   gone-was e d = sym (has-rest bits r t w ∙ rw (ne-eqb t r d)) ∙ e
 
 -- ---- the slot with the least pair

@@ -102,10 +102,10 @@ abbrev pub cellOf : Corner → Cell
 cellOf p = record { row = p .row; col = p .col; amount = smaller (p .supply) (p .demand) }
 
 -- In the next column, or in the next row.
-abbrev pub toRight : Problem → Corner → Corner
+abbrev toRight : Problem → Corner → Corner
 toRight P p = record { row = p .row; col = suc (p .col); supply = subtract (p .supply) (p .demand); demand = pairedDemand P (suc (p .col)) }
 
-abbrev pub toDown : Problem → Corner → Corner
+abbrev toDown : Problem → Corner → Corner
 toDown P p = record { row = suc (p .row); col = p .col; supply = pairedSupply P (suc (p .row)); demand = subtract (p .demand) (p .supply) }
 
 unfoldable pub nextCorner : Problem → Corner → Corner

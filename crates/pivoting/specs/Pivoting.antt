@@ -193,13 +193,13 @@ module _ {P : Problem} {T : List Cell} {q e : List ℤ} {sub path lanes : List �
       λ i. record { q = x i; e = y i }
 
   -- Little lies on a basic lane.
-  pub slot-light : (t : ℕ) → t < sources P + sinks P - 1
+  slot-light : (t : ℕ) → t < sources P + sinks P - 1
       → (natAbs (pairAt q e (getD lanes t 0) .q) ≤ maxBags) × (natAbs (pairAt q e (getD lanes t 0) .e) ≤ maxSide)
   slot-light t p =
       let a = amount-bound (b .sound) (board-belongs b) _ _ (slot-basic t p) in
       (rw (ap (λ (x : Pair). x .q) (slot-pair t p)) (a .0), rw (ap (λ (x : Pair). x .e) (slot-pair t p)) (a .1))
 
-  pub slots-lie : (slots : ℕ) → ((t : ℕ) → has slots t ≡ true → t < sources P + sinks P - 1) → Slotted lanes slots
+  slots-lie : (slots : ℕ) → ((t : ℕ) → has slots t ≡ true → t < sources P + sinks P - 1) → Slotted lanes slots
   slots-lie slots w = record {
     inside = λ t s. omega (arith, high, slot-on t (w t s));
     apart = λ s t hs ht i. slots-apart (b .tree .cuts) t s (w t ht) (w s hs) (ap laneAt i);
@@ -213,7 +213,7 @@ module _ {P : Problem} {T : List Cell} {q e : List ℤ} {sub path lanes : List �
   sign-none : (i j : ℕ) → ¬ Basic T i j → signOf (lane i j) ≡ pos 0
   sign-none i j d = sign-off (b .sound .sourcesLow) fits spanned enter (lane i j) (λ s. d (has-basic T i j .0 s))
 
-  pub on-loop : (t : ℕ) → has (onLoop path row (sources P + col)) t ≡ true → t < sources P + sinks P - 1
+  on-loop : (t : ℕ) → has (onLoop path row (sources P + col)) t ≡ true → t < sources P + sinks P - 1
   on-loop t = loop-slot (b .tree) row (M + col) t (omega (arith, h .inRow)) (omega (arith, h .inCol))
 
   -- ---- the leaving lane
@@ -225,10 +225,10 @@ module _ {P : Problem} {T : List Cell} {q e : List ℤ} {sub path lanes : List �
   leaves = pivot-leaves (b .sound) (board-belongs b) (h .inRow) (h .inCol) (h .new)
 
   module _ {minus plus : ℕ} (g : LoopSlots path lanes row (sources P + col) minus plus) where
-    pub minus-in : (t : ℕ) → has minus t ≡ true → t < sources P + sinks P - 1
+    minus-in : (t : ℕ) → has minus t ≡ true → t < sources P + sinks P - 1
     minus-in t s = on-loop t (and-left (has (onLoop path row (M + col)) t) _ (sym (g .losing t) ∙ s))
 
-    pub plus-in : (t : ℕ) → has plus t ≡ true → t < sources P + sinks P - 1
+    plus-in : (t : ℕ) → has plus t ≡ true → t < sources P + sinks P - 1
     plus-in t s = on-loop t (and-left (has (onLoop path row (M + col)) t) _ (sym (g .gaining t) ∙ s))
 
     minus-sign : (t : ℕ) → t < count → has minus t ≡ isMinus (signOf (laneAt (getD lanes t 0)))
@@ -248,13 +248,13 @@ module _ {P : Problem} {T : List Cell} {q e : List ℤ} {sub path lanes : List �
         let is : laneAt (getD lanes t 0) ≡ lane (out .row) (out .col) = ap laneAt s ∙ laneAt-place (out .row) (out .col) (omega (arith, high)) in
         (t, minus-sign t p ∙ ap (λ l. isMinus (signOf l)) is ∙ leaves .minus, s)
 
-    pub some-minus : 0 < minus
+    some-minus : 0 < minus
     some-minus = let (t, s, is) = out-slot in by-cases (decLt 0 minus) (λ l. l)
         (λ l. let z : minus ≡ 0 = omega arith in absurd (false≢true (sym (has-zero t) ∙ ap (λ (x : ℕ). has x t) (sym z) ∙ s)))
 
     -- The slot with the least pair among the minus slots is the leaving lane's: the leaving cell holds the step, and no other minus cell does.
     module _ {s : ℕ} (f : LeastSlot q e lanes minus 0 s) where
-      pub slot-in : s < sources P + sinks P - 1
+      slot-in : s < sources P + sinks P - 1
       slot-in = minus-in s (f .inside)
 
       held-by : {c : Cell} → List·Memᴰ c T → (t : ℕ) → getD lanes t 0 ≡ c .row * stride + c .col → pairAt q e (getD lanes t 0) ≡ c .amount
@@ -436,7 +436,7 @@ module _ {P : Problem} {T : List Cell} {q e : List ℤ} {sub path lanes : List �
         }
 
         -- The step went round, in both parts of the amounts, and the tree was grafted anew.
-        pub pivoted-by : {q₁ e₁ q₂ e₂ : List ℤ} → let x = pairAt q e (getD lanes s 0) in
+        pivoted-by : {q₁ e₁ q₂ e₂ : List ℤ} → let x = pairAt q e (getD lanes s 0) in
             Added (negℤ (x .q)) lanes minus 0 q q₁ → Added (negℤ (x .e)) lanes minus 0 e e₁
             → Added (x .q) lanes plus 0 q₁ q₂ → Added (x .e) lanes plus 0 e₁ e₂
             → Pivoted P T (sources P) (sinks P) row col (set q₂ (row * stride + col) (x .q)) (set e₂ (row * stride + col) (x .e)) sub′ path′ lanes′ far

@@ -166,16 +166,19 @@ pub record FirstLow (f : ℕ → ℤ) (z : ℤ) (n p : ℕ) : Type 0 where
   pub least : (k : ℕ) → k < n → toZ z ≼ toZ (f k)
   pub first : (k : ℕ) → k < p → toZ z ≺ toZ (f k)
 
+-- There is a place where f is at most y, if y is no less than the least.
+pub first-inside : {b : ℤ} {f : ℕ → ℤ} {n p : ℕ} {z y : ℤ} → Low b f n z → toZ z ≺ toZ b → toZ z ≼ toZ y → FirstAt f y n p → p < n
+first-inside {n = n} {p} w h le a = ⊎-elim
+    (λ (s : p ≡ n). ⊎-elim (λ r. absurd (omega (arith, z-eq r))) (λ (k, l, r). absurd (omega (arith, a .above k (omega arith), z-eq r))) (w .meets))
+    (λ l. l)
+    (eq-or-lt-of-le {n = p} {m = n} (a .within))
+
 pub low-first : {b : ℤ} {f : ℕ → ℤ} {n p : ℕ} {z : ℤ} → Low b f n z → toZ z ≺ toZ b → FirstAt f z n p → FirstLow f z n p
-low-first {b} {f} {n} {p} {z} w h a = record {
-  inside = inside;
-  is = eq-z (f p) z (omega (arith, a .there inside, w .least p inside));
-  least = w .least;
-  first = a .above;
-}
-  where
-    inside : p < n
-    inside = ⊎-elim
-        (λ (s : p ≡ n). ⊎-elim (λ r. absurd (omega (arith, z-eq r))) (λ (k, l, r). absurd (omega (arith, a .above k (omega arith), z-eq r))) (w .meets))
-        (λ l. l)
-        (eq-or-lt-of-le {n = p} {m = n} (a .within))
+low-first {b} {f} {n} {p} {z} w h a =
+    let inside = first-inside w h (omega arith) a in
+    record {
+      inside = inside;
+      is = eq-z (f p) z (omega (arith, a .there inside, w .least p inside));
+      least = w .least;
+      first = a .above;
+    }

@@ -14,7 +14,7 @@ use Rattle.integers.specs.Integer.{_≈_, _≼_, _≺_, _⊖_}
 use Rattle.integers.specs.Bridge.{toZ, eq-z, z-eq, z-add, z-neg, z-ev, !, _-'_}
 use Rattle.integers.specs.Tests.{lt-yes, lt-no, yes-lt, no-lt, abs-z}
 use Rattle.tree.specs.Layout.{stride, maxPotential, slackAt, reducedAt}
-use Rattle.pricing.specs.Lowest.{lowest, Low, lowest-low, FirstAt, FirstLow, low-first}
+use Rattle.pricing.specs.Lowest.{lowest, Low, lowest-low, FirstAt, FirstLow, first-inside, low-first}
 use Rattle.pricing.specs.Slacks.{far, InRange, Slacks, slacks-low, slacks-abs}
 
 -- The least reduced cost of row i, from its least slack.
@@ -74,12 +74,13 @@ module _ {cost price slack : List ℤ} {m n : ℕ} (w : InRange cost price m n) 
       found = λ r. absurd (true≢false (sym r));
     }
 
+    -- A row is found, also for a number above the least.
+    pub scanned-row : ltZ best (pos 0) ≡ true → {z : ℤ} {row : ℕ} → toZ best ≼ toZ z → FirstAt (rowReduced slack price) z m row → row < m
+    scanned-row h le a = first-inside best-low (lt-yes best (pos 0) h) le a
+
     module _ (h : ltZ best (pos 0) ≡ true) (row : ℕ) (a : FirstAt (rowReduced slack price) best m row) where
       rows : FirstLow (rowReduced slack price) best m row
       rows = low-first best-low (lt-yes best (pos 0) h) a
-
-      pub scanned-row : row < m
-      scanned-row = rows .inside
 
       pub scanned-yes : (col : ℕ) → FirstAt (slackAt cost price m row) (getD slack row (pos 0)) n col → Scanned cost price m n row col best
       scanned-yes col b = record { finished = λ q. absurd (true≢false (sym h ∙ q)); found = λ q. found }
@@ -88,11 +89,11 @@ module _ {cost price slack : List ℤ} {m n : ℕ} (w : InRange cost price m n) 
           u = getD price row (pos 0)
 
           low : toZ (getD slack row (pos 0)) ≺ toZ (pos far)
-          low = near (getD slack row (pos 0)) u (w .prices row (omega (arith, w .rows, scanned-row)))
+          low = near (getD slack row (pos 0)) u (w .prices row (omega (arith, w .rows, rows .inside)))
               (omega (arith, z-eq (rows .is), lt-yes best (pos 0) h))
 
           columns : FirstLow (slackAt cost price m row) (getD slack row (pos 0)) n col
-          columns = low-first (slacks-low w s row (omega (arith, w .rows, scanned-row))) low b
+          columns = low-first (slacks-low w s row (omega (arith, w .rows, rows .inside))) low b
 
           -- The reduced cost in that row.
           own : (j : ℕ) → toZ (reducedAt cost price m row j) ≈ toZ (slackAt cost price m row j) ⊖ toZ u
@@ -110,7 +111,7 @@ module _ {cost price slack : List ℤ} {m n : ℕ} (w : InRange cost price m n) 
 
           found : Found cost price m n row col best
           found = record {
-            rowIn = scanned-row;
+            rowIn = rows .inside;
             colIn = columns .inside;
             is = eq-z (reducedAt cost price m row col) best (omega (arith, best-is, own col, z-eq (columns .is)));
             least = λ i j p q. no-lt (reducedAt cost price m i j) best (omega (arith, rows .least i p, row-least i j p q));

@@ -73,7 +73,7 @@ pub fn rounds(
         ) {
             return Made {
                 finished: true,
-                made: made,
+                made,
             };
         }
         left -= 1;
@@ -83,7 +83,7 @@ pub fn rounds(
     let enter = entering(&lane_cost, &price, &slack, m, n);
     Made {
         finished: enter.reduced >= 0,
-        made: made,
+        made,
     }
 }
 

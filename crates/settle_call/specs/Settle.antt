@@ -24,7 +24,7 @@ module _ (S : Sheet) (t : Tableau) (room : ℕ) where
   abbrev late : List (Bool × ℕ)
   late = (not (isFinished (problemOf S) (cellsOf t)), 7) ∷ (tooShort room (roasteries S * cafes S), 8) ∷ []
 
-  abbrev pub tests : List (Bool × ℕ)
+  abbrev tests : List (Bool × ℕ)
   tests = tableauTests S t ++ late
 
   pub sheet-refuses : (k : ℕ) → refusal (sheetTests S) ≡ some k → refusal tests ≡ some k

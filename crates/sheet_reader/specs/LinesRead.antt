@@ -95,7 +95,7 @@ column-lines (suc m) t = go (endReading 10 (number t)) refl (column-lines m)
 -- ---- rows
 
 -- What a reader gave, and then the values of another one.
-unfoldable pub andThen : Reading (List ℕ) → Reader (List ℕ) → Reading (List ℕ)
+unfoldable andThen : Reading (List ℕ) → Reader (List ℕ) → Reading (List ℕ)
 andThen (stuck rest) s = stuck rest
 andThen (got xs rest) s = after xs (s rest)
 

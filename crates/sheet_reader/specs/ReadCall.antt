@@ -44,14 +44,14 @@ all-fit a b c e =
 -- ---- a sheet that was read
 
 -- The answer, and what the lent lists then hold.
-abbrev pub Filled : Answer SheetRecord → List ℕ → List ℕ → List ℕ → ReadAnswer → List ℕ → List ℕ → List ℕ → Type 0
+abbrev Filled : Answer SheetRecord → List ℕ → List ℕ → List ℕ → ReadAnswer → List ℕ → List ℕ → List ℕ → Type 0
 Filled a supply demand cost r supplyAfter demandAfter costAfter =
     (r ≡ readAnswer a)
     × (supplyAfter ≡ lentAfter (λ S. S .supply) a supply)
     × (demandAfter ≡ lentAfter (λ S. S .demand) a demand)
     × (costAfter ≡ lentAfter (λ S. S .cost) a cost)
 
-abbrev pub Stored : SheetRecord → List ℕ → List ℕ → List ℕ → ReadAnswer → List ℕ → List ℕ → List ℕ → Type 0
+abbrev Stored : SheetRecord → List ℕ → List ℕ → List ℕ → ReadAnswer → List ℕ → List ℕ → List ℕ → Type 0
 Stored S supply demand cost = Filled (unless (readTests (length supply) (length demand) (length cost) S) S) supply demand cost
 
 module _ (supply demand cost : List ℕ) where
@@ -94,12 +94,12 @@ module _ (supply demand cost : List ℕ) where
 -- ---- the call
 
 module _ (text : List ℕ) (a b c : ℕ) where
-  pub call-stuck : (place : ℕ) → place ≤ length text → sheetReader text ≡ stuck (drop place text) → readSheetCall text a b c
+  call-stuck : (place : ℕ) → place ≤ length text → sheetReader text ≡ stuck (drop place text) → readSheetCall text a b c
       ≡ refused (record { number = 9; position = some place })
   unfolding readSheetCall readWith
   call-stuck place p e = let n : length text - length (drop place text) ≡ place = omega (arith, length-drop place text) in rw (readWith, e, n)
 
-  pub call-got : (S : SheetRecord) (rest : List ℕ) → sheetReader text ≡ got S rest → readSheetCall text a b c ≡ unless (readTests a b c S) S
+  call-got : (S : SheetRecord) (rest : List ℕ) → sheetReader text ≡ got S rest → readSheetCall text a b c ≡ unless (readTests a b c S) S
   unfolding readSheetCall readWith
   call-got S rest e = rw (readWith, e)
 

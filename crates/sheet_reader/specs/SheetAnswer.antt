@@ -30,7 +30,7 @@ answerFits text P (ReadAnswer.NotSheetText place) = place ≤ length text
 answerFits text P (ReadAnswer.Refused number) = ⊥
 
 -- The sheet that the fronts of three lists are.
-abbrev pub frontSheet : List ℕ → List ℕ → List ℕ → ℕ → ℕ → SheetRecord
+abbrev frontSheet : List ℕ → List ℕ → List ℕ → ℕ → ℕ → SheetRecord
 frontSheet supply demand cost m n = record { supply = take m supply; demand = take n demand; cost = take (m * n) cost }
 
 -- The whole text: the sheet is in the fronts of three lists.

@@ -137,7 +137,7 @@ rows-then m n L t =
     ∙ sym (then-assoc (word (headLine "cost" m)) L t (times m (row n) >>= λ rows. pure (flatten rows)))
 
 -- The sheet of the supplies and what comes after them.
-abbrev pub sheetWith : List ℕ → List ℕ × List ℕ → Reader Sheet
+abbrev sheetWith : List ℕ → List ℕ × List ℕ → Reader Sheet
 sheetWith supply rest = pure (record { supply = supply; demand = rest .0; cost = rest .1 })
 
 module _ (m : ℕ) (supply : List ℕ) where

@@ -98,7 +98,7 @@ end-row m i j p = rw (lt-ltb i m p)
 pub end-col : (m x i : ℕ) → m ≤ x → otherEnd m x i ≡ i
 end-col m x i p = rw (le-ltb x m p)
 
-pub own-row : (m i : ℕ) → i < m → ownBit m i ≡ i
+own-row : (m i : ℕ) → i < m → ownBit m i ≡ i
 own-row m i p = rw (lt-ltb i m p)
 
 own-col : (m x : ℕ) → m ≤ x → ownBit m x ≡ x - m
@@ -134,7 +134,7 @@ module _ {m n : ℕ} {live : List ℕ} (w : Links m n live) where
         go (of-row p q) = omega (arith, end-row m x y p)
         go (of-col p q r h) = omega (arith, end-col m x y p)
 
-    pub end-apart : otherEnd m x y ≢ x
+    end-apart : otherEnd m x y ≢ x
     end-apart = go (row-or-col x y l e)
       where
         go : RowOrCol x y → otherEnd m x y ≢ x
@@ -148,14 +148,14 @@ module _ {m n : ℕ} {live : List ℕ} (w : Links m n live) where
         go (of-row p q) = rw (end-row m x y p, own-row m x p) (w .same x y p q ∙ e)
         go (of-col p q r h) = rw (end-col m x y p, own-col m x p) (sym (w .same y (x - m) r q) ∙ h)
 
-    pub end-end : otherEnd m (otherEnd m x y) (ownBit m x) ≡ x
+    end-end : otherEnd m (otherEnd m x y) (ownBit m x) ≡ x
     end-end = go (row-or-col x y l e)
       where
         go : RowOrCol x y → otherEnd m (otherEnd m x y) (ownBit m x) ≡ x
         go (of-row p q) = rw (end-row m x y p, own-row m x p, end-col m (m + y) x (omega arith))
         go (of-col p q r h) = rw (end-col m x y p, own-col m x p, end-row m y (x - m) r) (omega arith)
 
-    pub own-end : ownBit m (otherEnd m x y) ≡ y
+    own-end : ownBit m (otherEnd m x y) ≡ y
     own-end = go (row-or-col x y l e)
       where
         go : RowOrCol x y → ownBit m (otherEnd m x y) ≡ y
@@ -170,7 +170,7 @@ without-lane m live p b = set (set live p 0) (otherEnd m p b) (cut (getD live (o
 
 module _ {m n : ℕ} {live : List ℕ} (w : Links m n live) (p b : ℕ) (len : length live ≡ nodeRoom) (low : p < m + n) (e : tied live p b ≡ true)
     (few : (z : ℕ) → tied live p z ≡ true → z ≡ b) where
-  pub end-room : otherEnd m p b < nodeRoom
+  end-room : otherEnd m p b < nodeRoom
   end-room = omega (arith, end-below w p b low e, w .rowsHigh, w .colsHigh)
 
   pub at-leaf : getD (without-lane m live p b) p 0 ≡ 0

@@ -103,7 +103,7 @@ cut-there x j k n =
 pub bit-suc : (x k : ℕ) → bit x (suc k) ≡ bit (x / 2) k
 bit-suc x k = ap (λ (n : ℕ). x / 2 ^ n % 2) (sym (one-add k)) ∙ rw (← shr-shr x 1 k)
 
-pub none : (x k : ℕ) → ones x ≡ 0 → bit x k ≡ 0
+none : (x k : ℕ) → ones x ≡ 0 → bit x k ≡ 0
 none x zero e = omega (arith, ones-step x)
 none x (suc k) e = bit-suc x k ∙ none (x / 2) k (omega (arith, ones-step x))
 

@@ -33,7 +33,7 @@ module _ (cost : Lane → ℤ) where
   unfolding potentialBy
   potentialBy-nil k = refl
 
-  pub potentialBy-cons : (s : Strike) (ss : List Strike) (k : ℕ)
+  potentialBy-cons : (s : Strike) (ss : List Strike) (k : ℕ)
       → potentialBy cost (s ∷ ss) k ≡ cond (eqb k (s .leaf)) (cost (s .lane) -ℤ potentialBy cost ss (s .other)) (potentialBy cost ss k)
   unfolding potentialBy
   potentialBy-cons s ss k = go (eqb k (s .leaf)) refl
@@ -43,7 +43,7 @@ module _ (cost : Lane → ℤ) where
       go false e = rw (potentialBy, e)
 
   -- After t strikes no potential passes t times the greatest cost.
-  pub potentialBy-abs : (most : ℕ) (d : Strike) (ss : List Strike) → ((k : ℕ) → k < length ss → natAbs (cost (getD ss k d .lane)) ≤ most)
+  potentialBy-abs : (most : ℕ) (d : Strike) (ss : List Strike) → ((k : ℕ) → k < length ss → natAbs (cost (getD ss k d .lane)) ≤ most)
       → (k : ℕ) → natAbs (potentialBy cost ss k) ≤ length ss * most
   potentialBy-abs most d [] h k = rw (potentialBy-nil k) (omega arith)
   potentialBy-abs most d (s ∷ ss) h k =
@@ -78,7 +78,7 @@ module _ (cost : List ℤ) (leaf other lane : List ℕ) (count : ℕ) (price : L
 
   module _ (most : ℕ) (small : (l : ℕ) → natAbs (getD cost l (pos 0)) ≤ most) where
     -- No potential passes the greatest cost times the strikes that are left ..
-    pub priced-abs : (j : ℕ) → natAbs (potentialBy (costOf cost) (strikesFrom leaf other lane count k) j) ≤ (count - k) * most
+    priced-abs : (j : ℕ) → natAbs (potentialBy (costOf cost) (strikesFrom leaf other lane count k) j) ≤ (count - k) * most
     priced-abs j =
         let e : length (strikesFrom leaf other lane count k) ≡ count - k = length-drop k (strikesOf leaf other lane count)
         ∙ ap (λ (n : ℕ). n - k) (length-strikes leaf other lane count) in

@@ -68,7 +68,7 @@ room {N} {P} {live} {leaf} {k} {tail} p q = go (free (λ t. getD leaf t 0) N tai
 
 module _ {N N′ : ℕ} {P P′ : ℕ → Type 0} {live leaf : List ℕ} {k tail : ℕ} (o : ℕ) (size : tail < length leaf) (grown : N ≤ N′) (low : o < N′)
     (rest : (x : ℕ) → P′ x → (x ≡ o) ⊎ P x) (fresh : joins o (getD live o 0) ≡ true → (t : ℕ) → t < tail → getD leaf t 0 ≢ o) where
-  pub push : QueueOf N P live leaf k tail → QueueOf N′ P′ live (set leaf tail o) k (tail + cond (joins o (getD live o 0)) 1 0)
+  push : QueueOf N P live leaf k tail → QueueOf N′ P′ live (set leaf tail o) k (tail + cond (joins o (getD live o 0)) 1 0)
   push q = go (joins o (getD live o 0)) refl
     where
       before : (t : ℕ) → t < tail → getD (set leaf tail o) t 0 ≡ getD leaf t 0

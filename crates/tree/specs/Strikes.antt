@@ -36,7 +36,7 @@ module _ (m n : ℕ) (leaf other lane : List ℕ) (count : ℕ) (p : Peeled m n 
       go (row-struck a b) r c = omega arith
       go (column-struck a b) r c = omega arith
 
-  pub lane-in : m ≤ stride → (k : ℕ) → k < count → getD lane k 0 < laneRoom
+  lane-in : m ≤ stride → (k : ℕ) → k < count → getD lane k 0 < laneRoom
   lane-in h k l = omega (arith, step-at k l .1 .row)
 
   pub strikes-distinct : LanesApart lane count

@@ -77,7 +77,7 @@ abbrev pub nodeStrike : ℕ → ℕ → ℕ → Strike
 nodeStrike m x y = record { leaf = x; other = otherEnd m x y; lane = nodeLane m x y }
 
 -- The masks have the lane.
-abbrev pub alive : List ℕ → Lane → Bool
+abbrev alive : List ℕ → Lane → Bool
 alive live l = tied live (l .row) (l .col)
 
 pub lane-row : (m x y : ℕ) → x < m → nodeLane m x y ≡ lane x y
@@ -136,7 +136,7 @@ module _ {m n : ℕ} {live : List ℕ} (w : Links m n live) where
 abbrev liveOf : List ℕ → List Lane → List Lane
 liveOf live B = keep (alive live) B
 
-abbrev pub WasStruck : List Strike → Lane → Type 0
+abbrev WasStruck : List Strike → Lane → Type 0
 WasStruck ss l = (s : Strike) × List·Memᴰ s ss × (s .lane ≡ l)
 
 -- The lanes join the nodes left, to which all those belong that stand not before place k.

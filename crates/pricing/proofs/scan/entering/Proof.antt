@@ -8,6 +8,7 @@ use lib.IntN.{pos}
 use mir.Syntax.{w32}
 use mir.Val.{toZ, ofZ}
 use mir.Facts.{toZ-ofZ}
+use Rattle.integers.specs.Tests.{lt-yes}
 use Rattle.pricing.specs.Lowest.{lowest}
 use Rattle.pricing.specs.Scan.{rowReduced, rows-fit, scanned-no, scanned-yes, scanned-row}
 use Rattle.pricing.proofs.scan.entering.Statement.{statement}
@@ -19,11 +20,13 @@ least-is : (c : tie.After-least-reduced)
     toZ w32 (ofZ w32 (c .least-reduced .result)) ≡ lowest (pos 0) (rowReduced (a .slack .now) (a .price .now)) (a .m)
 least-is c = toZ-ofZ (search needs) ∙ c .least-reduced .ensures
 
+-- This holds also where the row is sought by another number below 0.
 inside : (c : tie.After-first-row) → c .first-row .result < c .before .before .before .args .m
 inside c =
     let least = c .before .before in
     let s = least .before in
-    scanned-row (s .pre .0) (s .pre .1) (toZ w32 (ofZ w32 (least .least-reduced .result))) (least-is least) (c .before .if1 .taken) (c .first-row .result)
+    let best = toZ w32 (ofZ w32 (least .least-reduced .result)) in
+    scanned-row (s .pre .0) (s .pre .1) best (least-is least) (c .before .if1 .taken) (omega (arith, lt-yes best (pos 0) (c .before .if1 .taken)))
     (c .first-row .ensures)
 
 returns : tie.Need-returns
