@@ -143,21 +143,30 @@ pub record FirstAt (f : ℕ → ℤ) (z : ℤ) (n p : ℕ) : Type 0 where
   pub above : (k : ℕ) → k < p → toZ z ≺ toZ (f k)
   pub there : p < n → toZ (f p) ≼ toZ z
 
--- The search for it: no place before p has such a number.
-pub record Above (f : ℕ → ℤ) (z : ℤ) (p : ℕ) : Type 0 where
-  pub above : (k : ℕ) → k < p → toZ z ≺ toZ (f k)
+-- The search for it, which has come from a place to p: no place between has such a number.
+pub record Above (f : ℕ → ℤ) (z : ℤ) (n from p : ℕ) : Type 0 where
+  pub within : p ≤ n + from
+  pub above : (k : ℕ) → from ≤ k → k < p → toZ z ≺ toZ (f k)
 
-pub above-start : (f : ℕ → ℤ) (z : ℤ) → Above f z 0
-above-start f z = record { above = λ k l. absurd (omega arith) }
+pub above-start : (f : ℕ → ℤ) (z : ℤ) (n from : ℕ) → Above f z n from from
+above-start f z n from = record { within = omega arith; above = λ k l r. absurd (omega arith) }
 
-pub above-step : {f : ℕ → ℤ} {z : ℤ} {p : ℕ} → Above f z p → ltZ z (f p) ≡ true → Above f z (p + 1)
-above-step {f} {z} {p} w e = record { above = λ k l. by-cases (ℕ-discrete k p) (λ s. rw s (lt-yes z (f p) e)) (λ d. w .above k (omega arith)) }
+pub above-step : {f : ℕ → ℤ} {z : ℤ} {n from p : ℕ} → Above f z n from p → p < n → ltZ z (f p) ≡ true → Above f z n from (p + 1)
+above-step {f} {z} {p = p} w low e = record {
+  within = omega arith;
+  above = λ k l r. by-cases (ℕ-discrete k p) (λ s. rw s (lt-yes z (f p) e)) (λ d. w .above k l (omega arith));
+}
 
-pub above-stop : {f : ℕ → ℤ} {z : ℤ} {p : ℕ} (n : ℕ) → Above f z p → p < n → ltZ z (f p) ≡ false → FirstAt f z n p
-above-stop {f} {z} {p} n w l e = record { within = omega arith; above = w .above; there = λ q. lt-no z (f p) e }
+-- A search from the first place on ends there.
+module _ {f : ℕ → ℤ} {z : ℤ} {n p : ℕ} (w : Above f z n 0 p) where
+  first-above : (k : ℕ) → k < p → toZ z ≺ toZ (f k)
+  first-above k l = w .above k (omega arith) l
 
-pub above-end : {f : ℕ → ℤ} {z : ℤ} {p : ℕ} (n : ℕ) → Above f z p → p ≡ n → FirstAt f z n p
-above-end n w e = record { within = omega arith; above = w .above; there = λ q. absurd (omega arith) }
+  pub above-stop : p < n → ltZ z (f p) ≡ false → FirstAt f z n p
+  above-stop l e = record { within = omega arith; above = first-above; there = λ q. lt-no z (f p) e }
+
+  pub above-end : n ≤ p → FirstAt f z n p
+  above-end e = record { within = omega (arith, w .within); above = first-above; there = λ q. absurd (omega arith) }
 
 -- p is the first of the places below n where f is least, and z is that number.
 pub record FirstLow (f : ℕ → ℤ) (z : ℤ) (n p : ℕ) : Type 0 where

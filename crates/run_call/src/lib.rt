@@ -1,7 +1,7 @@
 // Run: rounds within an allowance.
 use board::gather;
 use dealing::tableau;
-use runs::run::rounds;
+use runs::run::make_run;
 use sheet::SheetCheck;
 use transport::RunAnswer;
 use transport::RunOutcome;
@@ -53,7 +53,7 @@ pub fn run(supply: &[u64], demand: &[u64], cost: &[u64], t: Tableau, allowance: 
         return refused_run(6);
     }
     let within = allowance as u64;
-    let end = rounds(cost, m, n, &mut q, &mut e, &leaf, &other, &mut lane, within);
+    let end = make_run(cost, m, n, &mut q, &mut e, &leaf, &other, &mut lane, within);
     let made = end.made;
     let last = gather::gather(&lane, &q, &e, m, n);
     if end.finished {

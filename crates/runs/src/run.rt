@@ -21,8 +21,62 @@ pub struct Made {
     pub made: u64,
 }
 
-// Rounds left count down, and rounds made count up, on a tableau of m sources and n sinks that belongs to its sheet. The arrays then hold the last tableau.
-pub fn rounds(
+// Rounds left count down, and rounds made count up. The arrays then hold the last tableau, and `price` its prices.
+fn rounds(
+    q: &mut [i64; LANES],
+    e: &mut [i64; LANES],
+    cost: &[Price; LANES],
+    leaf: &[usize; NODES],
+    other: &[usize; NODES],
+    lane: &mut [usize; NODES],
+    m: usize,
+    n: usize,
+    price: &mut [Price; NODES],
+    allowance: u64,
+) -> Made
+    requires { ⌜ ((P : Problem) × (T : List Cell) × Begun P T (now q) (now e) (now cost) (now leaf) (now other) (now lane) m n) ⌝ }
+    ensures { λ r. ⌜
+        ((P : Problem) (T : List Cell)
+        → Begun P T (now (q .entry)) (now (e .entry)) (now (cost .entry)) (now (leaf .entry)) (now (other .entry)) (now (lane .entry)) m n
+        → Ran P T allowance (now (q .exit)) (now (e .exit)) (now (price .exit)) (now (lane .exit)) m n (r .finished) (r .made))
+        ⌝ }
+{
+    let mut path = [0u64; NODES];
+    let mut sub = [0u64; NODES];
+    let mut slack = begin(cost, leaf, other, lane, m, n, &mut path, &mut sub, price);
+    let mut left = allowance;
+    let mut made = 0;
+    while left > 0 {
+        if advance(
+            q,
+            e,
+            cost,
+            price,
+            &mut slack,
+            &mut path,
+            &mut sub,
+            lane,
+            m,
+            n,
+        ) {
+            return Made {
+                finished: true,
+                made,
+            };
+        }
+        left -= 1;
+        made += 1;
+    }
+    // None is left: whether the last tableau is finished is still to be told.
+    let enter = entering(cost, price, &slack, m, n);
+    Made {
+        finished: enter.reduced >= 0,
+        made,
+    }
+}
+
+// The run on a tableau of m sources and n sinks that belongs to its sheet: how it ended. The arrays then hold its last tableau.
+pub fn make_run(
     cost: &[u64],
     m: usize,
     n: usize,
@@ -42,49 +96,19 @@ pub fn rounds(
 {
     let mut lane_cost: [Price; LANES] = [0; LANES];
     let mut price: [Price; NODES] = [0; NODES];
-    let mut path = [0u64; NODES];
-    let mut sub = [0u64; NODES];
     spread_costs(cost, m, n, &mut lane_cost);
-    let mut slack = begin(
+    rounds(
+        q,
+        e,
         &lane_cost,
         leaf,
         other,
         lane,
         m,
         n,
-        &mut path,
-        &mut sub,
         &mut price,
-    );
-    let mut left = allowance;
-    let mut made = 0;
-    while left > 0 {
-        if advance(
-            q,
-            e,
-            &lane_cost,
-            &mut price,
-            &mut slack,
-            &mut path,
-            &mut sub,
-            lane,
-            m,
-            n,
-        ) {
-            return Made {
-                finished: true,
-                made,
-            };
-        }
-        left -= 1;
-        made += 1;
-    }
-    // None is left: whether the last tableau is finished is still to be told.
-    let enter = entering(&lane_cost, &price, &slack, m, n);
-    Made {
-        finished: enter.reduced >= 0,
-        made,
-    }
+        allowance,
+    )
 }
 
 // Rounds until the tableau is finished, however many: how many they were. The arrays then hold the finished tableau, and `price` its prices.

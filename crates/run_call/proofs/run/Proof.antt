@@ -87,21 +87,21 @@ dealt c =
     let s = startBefore c in
     dealt-loaded (sheetAt s) (s .args .t) (accepted (sheetAt s) (passed (toldBefore c))) (within c) (c .before .load .ensures .1 (not-false _ (c .if1 .left)))
 
-rounds-requires : tie.Need-rounds-requires
-rounds-requires c κs =
+make-run-requires : tie.Need-make-run-requires
+make-run-requires c κs =
     let d = c .before .before .before .before .before in
     let s = startBefore d in
     (problemOf (sheetAt s), cellsOf (s .args .t), dealt d)
 
 -- ---- the answer is made of what the run gives, whatever its allowance
 
-abbrev elseBefore : tie.After-rounds → tie.Else1
+abbrev elseBefore : tie.After-make-run → tie.Else1
 elseBefore c = c .before .before .before .before .before .before
 
 gather-requires : tie.Need-gather-requires
 gather-requires c κs =
     let a = c .before .before .before in
-    let r = a .rounds .ensures _ _ (dealt (elseBefore a)) in
+    let r = a .make-run .ensures _ _ (dealt (elseBefore a)) in
     (_, _, r .sub, r .path, r .board)
 
 returns-3 : tie.Need-returns-3
@@ -111,7 +111,7 @@ returns-3 c =
     let s = startBefore d in
     let S = sheetAt s in
     let t = s .args .t in
-    let r = a .rounds .ensures _ _ (dealt d) in
+    let r = a .make-run .ensures _ _ (dealt d) in
     run-finished (run (problemOf S) (s .args .allowance) (cellsOf t)) (r .rounds) (c .before .gather .ensures _ _ _ _ (r .board)) (r .done ∙ c .if2 .taken)
     ∙ ap runAnswer (sym (run-given S t (s .args .allowance) (passed (toldBefore d)) (within d)))
 
@@ -122,7 +122,7 @@ returns-4 c =
     let s = startBefore d in
     let S = sheetAt s in
     let t = s .args .t in
-    let r = a .rounds .ensures _ _ (dealt d) in
+    let r = a .make-run .ensures _ _ (dealt d) in
     run-spent (run (problemOf S) (s .args .allowance) (cellsOf t)) (r .rounds) (c .before .gather .ensures _ _ _ _ (r .board)) (r .done ∙ c .if2 .left)
     ∙ ap runAnswer (sym (run-given S t (s .args .allowance) (passed (toldBefore d)) (within d)))
 
@@ -138,7 +138,7 @@ run-spec =
     load-requires
     refused-run-requires-2
     returns-2
-    rounds-requires
+    make-run-requires
     gather-requires
     returns-3
     returns-4)

@@ -9,8 +9,8 @@ use mathlib.Core.Logic.{⊎-elim, _⊎_, inl, inr}
 use mathlib.Core.Bool.{Bool, true, false, _&&_, cond, true≢false, false≢true}
 use mathlib.Core.List.{List, [], _∷_, _++_, map, flatMap, append-assoc, append-nil, List·Memᴰ, List·Memᴰ·head, List·Memᴰ·tail, List·Memᴰ·not-nil}
 use mathlib.Core.List.{List·Memᴰ·cases-cons, List·Memᴰ·append-cases, Memᴰ·append-left, Memᴰ·append-right}
-use lib.ListN.{length, take, drop, getD, set, length-append, List·getD-append, List·getD-eq-default}
-use lib.Seq.{drop-cons, set-at, getD-at, getD-append-add, ext-getD, take-suc, length-take-le}
+use lib.ListN.{length, drop, getD, set, length-append, List·getD-append, List·getD-eq-default}
+use lib.Seq.{drop-cons, set-at, getD-at, getD-append-add, ext-getD}
 use Rattle.transport.specs.Lists.{all, keep, leastFrom, firstLeast, table, below, sumTo, at, total}
 
 -- ---- table
@@ -219,12 +219,6 @@ module _ {A : Type 0} (p : A → Bool) where
       go true e = rw e
       go false e = e
 
-  -- One element more is looked at.
-  pub keep-one : (xs : List A) (d : A) (k : ℕ) → k < length xs
-      → keep p (take (k + 1) xs) ≡ keep p (take k xs) ++ cond (p (getD xs k d)) (getD xs k d ∷ []) []
-  unfolding keep
-  keep-one xs d k l = rw (add-one, take-suc xs k d l, keep-append)
-
   pub member-keep : {x : A} {xs : List A} → p x ≡ true → List·Memᴰ x xs → List·Memᴰ x (keep p xs)
   member-keep e (List·Memᴰ·head {x} {xs} q) = rw (keep-yes x xs (rw q at e)) (List·Memᴰ·head q)
   member-keep {x = y} e (List·Memᴰ·tail {x} {xs} m) = go (p x) refl (member-keep e m)
@@ -398,29 +392,6 @@ by-key f w =
     }
 
 module _ {A : Type 0} (less : A → A → Bool) where
-  leastFrom-append : (x : A) (ys : List A) (z : A) → leastFrom less x (ys ++ (z ∷ [])) ≡ cond (less z (leastFrom less x ys)) z (leastFrom less x ys)
-  unfolding leastFrom
-  leastFrom-append x [] z = refl
-  leastFrom-append x (y ∷ ys) z = leastFrom-append (cond (less y x) y x) ys z
-
-  firstLeast-append : (d : A) (xs : List A) (z : A) → 1 ≤ length xs
-      → firstLeast less d (xs ++ (z ∷ [])) ≡ cond (less z (firstLeast less d xs)) z (firstLeast less d xs)
-  unfolding firstLeast
-  firstLeast-append d [] z l = absurd (omega arith)
-  firstLeast-append d (x ∷ xs) z l = leastFrom-append x xs z
-
-  pub firstLeast-start : (d : A) (xs : List A) → 1 ≤ length xs → firstLeast less d (take 1 xs) ≡ getD xs 0 d
-  unfolding firstLeast leastFrom
-  firstLeast-start d [] l = refl
-  firstLeast-start d (x ∷ xs) l = refl
-
-  -- One element more is compared.
-  pub firstLeast-one : (d : A) (xs : List A) (k : ℕ) → 1 ≤ k → k < length xs
-      → firstLeast less d (take (k + 1) xs)
-      ≡ cond (less (getD xs k d) (firstLeast less d (take k xs))) (getD xs k d) (firstLeast less d (take k xs))
-  firstLeast-one d xs k p l =
-      rw (add-one, take-suc xs k d l) (firstLeast-append d (take k xs) (getD xs k d) (omega (arith, length-take-le k xs (omega arith))))
-
   later : (d : A) (xs : List A) (r s : A) (k h : ℕ) → FirstLeast less d xs r k → FirstLeast less d xs s h → k < h → ⊥
   later d xs r s k h f g l = true≢false (sym (g .first k l) ∙ (rw (f .stands, ← g .stands) (f .least h (g .inside))))
 

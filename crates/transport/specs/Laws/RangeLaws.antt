@@ -5,7 +5,7 @@ use mathlib.Core.Path.{_≡_, refl, _∙_}
 use mathlib.Core.Bool.{Bool, true, false, cond}
 use lib.Dec.{ltb}
 use lib.IntN.{ℤ, pos, negsuc, natAbs, negℤ, subℕ, _+ℤ_, _-ℤ_}
-use lib.Signed.{ltZ, mag}
+use lib.Signed.{mag}
 use borrow.Author.Tests.{ltb-true}
 use mir.Syntax.{Width}
 use mir.Val.{SFits, hbits, toZ, ofZ}
@@ -58,10 +58,6 @@ module _ (w : Width) where
   -- The number of the bits of a number in range.
   pub back : (a : ℤ) → mag a < 2 ^ hbits w → toZ w (ofZ w a) ≡ a
   back a p = toZ-ofZ {w = w} (record { sfits = p })
-
-  -- What a test of two numbers in range says of them.
-  pub lt-test : (a b : ℤ) (t : Bool) → mag a < 2 ^ hbits w → mag b < 2 ^ hbits w → ltZ (toZ w (ofZ w a)) (toZ w (ofZ w b)) ≡ t → ltZ a b ≡ t
-  lt-test a b t p q e = rw (back a p, back b q) at e
 
 -- Two numbers read from memory, and their sum or difference written: in range, and the number itself.
 module _ (w : Width) (a b : ℤ) (p : natAbs a + natAbs b < 2 ^ hbits w) where

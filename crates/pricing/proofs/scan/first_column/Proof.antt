@@ -1,5 +1,6 @@
--- `pricing::scan::first_column` meets its contract. The loop's invariant: every column before `col` has a greater slack; the measure is what is left of them.
-use Prim.Native.Nat.{_+_, _-_, _*_, _≤_, _<_, _^_}
+-- `pricing::scan::first_column` meets its contract. The loop's invariant: every column from where it began up to `col` has a
+-- greater slack; the measure is what is left of them.
+use Prim.Native.Nat.{_+_, _-_, _*_, _<_, _^_}
 use mathlib.Core.Path.{_≡_}
 use native.Mathlib.Omega.{arith}
 use borrow.Author.Needs.{needs}
@@ -16,7 +17,7 @@ use Rattle.pricing.proofs.scan.first_column.Statement.{statement}
 use Rattle.pricing.proofs.scan.first_column.Tie as tie
 
 abbrev Inv-loop : tie.InvT-loop
-Inv-loop cost price m n row slack col₀ col = (col ≤ n) × Above (slackAt cost price m row) (toZ w32 slack) col
+Inv-loop cost price m n row slack col₀ col = Above (slackAt cost price m row) (toZ w32 slack) n col₀ col
 
 abbrev μ-loop : tie.MeasureT-loop
 μ-loop cost price m n row slack col₀ col = n - col
@@ -24,7 +25,7 @@ abbrev μ-loop : tie.MeasureT-loop
 loop-holds : tie.Need-loop-holds Inv-loop μ-loop
 loop-holds c =
     let a = c .args in
-    (omega arith, above-start (slackAt (a .cost .now) (a .price .now) (a .m) (a .row)) (toZ w32 (ofZ w32 (a .slack))))
+    above-start (slackAt (a .cost .now) (a .price .now) (a .m) (a .row)) (toZ w32 (ofZ w32 (a .slack))) (a .n) _
 
 -- The turn of the loop in which a column is looked at.
 abbrev turn : tie.After-if13 Inv-loop μ-loop → tie.At-loop Inv-loop μ-loop
@@ -55,19 +56,19 @@ slack-is c =
     diff-back w32 (getD (a .cost .now) (j * stride + a .row) (pos 0)) (getD (a .price .now) (a .m + j) (pos 0)) (room c)
 
 loop-again : tie.Need-loop-again Inv-loop μ-loop
-loop-again c = (omega arith, above-step (turn (c .before) .loop .inv .1) (rw (slack-is (c .before)) at (c .if1 .taken)))
+loop-again c = above-step (turn (c .before) .loop .inv) (omega arith) (rw (slack-is (c .before)) at (c .if1 .taken))
 
 returns : tie.Need-returns Inv-loop μ-loop
 returns c =
     let a = turn (c .before) .before .args in
     let back-z : toZ w32 (ofZ w32 (a .slack)) ≡ a .slack = search needs in
-    rw back-z at (above-stop (a .n) (turn (c .before) .loop .inv .1) (omega arith) (rw (slack-is (c .before)) at (c .if1 .left)))
+    rw back-z at (above-stop (turn (c .before) .loop .inv) (omega arith) (rw (slack-is (c .before)) at (c .if1 .left)))
 
 returns-2 : tie.Need-returns-2 Inv-loop μ-loop
 returns-2 c =
     let a = c .before .before .args in
     let back-z : toZ w32 (ofZ w32 (a .slack)) ≡ a .slack = search needs in
-    rw back-z at (above-end (a .n) (c .before .loop .inv .1) (omega arith))
+    rw back-z at (above-end (c .before .loop .inv) (omega arith))
 
 pub first-column-spec : {M : Type 1} → statement M
 first-column-spec =

@@ -1,5 +1,6 @@
--- `pricing::scan::first_row` meets its contract. The loop's invariant: every row before `row` has a greater number; the measure is what is left of the rows.
-use Prim.Native.Nat.{_+_, _-_, _≤_, _<_, _^_}
+-- `pricing::scan::first_row` meets its contract. The loop's invariant: every row from where it began up to `row` has a greater
+-- number; the measure is what is left of the rows.
+use Prim.Native.Nat.{_+_, _-_, _<_, _^_}
 use mathlib.Core.Path.{_≡_}
 use native.Mathlib.Omega.{arith}
 use borrow.Author.Needs.{needs}
@@ -15,13 +16,13 @@ use Rattle.pricing.proofs.scan.first_row.Statement.{statement}
 use Rattle.pricing.proofs.scan.first_row.Tie as tie
 
 abbrev Inv-loop : tie.InvT-loop
-Inv-loop price slack m reduced row₀ row = (row ≤ m) × Above (rowReduced slack price) (toZ w32 reduced) row
+Inv-loop price slack m reduced row₀ row = Above (rowReduced slack price) (toZ w32 reduced) m row₀ row
 
 abbrev μ-loop : tie.MeasureT-loop
 μ-loop price slack m reduced row₀ row = m - row
 
 loop-holds : tie.Need-loop-holds Inv-loop μ-loop
-loop-holds c = (omega arith, above-start (rowReduced (c .args .slack .now) (c .args .price .now)) (toZ w32 (ofZ w32 (c .args .reduced))))
+loop-holds c = above-start (rowReduced (c .args .slack .now) (c .args .price .now)) (toZ w32 (ofZ w32 (c .args .reduced))) (c .args .m) _
 
 -- The turn of the loop in which a row is looked at.
 abbrev turn : tie.After-if13 Inv-loop μ-loop → tie.At-loop Inv-loop μ-loop
@@ -50,19 +51,19 @@ row-is c =
     diff-back w32 (getD (a .slack .now) i (pos 0)) (getD (a .price .now) i (pos 0)) (room c)
 
 loop-again : tie.Need-loop-again Inv-loop μ-loop
-loop-again c = (omega arith, above-step (turn (c .before) .loop .inv .1) (rw (row-is (c .before)) at (c .if1 .taken)))
+loop-again c = above-step (turn (c .before) .loop .inv) (omega arith) (rw (row-is (c .before)) at (c .if1 .taken))
 
 returns : tie.Need-returns Inv-loop μ-loop
 returns c =
     let a = turn (c .before) .before .args in
     let back-z : toZ w32 (ofZ w32 (a .reduced)) ≡ a .reduced = search needs in
-    rw back-z at (above-stop (a .m) (turn (c .before) .loop .inv .1) (omega arith) (rw (row-is (c .before)) at (c .if1 .left)))
+    rw back-z at (above-stop (turn (c .before) .loop .inv) (omega arith) (rw (row-is (c .before)) at (c .if1 .left)))
 
 returns-2 : tie.Need-returns-2 Inv-loop μ-loop
 returns-2 c =
     let a = c .before .before .args in
     let back-z : toZ w32 (ofZ w32 (a .reduced)) ≡ a .reduced = search needs in
-    rw back-z at (above-end (a .m) (c .before .loop .inv .1) (omega arith))
+    rw back-z at (above-end (c .before .loop .inv) (omega arith))
 
 pub first-row-spec : {M : Type 1} → statement M
 first-row-spec =

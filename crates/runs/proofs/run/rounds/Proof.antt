@@ -9,54 +9,45 @@ use lib.Signed.{mag}
 use Rattle.transport.specs.Problem.{Problem}
 use Rattle.transport.specs.declared.Cell.{Cell}
 use Rattle.rounds.specs.Kept.{sign-is, kept-range, scanned-done, kept-still, kept-next}
-use Rattle.rounds.specs.Dealt.{Dealt, dealt-costs, dealt-begun}
-use Rattle.runs.specs.Runs.{Going, going-start, going-next, ran-done, ran-out, ended}
+use Rattle.rounds.specs.Begun.{Begun}
+use Rattle.runs.specs.Runs.{Going, going-start, going-next, ran-done, ran-out}
 use Rattle.runs.proofs.run.rounds.Statement.{statement}
 use Rattle.runs.proofs.run.rounds.Tie as tie
 
 abbrev Inv-loop : tie.InvT-loop
-Inv-loop cost m n q₀ e₀ leaf other lane₀ allowance costs price₀ path₀ sub₀ slack₀ left₀ made₀ q e lane price path sub slack left made =
+Inv-loop q₀ e₀ cost leaf other lane₀ m n price₀ allowance path₀ sub₀ slack₀ left₀ made₀ q e lane price path sub slack left made =
     (left + made ≡ allowance)
-    × ((P : Problem) (T : List Cell) → Dealt P T cost q₀ e₀ leaf other lane₀ m n
-    → Going P T allowance q e costs price slack sub path lane m n left made)
+    × ((P : Problem) (T : List Cell) → Begun P T q₀ e₀ cost leaf other lane₀ m n
+    → Going P T allowance q e cost price slack sub path lane m n left made)
 
 abbrev μ-loop : tie.MeasureT-loop
-μ-loop cost m n q₀ e₀ leaf other lane₀ allowance costs price₀ path₀ sub₀ slack₀ left₀ made₀ q e lane price path sub slack left made =
+μ-loop q₀ e₀ cost leaf other lane₀ m n price₀ allowance path₀ sub₀ slack₀ left₀ made₀ q e lane price path sub slack left made =
     left
 
-spread-costs-requires : tie.Need-spread-costs-requires Inv-loop μ-loop
-spread-costs-requires c κs = dealt-costs (c .before .before .pre .2)
-
-abbrev spread : tie.After-begin Inv-loop μ-loop → tie.After-spread-costs Inv-loop μ-loop
-spread c = c .before .before .before .before .before .before
-
-abbrev start : tie.At-loop Inv-loop μ-loop → tie.Start Inv-loop μ-loop
-start l = spread (l .before) .before .before .before
-
 begin-requires : tie.Need-begin-requires Inv-loop μ-loop
-begin-requires c κs =
-    let a = c .before .before .before .before .before in
-    let (P, T, d) = a .before .before .before .pre in
-    (P, T, _, _, dealt-begun d (a .spread-costs .ensures))
+begin-requires c κs = let (P, T, d) = c .before .before .before .before .pre in (P, T, _, _, d)
 
 loop-holds : tie.Need-loop-holds Inv-loop μ-loop
-loop-holds c = (omega arith, λ P T d. going-start (c .begin .ensures P T _ _ (dealt-begun d (spread c .spread-costs .ensures))))
+loop-holds c = (omega arith, λ P T d. going-start (c .begin .ensures P T _ _ d))
+
+abbrev start : tie.At-loop Inv-loop μ-loop → tie.Start Inv-loop μ-loop
+start l = l .before .before .before .before .before .before
 
 advance-requires : tie.Need-advance-requires Inv-loop μ-loop
 advance-requires c κs =
-    let l = c .before .before .before .before .before .before .before .before .before in
+    let l = c .before .before .before .before .before .before .before .before in
     let (P, T, d) = start l .pre in
     let g = l .loop .inv .1 P T d in
     (P, g .here, g .kept)
 
 abbrev turn : tie.After-advance Inv-loop μ-loop → tie.At-loop Inv-loop μ-loop
-turn c = c .before .before .before .before .before .before .before .before .before .before
+turn c = c .before .before .before .before .before .before .before .before .before
 
 returns : tie.Need-returns Inv-loop μ-loop
 returns c P T d =
     let g = turn (c .before) .loop .inv .1 P T d in
     let r = c .before .advance .ensures P (g .here) (g .kept) in
-    ended (ran-done g (kept-still r (c .if1 .taken)) refl (r .done ∙ c .if1 .taken))
+    ran-done g (kept-still r (c .if1 .taken)) refl (r .done ∙ c .if1 .taken)
 
 sub-left : tie.Need-sub-left Inv-loop μ-loop
 sub-left c = omega arith
@@ -79,17 +70,17 @@ loop-again c = (
 
 entering-requires : tie.Need-entering-requires Inv-loop μ-loop
 entering-requires c κs =
-    let l = c .before .before .before .before in
+    let l = c .before .before .before in
     let (P, T, d) = start l .pre in
     let k = l .loop .inv .1 P T d .kept in
     (kept-range k, k .slacks)
 
 returns-2 : tie.Need-returns-2 Inv-loop μ-loop
 returns-2 c P T d =
-    let g = c .before .before .before .before .before .before .before .loop .inv .1 P T d in
+    let g = c .before .before .before .before .before .before .loop .inv .1 P T d in
     let w = c .before .before .entering in
     let fits : mag (w .result .reduced) < 2 ^ 31 = search needs in
-    ended (ran-out g (g .kept) (omega arith) (scanned-done (g .kept) (w .ensures) ∙ sym (sign-is (w .result .reduced) fits)))
+    ran-out g (g .kept) (omega arith) (scanned-done (g .kept) (w .ensures) ∙ sym (sign-is (w .result .reduced) fits))
 
 pub rounds-spec : {M : Type 1} → statement M
 rounds-spec =
@@ -97,7 +88,6 @@ rounds-spec =
     (tie.spec
     Inv-loop
     μ-loop
-    spread-costs-requires
     begin-requires
     loop-holds
     advance-requires
