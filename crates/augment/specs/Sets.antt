@@ -6,7 +6,7 @@ use Prim.Native.Nat.{ℕ, _-_, _<_, _≤_}
 use native.Mathlib.Omega.{arith}
 use native.Mathlib.Decide.{ℕ-discrete, decLt}
 use borrow.Author.Tests.{eqb-true, eq-eqb, ne-eqb}
-use lib.Bits.{bitAnd, bitOr, and-le-r}
+use lib.Bits.{bitAnd, bitOr}
 use Rattle.tree.specs.Mask.{bit, has, bit-or, bit-and, put, put-here, put-there, cut, cut-here, cut-there, has-zero}
 use Rattle.tree.specs.MaskLaws.{firstBits, first-below, first-above, minus, bit-minus}
 use Rattle.tree.specs.Bits.{Least, has-rest}
@@ -67,10 +67,6 @@ in-rest x r k w = (
       (λ s. (s, sym (has-rest x r k w ∙ rw (ne-eqb k r s)) ∙ e))),
   (λ e. has-rest x r k w ∙ rw (ne-eqb k r (e .0)) (e .1)),
 )
-
--- It is a smaller number.
-pub rest-less : (x : ℕ) → 0 < x → bitAnd x (x - 1) < x
-rest-less x p = omega (arith, and-le-r x (x - 1))
 
 -- The bits from k up to m.
 pub in-between : (m k i : ℕ) → (has (minus (firstBits m) (firstBits k)) i ≡ true) ↔ ((k ≤ i) × (i < m))

@@ -28,30 +28,30 @@ eq-test a b p q e = sym (back w64 a p) ∙ ap (toZ w64) e ∙ back w64 b q
 -- ---- the lanes carry the flow
 
 -- The first `count` lanes carry the flow of the weights through the strikes.
-unfoldable pub carries : (ℕ → ℤ) → List Strike → List ℤ → List ℕ → ℕ → Bool
-carries weight ss amount lane count = all (λ k. eqZ (getD amount (getD lane k 0) (pos 0)) (flow weight ss (laneAt (getD lane k 0)))) (below count)
+unfoldable pub carriesFlow : (ℕ → ℤ) → List Strike → List ℤ → List ℕ → ℕ → Bool
+carriesFlow weight ss amount lane count = all (λ k. eqZ (getD amount (getD lane k 0) (pos 0)) (flow weight ss (laneAt (getD lane k 0)))) (below count)
 
 module _ (weight : ℕ → ℤ) (ss : List Strike) (amount : List ℤ) (lane : List ℕ) where
   -- Lane k carries the flow.
   abbrev CarriedAt : ℕ → Type 0
   CarriedAt k = getD amount (getD lane k 0) (pos 0) ≡ flow weight ss (laneAt (getD lane k 0))
 
-  pub carries-true : (count : ℕ) → ((k : ℕ) → k < count → CarriedAt k) → carries weight ss amount lane count ≡ true
-  unfolding carries
-  carries-true count h =
+  pub carriesFlow-true : (count : ℕ) → ((k : ℕ) → k < count → CarriedAt k) → carriesFlow weight ss amount lane count ≡ true
+  unfolding carriesFlow
+  carriesFlow-true count h =
       all-below (λ k. eqZ (getD amount (getD lane k 0) (pos 0)) (flow weight ss (laneAt (getD lane k 0)))) count
       (λ k l. rw (h k l) (eqZ-same (flow weight ss (laneAt (getD lane k 0)))))
 
-  pub carries-at : (count : ℕ) → carries weight ss amount lane count ≡ true → (k : ℕ) → k < count → CarriedAt k
-  unfolding carries
-  carries-at count e k l =
+  pub carriesFlow-at : (count : ℕ) → carriesFlow weight ss amount lane count ≡ true → (k : ℕ) → k < count → CarriedAt k
+  unfolding carriesFlow
+  carriesFlow-at count e k l =
       eqZ-true _ _ (all-below-at (λ k. eqZ (getD amount (getD lane k 0) (pos 0)) (flow weight ss (laneAt (getD lane k 0)))) count k e l)
 
-  pub carries-false : (count k : ℕ) → k < count → (CarriedAt k → ⊥) → carries weight ss amount lane count ≡ false
-  carries-false count k l n = go (carries weight ss amount lane count) refl
+  pub carriesFlow-false : (count k : ℕ) → k < count → (CarriedAt k → ⊥) → carriesFlow weight ss amount lane count ≡ false
+  carriesFlow-false count k l n = go (carriesFlow weight ss amount lane count) refl
     where
-      go : (b : Bool) → carries weight ss amount lane count ≡ b → carries weight ss amount lane count ≡ false
-      go true e = absurd (n (carries-at count e k l))
+      go : (b : Bool) → carriesFlow weight ss amount lane count ≡ b → carriesFlow weight ss amount lane count ≡ false
+      go true e = absurd (n (carriesFlow-at count e k l))
       go false e = e
 
 -- ---- forwards through the strikes

@@ -19,13 +19,13 @@ use Rattle.transport.specs.Leaf.{Strike}
 use Rattle.transport.specs.Round.{takeFrom, flow}
 use Rattle.transport.specs.Laws.RoundLaws.{leftBy, flow-here, flow-later}
 use Rattle.transport.specs.Laws.RangeLaws.{abs-diff}
-use Rattle.tree.specs.Layout.{nodeRoom, laneAt, placeOf, place-laneAt, strikeOf, strikesOf, strikesFrom, strikesFrom-cons, getD-set, LanesApart, StrikesInRoom}
+use Rattle.tree.specs.Layout.{nodeRoom, laneAt, laneIndex, laneIndex-at, strikeOf, strikesOf, strikesFrom, strikesFrom-cons, getD-set, LanesApart, StrikesInRoom}
 
 -- ---- one strike
 
 -- Lanes at different places differ.
 places-apart : (k l : ℕ) → (k ≡ l → ⊥) → laneAt k ≢ laneAt l
-places-apart k l n e = n (sym (place-laneAt k) ∙ ap placeOf e ∙ place-laneAt l)
+places-apart k l n e = n (sym (laneIndex-at k) ∙ ap laneIndex e ∙ laneIndex-at l)
 
 takeFrom-cond : (weight : ℕ → ℤ) (k : ℕ) (y : ℤ) (j : ℕ) → takeFrom weight k y j ≡ cond (eqb j k) (weight j -ℤ y) (weight j)
 unfolding takeFrom

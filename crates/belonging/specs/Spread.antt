@@ -23,13 +23,13 @@ use Rattle.transport.specs.Laws.ProblemLaws.{problem}
 use Rattle.tableaux.specs.View.{Distinct, Inside, rowOf, colOf, amountAt}
 use Rattle.tableaux.specs.Belonging.{fits-inside, order-true}
 use Rattle.tableaux.specs.Order.{ordered-by, ordered-distinct}
-use Rattle.tree.specs.Layout.{stride, nodeRoom, laneAt, placeOf, place-laneAt, strikeOf, strikesOf}
+use Rattle.tree.specs.Layout.{stride, nodeRoom, laneAt, laneIndex, laneIndex-at, strikeOf, strikesOf}
 use Rattle.belonging.specs.FlowLaws.{weightsOf}
 use Rattle.board.specs.CellTests.{onBoard, cellsFit}
 use Rattle.board.specs.Arrays.{Sides, sound-sides, Amounts}
 use Rattle.tree.specs.Links.{iff-same}
 use Rattle.tree.specs.Strip.{Stripped}
-use Rattle.belonging.specs.Carried.{carries, carries-true, carries-at}
+use Rattle.belonging.specs.Carried.{carriesFlow, carriesFlow-true, carriesFlow-at}
 use Rattle.belonging.specs.Balance.{Spanning, Carry, Weights, markOf, balanced-iff}
 use Rattle.belonging.specs.Weighing.{Modest}
 
@@ -69,31 +69,31 @@ module _ {m n : ℕ} (T : List Cell) (sides : Sides m n) (inside : Inside m n T)
 module _ {m n : ℕ} {T : List Cell} (leaf other lanes : List ℕ) (count : ℕ) (t : Spanning m n T (strikesOf leaf other lanes count)) (part : Pair → ℤ)
     (amount : List ℤ)
     (lies : (i j : ℕ) → i < m → j < n → getD amount (i * stride + j) (pos 0) ≡ part (amountAt T i j)) (w : ℕ → ℤ) where
-  carries-iff : (carries w (strikesOf leaf other lanes count) amount lanes count ≡ true) ↔ Carry T (strikesOf leaf other lanes count) part w
+  carriesFlow-iff : (carriesFlow w (strikesOf leaf other lanes count) amount lanes count ≡ true) ↔ Carry T (strikesOf leaf other lanes count) part w
   unfolding strikesOf
-  carries-iff = (to, from)
+  carriesFlow-iff = (to, from)
     where
-      to : carries w (strikesOf leaf other lanes count) amount lanes count ≡ true → Carry T (strikesOf leaf other lanes count) part w
+      to : carriesFlow w (strikesOf leaf other lanes count) amount lanes count ≡ true → Carry T (strikesOf leaf other lanes count) part w
       to c i j d =
           let (s, mem, is) = t .struck .struck (lane i j) d in
           let (k, l, at) = table-member count (strikeOf leaf other lanes) mem in
           let here : laneAt (getD lanes k 0) ≡ lane i j = sym (ap (λ s. s .lane) at) ∙ is in
-          let there : getD lanes k 0 ≡ i * stride + j = sym (place-laneAt (getD lanes k 0)) ∙ ap placeOf here in
+          let there : getD lanes k 0 ≡ i * stride + j = sym (laneIndex-at (getD lanes k 0)) ∙ ap laneIndex here in
           let (a, b) = fits-inside m n T (t .inside) (lane i j) d in
           sym (lies i j a b)
           ∙ ap (λ (l : ℕ). getD amount l (pos 0)) (sym there)
-          ∙ carries-at w (strikesOf leaf other lanes count) amount lanes count c k l
+          ∙ carriesFlow-at w (strikesOf leaf other lanes count) amount lanes count c k l
           ∙ ap (flow w (strikesOf leaf other lanes count)) here
 
-      from : Carry T (strikesOf leaf other lanes count) part w → carries w (strikesOf leaf other lanes count) amount lanes count ≡ true
-      from h = carries-true w (strikesOf leaf other lanes count) amount lanes count at
+      from : Carry T (strikesOf leaf other lanes count) part w → carriesFlow w (strikesOf leaf other lanes count) amount lanes count ≡ true
+      from h = carriesFlow-true w (strikesOf leaf other lanes count) amount lanes count at
         where
           at : (k : ℕ) → k < count → getD amount (getD lanes k 0) (pos 0) ≡ flow w (strikesOf leaf other lanes count) (laneAt (getD lanes k 0))
           at k l =
               let x = laneAt (getD lanes k 0) in
               let d = t .struck .lanes (strikeOf leaf other lanes k) (member-table count (strikeOf leaf other lanes) k l) in
               let (a, b) = fits-inside m n T (t .inside) x d in
-              ap (λ (l : ℕ). getD amount l (pos 0)) (sym (place-laneAt (getD lanes k 0))) ∙ lies (x .row) (x .col) a b ∙ h (x .row) (x .col) d
+              ap (λ (l : ℕ). getD amount l (pos 0)) (sym (laneIndex-at (getD lanes k 0))) ∙ lies (x .row) (x .col) a b ∙ h (x .row) (x .col) d
 
 -- ---- balanced, by the two flows
 
@@ -109,7 +109,7 @@ module _ (supply demand : List ℕ) (cost : List ℤ) {T : List Cell} {q e : Lis
     (b : Weights (length supply) (length demand) (at supply) (at demand) bags)
     (k : Weights (length supply) (length demand) (λ i. 1) (markOf (length supply) (length demand)) marks) where
   pub balanced-is : balanced (problem supply demand cost) T
-      ≡ carries (weightsOf bags) (strikesOf leaf other lanes count) q lanes count && carries (weightsOf marks) (strikesOf leaf other lanes count) e lanes count
+      ≡ carriesFlow (weightsOf bags) (strikesOf leaf other lanes count) q lanes count && carriesFlow (weightsOf marks) (strikesOf leaf other lanes count) e lanes count
   unfolding sources sinks
   balanced-is = iff-same (balanced P T) (first && second)
       (λ s. let (x, y) = both .0 s in rw (bagsAre .1 x, marksAre .1 y))
@@ -119,20 +119,20 @@ module _ (supply demand : List ℕ) (cost : List ℤ) {T : List Cell} {q e : Lis
       P = problem supply demand cost
 
       first : Bool
-      first = carries (weightsOf bags) (strikesOf leaf other lanes count) q lanes count
+      first = carriesFlow (weightsOf bags) (strikesOf leaf other lanes count) q lanes count
 
       second : Bool
-      second = carries (weightsOf marks) (strikesOf leaf other lanes count) e lanes count
+      second = carriesFlow (weightsOf marks) (strikesOf leaf other lanes count) e lanes count
 
       both : (balanced P T ≡ true) ↔ (Carry T (strikesOf leaf other lanes count) (λ a. a .q) (weightsOf bags)
           × Carry T (strikesOf leaf other lanes count) (λ a. a .e) (weightsOf marks))
       both = balanced-iff P t totals b k
 
       bagsAre : (first ≡ true) ↔ Carry T (strikesOf leaf other lanes count) (λ a. a .q) (weightsOf bags)
-      bagsAre = carries-iff leaf other lanes count t (λ a. a .q) q (h .bags) (weightsOf bags)
+      bagsAre = carriesFlow-iff leaf other lanes count t (λ a. a .q) q (h .bags) (weightsOf bags)
 
       marksAre : (second ≡ true) ↔ Carry T (strikesOf leaf other lanes count) (λ a. a .e) (weightsOf marks)
-      marksAre = carries-iff leaf other lanes count t (λ a. a .e) e (h .marks) (weightsOf marks)
+      marksAre = carriesFlow-iff leaf other lanes count t (λ a. a .e) e (h .marks) (weightsOf marks)
 
 -- ---- belonging
 

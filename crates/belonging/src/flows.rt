@@ -4,7 +4,7 @@ use tree::NODES;
 ghost use mathlib.Core.Path.{_≡_};
 ghost use Rattle.tree.specs.Layout.{LanesApart, StrikesInRoom, strikesOf};
 ghost use Rattle.belonging.specs.FlowLaws.{weightsOf};
-ghost use Rattle.belonging.specs.Carried.{Light, carries};
+ghost use Rattle.belonging.specs.Carried.{Light, carriesFlow};
 
 // Forwards through the strikes: a leaf's lane must carry exactly what the leaf still needs, which is then taken from both ends of the lane. Amounts are
 // compared and never added up, so that none can be too great. The weights are used up.
@@ -20,7 +20,7 @@ pub(crate) fn flows_match(
     requires { ⌜ LanesApart (now lane) count ⌝ }
     requires { ⌜ Light (now weight) ⌝ }
     ensures { λ r. ⌜
-        r ≡ carries (weightsOf (now (weight .entry))) (strikesOf (now (leaf .entry)) (now (other .entry)) (now (lane .entry)) count)
+        r ≡ carriesFlow (weightsOf (now (weight .entry))) (strikesOf (now (leaf .entry)) (now (other .entry)) (now (lane .entry)) count)
         (now (amount .entry)) (now (lane .entry)) count
         ⌝ }
 {

@@ -193,14 +193,14 @@ pub record FilledTo (lanes : List ℕ) (q e : List ℤ) (count k : ℕ) (t : Tab
   pub filled : t .cells ≡ table k (λ i. cellOn q e (getD lanes i 0)) ++ drop k (replicate cellRoom noCell)
 
 module _ (lanes : List ℕ) (q e : List ℤ) (count : ℕ) where
-  pub filled-none : FilledTo lanes q e count 0 (record { cells = replicate cellRoom noCell; count = count })
-  filled-none = record { within = omega arith; many = refl; filled = rw (table-zero (λ i. cellOn q e (getD lanes i 0))) }
+  pub filledTo-none : FilledTo lanes q e count 0 (record { cells = replicate cellRoom noCell; count = count })
+  filledTo-none = record { within = omega arith; many = refl; filled = rw (table-zero (λ i. cellOn q e (getD lanes i 0))) }
 
-  pub filled-one : (k : ℕ) (t : Tableau) (bags marks : ℤ) → FilledTo lanes q e count k t → k < count → k < cellRoom
+  pub filledTo-one : (k : ℕ) (t : Tableau) (bags marks : ℤ) → FilledTo lanes q e count k t → k < count → k < cellRoom
       → bags ≡ getD q (getD lanes k 0) (pos 0) → marks ≡ getD e (getD lanes k 0) (pos 0)
       → let cell : Cell = record { row = getD lanes k 0 / stride; col = getD lanes k 0 % stride; amount = record { q = bags; e = marks } } in
       FilledTo lanes q e count (k + 1) (record { cells = set (t .cells) k cell; count = t .count })
-  filled-one k t bags marks h p l v w =
+  filledTo-one k t bags marks h p l v w =
       record {
         within = omega arith;
         many = h .many;
@@ -208,10 +208,10 @@ module _ (lanes : List ℕ) (q e : List ℤ) (count : ℕ) where
             (omega (arith, length-replicate cellRoom noCell)));
       }
 
-  pub filled-all : (adj : List ℕ) (m : ℕ) (t : Tableau) → Lanes adj m lanes count → count ≤ cellRoom → FilledTo lanes q e count count t
+  pub filledTo-all : (adj : List ℕ) (m : ℕ) (t : Tableau) → Lanes adj m lanes count → count ≤ cellRoom → FilledTo lanes q e count count t
       → t ≡ tableauOf (gathered m adj q e)
   unfolding tableauOf padded gathered
-  filled-all adj m t w p h =
+  filledTo-all adj m t w p h =
       let T = map (cellOn q e) (lanesOf adj m) in
       let n : length T ≡ count = length-map (lanesOf adj m) (cellOn q e) ∙ sym (w .many) in
       let cells : t .cells ≡ T ++ replicate (maxCells - length T) noCell =

@@ -132,8 +132,8 @@ module _ {m n : ℕ} {B : List Lane} {count : ℕ} {at : ℕ → Lane} {far : �
     col-in : (t : ℕ) → t < count → m + at t .col < m + n
     col-in t p = omega (arith, fits (at t) (w .basic t p))
 
-    pub exchange : Cuts m n B′ count at′ far′
-    exchange = record {
+    pub cuts-exchanged : Cuts m n B′ count at′ far′
+    cuts-exchanged = record {
       basic = λ t p. by-cases (ℕ-discrete t s)
           (λ e. new (at′ t) .1 (inl (ap at′ e ∙ here)))
           (λ e. new (at′ t) .1 (inr (rw (there t e) (w .basic t p, (λ q. e (slots-apart w s t hs p q))))));

@@ -16,7 +16,7 @@ use Rattle.tableaux.specs.Lanes.{Fits}
 use Rattle.tree.specs.Mask.{has, cut, has-cut}
 use Rattle.tree.specs.Layout.{stride, laneAt, laneAt-place}
 use Rattle.tree.specs.Bits.{has-xor, Grafted, grafted-bit}
-use Rattle.cuts.specs.Cuts.{Exchanged, turned, exchange, xor-false}
+use Rattle.cuts.specs.Cuts.{Exchanged, turned, cuts-exchanged, xor-false}
 use Rattle.cuts.specs.Cycle.{onLoop}
 use Rattle.cuts.specs.Planting.{Tree, xor-of}
 
@@ -70,7 +70,7 @@ module _ {m n : ℕ} {B : List Lane} {sub path lanes : List ℕ} (w : Tree m n B
       subLong = g .subs .long ∙ w .subLong;
       pathLong = g .paths .long ∙ w .pathLong;
       laneLong = ap length (g .laid) ∙ simp length-set (w .laneLong);
-      cuts = exchange (w .cuts) fits hs {enter = lane row col} hr hc (loop-across row (m + col) s loop) new here there far-is;
+      cuts = cuts-exchanged (w .cuts) fits hs {enter = lane row col} hr hc (loop-across row (m + col) s loop) new here there far-is;
       slots = λ p t l e. keeps p t l (has (getD path p 0) t) refl (sym (grafted-bit (cut (onLoop path row (m + col)) s) (g .paths) p t) ∙ e);
       turns = λ t p l. grafted-bit moved (g .subs) t p ∙ (rw (w .turns t p l, in-far p))
           ∙ both (ltb p (m + n)) (has (getD path p 0) t) (has (getD path p 0) s) (has (cut (onLoop path row (m + col)) s) t)

@@ -42,7 +42,7 @@ use Rattle.tableaux.specs.PivotView.{amount-elsewhere, pivot-basic}
 use Rattle.tableaux.specs.Pivoting.{pivot-leaves, pivot-no-tie, pivot-belongs}
 use Rattle.tree.specs.Mask.{has, has-zero}
 use Rattle.tree.specs.Bits.{has-xor}
-use Rattle.tree.specs.Layout.{stride, nodeRoom, laneRoom, laneAt, placeOf, place-laneAt, laneAt-place}
+use Rattle.tree.specs.Layout.{stride, nodeRoom, laneRoom, laneAt, laneIndex, laneIndex-at, laneAt-place}
 use Rattle.cuts.specs.Cuts.{signBy, sign-by, slots-apart, Exchanged, Shifted, shifted-root, shifted-tight}
 use Rattle.cuts.specs.Cycle.{onLoop, rowFar, LoopSlots}
 use Rattle.cuts.specs.Exchange.{Regrafted, loop-slot, loop-across, tree-exchanged}
@@ -182,14 +182,14 @@ module _ {P : Problem} {T : List Cell} {q e : List ℤ} {sub path lanes : List �
   lane-slot : (i j : ℕ) → Basic T i j → (t : ℕ) × (t < count) × (getD lanes t 0 ≡ i * stride + j)
   lane-slot i j d =
       let (t, p, s) = b .tree .cuts .listed (lane i j) (has-basic T i j .1 d) in
-      (t, p, sym (place-laneAt (getD lanes t 0)) ∙ ap placeOf s)
+      (t, p, sym (laneIndex-at (getD lanes t 0)) ∙ ap laneIndex s)
 
   slot-pair : (t : ℕ) → t < count → pairAt q e (getD lanes t 0) ≡ amountAt T (getD lanes t 0 / stride) (getD lanes t 0 % stride)
   slot-pair t p =
       let (hi, hj) = slot-on t p in
       let l = getD lanes t 0 in
-      let x = ap (λ (k : ℕ). getD q k (pos 0)) (sym (place-laneAt l)) ∙ b .amounts .bags (l / stride) (l % stride) hi hj in
-      let y = ap (λ (k : ℕ). getD e k (pos 0)) (sym (place-laneAt l)) ∙ b .amounts .marks (l / stride) (l % stride) hi hj in
+      let x = ap (λ (k : ℕ). getD q k (pos 0)) (sym (laneIndex-at l)) ∙ b .amounts .bags (l / stride) (l % stride) hi hj in
+      let y = ap (λ (k : ℕ). getD e k (pos 0)) (sym (laneIndex-at l)) ∙ b .amounts .marks (l / stride) (l % stride) hi hj in
       λ i. record { q = x i; e = y i }
 
   -- Little lies on a basic lane.
@@ -271,7 +271,7 @@ module _ {P : Problem} {T : List Cell} {q e : List ℤ} {sub path lanes : List �
           at : (c : Cell) → List·Memᴰ c T → c .row ≡ getD lanes s 0 / stride → c .col ≡ getD lanes s 0 % stride → getD lanes s 0 ≡ out .row * stride + out .col
           at c mem x y =
               let (t, ht, is) = out-slot in
-              let place : getD lanes s 0 ≡ c .row * stride + c .col = sym ((rw (x, y)) ∙ place-laneAt (getD lanes s 0)) in
+              let place : getD lanes s 0 ≡ c .row * stride + c .col = sym ((rw (x, y)) ∙ laneIndex-at (getD lanes s 0)) in
               let on : laneAt (getD lanes s 0) ≡ lane (c .row) (c .col) = λ i. lane (sym x i) (sym y i) in
               let minus-cell : isMinus (signOf (laneOf c)) ≡ true =
               ap (λ l. isMinus (signOf l)) (sym on) ∙ sym (minus-sign s slot-in) ∙ f .inside

@@ -14,13 +14,13 @@ use Rattle.transport.specs.Laws.CallLaws.{unless-before, unless-last, unless-no
 use Rattle.transport.specs.Answers.{runAnswer, runOutcome}
 
 module _ (R : Run) {made : ℕ} {t : Tableau} (rounds : R .rounds ≡ made) (last : t ≡ tableauOf (R .tableau)) where
-  pub run-finished : R .finished ≡ true → record { outcome = RunOutcome.Finished made; tableau = t } ≡ runAnswer (given R)
+  pub answer-finished : R .finished ≡ true → record { outcome = RunOutcome.Finished made; tableau = t } ≡ runAnswer (given R)
   unfolding runAnswer runOutcome
-  run-finished f = rw (← rounds, last, f)
+  answer-finished f = rw (← rounds, last, f)
 
-  pub run-spent : R .finished ≡ false → record { outcome = RunOutcome.Spent made; tableau = t } ≡ runAnswer (given R)
+  pub answer-spent : R .finished ≡ false → record { outcome = RunOutcome.Spent made; tableau = t } ≡ runAnswer (given R)
   unfolding runAnswer runOutcome
-  run-spent f = rw (← rounds, last, f)
+  answer-spent f = rw (← rounds, last, f)
 
 pub run-refused : (k : ℕ) → record { outcome = RunOutcome.Refused k; tableau = noTableau } ≡ runAnswer (refusedBy k)
 unfolding runAnswer refusedBy

@@ -154,6 +154,6 @@ pub record Ended (P : Problem) (T : List Cell) (allowance : ℕ) (q e : List ℤ
   pub path : List ℕ
   pub board : Board P (run P allowance T .tableau) q e sub path tree m n
 
-pub ended : {P : Problem} {T : List Cell} {allowance : ℕ} {q e price : List ℤ} {tree : List ℕ} {m n : ℕ} {finished : Bool} {made : ℕ}
+pub ran-ended : {P : Problem} {T : List Cell} {allowance : ℕ} {q e price : List ℤ} {tree : List ℕ} {m n : ℕ} {finished : Bool} {made : ℕ}
     → Ran P T allowance q e price tree m n finished made → Ended P T allowance q e tree m n finished made
-ended r = record { done = r .done; rounds = r .rounds; sub = r .sub; path = r .path; board = r .board }
+ran-ended r = record { done = r .done; rounds = r .rounds; sub = r .sub; path = r .path; board = r .board }

@@ -88,9 +88,9 @@ module _ {cost price : List ℤ} {m n : ℕ} where
   pub lanes-none : TightLanes cost price m n 0 (replicate stride 0)
   lanes-none = record { long = refl; rows = λ i p. absurd (omega arith) }
 
-  pub lanes-more : {k mask : ℕ} {masks : List ℕ} → TightLanes cost price m n k masks → k < stride → TightRow cost price m k n mask
+  pub tight-more : {k mask : ℕ} {masks : List ℕ} → TightLanes cost price m n k masks → k < stride → TightRow cost price m k n mask
       → TightLanes cost price m n (k + 1) (set masks k mask)
-  lanes-more {k} {mask} {masks} h p r = record {
+  tight-more {k} {mask} {masks} h p r = record {
     long = simp length-set (h .long);
     rows = λ i q. by-cases (ℕ-discrete i k)
         (λ e. rw (e, getD-set-same masks k mask 0 (omega (arith, h .long))) r)

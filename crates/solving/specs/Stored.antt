@@ -40,9 +40,9 @@ module _ (S : Sheet) {q e price : List ℤ} {lanes : List ℕ} {m n made : ℕ}
       (uIs : u′ ≡ table m (λ k. getD price (0 + k) (pos 0)) ++ drop m u)
       (vIs : v′ ≡ table n (λ k. getD price (m + k) (pos 0)) ++ drop n v)
       (planIs : plan′ ≡ settled S ++ drop (m * n) plan) where
-    pub stored-given : SolveStored S made u u′ v v′ plan plan′
+    pub solve-stored : SolveStored S made u u′ v v′ plan plan′
     unfolding lentAfter solution solutionFrom problemOf sources sinks roasteries cafes
-    stored-given =
+    solve-stored =
         let P = problemOf S in
         let rows = source-prices (r .board) price (r .prices) in
         let columns = sink-prices (r .board) price (r .prices) in

@@ -58,20 +58,20 @@ amount-member {c} {T} d m =
 
 -- ---- order
 
-abbrev pub placeOf : ℕ → Cell → ℕ
-placeOf n c = place n (c .row) (c .col)
+abbrev pub cellPlace : ℕ → Cell → ℕ
+cellPlace n c = place n (c .row) (c .col)
 
 -- Every cell of the list stands after place p.
 abbrev After : ℕ → ℕ → List Cell → Type 0
-After n p T = (c : Cell) → List·Memᴰ c T → p < placeOf n c
+After n p T = (c : Cell) → List·Memᴰ c T → p < cellPlace n c
 
 abbrev pub Ordered : ℕ → List Cell → Type 0
 Ordered n [] = Unit {0}
-Ordered n (c ∷ cs) = After n (placeOf n c) cs × Ordered n cs
+Ordered n (c ∷ cs) = After n (cellPlace n c) cs × Ordered n cs
 
 module _ (n : ℕ) where
   -- The two ways to say it agree.
-  pub ordered-by : (T : List Cell) → ((k : ℕ) → suc k < length T → placeOf n (getD T k noCell) < placeOf n (getD T (suc k) noCell)) → Ordered n T
+  pub ordered-by : (T : List Cell) → ((k : ℕ) → suc k < length T → cellPlace n (getD T k noCell) < cellPlace n (getD T (suc k) noCell)) → Ordered n T
   ordered-by [] h = tt
   ordered-by (c ∷ []) h = ((λ d m. absurd (List·Memᴰ·not-nil m)), tt)
   ordered-by (c ∷ d ∷ ds) h = go (ordered-by (d ∷ ds) (λ k l. h (suc k) (omega arith)))
@@ -79,17 +79,17 @@ module _ (n : ℕ) where
       go : Ordered n (d ∷ ds) → Ordered n (c ∷ d ∷ ds)
       go (later, rest) = (after, (later, rest))
         where
-          after : After n (placeOf n c) (d ∷ ds)
+          after : After n (cellPlace n c) (d ∷ ds)
           after x m = ⊎-elim (λ e. rw e (h 0 (omega arith))) (λ k. omega (arith, h 0 (omega arith), later x k)) (List·Memᴰ·cases-cons m)
 
-  pub ordered-at : (T : List Cell) → Ordered n T → (k : ℕ) → suc k < length T → placeOf n (getD T k noCell) < placeOf n (getD T (suc k) noCell)
+  pub ordered-at : (T : List Cell) → Ordered n T → (k : ℕ) → suc k < length T → cellPlace n (getD T k noCell) < cellPlace n (getD T (suc k) noCell)
   ordered-at [] o k l = absurd (omega arith)
   ordered-at (c ∷ cs) (after, o) zero l = after (getD cs 0 noCell) (member-at cs noCell 0 (omega arith))
   ordered-at (c ∷ cs) (after, o) (suc k) l = ordered-at cs o k (omega arith)
 
-  apart : (c : Cell) (cs : List Cell) → After n (placeOf n c) cs → (l : ℕ) → l < length cs → c .row ≡ rowOf cs l → c .col ≡ colOf cs l → ⊥
+  apart : (c : Cell) (cs : List Cell) → After n (cellPlace n c) cs → (l : ℕ) → l < length cs → c .row ≡ rowOf cs l → c .col ≡ colOf cs l → ⊥
   apart c cs after l hl e f =
-      let s : placeOf n c ≡ placeOf n (getD cs l noCell) = rw (e, f) in
+      let s : cellPlace n c ≡ cellPlace n (getD cs l noCell) = rw (e, f) in
       omega (arith, after (getD cs l noCell) (member-at cs noCell l hl))
 
   pub ordered-distinct : (T : List Cell) → Ordered n T → Distinct T
@@ -108,11 +108,11 @@ module _ (n : ℕ) where
       go true o′ = ((λ d m. after d (keep-member p cs m .0)), o′)
       go false o′ = o′
 
-  pub ordered-map : (f : Cell → Cell) → ((c : Cell) → placeOf n (f c) ≡ placeOf n c) → (T : List Cell) → Ordered n T → Ordered n (map f T)
+  pub ordered-map : (f : Cell → Cell) → ((c : Cell) → cellPlace n (f c) ≡ cellPlace n c) → (T : List Cell) → Ordered n T → Ordered n (map f T)
   ordered-map f same [] o = tt
   ordered-map f same (c ∷ cs) (after, o) = (later, ordered-map f same cs o)
     where
-      later : After n (placeOf n (f c)) (map f cs)
+      later : After n (cellPlace n (f c)) (map f cs)
       later y m = let (x, k, e) = map-member f cs m in rw e (omega (arith, same c, same x, after x k))
 
   -- ---- a cell put into its place
@@ -120,7 +120,7 @@ module _ (n : ℕ) where
   pub insert-here : (c : Cell) (T : List Cell) → List·Memᴰ c (insert n c T)
   unfolding insert
   insert-here c [] = List·Memᴰ·head refl
-  insert-here c (d ∷ ds) = go (ltb (placeOf n c) (placeOf n d)) (insert-here c ds)
+  insert-here c (d ∷ ds) = go (ltb (cellPlace n c) (cellPlace n d)) (insert-here c ds)
     where
       go : (b : Bool) → List·Memᴰ c (insert n c ds) → List·Memᴰ c (cond b (c ∷ d ∷ ds) (d ∷ insert n c ds))
       go true m = List·Memᴰ·head refl
@@ -129,7 +129,7 @@ module _ (n : ℕ) where
   pub insert-keeps : (c : Cell) {x : Cell} (T : List Cell) → List·Memᴰ x T → List·Memᴰ x (insert n c T)
   unfolding insert
   insert-keeps c [] m = absurd (List·Memᴰ·not-nil m)
-  insert-keeps c {x} (d ∷ ds) m = go (ltb (placeOf n c) (placeOf n d)) (insert-keeps c ds) (List·Memᴰ·cases-cons m)
+  insert-keeps c {x} (d ∷ ds) m = go (ltb (cellPlace n c) (cellPlace n d)) (insert-keeps c ds) (List·Memᴰ·cases-cons m)
     where
       go : (b : Bool) → (List·Memᴰ x ds → List·Memᴰ x (insert n c ds)) → (x ≡ d) ⊎ List·Memᴰ x ds → List·Memᴰ x (cond b (c ∷ d ∷ ds) (d ∷ insert n c ds))
       go true rest k = List·Memᴰ·tail m
@@ -139,7 +139,7 @@ module _ (n : ℕ) where
   pub insert-member : (c : Cell) {x : Cell} (T : List Cell) → List·Memᴰ x (insert n c T) → (x ≡ c) ⊎ List·Memᴰ x T
   unfolding insert
   insert-member c [] m = List·Memᴰ·cases-cons m
-  insert-member c {x} (d ∷ ds) m = go (ltb (placeOf n c) (placeOf n d)) (insert-member c ds) m
+  insert-member c {x} (d ∷ ds) m = go (ltb (cellPlace n c) (cellPlace n d)) (insert-member c ds) m
     where
       step : (List·Memᴰ x (insert n c ds) → (x ≡ c) ⊎ List·Memᴰ x ds) → (x ≡ d) ⊎ List·Memᴰ x (insert n c ds) → (x ≡ c) ⊎ List·Memᴰ x (d ∷ ds)
       step rest (inl e) = inr (List·Memᴰ·head e)
@@ -153,27 +153,27 @@ module _ (n : ℕ) where
   pub length-insert : (c : Cell) (T : List Cell) → length (insert n c T) ≡ suc (length T)
   unfolding insert
   length-insert c [] = refl
-  length-insert c (d ∷ ds) = go (ltb (placeOf n c) (placeOf n d)) (length-insert c ds)
+  length-insert c (d ∷ ds) = go (ltb (cellPlace n c) (cellPlace n d)) (length-insert c ds)
     where
       go : (b : Bool) → length (insert n c ds) ≡ suc (length ds) → length (cond b (c ∷ d ∷ ds) (d ∷ insert n c ds)) ≡ suc (suc (length ds))
       go true e = refl
       go false e = omega arith
 
   -- It keeps the order, where its place is free.
-  pub ordered-insert : (c : Cell) (T : List Cell) → ((d : Cell) → List·Memᴰ d T → ¬ (placeOf n d ≡ placeOf n c)) → Ordered n T → Ordered n (insert n c T)
+  pub ordered-insert : (c : Cell) (T : List Cell) → ((d : Cell) → List·Memᴰ d T → ¬ (cellPlace n d ≡ cellPlace n c)) → Ordered n T → Ordered n (insert n c T)
   unfolding insert
   ordered-insert c [] free o = ((λ d m. absurd (List·Memᴰ·not-nil m)), tt)
   ordered-insert c (d ∷ ds) free (after, o) =
-      go (ltb (placeOf n c) (placeOf n d)) refl (ordered-insert c ds (λ x m. free x (List·Memᴰ·tail m)) o)
+      go (ltb (cellPlace n c) (cellPlace n d)) refl (ordered-insert c ds (λ x m. free x (List·Memᴰ·tail m)) o)
     where
-      go : (b : Bool) → ltb (placeOf n c) (placeOf n d) ≡ b → Ordered n (insert n c ds) → Ordered n (cond b (c ∷ d ∷ ds) (d ∷ insert n c ds))
+      go : (b : Bool) → ltb (cellPlace n c) (cellPlace n d) ≡ b → Ordered n (insert n c ds) → Ordered n (cond b (c ∷ d ∷ ds) (d ∷ insert n c ds))
       go true e o′ = (before, (after, o))
         where
-          before : After n (placeOf n c) (d ∷ ds)
-          before x m = ⊎-elim (λ q. rw q (ltb-true (placeOf n c) (placeOf n d) e)) (λ k. omega (arith, ltb-true (placeOf n c) (placeOf n d) e, after x k))
+          before : After n (cellPlace n c) (d ∷ ds)
+          before x m = ⊎-elim (λ q. rw q (ltb-true (cellPlace n c) (cellPlace n d) e)) (λ k. omega (arith, ltb-true (cellPlace n c) (cellPlace n d) e, after x k))
               (List·Memᴰ·cases-cons m)
       go false e o′ = (behind, o′)
         where
-          behind : After n (placeOf n d) (insert n c ds)
-          behind x m = ⊎-elim (λ q. rw q (omega (arith, ltb-false (placeOf n c) (placeOf n d) e, free d (List·Memᴰ·head refl)))) (λ k. after x k)
+          behind : After n (cellPlace n d) (insert n c ds)
+          behind x m = ⊎-elim (λ q. rw q (omega (arith, ltb-false (cellPlace n c) (cellPlace n d) e, free d (List·Memᴰ·head refl)))) (λ k. after x k)
               (insert-member c ds m)

@@ -24,7 +24,7 @@ use Rattle.transport.specs.Laws.RoundLaws.{lane-same, lane-other}
 use Rattle.transport.specs.declared.Pair.{Pair}
 use Rattle.transport.specs.declared.Cell.{Cell}
 use Rattle.tableaux.specs.View.{Distinct, Inside, amountAt, amount-none}
-use Rattle.tableaux.specs.Order.{CellAt, cell-at, basic-member, amount-member, placeOf, Ordered, ordered-distinct, ordered-keep, ordered-map}
+use Rattle.tableaux.specs.Order.{CellAt, cell-at, basic-member, amount-member, cellPlace, Ordered, ordered-distinct, ordered-keep, ordered-map}
 use Rattle.tableaux.specs.Order.{ordered-insert, insert-here, insert-keeps, insert-member, length-insert}
 
 -- ---- lanes
@@ -160,10 +160,10 @@ length-without n (c ∷ cs) (after, o) {out} mem = go (length-without n cs o) (L
       where
         later : (k : ℕ) → k < length cs → other out (getD cs k noCell) ≡ true
         later k l = other-yes out (getD cs k noCell) (λ d.
-            let p : placeOf n (getD cs k noCell) ≡ placeOf n c = rw (d .0, d .1, s) in
+            let p : cellPlace n (getD cs k noCell) ≡ cellPlace n c = rw (d .0, d .1, s) in
             omega (arith, after (getD cs k noCell) (member-at cs noCell k l)))
     go rest (inr k) = ap (λ l. suc (length l)) (keep-yes (other out) c cs (other-yes out c (λ d.
-        let p : placeOf n c ≡ placeOf n out = rw (d .0, d .1) in
+        let p : cellPlace n c ≡ cellPlace n out = rw (d .0, d .1) in
         omega (arith, after out k)))) ∙ ap suc (rest k)
 
 module _ {m n : ℕ} {T : List Cell} (o : Ordered n T) (h : Inside m n T) {e : Lane} (col : e .col < n) (new : ¬ Basic T (e .row) (e .col)) where
@@ -178,11 +178,11 @@ module _ {m n : ℕ} {T : List Cell} (o : Ordered n T) (h : Inside m n T) {e : L
       f : Cell → Cell
       f = shift (signs m n T e) (leaves .amount)
 
-      free : (d : Cell) → List·Memᴰ d (map f (keep (other leaves) T)) → ¬ (placeOf n d ≡ placeOf n (withAmount e (leaves .amount)))
+      free : (d : Cell) → List·Memᴰ d (map f (keep (other leaves) T)) → ¬ (cellPlace n d ≡ cellPlace n (withAmount e (leaves .amount)))
       free d mem p =
           let (c, k, s) = map-member f (keep (other leaves) T) mem in
           let there : List·Memᴰ c T = keep-member (other leaves) T k .0 in
-          let same : place n (c .row) (c .col) ≡ place n (e .row) (e .col) = sym (ap (placeOf n) s) ∙ p in
+          let same : place n (c .row) (c .col) ≡ place n (e .row) (e .col) = sym (ap (cellPlace n) s) ∙ p in
           let (a, b) = place-injective n (c .row) (c .col) (e .row) (e .col) (inside-member h there .1) col same in
           new (rw (a, b) at (basic-member there))
 

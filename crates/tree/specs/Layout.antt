@@ -39,11 +39,11 @@ maxPotential = nodeRoom * costAbove
 abbrev pub laneAt : ℕ → Lane
 laneAt l = record { row = l / stride; col = l % stride }
 
-abbrev pub placeOf : Lane → ℕ
-placeOf l = l .row * stride + l .col
+abbrev pub laneIndex : Lane → ℕ
+laneIndex l = l .row * stride + l .col
 
-pub place-laneAt : (l : ℕ) → placeOf (laneAt l) ≡ l
-place-laneAt l = div-add-mod' l stride
+pub laneIndex-at : (l : ℕ) → laneIndex (laneAt l) ≡ l
+laneIndex-at l = div-add-mod' l stride
 
 -- The lane of row i and column j lies at i * stride + j.
 pub laneAt-place : (i j : ℕ) → j < stride → laneAt (i * stride + j) ≡ lane i j

@@ -14,7 +14,7 @@ use Rattle.transport.specs.Laws.ProblemLaws.{problem}
 use Rattle.tree.specs.Layout.{strikesOf, LanesApart, StrikesInRoom}
 use Rattle.belonging.specs.FlowLaws.{weightsOf}
 use Rattle.tree.specs.Strikes.{strikes-room, strikes-distinct}
-use Rattle.belonging.specs.Carried.{carries}
+use Rattle.belonging.specs.Carried.{carriesFlow}
 use Rattle.belonging.specs.Spread.{list-sides, sound-modest, Balancing, balanced-is}
 use Rattle.belonging.proofs.balances.Statement.{statement}
 use Rattle.belonging.proofs.balances.Tie as tie
@@ -54,8 +54,8 @@ flows : (c : tie.After-weigh-marks) (cost : List ℤ) (T : List Cell)
     let ss = strikesOf (a .leaf .now) (a .other .now) (a .lane .now) count in
     Balancing (length (a .supply .now)) (length (a .demand .now)) T (a .q .now) (a .e .now) (a .leaf .now) (a .other .now) (a .lane .now)
     → balanced (problem (a .supply .now) (a .demand .now) cost) T
-    ≡ carries (weightsOf (c .before .before .weigh-bags .last .1 .1 .0)) ss (a .q .now) (a .lane .now) count
-    && carries (weightsOf (c .weigh-marks .last .1 .1 .0)) ss (a .e .now) (a .lane .now) count
+    ≡ carriesFlow (weightsOf (c .before .before .weigh-bags .last .1 .1 .0)) ss (a .q .now) (a .lane .now) count
+    && carriesFlow (weightsOf (c .weigh-marks .last .1 .1 .0)) ss (a .e .now) (a .lane .now) count
 flows c cost T h = balanced-is _ _ cost (h .amounts) _ _ _ _ (h .spanning) (start c .pre .0 .1 .balance) (c .before .before .weigh-bags .ensures)
     (c .weigh-marks .ensures)
 

@@ -16,7 +16,7 @@ use Rattle.transport.specs.Round.{run}
 use Rattle.transport.specs.Answers.{runAnswer}
 use Rattle.sheet.specs.Check.{accepted-none, refused-some}
 use Rattle.rounds.specs.Dealt.{Dealt, dealt-loaded}
-use Rattle.run_call.specs.Run.{run-early, run-astray, run-given, run-finished, run-spent}
+use Rattle.run_call.specs.Run.{run-early, run-astray, run-given, answer-finished, answer-spent}
 use Rattle.run_call.proofs.run.Statement.{statement}
 use Rattle.run_call.proofs.run.Tie as tie
 
@@ -112,7 +112,7 @@ returns-3 c =
     let S = sheetAt s in
     let t = s .args .t in
     let r = a .make-run .ensures _ _ (dealt d) in
-    run-finished (run (problemOf S) (s .args .allowance) (cellsOf t)) (r .rounds) (c .before .gather .ensures _ _ _ _ (r .board)) (r .done ∙ c .if2 .taken)
+    answer-finished (run (problemOf S) (s .args .allowance) (cellsOf t)) (r .rounds) (c .before .gather .ensures _ _ _ _ (r .board)) (r .done ∙ c .if2 .taken)
     ∙ ap runAnswer (sym (run-given S t (s .args .allowance) (passed (toldBefore d)) (within d)))
 
 returns-4 : tie.Need-returns-4
@@ -123,7 +123,7 @@ returns-4 c =
     let S = sheetAt s in
     let t = s .args .t in
     let r = a .make-run .ensures _ _ (dealt d) in
-    run-spent (run (problemOf S) (s .args .allowance) (cellsOf t)) (r .rounds) (c .before .gather .ensures _ _ _ _ (r .board)) (r .done ∙ c .if2 .left)
+    answer-spent (run (problemOf S) (s .args .allowance) (cellsOf t)) (r .rounds) (c .before .gather .ensures _ _ _ _ (r .board)) (r .done ∙ c .if2 .left)
     ∙ ap runAnswer (sym (run-given S t (s .args .allowance) (passed (toldBefore d)) (within d)))
 
 pub run-spec : {M : Type 1} → statement M

@@ -2,9 +2,8 @@
 use Prim.Native.Nat.{ℕ, _<_}
 use native.Mathlib.Omega.{arith}
 use Rattle.tree.specs.Mask.{put}
-use Rattle.tree.specs.Bits.{Least, has-least, Touching, touch-start, touch-still, touch-step, touch-end}
+use Rattle.tree.specs.Bits.{Least, has-least, Touching, touch-start, touch-still, touch-step, touch-end, rest-less}
 use Rattle.tree.specs.Layout.{stride}
-use Rattle.augment.specs.Sets.{rest-less}
 use Rattle.augment.proofs.bags.hold.Statement.{statement}
 use Rattle.augment.proofs.bags.hold.Tie as tie
 

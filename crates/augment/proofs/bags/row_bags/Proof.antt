@@ -8,9 +8,8 @@ use lib.IntN.{pos}
 use lib.ListN.{getD}
 use mir.Syntax.{w64}
 use mir.Val.{toZ, ofZ}
-use Rattle.tree.specs.Bits.{Least, has-least}
+use Rattle.tree.specs.Bits.{Least, has-least, rest-less}
 use Rattle.tree.specs.Layout.{stride}
-use Rattle.augment.specs.Sets.{rest-less}
 use Rattle.augment.specs.Bags.{RowBags, row-none, row-more, row-all}
 use Rattle.augment.proofs.bags.row_bags.Statement.{statement}
 use Rattle.augment.proofs.bags.row_bags.Tie as tie

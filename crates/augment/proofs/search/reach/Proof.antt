@@ -3,9 +3,8 @@
 use Prim.Native.Nat.{ℕ, _<_}
 use native.Mathlib.Omega.{arith}
 use Rattle.tree.specs.MaskLaws.{minus}
-use Rattle.tree.specs.Bits.{Least, has-least, Touching, touch-start, touch-step, touch-end}
+use Rattle.tree.specs.Bits.{Least, has-least, Touching, touch-start, touch-step, touch-end, rest-less}
 use Rattle.tree.specs.Layout.{stride}
-use Rattle.augment.specs.Sets.{rest-less}
 use Rattle.augment.specs.Sought.{Gathered, gather-start, gather-step, gather-end}
 use Rattle.augment.proofs.search.reach.Statement.{statement}
 use Rattle.augment.proofs.search.reach.Tie as tie

@@ -9,7 +9,7 @@ use Rattle.transport.specs.Laws.RangeLaws.{diff-in, diff-back}
 use native.Mathlib.Omega.{arith}
 use borrow.Author.Needs.{needs}
 use Rattle.belonging.specs.FlowLaws.{weightsOf, flow-now, needed-room}
-use Rattle.belonging.specs.Carried.{Passed, passed-none, passed-more, carries-true, carries-false, eq-test}
+use Rattle.belonging.specs.Carried.{Passed, passed-none, passed-more, carriesFlow-true, carriesFlow-false, eq-test}
 use Rattle.belonging.proofs.flows.flows_match.Statement.{statement}
 use Rattle.belonging.proofs.flows.flows_match.Tie as tie
 
@@ -57,7 +57,7 @@ returns c =
     let s = c .before .before .before .before .before .before .before .before in
     let i = c .before .before .before .before .before .before .before .loop in
     let p : i .k < s .args .count = omega arith in
-    sym (carries-false _ _ _ _ _ (i .k) p (λ e. c .if1 .taken (ap (ofZ w64) (e ∙ flow-now (s .pre .0) p (i .inv .needed)))))
+    sym (carriesFlow-false _ _ _ _ _ (i .k) p (λ e. c .if1 .taken (ap (ofZ w64) (e ∙ flow-now (s .pre .0) p (i .inv .needed)))))
 
 element-set-of-weight : tie.Need-element-set-of-weight Inv-loop μ-loop
 element-set-of-weight c = c .before .before .before .before .before .before .before .before .pre .0 .leafIn
@@ -113,7 +113,7 @@ loop-again c =
 returns-2 : tie.Need-returns-2 Inv-loop μ-loop
 returns-2 c =
     let i = c .before .loop in
-    sym (carries-true _ _ _ _ _ (λ k l. i .inv .done k (omega (arith, i .inv .needed .within))))
+    sym (carriesFlow-true _ _ _ _ _ (λ k l. i .inv .done k (omega (arith, i .inv .needed .within))))
 
 pub flows-match-spec : {M : Type 1} → statement M
 flows-match-spec =

@@ -9,7 +9,7 @@ use Rattle.transport.specs.Tableau.{noCell}
 use Rattle.transport.specs.declared.Pair.{Pair}
 use Rattle.tree.specs.Layout.{laneRoom}
 use Rattle.board.specs.Cells.{cellRoom}
-use Rattle.board.specs.Lanes.{FilledTo, lane-in, filled-none, filled-one, filled-all}
+use Rattle.board.specs.Lanes.{FilledTo, lane-in, filledTo-none, filledTo-one, filledTo-all}
 use Rattle.board.proofs.gather.gather_cells.Statement.{statement}
 use Rattle.board.proofs.gather.gather_cells.Tie as tie
 
@@ -24,7 +24,7 @@ basic-lanes-requires c κs = (c .before .pre, refl)
 
 loop-holds : tie.Need-loop-holds Inv-loop μ-loop
 unfolding noCell nothing
-loop-holds c = filled-none _ _ _ _
+loop-holds c = filledTo-none _ _ _ _
 
 -- There are few lanes, and they are lanes of the sheet.
 few : (c : tie.In-loop Inv-loop μ-loop) → c .before .before .basic-lanes .result ≤ cellRoom
@@ -48,7 +48,7 @@ loop-again c =
     let a = c .before .before .before .before .before .args in
     let b = c .before .before .before .basic-lanes in
     let x = c .pair-at .ensures in
-    filled-one (b .last .1 .1 .0) (a .q .now) (a .e .now) (b .result) (i .k) (i .t) _ _ (i .inv) (omega arith) (omega (arith, few (c .before)))
+    filledTo-one (b .last .1 .1 .0) (a .q .now) (a .e .now) (b .result) (i .k) (i .t) _ _ (i .inv) (omega arith) (omega (arith, few (c .before)))
     (ap (λ (p : Pair). p .q) x) (ap (λ (p : Pair). p .e) x)
 
 returns : tie.Need-returns Inv-loop μ-loop
@@ -57,7 +57,7 @@ returns c =
     let b = c .before .before .basic-lanes in
     let i = c .before .loop in
     let e : i .k ≡ b .result = omega arith in
-    filled-all (b .last .1 .1 .0) (a .q .now) (a .e .now) (b .result) (a .adj .now) (a .m) (i .t) (b .ensures)
+    filledTo-all (b .last .1 .1 .0) (a .q .now) (a .e .now) (b .result) (a .adj .now) (a .m) (i .t) (b .ensures)
     (omega (arith, b .ensures .many, c .before .before .before .before .pre .few)) (rw e at (i .inv))
 
 pub gather-cells-spec : {M : Type 1} → statement M

@@ -1,6 +1,6 @@
 -- `runs::run::make_run` meets its contract: the run on the board ends as the specification's.
 use Rattle.rounds.specs.Dealt.{dealt-costs, dealt-begun}
-use Rattle.runs.specs.Runs.{ended}
+use Rattle.runs.specs.Runs.{ran-ended}
 use Rattle.runs.proofs.run.make_run.Statement.{statement}
 use Rattle.runs.proofs.run.make_run.Tie as tie
 
@@ -12,7 +12,7 @@ rounds-requires c κs = let (S, T, d) = c .before .before .before .before .befor
     (S, T, dealt-begun d (c .before .before .before .before .before .spread-costs .ensures))
 
 returns : tie.Need-returns
-returns c = λ S T d. ended (c .rounds .ensures S T (dealt-begun d (c .before .before .before .before .before .before .spread-costs .ensures)))
+returns c = λ S T d. ran-ended (c .rounds .ensures S T (dealt-begun d (c .before .before .before .before .before .before .spread-costs .ensures)))
 
 pub make-run-spec : {M : Type 1} → statement M
 make-run-spec = tie.close (tie.spec spread-costs-requires rounds-requires returns)

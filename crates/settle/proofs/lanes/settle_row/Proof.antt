@@ -8,9 +8,8 @@ use borrow.Author.Needs.{needs}
 use borrow.Author.Tests.{not-true, not-false}
 use Rattle.tree.specs.Mask.{has}
 use Rattle.tree.specs.MaskLaws.{firstBits, minus}
-use Rattle.tree.specs.Bits.{Least}
+use Rattle.tree.specs.Bits.{Least, rest-less}
 use Rattle.tree.specs.Layout.{stride}
-use Rattle.augment.specs.Sets.{rest-less}
 use Rattle.augment.specs.Sought.{Rooms}
 use Rattle.settle.specs.Stage.{Stage}
 use Rattle.settle.specs.Rows.{Along, along-start, along-ends, along-low, along-here, along-goalless, along-dead, along-sought, along-decided}

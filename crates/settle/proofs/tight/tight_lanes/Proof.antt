@@ -2,7 +2,7 @@
 use Prim.Native.Nat.{_-_, _≤_}
 use native.Mathlib.Omega.{arith}
 use mathlib.Core.Path.{_≡_}
-use Rattle.settle.specs.Tight.{TightLanes, lanes-none, lanes-more}
+use Rattle.settle.specs.Tight.{TightLanes, lanes-none, tight-more}
 use Rattle.settle.proofs.tight.tight_lanes.Statement.{statement}
 use Rattle.settle.proofs.tight.tight_lanes.Tie as tie
 
@@ -33,7 +33,7 @@ loop-less c = omega arith
 loop-again : tie.Need-loop-again Inv-loop μ-loop
 loop-again c =
     let i = c .before .before .loop in
-    (omega arith, lanes-more (i .inv .1) (omega (arith, c .before .before .before .before .pre .rows)) (c .tight-in-row .ensures))
+    (omega arith, tight-more (i .inv .1) (omega (arith, c .before .before .before .before .pre .rows)) (c .tight-in-row .ensures))
 
 returns : tie.Need-returns Inv-loop μ-loop
 returns c =

@@ -9,7 +9,7 @@ use Rattle.transport.specs.Round.{roundBound}
 use Rattle.board.specs.Drawing.{lane-rows}
 use Rattle.runs.specs.Runs.{Ran}
 use Rattle.rounds.specs.Dealt.{Dealt, dealt-costs, dealt-begun, prices-small}
-use Rattle.solving.specs.Stored.{ran-finished, stored-given}
+use Rattle.solving.specs.Stored.{ran-finished, solve-stored}
 use Rattle.solving.proofs.checked.solve_on.Statement.{statement}
 use Rattle.solving.proofs.checked.solve_on.Tie as tie
 
@@ -87,7 +87,7 @@ returns c S d =
     let u = v .before .before .before .before in
     let f = u .before .before .before in
     let r = ran f S d in
-    stored-given S r (u .write-prices .ensures) (v .write-prices2 .ensures)
+    solve-stored S r (u .write-prices .ensures) (v .write-prices2 .ensures)
     (o .settle-board .ensures S _ _ (ran-finished S r (dealt-begun d (spreads f .spread-costs .ensures) .costs) (w .draw .ensures)))
 
 pub solve-on-spec : {M : Type 1} → statement M
