@@ -20,7 +20,7 @@ use Rattle.integers.specs.Tests.{lt-yes, yes-lt}
 use Rattle.network.specs.Circuit.{spot, spot-at, spot-off}
 use Rattle.transport.specs.Laws.RangeLaws.{abs-add, abs-neg}
 use Rattle.tree.specs.Layout.{stride, laneRoom, getD-all}
-use Rattle.tree.specs.Mask.{has, put, has-put, cut, has-cut, has-zero}
+use Rattle.tree.specs.Mask.{has, put, has-put, unset, has-unset, has-zero}
 use Rattle.tree.specs.Bits.{Least, has-rest, has-least, Touched}
 
 -- The bags on lane (i, j).
@@ -68,8 +68,8 @@ bit-on x k h = has-put x k h ∙ go (eqb h k)
     go true = refl
     go false = refl
 
-pub bit-off : (x k h : ℕ) → has (cut x k) h ≡ cond (eqb h k) false (has x h)
-bit-off x k h = has-cut x k h ∙ go (eqb h k)
+pub bit-off : (x k h : ℕ) → has (unset x k) h ≡ cond (eqb h k) false (has x h)
+bit-off x k h = has-unset x k h ∙ go (eqb h k)
   where
     go : (b : Bool) → not b && has x h ≡ cond b false (has x h)
     go true = refl

@@ -7,7 +7,7 @@ use native.Mathlib.Omega.{arith}
 use native.Mathlib.Decide.{ℕ-discrete, decLt}
 use borrow.Author.Tests.{eqb-true, eq-eqb, ne-eqb}
 use lib.Bits.{bitAnd, bitOr}
-use Rattle.tree.specs.Mask.{bit, has, bit-or, bit-and, put, put-here, put-there, cut, cut-here, cut-there, has-zero}
+use Rattle.tree.specs.Mask.{bit, has, bit-or, bit-and, put, put-here, put-there, unset, unset-here, unset-there, has-zero}
 use Rattle.tree.specs.MaskLaws.{firstBits, first-below, first-above, minus, bit-minus}
 use Rattle.tree.specs.Bits.{Least, has-rest}
 
@@ -52,11 +52,11 @@ in-put x j k = (
       (λ s. put-there x j k s ∙ ⊎-elim (λ q. in-bit x k .0 q) (λ q. absurd (s q)) e))),
 )
 
-pub in-cut : (x j k : ℕ) → (has (cut x j) k ≡ true) ↔ ((k ≢ j) × (has x k ≡ true))
-in-cut x j k = (
-  (λ e. let d : k ≢ j = λ s. absurd (omega (arith, rw s at (in-bit (cut x j) k .0 e), cut-here x j)) in
-      (d, in-bit x k .1 (sym (cut-there x j k d) ∙ in-bit (cut x j) k .0 e))),
-  (λ e. in-bit (cut x j) k .1 (cut-there x j k (e .0) ∙ in-bit x k .0 (e .1))),
+pub in-unset : (x j k : ℕ) → (has (unset x j) k ≡ true) ↔ ((k ≢ j) × (has x k ≡ true))
+in-unset x j k = (
+  (λ e. let d : k ≢ j = λ s. absurd (omega (arith, rw s at (in-bit (unset x j) k .0 e), unset-here x j)) in
+      (d, in-bit x k .1 (sym (unset-there x j k d) ∙ in-bit (unset x j) k .0 e))),
+  (λ e. in-bit (unset x j) k .1 (unset-there x j k (e .0) ∙ in-bit x k .0 (e .1))),
 )
 
 -- A mask without its least bit.

@@ -15,11 +15,11 @@ use Rattle.network.specs.Finite.{once-few}
 use Rattle.network.specs.Settling.{NoWayOut, Stuck}
 use Rattle.network.specs.Search.{Grown, grown-more, Searched, search-start, search-grow, search-ends}
 use Rattle.transport.specs.Laws.ListLaws.{is-false}
-use Rattle.tree.specs.Mask.{has, put, cut}
+use Rattle.tree.specs.Mask.{has, put, unset}
 use Rattle.tree.specs.MaskLaws.{minus}
 use Rattle.tree.specs.Bits.{Least, Touched}
 use Rattle.tree.specs.Layout.{stride, nodeRoom}
-use Rattle.augment.specs.Sets.{in-bit, in-none, in-some, in-or, in-and, in-minus, in-put, in-cut, in-rest}
+use Rattle.augment.specs.Sets.{in-bit, in-none, in-some, in-or, in-and, in-minus, in-put, in-unset, in-rest}
 use Rattle.augment.specs.Bags.{entry, InMask}
 use Rattle.augment.specs.declared.search.Target.{Target}
 
@@ -245,7 +245,7 @@ module _ {m n : ℕ} {t : Target} {x : ℕ → ℕ → Z} {tight holds owns : Li
           (λ l hl o o′. let f : has fresh l ≡ true = ⊎-elim (λ q. absurd (o′ q)) (λ q. q) (wider l .0 o) in
           (rw new-row (in-minus (entry tight i) (bitOr cols (t .dead)) l .0 f .0), hung-new l f, λ u. no-goal l hl f u))
 
-      seeking-on : Seeking m n t x tight holds (bitOr cols fresh) (bitAnd (bitOr rows more) (cut left i)) (cut left i) (suc count)
+      seeking-on : Seeking m n t x tight holds (bitOr cols fresh) (bitAnd (bitOr rows more) (unset left i)) (unset left i) (suc count)
           (set row count i) (set col count j) (set up count (entry from j)) from′
       seeking-on = record {
         search = grown;
@@ -253,30 +253,30 @@ module _ {m n : ℕ} {t : Target} {x : ℕ → ℕ → Z} {tight holds owns : Li
             (λ f. let (lane, off) = in-minus (entry tight i) (bitOr cols (t .dead)) l .0 f in
             (g .inside i l (found .1) lane, λ d. off (in-or cols (t .dead) l .1 (inr d))))
             (in-or cols fresh l .0 h);
-        rowsIn = λ i′ h. let (o, u) = in-and (bitOr rows more) (cut left i) i′ .0 h in (
+        rowsIn = λ i′ h. let (o, u) = in-and (bitOr rows more) (unset left i) i′ .0 h in (
           u,
           ⊎-elim
               (λ r. let (l, c, v) = s .rowsIn i′ r .1 in (l, in-or cols fresh l .1 (inl c), v))
               (λ r. let (l, f, v) = rest .each i′ .0 r in (l, in-or cols fresh l .1 (inr f), v))
               (in-or rows more i′ .0 o),
         );
-        rowsAll = λ i′ l o v u. in-and (bitOr rows more) (cut left i) i′ .1 (
+        rowsAll = λ i′ l o v u. in-and (bitOr rows more) (unset left i) i′ .1 (
           in-or rows more i′ .1 (⊎-elim
-              (λ c. inl (s .rowsAll i′ l c v (in-cut left i i′ .0 u .1)))
+              (λ c. inl (s .rowsAll i′ l c v (in-unset left i i′ .0 u .1)))
               (λ f. inr (rest .each i′ .1 (l, f, v)))
               (in-or cols fresh l .0 o)),
           u,
         );
-        leftIn = λ i′ u. let (l, l′, new) = s .leftIn i′ (in-cut left i i′ .0 u .1) in (
+        leftIn = λ i′ u. let (l, l′, new) = s .leftIn i′ (in-unset left i i′ .0 u .1) in (
           l,
           l′,
           λ k v. by-cases (ℕ-discrete k count)
-              (λ e q. in-cut left i i′ .0 u .0 (sym q ∙ ap (entry (set row count i)) e ∙ new-row))
+              (λ e q. in-unset left i i′ .0 u .0 (sym q ∙ ap (entry (set row count i)) e ∙ new-row))
               (λ e. rw (before row i k (omega arith)) (new k (omega arith))),
         );
         leftAll = λ i′ l hi′ u. by-cases (ℕ-discrete i′ i)
             (λ e. (count, s .search .some, omega arith, new-row ∙ sym e))
-            (λ e. let (k, v, v′, q) = s .leftAll i′ l hi′ (λ u′. u (in-cut left i i′ .1 (e, u′))) in (k, v, omega arith, before row i k v′ ∙ q));
+            (λ e. let (k, v, v′, q) = s .leftAll i′ l hi′ (λ u′. u (in-unset left i i′ .1 (e, u′))) in (k, v, omega arith, before row i k v′ ∙ q));
       }
 
     -- It has one: a goal is reached.
@@ -354,7 +354,7 @@ module _ {m n : ℕ} {t : Target} {tight holds owns : List ℕ} {cols rows left 
     -- .. and no goal from it, ..
     pub sweep-on : {from′ : List ℕ} {more : ℕ} → let fresh = minus (entry tight i) (bitOr cols (t .dead)) in
         bitAnd fresh (t .goal) ≡ 0 → Touched (λ (y : ℕ). count) 0 from fresh from′ → Gathered holds fresh more
-        → Sweeping m n t tight holds owns (bitOr cols fresh) (bitAnd (bitOr rows more) (cut left i)) (cut left i) (suc count)
+        → Sweeping m n t tight holds owns (bitOr cols fresh) (bitAnd (bitOr rows more) (unset left i)) (unset left i) (suc count)
         (set row count i) (set col count j) (set up count (entry from j)) from′
     sweep-on none hung rest = record {
       rooms = record {

@@ -22,7 +22,7 @@ use Rattle.transport.specs.declared.Tableau.{Tableau}
 use Rattle.tableaux.specs.View.{Inside}
 use Rattle.tableaux.specs.Order.{Ordered, basic-member, CellAt, cell-at, amount-member, ordered-distinct}
 use Rattle.tree.specs.Layout.{stride, nodeRoom, laneRoom}
-use Rattle.tree.specs.Mask.{bit, has, cut, cut-here, cut-there, has-zero}
+use Rattle.tree.specs.Mask.{bit, has, unset, unset-here, unset-there, has-zero}
 use Rattle.board.specs.Cells.{cellRoom, cellRoom-is}
 use Rattle.board.specs.Held.{isBasic, isBasic-true, true-isBasic, Held, inside-basic}
 
@@ -45,21 +45,21 @@ keep-from p j d h =
     rw (table-split (λ k. k) j (suc d), table-first d (λ k. j + k), add-zero j, keep-append p (table j (λ k. k)) (j ∷ table d (λ k. j + suc k)), none)
 
 -- The least bit, and those that are left when it is taken out.
-bitsOf-first : (x j : ℕ) → j < 64 → bit x j ≡ 1 → ((k : ℕ) → k < j → bit x k ≡ 0) → bitsOf x ≡ j ∷ bitsOf (cut x j)
+bitsOf-first : (x j : ℕ) → j < 64 → bit x j ≡ 1 → ((k : ℕ) → k < j → bit x k ≡ 0) → bitsOf x ≡ j ∷ bitsOf (unset x j)
 unfolding bitsOf
 bitsOf-first x j p here before =
     let e : 64 ≡ j + suc (63 - j) = omega arith in
     let rest : List ℕ = table (63 - j) (λ k. j + suc k) in
     let out : (k : ℕ) → k < j → has x k ≡ false = λ k l. rw (before k l) in
-    let out′ : (k : ℕ) → k < j → has (cut x j) k ≡ false = λ k l. rw (cut-there x j k (λ s. omega arith), before k l) in
+    let out′ : (k : ℕ) → k < j → has (unset x j) k ≡ false = λ k l. rw (unset-there x j k (λ s. omega arith), before k l) in
     rw e
     (keep-from (has x) j (63 - j) out
     ∙ keep-yes (has x) j rest (rw here)
-    ∙ ap (λ xs. j ∷ xs) (keep-cong (has x) (has (cut x j)) rest later ∙ sym (keep-no (has (cut x j)) j rest (rw (cut-here x j)))
-    ∙ sym (keep-from (has (cut x j)) j (63 - j) out′)))
+    ∙ ap (λ xs. j ∷ xs) (keep-cong (has x) (has (unset x j)) rest later ∙ sym (keep-no (has (unset x j)) j rest (rw (unset-here x j)))
+    ∙ sym (keep-from (has (unset x j)) j (63 - j) out′)))
   where
-    later : (y : ℕ) → List·Memᴰ y (table (63 - j) (λ k. j + suc k)) → has x y ≡ has (cut x j) y
-    later y m = let (k, l, e) = table-member (63 - j) (λ k. j + suc k) m in rw (cut-there x j y (λ s. omega arith))
+    later : (y : ℕ) → List·Memᴰ y (table (63 - j) (λ k. j + suc k)) → has x y ≡ has (unset x j) y
+    later y m = let (k, l, e) = table-member (63 - j) (λ k. j + suc k) m in rw (unset-there x j y (λ s. omega arith))
 
 -- No bit from the last column on.
 abbrev Narrow : ℕ → Type 0
@@ -84,7 +84,7 @@ pub rowLanes-zero : (first : ℕ) → rowLanes first 0 ≡ []
 unfolding rowLanes
 rowLanes-zero first = rw bitsOf-zero
 
-pub rowLanes-first : (first x j : ℕ) → j < 64 → bit x j ≡ 1 → ((k : ℕ) → k < j → bit x k ≡ 0) → rowLanes first x ≡ (first + j) ∷ rowLanes first (cut x j)
+pub rowLanes-first : (first x j : ℕ) → j < 64 → bit x j ≡ 1 → ((k : ℕ) → k < j → bit x k ≡ 0) → rowLanes first x ≡ (first + j) ∷ rowLanes first (unset x j)
 unfolding rowLanes
 rowLanes-first first x j p here before = rw (bitsOf-first x j p here before)
 

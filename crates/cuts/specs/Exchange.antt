@@ -13,7 +13,7 @@ use Rattle.transport.specs.Laws.ListLaws.{and-right}
 use Rattle.transport.specs.Problem.{Lane}
 use Rattle.transport.specs.Laws.ProblemLaws.{lane}
 use Rattle.tableaux.specs.Lanes.{Fits}
-use Rattle.tree.specs.Mask.{has, cut, has-cut}
+use Rattle.tree.specs.Mask.{has, unset, has-unset}
 use Rattle.tree.specs.Layout.{stride, laneAt, laneAt-place}
 use Rattle.tree.specs.Bits.{has-xor, Grafted, grafted-bit}
 use Rattle.cuts.specs.Cuts.{Exchanged, turned, cuts-exchanged, xor-false}
@@ -23,8 +23,8 @@ use Rattle.cuts.specs.Planting.{Tree, xor-of}
 -- The lane of slot s gave way to the one at the place `into`, from the node `row` to the node `sink`; `moved` is the far side of slot s.
 pub record Regrafted (row sink s into : ℕ) (sub path lanes sub′ path′ lanes′ : List ℕ) (moved : ℕ) : Type 0 where
   pub far : moved ≡ getD sub s 0
-  pub paths : Grafted path moved (cut (onLoop path row sink) s) path′
-  pub subs : Grafted sub (cut (onLoop path row sink) s) moved sub′
+  pub paths : Grafted path moved (unset (onLoop path row sink) s) path′
+  pub subs : Grafted sub (unset (onLoop path row sink) s) moved sub′
   pub laid : lanes′ ≡ set lanes s into
 
 both : (l a c d : Bool) → xor (l && a) (d && (l && c)) ≡ l && xor a ((l && c) && d)
@@ -56,14 +56,14 @@ module _ {m n : ℕ} {B : List Lane} {sub path lanes : List ℕ} (w : Tree m n B
     hs : s < m + n - 1
     hs = loop-slot row (m + col) s (omega arith) (omega arith) loop
 
-    change : (t : ℕ) → has (cut (onLoop path row (m + col)) s) t ≡ not (eqb t s) && xor (has (getD path row 0) t) (has (getD path (m + col) 0) t)
-    change t = has-cut (onLoop path row (m + col)) s t ∙ ap (λ b. not (eqb t s) && b) (has-xor (getD path row 0) (getD path (m + col) 0) t)
+    change : (t : ℕ) → has (unset (onLoop path row (m + col)) s) t ≡ not (eqb t s) && xor (has (getD path row 0) t) (has (getD path (m + col) 0) t)
+    change t = has-unset (onLoop path row (m + col)) s t ∙ ap (λ b. not (eqb t s) && b) (has-xor (getD path row 0) (getD path (m + col) 0) t)
 
     in-far : (x : ℕ) → has moved x ≡ ltb x (m + n) && has (getD path x 0) s
     in-far x = rw (g .far) (w .turns s x hs)
 
     far-is : (t x : ℕ) → t < m + n - 1 → x < m + n → has (getD path′ x 0) t ≡ turned (λ t p. has (getD path p 0) t) row (m + col) s t x
-    far-is t x p l = grafted-bit (cut (onLoop path row (m + col)) s) (g .paths) x t ∙ rw (in-far x, lt-ltb x (m + n) l, change t)
+    far-is t x p l = grafted-bit (unset (onLoop path row (m + col)) s) (g .paths) x t ∙ rw (in-far x, lt-ltb x (m + n) l, change t)
 
     pub tree-exchanged : {B′ : List Lane} → Exchanged B (laneAt (getD lanes s 0)) (lane row col) B′ → Tree m n B′ sub′ path′ lanes′
     tree-exchanged new = record {
@@ -71,9 +71,9 @@ module _ {m n : ℕ} {B : List Lane} {sub path lanes : List ℕ} (w : Tree m n B
       pathLong = g .paths .long ∙ w .pathLong;
       laneLong = ap length (g .laid) ∙ simp length-set (w .laneLong);
       cuts = cuts-exchanged (w .cuts) fits hs {enter = lane row col} hr hc (loop-across row (m + col) s loop) new here there far-is;
-      slots = λ p t l e. keeps p t l (has (getD path p 0) t) refl (sym (grafted-bit (cut (onLoop path row (m + col)) s) (g .paths) p t) ∙ e);
+      slots = λ p t l e. keeps p t l (has (getD path p 0) t) refl (sym (grafted-bit (unset (onLoop path row (m + col)) s) (g .paths) p t) ∙ e);
       turns = λ t p l. grafted-bit moved (g .subs) t p ∙ (rw (w .turns t p l, in-far p))
-          ∙ both (ltb p (m + n)) (has (getD path p 0) t) (has (getD path p 0) s) (has (cut (onLoop path row (m + col)) s) t)
+          ∙ both (ltb p (m + n)) (has (getD path p 0) t) (has (getD path p 0) s) (has (unset (onLoop path row (m + col)) s) t)
           ∙ ap (λ b. ltb p (m + n) && b) (sym (outside p t));
     }
       where
@@ -83,13 +83,13 @@ module _ {m n : ℕ} {B : List Lane} {sub path lanes : List ℕ} (w : Tree m n B
         there : (t : ℕ) → t ≢ s → laneAt (getD lanes′ t 0) ≡ laneAt (getD lanes t 0)
         there t d = rw (g .laid, getD-set-other lanes s t into 0 d)
 
-        keeps : (p t : ℕ) → p < m + n → (b : Bool) → has (getD path p 0) t ≡ b → xor b (has moved p && has (cut (onLoop path row (m + col)) s) t) ≡ true
+        keeps : (p t : ℕ) → p < m + n → (b : Bool) → has (getD path p 0) t ≡ b → xor b (has moved p && has (unset (onLoop path row (m + col)) s) t) ≡ true
             → t < m + n - 1
         keeps p t l true e r = w .slots p t l e
         keeps p t l false e r = loop-slot row (m + col) t (omega arith) (omega arith)
             (and-right (not (eqb t s)) (has (onLoop path row (m + col)) t)
-            (sym (has-cut (onLoop path row (m + col)) s t) ∙ and-right (has moved p) _ (sym (xor-of _) ∙ r)))
+            (sym (has-unset (onLoop path row (m + col)) s t) ∙ and-right (has moved p) _ (sym (xor-of _) ∙ r)))
 
         outside : (p t : ℕ) → has (getD path′ p 0) t ≡ xor (has (getD path p 0) t)
-            ((ltb p (m + n) && has (getD path p 0) s) && has (cut (onLoop path row (m + col)) s) t)
-        outside p t = grafted-bit (cut (onLoop path row (m + col)) s) (g .paths) p t ∙ rw (in-far p)
+            ((ltb p (m + n) && has (getD path p 0) s) && has (unset (onLoop path row (m + col)) s) t)
+        outside p t = grafted-bit (unset (onLoop path row (m + col)) s) (g .paths) p t ∙ rw (in-far p)

@@ -14,7 +14,7 @@ use lib.Seq.{getD-set-same, getD-set-other}
 use Rattle.transport.specs.Problem.{Lane}
 use Rattle.transport.specs.Laws.ProblemLaws.{lane}
 use Rattle.transport.specs.Laws.ListLaws.{and-left, and-right}
-use Rattle.tree.specs.Mask.{bit, has, cut, has-cut, has-zero, bit-suc, first-in, ones-zero}
+use Rattle.tree.specs.Mask.{bit, has, unset, has-unset, has-zero, bit-suc, first-in, ones-zero}
 use Rattle.tree.specs.Layout.{stride, nodeRoom}
 use Rattle.tableaux.specs.Lanes.{Has, Fits}
 
@@ -166,7 +166,7 @@ module _ {m n : ℕ} {live : List ℕ} (w : Links m n live) where
 
 -- Lane b of node p, at both of its ends.
 abbrev pub without-lane : ℕ → List ℕ → ℕ → ℕ → List ℕ
-without-lane m live p b = set (set live p 0) (otherEnd m p b) (cut (getD live (otherEnd m p b) 0) (ownBit m p))
+without-lane m live p b = set (set live p 0) (otherEnd m p b) (unset (getD live (otherEnd m p b) 0) (ownBit m p))
 
 module _ {m n : ℕ} {live : List ℕ} (w : Links m n live) (p b : ℕ) (len : length live ≡ nodeRoom) (low : p < m + n) (e : tied live p b ≡ true)
     (few : (z : ℕ) → tied live p z ≡ true → z ≡ b) where
@@ -174,14 +174,14 @@ module _ {m n : ℕ} {live : List ℕ} (w : Links m n live) (p b : ℕ) (len : l
   end-room = omega (arith, end-below w p b low e, w .rowsHigh, w .colsHigh)
 
   pub at-leaf : getD (without-lane m live p b) p 0 ≡ 0
-  at-leaf = getD-set-other (set live p 0) (otherEnd m p b) p (cut (getD live (otherEnd m p b) 0) (ownBit m p)) 0 (λ q. end-apart w p b low e (sym q))
+  at-leaf = getD-set-other (set live p 0) (otherEnd m p b) p (unset (getD live (otherEnd m p b) 0) (ownBit m p)) 0 (λ q. end-apart w p b low e (sym q))
       ∙ getD-set-same live p 0 0 (omega (arith, w .rowsHigh, w .colsHigh))
 
-  pub at-end : getD (without-lane m live p b) (otherEnd m p b) 0 ≡ cut (getD live (otherEnd m p b) 0) (ownBit m p)
-  at-end = getD-set-same (set live p 0) (otherEnd m p b) (cut (getD live (otherEnd m p b) 0) (ownBit m p)) 0 (simp length-set (omega (arith, end-room)))
+  pub at-end : getD (without-lane m live p b) (otherEnd m p b) 0 ≡ unset (getD live (otherEnd m p b) 0) (ownBit m p)
+  at-end = getD-set-same (set live p 0) (otherEnd m p b) (unset (getD live (otherEnd m p b) 0) (ownBit m p)) 0 (simp length-set (omega (arith, end-room)))
 
   pub at-rest : (x : ℕ) → x ≢ p → x ≢ otherEnd m p b → getD (without-lane m live p b) x 0 ≡ getD live x 0
-  at-rest x h k = getD-set-other (set live p 0) (otherEnd m p b) x (cut (getD live (otherEnd m p b) 0) (ownBit m p)) 0 k ∙ getD-set-other live p x 0 0 h
+  at-rest x h k = getD-set-other (set live p 0) (otherEnd m p b) x (unset (getD live (otherEnd m p b) 0) (ownBit m p)) 0 k ∙ getD-set-other live p x 0 0 h
 
   -- A lane is left exactly if it is there and touches the leaf at neither end.
   pub gone-from : (x y : ℕ) → x < m + n → tied (without-lane m live p b) x y ≡ true → (tied live x y ≡ true) × (x ≢ p) × (otherEnd m x y ≢ p)
@@ -191,7 +191,7 @@ module _ {m n : ℕ} {live : List ℕ} (w : Links m n live) (p b : ℕ) (len : l
     where
       at : x ≢ p → x ≡ otherEnd m p b → (tied live x y ≡ true) × (x ≢ p) × (otherEnd m x y ≢ p)
       at s r =
-          let g : not (eqb y (ownBit m p)) && tied live x y ≡ true = rw r (sym (has-cut (getD live (otherEnd m p b) 0) (ownBit m p) y)
+          let g : not (eqb y (ownBit m p)) && tied live x y ≡ true = rw r (sym (has-unset (getD live (otherEnd m p b) 0) (ownBit m p) y)
           ∙ ap (λ z. has z y) (sym at-end) ∙ ap (λ z. tied (without-lane m live p b) z y) (sym r) ∙ h) in
           let t = and-right (not (eqb y (ownBit m p))) (tied live x y) g in
           let d = eqb-false y (ownBit m p) (not-true (eqb y (ownBit m p)) (and-left (not (eqb y (ownBit m p))) (tied live x y) g)) in
@@ -209,7 +209,7 @@ module _ {m n : ℕ} {live : List ℕ} (w : Links m n live) (p b : ℕ) (len : l
       at r =
           let d : y ≢ ownBit m p = λ g. f (ap (λ z. otherEnd m z y) r ∙ ap (otherEnd m (otherEnd m p b)) g ∙ end-end w p b low e) in
           let t′ : tied live (otherEnd m p b) y ≡ true = rw (← r) t in
-          rw (r, at-end, has-cut (getD live (otherEnd m p b) 0) (ownBit m p) y, ne-eqb y (ownBit m p) d) t′
+          rw (r, at-end, has-unset (getD live (otherEnd m p b) 0) (ownBit m p) y, ne-eqb y (ownBit m p) d) t′
 
   pub links-without : Links m n (without-lane m live p b)
   links-without = record {

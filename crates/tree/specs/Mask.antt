@@ -56,8 +56,8 @@ bit-xor a b k = rw (xor-shr a b k, xor-step (a / 2 ^ k) (b / 2 ^ k))
 unfoldable pub put : ℕ → ℕ → ℕ
 put x j = bitOr x (1 * 2 ^ j)
 
-unfoldable pub cut : ℕ → ℕ → ℕ
-cut x j = bitXor (bitOr x (1 * 2 ^ j)) (1 * 2 ^ j)
+unfoldable pub unset : ℕ → ℕ → ℕ
+unset x j = bitXor (bitOr x (1 * 2 ^ j)) (1 * 2 ^ j)
 
 bit-pow-other : (j k : ℕ) → (k ≡ j → ⊥) → bit (1 * 2 ^ j) k ≡ 0
 bit-pow-other j k n = ⊎-elim (λ p. bit-pow-below j k p) (λ p. bit-pow-above j k p) (apart k j n)
@@ -77,18 +77,18 @@ pub put-there : (x j k : ℕ) → (k ≡ j → ⊥) → bit (put x j) k ≡ bit 
 unfolding put
 put-there x j k n = omega (arith, bit-or x (1 * 2 ^ j) k, bit-pow-other j k n)
 
-pub cut-here : (x j : ℕ) → bit (cut x j) j ≡ 0
-unfolding cut
-cut-here x j = bit-xor (bitOr x (1 * 2 ^ j)) (1 * 2 ^ j) j ∙ rw (bit-pow-same j, bit-or x (1 * 2 ^ j) j, bit-pow-same j) (top (x / 2 ^ j % 2) (omega arith))
+pub unset-here : (x j : ℕ) → bit (unset x j) j ≡ 0
+unfolding unset
+unset-here x j = bit-xor (bitOr x (1 * 2 ^ j)) (1 * 2 ^ j) j ∙ rw (bit-pow-same j, bit-or x (1 * 2 ^ j) j, bit-pow-same j) (top (x / 2 ^ j % 2) (omega arith))
   where
     top : (d : ℕ) → d < 2 → differ (max d 1) 1 ≡ 0
     top zero p = refl
     top (suc zero) p = refl
     top (suc (suc d)) p = absurd (omega arith)
 
-pub cut-there : (x j k : ℕ) → (k ≡ j → ⊥) → bit (cut x j) k ≡ bit x k
-unfolding cut
-cut-there x j k n =
+pub unset-there : (x j k : ℕ) → (k ≡ j → ⊥) → bit (unset x j) k ≡ bit x k
+unfolding unset
+unset-there x j k n =
     bit-xor (bitOr x (1 * 2 ^ j)) (1 * 2 ^ j) k ∙ rw (bit-pow-other j k n, bit-or x (1 * 2 ^ j) k, bit-pow-other j k n) (low (x / 2 ^ k % 2))
   where
     keep : (d : ℕ) → differ d 0 ≡ d
@@ -147,9 +147,9 @@ pub put-shl : (x j : ℕ) → j < 64 → bitOr x ((1 * 2 ^ j) % 2 ^ 64) ≡ put 
 unfolding put
 put-shl x j p = rw (shl-exact {a = 1} 1 j 64 (omega arith) (omega arith))
 
-pub cut-shl : (x j : ℕ) → j < 64 → bitXor (bitOr x ((1 * 2 ^ j) % 2 ^ 64)) ((1 * 2 ^ j) % 2 ^ 64) ≡ cut x j
-unfolding cut
-cut-shl x j p = rw (shl-exact {a = 1} 1 j 64 (omega arith) (omega arith))
+pub unset-shl : (x j : ℕ) → j < 64 → bitXor (bitOr x ((1 * 2 ^ j) % 2 ^ 64)) ((1 * 2 ^ j) % 2 ^ 64) ≡ unset x j
+unfolding unset
+unset-shl x j p = rw (shl-exact {a = 1} 1 j 64 (omega arith) (omega arith))
 
 pub ones-zero : ones 0 ≡ 0
 unfolding ones onesIn
@@ -164,12 +164,12 @@ has-put x j k = go (eqb k j) refl
     go true e = let s : k ≡ j = eqb-true k j e in rw (s, put-here x j)
     go false e = rw (put-there x j k (eqb-false k j e))
 
-pub has-cut : (x j k : ℕ) → has (cut x j) k ≡ not (eqb k j) && has x k
-has-cut x j k = go (eqb k j) refl
+pub has-unset : (x j k : ℕ) → has (unset x j) k ≡ not (eqb k j) && has x k
+has-unset x j k = go (eqb k j) refl
   where
-    go : (b : Bool) → eqb k j ≡ b → has (cut x j) k ≡ not b && has x k
-    go true e = let s : k ≡ j = eqb-true k j e in rw (s, cut-here x j)
-    go false e = rw (cut-there x j k (eqb-false k j e))
+    go : (b : Bool) → eqb k j ≡ b → has (unset x j) k ≡ not b && has x k
+    go true e = let s : k ≡ j = eqb-true k j e in rw (s, unset-here x j)
+    go false e = rw (unset-there x j k (eqb-false k j e))
 
 pub has-zero : (k : ℕ) → has 0 k ≡ false
 has-zero k = rw (none 0 k ones-zero)

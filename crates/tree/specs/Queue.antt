@@ -14,7 +14,7 @@ use lib.ListN.{length, getD, set}
 use lib.Seq.{getD-set-same, getD-set-other}
 use Rattle.transport.specs.Lists.{sumTo}
 use Rattle.transport.specs.Laws.ListLaws.{and-left, and-right, sumTo-cong, sumTo-add, sumTo-each}
-use Rattle.tree.specs.Mask.{bit, has, cut, has-cut, has-zero, ones-zero, only}
+use Rattle.tree.specs.Mask.{bit, has, unset, has-unset, has-zero, ones-zero, only}
 use Rattle.tree.specs.Layout.{nodeRoom}
 use Rattle.tableaux.specs.Leaves.{one-at, sum-one-at, sum-ones, unless, unless-bits}
 use Rattle.tree.specs.Links.{Links, otherEnd, ownBit, joins, tied, ones-some, end-below, end-back, without-lane, at-leaf, at-end, at-rest}
@@ -193,7 +193,7 @@ module _ {m n : ℕ} {live leaf : List ℕ} {k tail : ℕ} (w : Links m n live) 
       lone : (y : ℕ) × (tied live-next (otherEnd m leaf-now b) y ≡ true) → k ≤ t → ⊥
       lone (y, h) r =
           let f : not (eqb y (ownBit m leaf-now)) && tied live (otherEnd m leaf-now b) y ≡ true =
-          sym (has-cut (getD live (otherEnd m leaf-now b) 0) (ownBit m leaf-now) y) ∙ ap (λ z. has z y) (sym (at-end w leaf-now b len leaf-low e leaf-few))
+          sym (has-unset (getD live (otherEnd m leaf-now b) 0) (ownBit m leaf-now) y) ∙ ap (λ z. has z y) (sym (at-end w leaf-now b len leaf-low e leaf-few))
           ∙ h in
           let g : tied live (getD leaf t 0) y ≡ true = rw s (and-right (not (eqb y (ownBit m leaf-now))) (tied live (otherEnd m leaf-now b) y) f) in
           let g′ : tied live (getD leaf t 0) (ownBit m leaf-now) ≡ true = rw s back in
@@ -201,7 +201,7 @@ module _ {m n : ℕ} {live leaf : List ℕ} {k tail : ℕ} (w : Links m n live) 
           (and-left (not (eqb y (ownBit m leaf-now))) (tied live (otherEnd m leaf-now b) y) f)) (q .few t r l y (ownBit m leaf-now) g g′)
 
   pub queue-struck : Queue (m + n) live-next (set leaf tail (otherEnd m leaf-now b)) (k + 1) (tail
-      + cond (joins (otherEnd m leaf-now b) (cut (getD live (otherEnd m leaf-now b) 0) (ownBit m leaf-now))) 1 0)
+      + cond (joins (otherEnd m leaf-now b) (unset (getD live (otherEnd m leaf-now b) 0) (ownBit m leaf-now))) 1 0)
   queue-struck =
       let r : Queue (m + n) live-next (set leaf tail (otherEnd m leaf-now b)) (k + 1) (tail
       + cond (joins (otherEnd m leaf-now b) (getD live-next (otherEnd m leaf-now b) 0)) 1 0) =

@@ -10,7 +10,7 @@ use Rattle.transport.specs.Lists.{table}
 use Rattle.transport.specs.Laws.ListLaws.{table-zero, table-one, table-cong}
 use Rattle.transport.specs.Problem.{Lane}
 use Rattle.transport.specs.Laws.ProblemLaws.{lane}
-use Rattle.tree.specs.Mask.{cut}
+use Rattle.tree.specs.Mask.{unset}
 use Rattle.tree.specs.Layout.{stride, nodeRoom, laneAt, strikeOf, strikesOf, length-strikes}
 use Rattle.tree.specs.Links.{Links, Masks, otherEnd, ownBit, laneTo, joins, tied, RowOrCol, of-row, of-col, row-or-col, without-lane, links-without}
 use Rattle.tree.specs.Links.{place-row, place-col}
@@ -93,7 +93,7 @@ module _ {m n : ℕ} {adj live leaf other lane : List ℕ} {k tail : ℕ} (s : S
         )
 
     pub state-next : StrikeState m n adj (without-lane m live now b) (set leaf tail end) (set other k end) (set lane k place) (k + 1) (tail
-        + cond (joins end (cut (getD live end 0) (ownBit m now))) 1 0)
+        + cond (joins end (unset (getD live end 0) (ownBit m now))) 1 0)
     state-next = record {
       liveSize = simp length-set (s .liveSize);
       leafSize = simp length-set (s .leafSize);

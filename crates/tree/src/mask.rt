@@ -4,7 +4,7 @@ ghost use Prim.Native.Nat.{ℕ, _-_, _<_};
 ghost use lib.Bits.{bitAnd};
 ghost use lib.Dec.{eqb};
 ghost use lib.Count.{ones};
-ghost use Rattle.tree.specs.Mask.{bit, has, put, cut};
+ghost use Rattle.tree.specs.Mask.{bit, has, put, unset};
 ghost use Rattle.tree.specs.MaskLaws.{firstBits, minus};
 
 pub fn has_bit(mask: u64, k: usize) -> bool
@@ -23,7 +23,7 @@ pub fn set_bit(mask: u64, k: usize) -> u64
 
 pub fn clear_bit(mask: u64, k: usize) -> u64
     requires { ⌜ k < 64 ⌝ }
-    ensures { λ r. ⌜ r ≡ cut mask k ⌝ }
+    ensures { λ r. ⌜ r ≡ unset mask k ⌝ }
 {
     let b = 1 << k;
     (mask | b) ^ b

@@ -1,6 +1,6 @@
 -- `tree::mask::clear_bit` meets its contract: `cut-shl`. Assumes nothing.
 use borrow.Author.Needs.{needs}
-use Rattle.tree.specs.Mask.{cut-shl}
+use Rattle.tree.specs.Mask.{unset-shl}
 use Rattle.tree.proofs.mask.clear_bit.Statement.{statement}
 use Rattle.tree.proofs.mask.clear_bit.Tie as tie
 
@@ -8,7 +8,7 @@ shl-b : tie.Need-shl-b
 shl-b c = search needs
 
 returns : tie.Need-returns
-returns c = cut-shl (c .args .mask) (c .args .k) (c .pre)
+returns c = unset-shl (c .args .mask) (c .args .k) (c .pre)
 
 pub clear-bit-spec : {M : Type 1} → statement M
 clear-bit-spec = tie.close (tie.spec shl-b returns)
