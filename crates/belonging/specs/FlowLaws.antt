@@ -19,7 +19,8 @@ use Rattle.transport.specs.Leaf.{Strike}
 use Rattle.transport.specs.Round.{takeFrom, flow}
 use Rattle.transport.specs.Laws.RoundLaws.{leftBy, flow-here, flow-later}
 use Rattle.transport.specs.Laws.RangeLaws.{abs-diff}
-use Rattle.tree.specs.Layout.{nodeRoom, laneAt, laneIndex, laneIndex-at, strikeOf, strikesOf, strikesFrom, strikesFrom-cons, getD-set, LanesApart, StrikesInRoom}
+use Rattle.tree.specs.Layout.{nodeRoom, laneAt, laneIndex, laneIndex-at, strikeOf, strikesOf, strikesFrom, strikesFrom-cons, getD-set}
+use Rattle.tree.specs.Layout.{LanesApart, StrikesInRoom}
 
 -- ---- one strike
 

@@ -109,7 +109,8 @@ module _ (supply demand : List ℕ) (cost : List ℤ) {T : List Cell} {q e : Lis
     (b : Weights (length supply) (length demand) (at supply) (at demand) bags)
     (k : Weights (length supply) (length demand) (λ i. 1) (markOf (length supply) (length demand)) marks) where
   pub balanced-is : balanced (problem supply demand cost) T
-      ≡ carriesFlow (weightsOf bags) (strikesOf leaf other lanes count) q lanes count && carriesFlow (weightsOf marks) (strikesOf leaf other lanes count) e lanes count
+      ≡ carriesFlow (weightsOf bags) (strikesOf leaf other lanes count) q lanes count
+      && carriesFlow (weightsOf marks) (strikesOf leaf other lanes count) e lanes count
   unfolding sources sinks
   balanced-is = iff-same (balanced P T) (first && second)
       (λ s. let (x, y) = both .0 s in rw (bagsAre .1 x, marksAre .1 y))

@@ -170,8 +170,9 @@ module _ (n : ℕ) where
       go true e o′ = (before, (after, o))
         where
           before : After n (cellPlace n c) (d ∷ ds)
-          before x m = ⊎-elim (λ q. rw q (ltb-true (cellPlace n c) (cellPlace n d) e)) (λ k. omega (arith, ltb-true (cellPlace n c) (cellPlace n d) e, after x k))
-              (List·Memᴰ·cases-cons m)
+          before x m =
+              let less = ltb-true (cellPlace n c) (cellPlace n d) e in
+              ⊎-elim (λ q. rw q less) (λ k. omega (arith, less, after x k)) (List·Memᴰ·cases-cons m)
       go false e o′ = (behind, o′)
         where
           behind : After n (cellPlace n d) (insert n c ds)
