@@ -26,7 +26,7 @@ use Rattle.cuts.specs.Planting.{Tree}
 use Rattle.board.specs.Arrays.{Sides, sound-sides, Loaded, Board}
 use Rattle.pricing.specs.Costs.{Costed}
 use Rattle.pricing.specs.Slacks.{InRange, Slacks}
-use Rattle.rounds.specs.Kept.{Prices, Kept, Advanced, in-range}
+use Rattle.rounds.specs.Kept.{Prices, Kept, in-range}
 
 -- The tableau T of the problem P is laid out over the arrays: its amounts, the strikes of its basis, and the costs of P by column.
 pub record Begun (P : Problem) (T : List Cell) (q e cost : List ℤ) (leaf other tree : List ℕ) (m n : ℕ) : Type 0 where
@@ -93,26 +93,21 @@ module _ {P : Problem} {T : List Cell} {q e cost : List ℤ} {leaf other tree : 
       pub begun-kept : {slack : List ℤ} → Slacks cost price m n slack → Kept P T q e cost price slack sub path tree m n
       begun-kept s = record { board = begun-board grown; costs = d .costs; prices = begun-prices; slacks = s }
 
--- The round on T: whether it is finished, and its prices if so. The arrays hold it, or the next tableau if it is not finished.
-pub record Rounded (P : Problem) (T : List Cell) (q e price : List ℤ) (tree : List ℕ) (m n : ℕ) (finished : Bool) : Type 0 where
+-- Whether T is finished. The arrays hold the tableau H, with its prices.
+pub record Verdict (P : Problem) (T H : List Cell) (q e price : List ℤ) (tree : List ℕ) (m n : ℕ) (finished : Bool) : Type 0 where
   pub done : isFinished P T ≡ finished
   pub sub : List ℕ
   pub path : List ℕ
-  pub board : Board P (cond finished T (next P T)) q e sub path tree m n
-  pub prices : (k : ℕ) → k < m + n → getD price k (pos 0) ≡ potential P (cond finished T (next P T)) k
+  pub board : Board P H q e sub path tree m n
+  pub prices : (k : ℕ) → k < m + n → getD price k (pos 0) ≡ potential P H k
 
-pub rounded-by : {P : Problem} {T : List Cell} {q e cost price slack : List ℤ} {sub path tree : List ℕ} {m n : ℕ} {finished : Bool}
-    → Advanced P T q e cost price slack sub path tree m n finished → Rounded P T q e price tree m n finished
-rounded-by {sub = sub} {path} a = record { done = a .done; sub = sub; path = path; board = a .kept .board; prices = a .kept .prices .are }
+pub verdict : {P : Problem} {T H : List Cell} {q e cost price slack : List ℤ} {sub path tree : List ℕ} {m n : ℕ} {finished : Bool}
+    → isFinished P T ≡ finished → Kept P H q e cost price slack sub path tree m n → Verdict P T H q e price tree m n finished
+verdict {sub = sub} {path} f k = record { done = f; sub = sub; path = path; board = k .board; prices = k .prices .are }
 
--- Whether T is finished, with its board and its prices.
-pub record Judged (P : Problem) (T : List Cell) (q e price : List ℤ) (tree : List ℕ) (m n : ℕ) (finished : Bool) : Type 0 where
-  pub done : isFinished P T ≡ finished
-  pub sub : List ℕ
-  pub path : List ℕ
-  pub board : Board P T q e sub path tree m n
-  pub prices : (k : ℕ) → k < m + n → getD price k (pos 0) ≡ potential P T k
+-- T is looked at; or the round on it is made, after which the arrays hold it still, or the next tableau if it is not finished.
+abbrev pub Judged : (P : Problem) (T : List Cell) (q e price : List ℤ) (tree : List ℕ) (m n : ℕ) → Bool → Type 0
+Judged P T = Verdict P T T
 
-pub judged-by : {P : Problem} {T : List Cell} {q e cost price slack : List ℤ} {sub path tree : List ℕ} {m n : ℕ} {finished : Bool}
-    → Kept P T q e cost price slack sub path tree m n → isFinished P T ≡ finished → Judged P T q e price tree m n finished
-judged-by {sub = sub} {path} k f = record { done = f; sub = sub; path = path; board = k .board; prices = k .prices .are }
+abbrev pub Rounded : (P : Problem) (T : List Cell) (q e price : List ℤ) (tree : List ℕ) (m n : ℕ) → Bool → Type 0
+Rounded P T q e price tree m n finished = Verdict P T (cond finished T (next P T)) q e price tree m n finished

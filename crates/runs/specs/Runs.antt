@@ -80,13 +80,17 @@ pub record Going (P : Problem) (T : List Cell) (allowance : ℕ) (q e cost price
   pub tableau : run P allowance T .tableau ≡ run P left here .tableau
   pub rounds : run P allowance T .rounds ≡ made + run P left here .rounds
 
--- The run has ended after `made` rounds. The arrays hold its last tableau, with its prices.
-pub record Ran (P : Problem) (T : List Cell) (allowance : ℕ) (q e price : List ℤ) (tree : List ℕ) (m n : ℕ) (finished : Bool) (made : ℕ) : Type 0 where
+-- The run has ended after `made` rounds, and the arrays hold its last tableau ..
+pub record Ended (P : Problem) (T : List Cell) (allowance : ℕ) (q e : List ℤ) (tree : List ℕ) (m n : ℕ) (finished : Bool) (made : ℕ) : Type 0 where
   pub done : run P allowance T .finished ≡ finished
   pub rounds : run P allowance T .rounds ≡ made
   pub sub : List ℕ
   pub path : List ℕ
   pub board : Board P (run P allowance T .tableau) q e sub path tree m n
+
+-- .. with its prices.
+pub record Ran (P : Problem) (T : List Cell) (allowance : ℕ) (q e price : List ℤ) (tree : List ℕ) (m n : ℕ) (finished : Bool) (made : ℕ) : Type 0 where
+  pub ended : Ended P T allowance q e tree m n finished made
   pub prices : (k : ℕ) → k < m + n → getD price k (pos 0) ≡ potential P (run P allowance T .tableau) k
 
 -- A run of the bound of rounds comes to a finished tableau.
@@ -131,11 +135,13 @@ module _ {P : Problem} {T : List Cell} {allowance : ℕ} {q e cost price slack :
       ran r =
           let t : run P allowance T .tableau ≡ g .here = g .tableau ∙ ap (λ x. x .tableau) r in
           record {
-            done = g .done ∙ ap (λ x. x .finished) r;
-            rounds = omega (arith, g .rounds, ap (λ x. x .rounds) r);
-            sub = sub′;
-            path = path′;
-            board = rw t (b .board);
+            ended = record {
+              done = g .done ∙ ap (λ x. x .finished) r;
+              rounds = omega (arith, g .rounds, ap (λ x. x .rounds) r);
+              sub = sub′;
+              path = path′;
+              board = rw t (b .board);
+            };
             prices = rw t (b .prices .are);
           }
 
@@ -145,15 +151,3 @@ module _ {P : Problem} {T : List Cell} {allowance : ℕ} {q e cost price slack :
 
       pub ran-out : left ≡ 0 → isFinished P (g .here) ≡ finished → Ran P T allowance q′ e′ price′ tree′ m n finished made
       ran-out z f = ran (ap (λ (a : ℕ). run P a (g .here)) z ∙ run-no-more P (g .here) ∙ rw f)
-
--- The run has ended after `made` rounds, and the arrays hold its last tableau.
-pub record Ended (P : Problem) (T : List Cell) (allowance : ℕ) (q e : List ℤ) (tree : List ℕ) (m n : ℕ) (finished : Bool) (made : ℕ) : Type 0 where
-  pub done : run P allowance T .finished ≡ finished
-  pub rounds : run P allowance T .rounds ≡ made
-  pub sub : List ℕ
-  pub path : List ℕ
-  pub board : Board P (run P allowance T .tableau) q e sub path tree m n
-
-pub ran-ended : {P : Problem} {T : List Cell} {allowance : ℕ} {q e price : List ℤ} {tree : List ℕ} {m n : ℕ} {finished : Bool} {made : ℕ}
-    → Ran P T allowance q e price tree m n finished made → Ended P T allowance q e tree m n finished made
-ran-ended r = record { done = r .done; rounds = r .rounds; sub = r .sub; path = r .path; board = r .board }

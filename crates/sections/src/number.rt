@@ -43,7 +43,7 @@ fn magnitude(z: i64) -> u64
 }
 
 // The count of the bytes of `z`, its minus among them.
-pub fn whole_count(z: i64) -> usize
+pub(crate) fn whole_count(z: i64) -> usize
     ensures { λ r. ⌜ r ≡ length (wholeDigits z) ⌝ }
 {
     let count = digit_count(magnitude(z));
@@ -54,7 +54,7 @@ pub fn whole_count(z: i64) -> usize
 }
 
 // Writes `z`, with its minus if it is negative, at the front of the output, and gives the count of its bytes.
-pub fn write_whole(z: i64, out: &mut [u8]) -> usize
+pub(crate) fn write_whole(z: i64, out: &mut [u8]) -> usize
     requires { ⌜ length (wholeDigits z) ≤ length (now out) ⌝ }
     ensures { λ r. ⌜ (r ≡ length (wholeDigits z)) × (now (out .exit) ≡ front (wholeDigits z) (now (out .entry))) ⌝ }
 {

@@ -34,7 +34,7 @@ module _ (S : Sheet) {q e price : List ℤ} {lanes : List ℕ} {m n made : ℕ}
     (r : Ran (problemOf S) (start (problemOf S)) (roundBound (problemOf S)) q e price lanes m n true made) where
   pub ran-finished : {cost : List ℤ} {adj : List ℕ} → Costed (problemOf S) cost → Redrawn m lanes (m + n - 1) adj
       → Finished (problemOf S) (run (problemOf S) (roundBound (problemOf S)) (start (problemOf S)) .tableau) adj q e cost price m n
-  ran-finished costs w = board-finished price (r .board) costs w (start-finished (r .board .sound)) (r .prices)
+  ran-finished costs w = board-finished price (r .ended .board) costs w (start-finished (r .ended .board .sound)) (r .prices)
 
   module _ {u u′ v v′ : List ℤ} {plan plan′ : List ℕ}
       (uIs : u′ ≡ table m (λ k. getD price (0 + k) (pos 0)) ++ drop m u)
@@ -44,13 +44,13 @@ module _ (S : Sheet) {q e price : List ℤ} {lanes : List ℕ} {m n made : ℕ}
     unfolding lentAfter solution solutionFrom problemOf sources sinks roasteries cafes
     solve-stored =
         let P = problemOf S in
-        let rows = source-prices (r .board) price (r .prices) in
-        let columns = sink-prices (r .board) price (r .prices) in
+        let rows = source-prices (r .ended .board) price (r .prices) in
+        let columns = sink-prices (r .ended .board) price (r .prices) in
         let uLong : length (sourcePrices P (run P (roundBound P) (start P) .tableau)) ≡ m = ap length (sym rows) ∙ length-table _ m in
         let vLong : length (sinkPrices P (run P (roundBound P) (start P) .tableau)) ≡ n = ap length (sym columns) ∙ length-table _ n in
-        let planLong : length (settled S) ≡ m * n = settled-length S (r .board .sound) ∙ rw (r .board .rows, r .board .columns) in
+        let planLong : length (settled S) ≡ m * n = settled-length S (r .ended .board .sound) ∙ rw (r .ended .board .rows, r .ended .board .columns) in
         record {
-          rounds = sym (r .rounds);
+          rounds = sym (r .ended .rounds);
           uHeld = uIs ∙ rw (rows, uLong);
           vHeld = vIs ∙ rw (columns, vLong);
           planHeld = planIs ∙ rw planLong;

@@ -30,7 +30,7 @@ pub fn clear_bit(mask: u64, k: usize) -> u64
 }
 
 // Exactly one bit is in: the node is a leaf.
-pub fn is_single(mask: u64) -> bool
+pub(crate) fn is_single(mask: u64) -> bool
     ensures { λ r. ⌜ r ≡ eqb (ones mask) 1 ⌝ }
 {
     u64::count_ones(mask) == 1

@@ -4,7 +4,7 @@ use mathlib.Core.Path.{sym, _∙_}
 use borrow.Author.Needs.{needs}
 use lib.Signed.{mag}
 use Rattle.rounds.specs.Kept.{sign-is, kept-range, scanned-done}
-use Rattle.rounds.specs.Begun.{judged-by}
+use Rattle.rounds.specs.Begun.{verdict}
 use Rattle.rounds.proofs.round.is_finished.Statement.{statement}
 use Rattle.rounds.proofs.round.is_finished.Tie as tie
 
@@ -23,7 +23,7 @@ returns c P T q e d =
     let w = c .before .before .entering in
     let k = c .before .before .before .before .before .begin .ensures P T q e d in
     let fits : mag (w .result .reduced) < 2 ^ 31 = search needs in
-    judged-by k (scanned-done k (w .ensures) ∙ sym (sign-is (w .result .reduced) fits))
+    verdict (scanned-done k (w .ensures) ∙ sym (sign-is (w .result .reduced) fits)) k
 
 pub is-finished-spec : {M : Type 1} → statement M
 is-finished-spec = tie.close (tie.spec begin-requires entering-requires returns)

@@ -1,5 +1,5 @@
 -- `rounds::round::make_round` meets its contract: with the costs spread the tableau is what `begin` asks for, and a round is made on what it gives.
-use Rattle.rounds.specs.Begun.{rounded-by}
+use Rattle.rounds.specs.Begun.{verdict}
 use Rattle.rounds.specs.Dealt.{dealt-costs, dealt-begun}
 use Rattle.rounds.proofs.round.make_round.Statement.{statement}
 use Rattle.rounds.proofs.round.make_round.Tie as tie
@@ -29,7 +29,8 @@ advance-requires c κs =
 returns : tie.Need-returns
 returns c P T d =
     let b = c .before .before .before .before .before .before .before .before .before in
-    rounded-by (c .advance .ensures P T (b .begin .ensures P T _ _ (dealt-begun d (spread b .spread-costs .ensures))))
+    let a = c .advance .ensures P T (b .begin .ensures P T _ _ (dealt-begun d (spread b .spread-costs .ensures))) in
+    verdict (a .done) (a .kept)
 
 pub make-round-spec : {M : Type 1} → statement M
 make-round-spec = tie.close (tie.spec spread-costs-requires begin-requires advance-requires returns)

@@ -43,7 +43,8 @@ write-prices-requires c κs =
     let s = startOf f in
     let (S, d) = s .pre .0 in
     let r = ran f S d in
-    (omega arith, dealt-costs d .0, s .pre .1 .0, λ k l. prices-small (r .board) (f .finish .last .1 .1 .1 .1 .1 .1 .1 .1 .0) (r .prices) k (omega arith))
+    let price = f .finish .last .1 .1 .1 .1 .1 .1 .1 .1 .0 in
+    (omega arith, dealt-costs d .0, s .pre .1 .0, λ k l. prices-small (r .ended .board) price (r .prices) k (omega arith))
 
 write-prices-requires-2 : tie.Need-write-prices-requires-2
 write-prices-requires-2 c κs =
@@ -51,7 +52,7 @@ write-prices-requires-2 c κs =
     let s = startOf f in
     let (S, d) = s .pre .0 in
     let r = ran f S d in
-    (dealt-costs d .0, dealt-costs d .1, s .pre .1 .1, prices-small (r .board) (f .finish .last .1 .1 .1 .1 .1 .1 .1 .1 .0) (r .prices))
+    (dealt-costs d .0, dealt-costs d .1, s .pre .1 .1, prices-small (r .ended .board) (f .finish .last .1 .1 .1 .1 .1 .1 .1 .1 .0) (r .prices))
 
 add-draw : tie.Need-add-draw
 add-draw c = omega (
@@ -70,7 +71,7 @@ draw-requires c κs =
     let f = c .before .before .before .before .before .before .before .before .before .before in
     let (S, d) = startOf f .pre .0 in
     let h = dealt-costs d in
-    (h .0, omega (arith, h), lane-rows (ran f S d .board))
+    (h .0, omega (arith, h), lane-rows (ran f S d .ended .board))
 
 settle-board-requires : tie.Need-settle-board-requires
 settle-board-requires c κs =
