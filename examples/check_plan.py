@@ -58,20 +58,25 @@ def check(sheet_text, plan_text):
     """Gives the total, or raises ValueError with what does not fit."""
     supply, demand, cost = read_sheet(sheet_text)
     total, u, v, plan = read_plan(plan_text, len(supply), len(demand))
-    for name, end, amounts in (("roastery", 0, supply), ("café", 1, demand)):
-        for k, amount in enumerate(amounts):
-            bags = sum(bags for lane, bags in plan.items() if lane[end] == k)
-            require(bags == amount, f"{name} {k + 1} has {amount} bags on the sheet and {bags} in the plan")
+    sent = [sum(bags for (row, _), bags in plan.items() if row == i) for i in range(len(supply))]
+    brought = [sum(bags for (_, column), bags in plan.items() if column == j) for j in range(len(demand))]
+    for i, (bags, amount) in enumerate(zip(sent, supply)):
+        require(bags <= amount, f"roastery {i + 1} has {amount} bags on the sheet and {bags} in the plan")
+    for j, (bags, amount) in enumerate(zip(brought, demand)):
+        require(bags == amount, f"café {j + 1} has {amount} bags on the sheet and {bags} in the plan")
     paid = sum(bags * cost[i][j] for (i, j), bags in plan.items())
     require(paid == total, f"the bags cost {paid}, and the total is {total}")
     require(u[0] == 0, f"the price of roastery 1 is {u[0]}")
     # Why the prices prove the plan least: no lane costs less than u + v, so any plan that meets the sheet, also in fractions, costs at least
-    # the sum of bags times (u + v). By roastery and by café that is supply times u and demand times v: one number for all plans. Ours pays
-    # just u + v wherever it carries a bag, so it costs just that number.
+    # the sum of bags times (u + v). By roastery and by café that is supply times u and demand times v, less the bags kept times u, which are
+    # at most the surplus times the greatest u. So there is one number that no plan goes below. Ours pays just u + v wherever it carries a
+    # bag, and keeps bags only where u is greatest, so it costs just that number.
     for i, j in ((i, j) for i in range(len(supply)) for j in range(len(demand))):
         over = cost[i][j] - u[i] - v[j]
         require(over >= 0, f"lane {i + 1} {j + 1} costs {-over} less than its prices")
         require(over == 0 or (i, j) not in plan, f"lane {i + 1} {j + 1} carries bags and costs {over} more than its prices")
+    for i, (bags, amount) in enumerate(zip(sent, supply)):
+        require(bags == amount or u[i] == max(u), f"roastery {i + 1} keeps bags, and its price is {max(u) - u[i]} below the greatest")
     return total
 
 

@@ -16,11 +16,12 @@ static const char *const names[] = {
     [PANEL_COST_COUNT] = "the costs are not as many as the lanes",
     [PANEL_AMOUNT] = "a supply or demand is outside 1 to 1,000,000",
     [PANEL_COST] = "a cost is above 1,000,000",
-    [PANEL_UNBALANCED] = "total supply differs from total demand",
+    [PANEL_LACKING] = "total demand is greater than total supply",
     [PANEL_FOREIGN_TABLEAU] = "the tableau does not belong to the sheet",
     [PANEL_UNFINISHED] = "the tableau is not finished",
     [PANEL_ROOM] = "a lent list is too short",
     [PANEL_NOT_SHEET_TEXT] = "not a sheet text",
+    [PANEL_CROWDED] = "total supply is greater than total demand, with 32 cafés",
 };
 
 int main(void) {

@@ -33,4 +33,12 @@ inline Sheet random_sheet(std::mt19937_64 &rng, size_t m, size_t n, uint64_t bag
     return s;
 }
 
+// The sheet with a surplus: roasteries have up to `bags` bags more, one of them at least 1.
+inline Sheet with_surplus(std::mt19937_64 &rng, Sheet s, uint64_t bags) {
+    for (uint64_t &supply : s.supply)
+        if (rng() % 2 == 0) supply += rng() % (bags + 1);
+    s.supply[rng() % s.m()]++;
+    return s;
+}
+
 #endif

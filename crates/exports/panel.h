@@ -24,11 +24,12 @@ enum panel_refusal {
     PANEL_COST_COUNT = 2,      /* the costs are not as many as the lanes */
     PANEL_AMOUNT = 3,          /* a supply or demand is outside 1 to 1,000,000 */
     PANEL_COST = 4,            /* a cost is above 1,000,000 */
-    PANEL_UNBALANCED = 5,      /* total supply differs from total demand */
+    PANEL_LACKING = 5,         /* total demand is greater than total supply */
     PANEL_FOREIGN_TABLEAU = 6, /* the tableau does not belong to the sheet */
     PANEL_UNFINISHED = 7,      /* the tableau is not finished */
     PANEL_ROOM = 8,            /* a lent list or output is too short */
-    PANEL_NOT_SHEET_TEXT = 9   /* the text is not a sheet text */
+    PANEL_NOT_SHEET_TEXT = 9,  /* the text is not a sheet text */
+    PANEL_CROWDED = 10         /* total supply is greater than total demand, and there are 32 sinks: no room for the extra café */
 };
 
 enum { PANEL_MAX_SIDE = 32, PANEL_MAX_CELLS = 63 };
@@ -43,8 +44,10 @@ struct panel_cell {
     struct panel_pair amount;
 };
 
-/* A tableau that a call gives: its first `count` cells, in sheet order; the rest are zeros. A call takes a tableau as a list of cells, which may be of any
- * length and have any cells: where they are not those of a tableau that belongs to the sheet, it refuses with 6. */
+/* A tableau that a call gives: its first `count` cells, in sheet order; the rest are zeros. Where there is a surplus, more supply than demand, an extra café
+ * takes it at cost 0: it is column n, after the cafés of the sheet, and a tableau has m + n cells, not m + n − 1. Nothing but tableaux shows it.
+ * A call takes a tableau as a list of cells, which may be of any length and have any cells: where they are not those of a tableau that belongs to the sheet, it
+ * refuses with 6. */
 struct panel_tableau {
     struct panel_cell cells[PANEL_MAX_CELLS];
     size_t count;
@@ -57,7 +60,7 @@ struct panel_start_result {
     struct panel_tableau tableau;
 };
 
-/* The next tableau; or, where the one given is finished, no tableau but its prices, m in u and n in v. */
+/* The next tableau; or, where the one given is finished, no tableau but its prices, m in u and n in v; that of the extra café is not among them. */
 struct panel_round_result {
     uint8_t refusal;
     bool finished;
@@ -98,7 +101,7 @@ struct panel_round_result panel_round(const uint64_t *supply, size_t m, const ui
 struct panel_run_result panel_run(const uint64_t *supply, size_t m, const uint64_t *demand, size_t n, const uint64_t *cost, size_t lanes,
                                   const struct panel_cell *cells, size_t count, uint32_t allowance);
 
-/* The settled plan of a finished tableau: m × n quantities at the front of `plan`. */
+/* The settled plan of a finished tableau: m × n quantities at the front of `plan`. What a source does not send stays there. */
 uint8_t panel_settle(const uint64_t *supply, size_t m, const uint64_t *demand, size_t n, const uint64_t *cost, size_t lanes,
                      const struct panel_cell *cells, size_t count, uint64_t *plan, size_t plan_room);
 

@@ -36,7 +36,7 @@ pub const MAX_PLAN_TEXT: usize = 15_059;
 pub enum Round {
     /// The next tableau.
     Next(Tableau),
-    /// The tableau is finished, and these are its prices: m in `u` and n in `v`, then zeros.
+    /// The tableau is finished, and these are its prices: m in `u` and n in `v`, then zeros. The price of the extra café is not given.
     Finished {
         /// The prices of the roasteries.
         u: [i64; MAX_SIDE],
@@ -171,7 +171,7 @@ pub fn write_plan(supply: &[u64], demand: &[u64], cost: &[u64], out: &mut [u8]) 
     Ok(r.length)
 }
 
-/// A sheet that is owned. It need not be within the limits: the calls check it.
+/// A sheet that is owned. It need not be within the limits: the calls check it. What supply is above demand stays at the roasteries.
 #[derive(Clone, Debug, Default, PartialEq, Eq)]
 pub struct Sheet {
     /// The bags that each roastery has.

@@ -12,8 +12,8 @@ pub enum Refusal {
     Amount,
     /// 4: a cost is above 1,000,000.
     Cost,
-    /// 5: total supply differs from total demand.
-    Unbalanced,
+    /// 5: total demand is greater than total supply.
+    Lacking,
     /// 6: the tableau does not belong to the sheet.
     ForeignTableau,
     /// 7: the tableau is not finished.
@@ -25,21 +25,24 @@ pub enum Refusal {
         /// How many bytes at its front some sheet text also has.
         place: usize,
     },
+    /// 10: total supply is greater than total demand, and there are 32 cafés, so that a tableau has no room for the extra one.
+    Crowded,
 }
 
 impl Refusal {
-    /// The number of the refusal, 1 to 9.
+    /// The number of the refusal, 1 to 10.
     pub fn number(self) -> u8 {
         match self {
             Refusal::Sides => 1,
             Refusal::CostCount => 2,
             Refusal::Amount => 3,
             Refusal::Cost => 4,
-            Refusal::Unbalanced => 5,
+            Refusal::Lacking => 5,
             Refusal::ForeignTableau => 6,
             Refusal::Unfinished => 7,
             Refusal::Room => 8,
             Refusal::NotSheetText { .. } => 9,
+            Refusal::Crowded => 10,
         }
     }
 
@@ -51,11 +54,12 @@ impl Refusal {
             2 => Refusal::CostCount,
             3 => Refusal::Amount,
             4 => Refusal::Cost,
-            5 => Refusal::Unbalanced,
+            5 => Refusal::Lacking,
             6 => Refusal::ForeignTableau,
             7 => Refusal::Unfinished,
             8 => Refusal::Room,
             9 => Refusal::NotSheetText { place },
+            10 => Refusal::Crowded,
             _ => unreachable!("no call refuses with {number}"),
         })
     }
@@ -68,11 +72,12 @@ impl fmt::Display for Refusal {
             Refusal::CostCount => write!(f, "the costs are not as many as the lanes"),
             Refusal::Amount => write!(f, "a supply or demand is outside 1 to 1,000,000"),
             Refusal::Cost => write!(f, "a cost is above 1,000,000"),
-            Refusal::Unbalanced => write!(f, "total supply differs from total demand"),
+            Refusal::Lacking => write!(f, "total demand is greater than total supply"),
             Refusal::ForeignTableau => write!(f, "the tableau does not belong to the sheet"),
             Refusal::Unfinished => write!(f, "the tableau is not finished"),
             Refusal::Room => write!(f, "a lent list or output is too short"),
             Refusal::NotSheetText { place } => write!(f, "not a sheet text, at place {place}"),
+            Refusal::Crowded => write!(f, "total supply is greater than total demand, with {MAX_SIDE} cafés"),
         }
     }
 }

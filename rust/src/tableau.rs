@@ -11,13 +11,13 @@ pub struct Pair {
     pub e: i64,
 }
 
-/// A basic cell with its amount. Rows (roasteries) and columns (cafés) count from 0.
+/// A basic cell with its amount. Rows (roasteries) and columns (cafés) count from 0. Where there is a surplus, column n is the extra café's.
 #[repr(C)]
 #[derive(Clone, Copy, Debug, Default, PartialEq, Eq)]
 pub struct Cell {
     /// The roastery.
     pub row: usize,
-    /// The café.
+    /// The café, or the extra one.
     pub col: usize,
     /// What the cell holds.
     pub amount: Pair,
@@ -26,6 +26,9 @@ pub struct Cell {
 /// A tableau that a call gives. It lends its cells, in sheet order, as a slice; two tableaux are equal if their cells are.
 ///
 /// A call takes a tableau as any slice of cells, so that of a `Tableau` or one's own.
+///
+/// Where supply is above demand, an extra café after those of the sheet takes the surplus at cost 0, and there is a cell more. It is in tableaux alone: prices,
+/// plans and texts are of the sheet.
 ///
 /// ```
 /// let sheet = panel::Sheet { supply: vec![3, 4], demand: vec![5, 2], cost: vec![4, 1, 2, 6] };
@@ -36,6 +39,11 @@ pub struct Cell {
 /// let mut cells = start.to_vec();
 /// cells.swap(0, 1);
 /// assert_eq!(sheet.round(&cells), Err(panel::Refusal::ForeignTableau));
+///
+/// let one_stays = panel::Sheet { supply: vec![3], demand: vec![2], cost: vec![7] };
+/// let start = one_stays.start()?;
+/// assert_eq!((start.len(), start[1].col, start[1].amount), (2, 1, panel::Pair { q: 1, e: 1 }));
+/// assert_eq!(one_stays.settle(&start)?, [2]);
 /// # Ok::<(), panel::Refusal>(())
 /// ```
 #[repr(C)]

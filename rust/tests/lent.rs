@@ -1,6 +1,6 @@
-//! Lent lists: what a call fills, what it leaves, and every refusal, in the order of paper 01. `tableaux.rs` has 6.
+//! Lent lists: what a call fills, what it leaves, and every refusal, by its number. `tableaux.rs` has 6.
 mod common;
-use common::{cell, p1, p1_last, p3, p4, p5, p6, p7, p9, sheet, MARK};
+use common::{cell, dear, dear_last, p1, p1_last, p3, p4, p5, p6, p7, p8, p9, sheet, wide, MARK};
 use panel::*;
 
 const SUPPLY: [u64; 2] = [3, 4];
@@ -57,13 +57,15 @@ fn refused_4() {
     all_refuse(&[1_000_000], &[1_000_000], &[1_000_001], Refusal::Cost);
     all_refuse(&SUPPLY, &DEMAND, &[4, 1, 2, 1_000_001], Refusal::Cost);
     all_refuse(&[3, 5], &DEMAND, &[u64::MAX, 1, 2, 6], Refusal::Cost);
+    all_refuse(&[3, 3], &DEMAND, &[u64::MAX, 1, 2, 6], Refusal::Cost);
 }
 
 #[test]
 fn refused_5() {
-    all_refuse(&[3], &[2], &[0], Refusal::Unbalanced);
-    all_refuse(&SUPPLY, &[5, 3], &COST, Refusal::Unbalanced);
-    all_refuse(&[3, 5], &DEMAND, &COST, Refusal::Unbalanced);
+    all_refuse(&[2], &[3], &[0], Refusal::Lacking);
+    all_refuse(&SUPPLY, &[5, 3], &COST, Refusal::Lacking);
+    all_refuse(&[3, 3], &DEMAND, &COST, Refusal::Lacking);
+    all_refuse(&[31], &[1; 32], &[1; 32], Refusal::Lacking);
 }
 
 #[test]
@@ -105,13 +107,28 @@ fn refused_9() {
     let mut read = |text: &[u8]| read_sheet(text, &mut supply, &mut demand, &mut cost);
     assert_eq!(read(b"supply 2\r\n"), Err(Refusal::NotSheetText { place: 8 }));
     assert_eq!(read(b"\xff"), Err(Refusal::NotSheetText { place: 0 }));
-    // 9 before 3, 4 and 5, and these in this order.
+    // 9 before 3, 4, 5 and 10, and these in this order.
     let no_last_line_end = b"supply 1\n0\ndemand 1\n2\ncost 1\n1000001";
     assert_eq!(read(no_last_line_end), Err(Refusal::NotSheetText { place: no_last_line_end.len() }));
     assert_eq!(read(b"supply 1\n0\ndemand 1\n2\ncost 1\n1000001\n"), Err(Refusal::Amount));
     assert_eq!(read(b"supply 1\n1\ndemand 1\n2\ncost 1\n1000001\n"), Err(Refusal::Cost));
-    assert_eq!(read(b"supply 1\n1\ndemand 1\n2\ncost 1\n1000000\n"), Err(Refusal::Unbalanced));
+    assert_eq!(read(b"supply 1\n1\ndemand 1\n2\ncost 1\n1000000\n"), Err(Refusal::Lacking));
+    // 10 before 8.
+    let crowded = format!("supply 1\n33\ndemand 32\n{}cost 1\n0{}", "1\n".repeat(32), " 0".repeat(31));
+    assert_eq!(read(crowded.as_bytes()), Err(Refusal::NotSheetText { place: crowded.len() }));
+    assert_eq!(read((crowded + "\n").as_bytes()), Err(Refusal::Crowded));
     assert_eq!((supply, demand, cost), ([MARK; 2], [MARK; 2], [MARK; 4]));
+}
+
+#[test]
+fn refused_10() {
+    all_refuse(&[40], &[1; 32], &[1; 32], Refusal::Crowded);
+    all_refuse(&[33], &[1; 32], &[0; 32], Refusal::Crowded);
+    all_refuse(&[1_000_000; 32], &[&[1_000_000; 31][..], &[999_999]].concat(), &[0; 1024], Refusal::Crowded);
+    all_refuse(&[40], &[1; 32], &[1_000_001; 32], Refusal::Cost);
+    all_refuse(&[1_000_001], &[1; 32], &[1_000_001; 32], Refusal::Amount);
+    all_refuse(&[40], &[1; 32], &[1; 33], Refusal::CostCount);
+    all_refuse(&[40], &[1; 33], &[1; 33], Refusal::Sides);
 }
 
 #[test]
@@ -163,15 +180,24 @@ fn solve_fills_the_fronts() {
     solved(p4(), 0, 2, &[0, 0], &[0, 0, 0], &[0, 1, 0, 2, 0, 1]);
     solved(p6(), 0, 0, &[0], &[0], &[1]);
     solved(p7(), 1_000_000_000_000, 0, &[0], &[1_000_000], &[1_000_000]);
+    // Neither the price nor the lanes of the extra café.
+    solved(p8(), 0, 0, &[0], &[0], &[2]);
+    solved(dear(), 8, 1, &[0, -4], &[5], &[1, 3]);
+    solved(wide(40, 31), 31, 0, &[0], &[1; 31], &[1; 31]);
 }
 
 #[test]
 fn solve_with_a_short_list() {
-    for less in [[2, 0, 0], [0, 2, 0], [0, 0, 2], [3, 3, 5]] {
-        let (answer, u, v, plan) = solve_marked(&p1(), less);
-        assert_eq!(answer, Err(Refusal::Room));
-        assert!(u.iter().chain(&v).all(|&price| price == SIGNED_MARK) && plan.iter().all(|&bags| bags == MARK));
+    for (sheet, all) in [(p1(), [3, 3, 5]), (dear(), [3, 2, 3])] {
+        for less in [[2, 0, 0], [0, 2, 0], [0, 0, 2], all] {
+            let (answer, u, v, plan) = solve_marked(&sheet, less);
+            assert_eq!(answer, Err(Refusal::Room));
+            assert!(u.iter().chain(&v).all(|&price| price == SIGNED_MARK) && plan.iter().all(|&bags| bags == MARK));
+        }
     }
+    // A place for each café and lane of the sheet is enough.
+    let (answer, u, v, plan) = solve_marked(&dear(), [1, 1, 1]);
+    assert_eq!((answer, u, v, plan), (Ok(Solved { cost: 8, rounds: 1 }), vec![0, -4], vec![5], vec![1, 3]));
 }
 
 #[test]
@@ -180,11 +206,15 @@ fn settle_with_marks() {
         let mut plan = vec![MARK; room];
         (settle(&sheet.supply, &sheet.demand, &sheet.cost, cells, &mut plan), plan)
     };
-    let uneven = sheet(&[1, 2], &[2, 1, 1], &[9, 0, 0, 0, 0, 0]);
+    let lacking = sheet(&[1, 2], &[2, 1, 1], &[9, 0, 0, 0, 0, 0]);
     assert_eq!(settled(p4(), &p5(), 7), (Ok(()), vec![0, 1, 0, 2, 0, 1, MARK]));
     assert_eq!(settled(p4(), &p5(), 6), (Ok(()), vec![0, 1, 0, 2, 0, 1]));
     assert_eq!(settled(p4(), &p5(), 5), (Err(Refusal::Room), vec![MARK; 5]));
-    assert_eq!(settled(uneven, &p5(), 7), (Err(Refusal::Unbalanced), vec![MARK; 7]));
+    assert_eq!(settled(dear(), &dear_last(), 3), (Ok(()), vec![1, 3, MARK]));
+    assert_eq!(settled(dear(), &dear_last(), 2), (Ok(()), vec![1, 3]));
+    assert_eq!(settled(dear(), &dear_last(), 1), (Err(Refusal::Room), vec![MARK; 1]));
+    assert_eq!(settled(lacking, &p5(), 7), (Err(Refusal::Lacking), vec![MARK; 7]));
+    assert_eq!(settled(wide(40, 32), &p5(), 31), (Err(Refusal::Crowded), vec![MARK; 31]));
     assert_eq!(settled(p3(), &p9(), 5), (Err(Refusal::ForeignTableau), vec![MARK; 5]));
     let start = [cell(1, 1, 3, 1), cell(2, 1, 2, -1), cell(2, 2, 2, 2)];
     assert_eq!(settled(p1(), &start, 5), (Err(Refusal::Unfinished), vec![MARK; 5]));
@@ -193,8 +223,9 @@ fn settle_with_marks() {
 #[test]
 fn refusals_by_number_and_name() {
     use Refusal::*;
-    let all = [Sides, CostCount, Amount, Cost, Unbalanced, ForeignTableau, Unfinished, Room, NotSheetText { place: 38 }];
-    assert!(all.iter().map(|r| r.number()).eq(1..=9));
-    assert_eq!(Unbalanced.to_string(), "total supply differs from total demand");
+    let all = [Sides, CostCount, Amount, Cost, Lacking, ForeignTableau, Unfinished, Room, NotSheetText { place: 38 }, Crowded];
+    assert!(all.iter().map(|r| r.number()).eq(1..=10));
+    assert_eq!(Lacking.to_string(), "total demand is greater than total supply");
     assert_eq!(NotSheetText { place: 38 }.to_string(), "not a sheet text, at place 38");
+    assert_eq!(Crowded.to_string(), "total supply is greater than total demand, with 32 cafés");
 }

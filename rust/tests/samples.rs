@@ -1,6 +1,6 @@
-//! The sample sheets of paper 01, through the owned calls.
+//! The sample sheets of paper 01, and some with a surplus for paper 02, One, through the owned calls.
 mod common;
-use common::{cell, finished, largest, p1, p1_last, p3, p4, p5, p6, p7, p9, sheet};
+use common::{cell, dear, dear_last, finished, largest, largest_with_surplus, p1, p1_last, p3, p4, p5, p6, p7, p8, p9, sheet, wide};
 use panel::{Refusal, Round, Run, Sheet, Tableau};
 
 fn next(sheet: &Sheet, t: &Tableau) -> Tableau {
@@ -89,10 +89,67 @@ fn p7_the_greatest_numbers() {
     assert_eq!(sheet(&[1_000_000], &[1_000_000], &[1_000_001]).solve(), Err(Refusal::Cost));
 }
 
+/// What solve gives.
+#[track_caller]
+fn solved(sheet: Sheet, cost: u64, rounds: u64, u: &[i64], v: &[i64], plan: &[u64]) {
+    let s = sheet.solve().unwrap();
+    assert_eq!((s.cost, s.rounds), (cost, rounds));
+    assert_eq!((&*s.u, &*s.v, &*s.plan), (u, v, plan));
+}
+
 #[test]
-fn p8_refused_sheets() {
-    assert_eq!(sheet(&[3], &[2], &[0]).solve(), Err(Refusal::Unbalanced));
+fn p8_a_bag_stays_at_home_and_a_refused_sheet() {
+    assert_eq!(*p8().start().unwrap(), [cell(1, 1, 2, 0), cell(1, 2, 1, 1)]);
+    solved(p8(), 0, 0, &[0], &[0], &[2]);
     assert_eq!(sheet(&[0], &[2], &[0]).solve(), Err(Refusal::Amount));
+}
+
+#[test]
+fn the_dear_roastery_keeps_the_surplus() {
+    let start = dear().start().unwrap();
+    assert_eq!(*start, [cell(1, 1, 3, 1), cell(2, 1, 1, -1), cell(2, 2, 2, 2)]);
+    let last = next(&dear(), &start);
+    assert_eq!(*last, dear_last());
+    assert_eq!(dear().round(&last), finished(&[0, -4], &[5]));
+    assert_eq!(dear().run(&start, 0), Ok(Run { finished: false, rounds: 0, tableau: start }));
+    assert_eq!(dear().run(&start, 9), Ok(Run { finished: true, rounds: 1, tableau: last }));
+    assert_eq!(dear().settle(&start), Err(Refusal::Unfinished));
+    assert_eq!(dear().settle(&last), Ok(vec![1, 3]));
+    solved(dear(), 8, 1, &[0, -4], &[5], &[1, 3]);
+}
+
+#[test]
+fn both_roasteries_keep_a_bag() {
+    let split = sheet(&[3, 3], &[2, 2], &[1, 9, 9, 1]);
+    let start = split.start().unwrap();
+    assert_eq!(*start, [cell(1, 1, 2, 0), cell(1, 2, 1, 1), cell(2, 2, 1, -1), cell(2, 3, 2, 2)]);
+    let last = next(&split, &start);
+    assert_eq!(*last, [cell(1, 1, 2, 0), cell(1, 3, 1, 1), cell(2, 2, 2, 0), cell(2, 3, 1, 1)]);
+    assert_eq!(split.round(&last), finished(&[0, 0], &[1, 1]));
+    solved(split, 4, 1, &[0, 0], &[1, 1], &[2, 0, 0, 2]);
+}
+
+#[test]
+fn ties_with_a_surplus() {
+    // The first lane carries all it can, though the other roastery costs the same.
+    solved(sheet(&[3, 3], &[4], &[1, 1]), 4, 0, &[0, 0], &[1], &[3, 1]);
+    // The extra café's lane of row 1 and the lane (2,1) could enter: the first in sheet order does.
+    let extra_first = sheet(&[1, 2], &[1, 1], &[2, 2, 0, 1]);
+    assert!(next(&extra_first, &extra_first.start().unwrap()).iter().any(|c| (c.row, c.col) == (0, 2)));
+    solved(extra_first, 1, 2, &[0, 0], &[0, 1], &[0, 0, 1, 1]);
+    // So could (1,2) and the extra café's lane of row 1.
+    let extra_later = sheet(&[1, 3], &[2, 1], &[3, 0, 2, 0]);
+    assert!(next(&extra_later, &extra_later.start().unwrap()).iter().any(|c| (c.row, c.col) == (0, 1)));
+    solved(extra_later, 4, 2, &[0, 0], &[2, 0], &[0, 1, 2, 0]);
+}
+
+#[test]
+fn room_for_the_extra_cafe() {
+    solved(wide(40, 31), 31, 0, &[0], &[1; 31], &[1; 31]);
+    assert_eq!(wide(40, 31).start().unwrap()[31], cell(1, 32, 9, 1));
+    assert_eq!(wide(40, 32).solve(), Err(Refusal::Crowded));
+    assert_eq!(wide(31, 32).solve(), Err(Refusal::Lacking));
+    solved(wide(32, 32), 32, 0, &[0], &[1; 32], &[1; 32]);
 }
 
 #[test]
@@ -107,6 +164,17 @@ fn p9_refused_tableaux() {
 fn the_largest_sheet() {
     assert_eq!(largest().start().unwrap().len(), panel::MAX_CELLS);
     assert_eq!(largest().solve().unwrap().cost, 32_000_000_000_000);
+    assert_eq!(largest_with_surplus().start().unwrap().len(), panel::MAX_CELLS);
+    assert_eq!(largest_with_surplus().solve().unwrap().cost, 31_000_000_000_000);
+}
+
+/// All bags of 32 roasteries but one stay at home.
+#[test]
+fn the_greatest_surplus() {
+    let idle = sheet(&[1_000_000; 32], &[1], &[0; 32]);
+    let start = idle.start().unwrap();
+    assert_eq!(*start, [&[cell(1, 1, 1, 0), cell(1, 2, 999_999, 1)][..], &(2..=32).map(|i| cell(i, 2, 1_000_000, 1)).collect::<Vec<_>>()].concat());
+    assert_eq!(idle.settle(&start), Ok([&[1][..], &[0; 31]].concat()));
 }
 
 #[test]
@@ -123,13 +191,14 @@ fn threads_agree() {
 /// The stack that docs/EMBEDDING.md tells for the crate.
 #[test]
 fn small_stack() {
-    let calls = || {
-        let mut large = largest();
-        (0..1024).for_each(|k| large.cost[k] = (k as u64 * 7919) % 1_000_001);
+    let calls = |mut large: Sheet| {
+        (0..large.cost.len()).for_each(|k| large.cost[k] = (k as u64 * 7919) % 1_000_001);
         let run = large.run(&large.start().unwrap(), u32::MAX).unwrap();
         assert!(matches!(large.round(&run.tableau), Ok(Round::Finished { .. })));
         assert_eq!(large.settle(&run.tableau).unwrap(), large.solve().unwrap().plan);
         assert_eq!(Sheet::read(large.text().unwrap().as_bytes()).unwrap().plan_text(), large.plan_text());
     };
-    std::thread::Builder::new().stack_size(128 << 10).spawn(calls).unwrap().join().unwrap();
+    for large in [largest(), largest_with_surplus()] {
+        std::thread::Builder::new().stack_size(128 << 10).spawn(move || calls(large)).unwrap().join().unwrap();
+    }
 }

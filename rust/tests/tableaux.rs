@@ -1,6 +1,6 @@
 //! Tableaux as lent lists of cells: a list that is not a tableau of the sheet is refused with 6, after the sheet's own refusals and before 7 and 8.
 mod common;
-use common::{cell, finished, largest, p1, p1_last, p3, p4, p5, p6, p9, sheet, MARK};
+use common::{cell, columns, dear, dear_last, finished, largest, largest_with_surplus, p1, p1_last, p3, p4, p5, p6, p8, p9, sheet, wide, MARK};
 use panel::{round, run, settle, Cell, Pair, Refusal, Sheet, MAX_LANES};
 
 /// Makes every call that takes a tableau, with these cells; each must refuse alike. Settle does so with any room, and changes nothing.
@@ -23,15 +23,16 @@ fn foreign(sheet: &Sheet, cells: &[Cell]) {
     refused(sheet, cells, Refusal::ForeignTableau);
 }
 
-/// Sheets with a tableau that belongs to each: the paper's, and starts of 1, 62 and 63 cells.
+/// Sheets with a tableau that belongs to each: the paper's, starts of 1, 62 and 63 cells, and some with a column for the extra café.
 fn belonging() -> Vec<(Sheet, Vec<Cell>)> {
     let started = |sheet: Sheet| {
         let cells = sheet.start().unwrap().to_vec();
         (sheet, cells)
     };
     let sides_31_32 = sheet(&[32; 31], &[31; 32], &[1; 31 * 32]);
-    let mut all = vec![(p1(), p1_last().to_vec()), (p4(), p5().to_vec())];
+    let mut all = vec![(p1(), p1_last().to_vec()), (p4(), p5().to_vec()), (dear(), dear_last().to_vec())];
     all.extend([p6(), p1(), p3(), p4(), sides_31_32, largest()].map(started));
+    all.extend([p8(), dear(), wide(40, 31), largest_with_surplus()].map(started));
     all
 }
 
@@ -94,6 +95,8 @@ fn cells_off_the_sheet() {
     let past = [1 << 5, 1 << 6, 1 << 8, 1 << 16, 1 << 32, 1 << 63, (1 << 63) + (1 << 62)];
     changes_refused(|sheet, c| c.row += sheet.supply.len());
     changes_refused(|sheet, c| c.col += sheet.demand.len());
+    changes_refused(|sheet, c| c.col += columns(sheet));
+    changes_refused(|sheet, c| c.col = columns(sheet));
     changes_refused(|_, c| (c.row, c.col) = (usize::MAX, usize::MAX));
     for far in past {
         changes_refused(|_, c| c.row += far);
@@ -101,11 +104,38 @@ fn cells_off_the_sheet() {
     }
     // The same place in sheet order, told from the row before: (1,3) for (2,1), and so on.
     changes_refused(|sheet, c| (c.row, c.col) = (c.row.wrapping_sub(1), c.col + sheet.demand.len()));
+    changes_refused(|sheet, c| (c.row, c.col) = (c.row.wrapping_sub(1), c.col + columns(sheet)));
     let [a, b, c] = p1_last();
     foreign(&p1(), &[a, b, Cell { row: 0, col: 2, ..c }]);
     foreign(&p1(), &[a, Cell { row: usize::MAX, col: 3, ..b }, c]);
     let [a, b, c, d] = p5();
     foreign(&p4(), &[a, Cell { row: 0, col: 3, ..b }, Cell { row: 0, col: 4, ..c }, Cell { row: 0, col: 5, ..d }]);
+}
+
+/// A column for an extra café that is not there; and that of one that is, left out, elsewhere or twice.
+#[test]
+fn the_extra_cafe_misplaced() {
+    // A balanced sheet has none, not even with the marks alone.
+    foreign(&p6(), &[cell(1, 1, 1, 0), cell(1, 2, 0, 1)]);
+    foreign(&p3(), &[cell(1, 1, 5, 0), cell(1, 2, 0, 1), cell(2, 2, 5, -1), cell(2, 3, 0, 2)]);
+    foreign(&p1(), &[cell(1, 1, 3, 1), cell(2, 1, 2, -1), cell(2, 2, 2, 0), cell(2, 3, 0, 2)]);
+    // With a surplus it cannot be left out: neither its cells nor what they hold.
+    foreign(&p8(), &[cell(1, 1, 2, 1)]);
+    foreign(&p8(), &[cell(1, 1, 3, 1)]);
+    foreign(&p8(), &[cell(1, 1, 2, 0)]);
+    foreign(&dear(), &[cell(1, 1, 1, 1), cell(2, 1, 3, 1)]);
+    foreign(&dear(), &[cell(1, 1, 3, 1), cell(2, 1, 1, -1)]);
+    // It stands last, and the marks with it.
+    foreign(&p8(), &[cell(1, 1, 1, 1), cell(1, 2, 2, 0)]);
+    foreign(&p8(), &[cell(1, 1, 2, 1), cell(1, 2, 1, 0)]);
+    foreign(&dear(), &[cell(1, 1, 3, 1), cell(2, 1, 1, 1), cell(2, 2, 2, 0)]);
+    foreign(&dear(), &[cell(1, 1, 2, 1), cell(1, 2, 1, 0), cell(2, 2, 3, 1)]);
+    // There is one, in the column after the cafés of the sheet.
+    foreign(&p8(), &[cell(1, 1, 2, 0), cell(1, 2, 1, 0), cell(1, 3, 0, 1)]);
+    for column in [3, 31, 32, 33, 64, 65] {
+        foreign(&p8(), &[cell(1, 1, 2, 0), cell(1, column, 1, 1)]);
+        foreign(&dear(), &[cell(1, 1, 3, 1), cell(2, 1, 1, -1), cell(2, column, 2, 2)]);
+    }
 }
 
 #[test]
@@ -186,6 +216,27 @@ fn a_tableau_of_another_sheet() {
     foreign(&p1(), &p3().start().unwrap());
     foreign(&p4(), &p1().start().unwrap());
     foreign(&p1(), &p5());
+    // One with a surplus, the other without, or both with one.
+    foreign(&p8(), &p6().start().unwrap());
+    foreign(&p6(), &p8().start().unwrap());
+    foreign(&dear(), &p8().start().unwrap());
+    foreign(&dear(), &p1_last());
+    foreign(&wide(40, 31), &wide(32, 32).start().unwrap());
+    foreign(&wide(32, 32), &wide(40, 31).start().unwrap());
+}
+
+/// The balanced sheet with a café more, at cost 0, has the same tableaux.
+#[test]
+fn the_sheet_with_the_extra_cafe_written_out() {
+    for (surplus, written_out) in [
+        (p8(), sheet(&[3], &[2, 1], &[0, 0])),
+        (dear(), sheet(&[3, 3], &[4, 2], &[5, 0, 1, 0])),
+        (wide(40, 31), sheet(&[40], &[&[1; 31][..], &[9]].concat(), &[&[1; 31][..], &[0]].concat())),
+    ] {
+        let start = surplus.start().unwrap();
+        assert_eq!(written_out.start(), Ok(start));
+        assert_eq!(written_out.run(&start, u32::MAX), surplus.run(&start, u32::MAX));
+    }
 }
 
 /// P3's first two cells, and a third of any kind.
@@ -206,7 +257,7 @@ fn a_hostile_third_cell() {
     long.resize(64, Cell::default());
     foreign(&p3(), &long);
     refused(&sheet(&[5, 5], &[5, 5], &[1; 3]), &long, Refusal::CostCount);
-    refused(&sheet(&[5, 4], &[5, 5], &[1; 4]), &long, Refusal::Unbalanced);
+    refused(&sheet(&[5, 4], &[5, 5], &[1; 4]), &long, Refusal::Lacking);
 }
 
 #[test]
@@ -220,7 +271,8 @@ fn the_sheet_is_refused_first() {
         (sheet(&[0, 4], &[5, 2], &[4, 1, 2]), Refusal::CostCount),
         (sheet(&[0, 4], &[5, 2], &[1_000_001; 4]), Refusal::Amount),
         (sheet(&[3, 4], &[5, 3], &[1_000_001; 4]), Refusal::Cost),
-        (sheet(&[3, 4], &[5, 3], &[4, 1, 2, 6]), Refusal::Unbalanced),
+        (sheet(&[3, 4], &[5, 3], &[4, 1, 2, 6]), Refusal::Lacking),
+        (wide(40, 32), Refusal::Crowded),
     ] {
         lists.iter().for_each(|cells| refused(&sheet, cells, refusal));
     }

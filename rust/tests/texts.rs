@@ -1,6 +1,6 @@
 //! Sheet texts: there and back, the places of those that are none, and those of refused sheets.
 mod common;
-use common::{largest, p1, MARK};
+use common::{largest, p1, p8, wide, MARK};
 use panel::{read_sheet, Refusal, Sheet, MAX_SHEET_TEXT};
 
 const WORKED: &str = include_str!("../../examples/worked.sheet");
@@ -14,6 +14,20 @@ fn there_and_back() {
     assert_eq!(text, "supply 2\n3\n4\ndemand 2\n5\n2\ncost 2\n4 1\n2 6\n");
     assert_eq!((text.as_str(), text.len()), (WORKED, 41));
     assert_eq!(read.plan_text().unwrap(), WORKED_PLAN);
+}
+
+/// Neither text shows the extra café.
+#[test]
+fn there_and_back_with_a_surplus() {
+    let (text, plan) = (include_str!("../../examples/surplus.sheet"), include_str!("../../examples/surplus.plan"));
+    let read = Sheet::read(text.as_bytes()).unwrap();
+    assert_eq!((&*read.supply, &*read.demand, &*read.cost), (&[24, 18][..], &[16, 14, 10][..], &[95, 140, 120, 130, 85, 105][..]));
+    assert_eq!((read.text().unwrap(), read.plan_text().unwrap()), (text.to_string(), plan.to_string()));
+    let one_bag_stays = "supply 1\n3\ndemand 1\n2\ncost 1\n0\n";
+    assert_eq!(Sheet::read(one_bag_stays.as_bytes()), Ok(p8()));
+    assert_eq!(p8().text().unwrap(), one_bag_stays);
+    assert_eq!(p8().plan_text().unwrap(), "total 1\n0\nrounds 1\n0\nroasteries 1\n0\ncafes 1\n0\nlanes 1\n1 1 2\n");
+    assert_eq!(Sheet::read(wide(40, 31).text().unwrap().as_bytes()), Ok(wide(40, 31)));
 }
 
 #[test]
@@ -51,10 +65,20 @@ fn texts_of_refused_sheets() {
         ("supply 1\n0\ndemand 1\n2\ncost 1\n0\n", Refusal::Amount),
         ("supply 1\n1\ndemand 1\n1000001\ncost 1\n0\n", Refusal::Amount),
         ("supply 1\n1\ndemand 1\n1\ncost 1\n1000001\n", Refusal::Cost),
-        ("supply 1\n3\ndemand 1\n2\ncost 1\n0\n", Refusal::Unbalanced),
+        ("supply 1\n2\ndemand 1\n3\ncost 1\n0\n", Refusal::Lacking),
+        (&text_of_32_cafes("40", "0"), Refusal::Crowded),
+        (&text_of_32_cafes("33", "0"), Refusal::Crowded),
+        (&text_of_32_cafes("31", "0"), Refusal::Lacking),
+        (&text_of_32_cafes("40", "1000001"), Refusal::Cost),
+        (&text_of_32_cafes("1000001", "1000001"), Refusal::Amount),
     ] {
         assert_eq!(Sheet::read(text.as_bytes()), Err(refusal), "{text:?}");
     }
+}
+
+/// One roastery with this supply, and 32 cafés that want a bag each at this cost.
+fn text_of_32_cafes(supply: &str, cost: &str) -> String {
+    format!("supply 1\n{supply}\ndemand 32\n{}cost 1\n{}\n", "1\n".repeat(32), [cost; 32].join(" "))
 }
 
 #[test]

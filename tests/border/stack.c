@@ -11,13 +11,14 @@
 enum { STACK = 1 << 20, TOLD = 96 << 10, MARK = 0x5a, SIDE = PANEL_MAX_SIDE, LANES = SIDE * SIDE, SHEET_TEXT = 8732, PLAN_TEXT = 15059 };
 
 static uint64_t supply[SIDE], demand[SIDE], cost[LANES], plan[LANES];
+static size_t cafes;
 static int64_t u[SIDE], v[SIDE];
 static uint8_t sheet_text[SHEET_TEXT], plan_text[PLAN_TEXT];
 static size_t sheet_length;
 static struct panel_tableau first, last;
 static int refusal;
 
-#define SHEET supply, SIDE, demand, SIDE, cost, LANES
+#define SHEET supply, SIDE, demand, cafes, cost, SIDE * cafes
 
 static void nothing(void) { refusal = 0; }
 
@@ -81,9 +82,10 @@ static size_t stack_of(void (*make)(void)) {
     return STACK - kept;
 }
 
-/* The largest sheet, with costs up to `top` and bags up to `bags`. */
-static void make_sheet(uint64_t top, uint64_t bags) {
+/* The largest sheet, with costs up to `top` and bags up to `bags`: balanced, or without its last café and so with a surplus. */
+static void make_sheet(uint64_t top, uint64_t bags, int surplus) {
     uint32_t seed = 1;
+    cafes = surplus ? SIDE - 1 : SIDE;
     for (size_t k = 0; k < LANES; k++) {
         seed = seed * 1664525u + 1013904223u;
         cost[k] = (seed >> 8) % (top + 1);
@@ -98,8 +100,8 @@ int main(void) {
     static const uint64_t tops[] = {1000000, 1000, 3, 0}, bags[] = {1000000, 1000, 5, 1};
     size_t most[CALLS] = {0};
     int failed = 0;
-    for (size_t s = 0; s < sizeof tops / sizeof *tops; s++) {
-        make_sheet(tops[s], bags[s]);
+    for (size_t s = 0; s < 2 * sizeof tops / sizeof *tops; s++) {
+        make_sheet(tops[s / 2], bags[s / 2], s % 2);
         size_t empty = stack_of(nothing);
         for (size_t k = 0; k < CALLS; k++) {
             size_t used = stack_of(calls[k].make) - empty;

@@ -40,6 +40,7 @@ void Holder::note(const Known &known, const Call &call, const Outcome &outcome) 
     if (refusal != no_refusal) tally.refused(refusal);
     else if (call.entry == Entry::round || call.entry == Entry::run) tally.count(outcome.fields[1].value ? "finished" : "unfinished");
     else tally.count("done");
+    tally.count("with a surplus", refusal == no_refusal && surplus(known.sheet) > 0);
     bool has_plan = call.entry == Entry::settle || call.entry == Entry::solve || call.entry == Entry::write_plan;
     if (refusal == no_refusal && has_plan) tally.count("plans searched", has_few_plans(known.sheet));
     if (call.entry == Entry::run || call.entry == Entry::solve) tally.note_most("most rounds", outcome.fields[2].value);
@@ -92,7 +93,7 @@ static uint32_t any_allowance(Dice &dice, size_t left) {
 
 // ---- sheets and tableaux
 
-static Sheet any_balanced_sheet(Dice &dice) {
+static Sheet any_accepted_sheet(Dice &dice) {
     using Make = Sheet (*)(Dice &);
     static const std::vector<Make> makes = {small_sheet,      small_sheet, small_sheet,           any_sheet,              any_sheet,
                                             sheet_of_ties,    narrow_sheet, degenerate_sheet,     sheet_of_summed_costs,  sheet_of_orderly_costs,
@@ -109,8 +110,8 @@ static Tableau any_tableau(Dice &dice, Known &known) {
     case 0: return path.after(0).tableau;
     case 1: return path.after(dice.below(4)).tableau;
     case 2: return path.end().tableau;
-    case 3: return wandered_among_finished(dice, known.sheet, path.end().prices, path.end().tableau, dice.below(6));
-    default: return wandered(dice, known.sheet, path.after(0).tableau, dice.below(8));
+    case 3: return wandered_among_finished(dice, known.extended, path.end().prices, path.end().tableau, dice.below(6));
+    default: return wandered(dice, known.extended, path.after(0).tableau, dice.below(8));
     }
 }
 
@@ -123,12 +124,12 @@ static void hold_tableau(Holder &holder, Known &known, const Cells &cells) {
 // ---- calls that mostly succeed
 
 static void start_case(Holder &holder) {
-    Known known(any_balanced_sheet(holder.dice));
+    Known known(any_accepted_sheet(holder.dice));
     for (int turn = 0; turn < 4; turn++) holder.hold(known, {Entry::start});
 }
 
 static void path_case(Holder &holder) {
-    Known known(any_balanced_sheet(holder.dice));
+    Known known(any_accepted_sheet(holder.dice));
     Path &path = known.path_from_start();
     uint64_t rounds = path.end().rounds;
     for (uint64_t turn = 0; turn < std::min<uint64_t>(rounds, 20); turn++)
@@ -142,38 +143,38 @@ static void hold_runs(Holder &holder, Known &known, const Tableau &tableau, int 
 }
 
 static void allowance_case(Holder &holder) {
-    Known known(any_balanced_sheet(holder.dice));
-    hold_runs(holder, known, start(known.sheet), 15);
+    Known known(any_accepted_sheet(holder.dice));
+    hold_runs(holder, known, start(known.extended), 15);
 }
 
 static void wander_case(Holder &holder) {
-    Known known(any_balanced_sheet(holder.dice));
-    Tableau tableau = start(known.sheet);
+    Known known(any_accepted_sheet(holder.dice));
+    Tableau tableau = start(known.extended);
     for (int turn = 0; turn < 5; turn++) {
-        tableau = wandered(holder.dice, known.sheet, tableau, 1 + holder.dice.below(4));
+        tableau = wandered(holder.dice, known.extended, tableau, 1 + holder.dice.below(4));
         hold_tableau(holder, known, cells_of(tableau));
     }
     hold_runs(holder, known, tableau, 5);
 }
 
 static void tree_case(Holder &holder) {
-    Known known(holder.dice.once_in(2) ? small_sheet(holder.dice) : any_balanced_sheet(holder.dice));
-    for (int turn = 0; turn < 5; turn++) hold_tableau(holder, known, random_tree(holder.dice, known.sheet));
+    Known known(holder.dice.once_in(2) ? small_sheet(holder.dice) : any_accepted_sheet(holder.dice));
+    for (int turn = 0; turn < 5; turn++) hold_tableau(holder, known, random_tree(holder.dice, known.extended));
 }
 
 static void settle_case(Holder &holder) {
-    Known known(any_balanced_sheet(holder.dice));
+    Known known(any_accepted_sheet(holder.dice));
     const Path::Stop &end = known.path_from_start().end();
     Tableau tableau = end.tableau;
     for (int turn = 0; turn < 10; turn++) {
         holder.hold_in_rooms(known, {Entry::settle, cells_of(tableau)});
-        tableau = wandered_among_finished(holder.dice, known.sheet, end.prices, tableau, holder.dice.below(3));
+        tableau = wandered_among_finished(holder.dice, known.extended, end.prices, tableau, holder.dice.below(3));
     }
-    holder.hold_in_rooms(known, {Entry::settle, cells_of(start(known.sheet))});
+    holder.hold_in_rooms(known, {Entry::settle, cells_of(start(known.extended))});
 }
 
 template <Entry entry> static void filling_case(Holder &holder) {
-    Known known(any_balanced_sheet(holder.dice));
+    Known known(any_accepted_sheet(holder.dice));
     for (int turn = 0; turn < 10; turn++) holder.hold_in_rooms(known, {entry});
 }
 
@@ -186,7 +187,7 @@ static void hold_text(Holder &holder, const std::string &text) {
     for (int turn = 0; turn < 4; turn++) holder.hold_in_rooms(known, call);
 }
 
-static void sheet_text_case(Holder &holder) { hold_text(holder, sheet_text(any_balanced_sheet(holder.dice))); }
+static void sheet_text_case(Holder &holder) { hold_text(holder, sheet_text(any_accepted_sheet(holder.dice))); }
 
 static void any_text_case(Holder &holder) {
     std::string text = holder.dice.one_of(text_kinds).make(holder.dice);
@@ -207,9 +208,9 @@ static void hold_lists(Holder &holder, const Lists &lists, const Cells &cells) {
 }
 
 static void hold_changed_lists(Holder &holder, const std::vector<ChangeLists> &changes, size_t count) {
-    Known known(any_balanced_sheet(holder.dice));
-    Cells cells = cells_of(start(known.sheet));
-    if (holder.dice.once_in(3)) put_noise(holder.dice, known.sheet, cells);
+    Known known(any_accepted_sheet(holder.dice));
+    Cells cells = cells_of(start(known.extended));
+    if (holder.dice.once_in(3)) put_noise(holder.dice, known.extended, cells);
     for (int turn = 0; turn < 3; turn++) {
         Lists lists = known.lists;
         for (size_t change = 0; change < count; change++) holder.dice.one_of(changes)(holder.dice, lists);
@@ -224,11 +225,11 @@ static void many_faults_case(Holder &holder) { hold_changed_lists(holder, {chang
 // ---- cells that are no tableau
 
 static void hold_changed_tableaux(Holder &holder, const std::vector<Change> &changes, size_t count) {
-    Known known(any_balanced_sheet(holder.dice));
+    Known known(any_accepted_sheet(holder.dice));
     Tableau tableau = any_tableau(holder.dice, known);
     for (int turn = 0; turn < 6; turn++) {
         Cells cells = cells_of(tableau);
-        for (size_t change = 0; change < count && !cells.empty(); change++) holder.dice.one_of(changes)(holder.dice, known.sheet, cells);
+        for (size_t change = 0; change < count && !cells.empty(); change++) holder.dice.one_of(changes)(holder.dice, known.extended, cells);
         hold_tableau(holder, known, cells);
     }
 }
@@ -265,6 +266,7 @@ static const std::vector<CallKind> call_kinds = {
     {"lists with several faults", many_faults_case},
     {"tableaux of other counts", changed_tableau_case<change_count>},
     {"tableaux with cells off the sheet", changed_tableau_case<put_off_sheet>},
+    {"tableaux with another last column", changed_tableau_case<change_last_column>},
     {"tableaux in other orders", changed_tableau_case<change_order>},
     {"tableaux with other amounts", changed_tableau_case<change_amounts>},
     {"tableaux with shifted pairs", changed_tableau_case<shift_pairs>},

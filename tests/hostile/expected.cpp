@@ -2,11 +2,12 @@
 
 #include <algorithm>
 
-Known::Known(const Lists &lists) : lists(lists), refusal(refusal_of(lists)), sheet(refusal == no_refusal ? sheet_of(lists) : Sheet()) {}
+Known::Known(const Lists &lists)
+    : lists(lists), refusal(refusal_of(lists)), sheet(refusal == no_refusal ? sheet_of(lists) : Sheet()), extended(::extended(sheet)) {}
 
 Path &Known::path_from(const Tableau &tableau) {
     auto place = paths.find(tableau);
-    if (place == paths.end()) place = paths.emplace(tableau, Path(sheet, tableau)).first;
+    if (place == paths.end()) place = paths.emplace(tableau, Path(extended, tableau)).first;
     return place->second;
 }
 
@@ -47,7 +48,7 @@ static std::vector<Bytes> lists_after(const Call &call, const std::vector<Bytes>
 
 static int refusal_with_cells(const Known &known, const Cells &cells) {
     if (known.refusal != no_refusal) return known.refusal;
-    return belongs(known.sheet, cells) ? no_refusal : 6;
+    return belongs(known.extended, cells) ? no_refusal : 6;
 }
 
 // The text that write sheet or write plan writes.
@@ -72,7 +73,7 @@ std::vector<size_t> needs_of(Known &known, const Call &call) {
 static Outcome expected_start(Known &known) {
     panel_start_result result = {};
     result.refusal = (uint8_t)known.refusal;
-    if (result.refusal == no_refusal) result.tableau = given(start(known.sheet));
+    if (result.refusal == no_refusal) result.tableau = given(start(known.extended));
     return {fields_of(result), {}, {}};
 }
 
@@ -85,7 +86,7 @@ static Outcome expected_round(Known &known, const Call &call) {
     result.finished = stop.finished;
     if (stop.finished) {
         std::copy(stop.prices.u.begin(), stop.prices.u.end(), result.u);
-        std::copy(stop.prices.v.begin(), stop.prices.v.end(), result.v);
+        std::copy_n(stop.prices.v.begin(), known.sheet.n(), result.v);
     } else {
         result.tableau = given(path.after(1).tableau);
     }

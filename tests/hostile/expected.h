@@ -14,13 +14,13 @@ class Known {
 public:
     const Lists lists;
     const int refusal; // of the sheet check
-    const Sheet sheet; // empty if the lists are refused
+    const Sheet sheet, extended; // both empty if the lists are refused
 
     explicit Known(const Lists &lists);
     explicit Known(const Sheet &sheet) : Known(lists_of(sheet)) {}
     Known(const Known &) = delete;
     Path &path_from(const Tableau &tableau);
-    Path &path_from_start() { return path_from(start(sheet)); }
+    Path &path_from_start() { return path_from(start(extended)); }
     const Solution &solution();
 };
 

@@ -1,6 +1,7 @@
 #include "random_lists.h"
 
 #include <algorithm>
+#include <numeric>
 
 static const size_t longest = 100'000;
 static const uint64_t bit31 = uint64_t{1} << 31, bit32 = uint64_t{1} << 32, bit63 = uint64_t{1} << 63;
@@ -79,13 +80,23 @@ static void shift(Dice &dice, Numbers &list) {
     dice.one_of(list) -= bags;
 }
 
+// With so many cafés the extra one, if there is a surplus, just has room or just has none.
+static void take_many_cafes(Dice &dice, Lists &lists) {
+    resize(lists.demand, dice.one_of<size_t>({full - 1, full - 1, full, full, full + 1}));
+    resize(lists.cost, lists.supply.size() * lists.demand.size());
+    uint64_t demand = std::accumulate(lists.demand.begin(), lists.demand.end(), uint64_t{0});
+    uint64_t supply = std::accumulate(lists.supply.begin() + 1, lists.supply.end(), uint64_t{0});
+    lists.supply[0] = demand - supply + dice.one_of<uint64_t>({0, 1, 1, 2, 1'000, UINT64_MAX});
+}
+
 void change_totals(Dice &dice, Lists &lists) {
     if (lists.supply.empty() || lists.demand.empty()) return;
     Numbers &list = dice.once_in(2) ? lists.supply : lists.demand;
-    switch (dice.below(4)) {
+    switch (dice.below(5)) {
     case 0: return shift(dice, list);
     case 1: dice.one_of(list)++; return;
     case 2: dice.one_of(list)--; return;
+    case 3: return take_many_cafes(dice, lists);
     default: std::fill(list.begin(), list.end(), most);
     }
 }

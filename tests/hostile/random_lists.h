@@ -8,7 +8,7 @@
 void change_sizes(Dice &dice, Lists &lists);
 // Supplies, demands and costs at and beyond the limits, up to the ends of 64 bits.
 void change_numbers(Dice &dice, Lists &lists);
-// Totals that differ, or that are equal only if they wrap around.
+// Totals that differ, or that are equal only if they wrap around; also with as many cafés as there may be, or one more or less.
 void change_totals(Dice &dice, Lists &lists);
 
 #endif

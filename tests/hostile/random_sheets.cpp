@@ -23,10 +23,30 @@ static void balance(Dice &dice, Sheet &sheet) {
     }
 }
 
+// Gives one roastery or each up to `top` units more, or as many bags as it may have. A balanced sheet then has a surplus, unless they had as many before.
+static void add_surplus(Dice &dice, Sheet &sheet, Whole top, Whole unit) {
+    auto raise = [&](Whole &bags, Whole units) { bags = std::min(bags + units * unit, most); };
+    switch (dice.below(6)) {
+    case 0: return sheet.supply.assign(sheet.m(), most);
+    case 1: dice.one_of(sheet.supply) = most; return;
+    case 2: return raise(dice.one_of(sheet.supply), 1);
+    case 3: return raise(sheet.supply.back(), dice.between(1, top));
+    default:
+        raise(dice.one_of(sheet.supply), 1);
+        for (Whole &bags : sheet.supply) raise(bags, dice.between(0, top));
+    }
+}
+
+// Half of the sheets that have room for the extra café get a surplus.
+static void perhaps_add_surplus(Dice &dice, Sheet &sheet, Whole top, Whole unit) {
+    if (sheet.n() < full && dice.once_in(2)) add_surplus(dice, sheet, top, unit);
+}
+
 static void random_bags(Dice &dice, Sheet &sheet, Whole top) {
     for (Whole &bags : sheet.supply) bags = dice.between(1, top);
     for (Whole &bags : sheet.demand) bags = dice.between(1, top);
     balance(dice, sheet);
+    perhaps_add_surplus(dice, sheet, top, 1);
 }
 
 // Cuts a bar of so many units into as many parts as the list has.
@@ -53,6 +73,7 @@ static void tied_bags(Dice &dice, Sheet &sheet) {
     Whole unit = dice.one_of({1, 7, most / 64});
     cut_bar(dice, sheet.supply, units, unit);
     cut_bar(dice, sheet.demand, units, unit);
+    perhaps_add_surplus(dice, sheet, 2, unit);
 }
 
 static void any_bags(Dice &dice, Sheet &sheet) {
@@ -181,9 +202,21 @@ Sheet narrow_sheet(Dice &dice) {
     return filled(dice, sheet);
 }
 
-Sheet full_sheet(Dice &dice) { return filled(dice, blank(full, full)); }
+// The extra café makes 31 cafés full too.
+Sheet full_sheet(Dice &dice) {
+    size_t n = full - dice.below(2);
+    return filled(dice, blank(full, n));
+}
 
-// ---- sheets to refuse by 3, 4 or 5, or just not
+// ---- sheets to refuse by 3, 4, 5 or 10, or just not
+
+// With a surplus 31 cafés are the most, and 32 are too many.
+Sheet sheet_of_many_cafes(Dice &dice) {
+    size_t m = 1 + dice.below(full), n = full - dice.below(2);
+    Sheet sheet = filled(dice, blank(m, n));
+    if (!dice.once_in(4)) add_surplus(dice, sheet, dice.one_of({1, 1'000, most}), 1);
+    return sheet;
+}
 
 Sheet unequal_sheet(Dice &dice) {
     Sheet sheet = any_sheet(dice);
@@ -195,7 +228,7 @@ Sheet unequal_sheet(Dice &dice) {
 static Whole at_the_limits(Dice &dice) { return dice.one_of({0, 1, most - 1, most, most + 1, seven_nines}); }
 
 Sheet sheet_at_the_limits(Dice &dice) {
-    Sheet sheet = any_sheet(dice);
+    Sheet sheet = dice.once_in(4) ? sheet_of_many_cafes(dice) : any_sheet(dice);
     for (size_t change = 1 + dice.below(3); change > 0; change--)
         switch (dice.below(4)) {
         case 0: dice.one_of(sheet.supply) = at_the_limits(dice); break;

@@ -1,4 +1,4 @@
-// Random sheets, most of them balanced and within the limits.
+// Random sheets, most of them accepted.
 #ifndef RANDOM_SHEETS_H
 #define RANDOM_SHEETS_H
 
@@ -13,7 +13,7 @@ Sheet blank(size_t m, size_t n);
 Sheet filled(Dice &dice, Sheet sheet);
 void random_costs(Dice &dice, Sheet &sheet, Whole top);
 
-// Balanced, and within the limits.
+// Balanced or with a surplus, and accepted.
 Sheet any_sheet(Dice &dice);
 Sheet small_sheet(Dice &dice);
 Sheet sheet_of_ties(Dice &dice);
@@ -24,8 +24,9 @@ Sheet sheet_of_large_numbers(Dice &dice);
 Sheet narrow_sheet(Dice &dice);
 Sheet full_sheet(Dice &dice);
 
-// To refuse by 3, 4 or 5, or just not.
+// To refuse by 3, 4, 5 or 10, or just not.
 Sheet unequal_sheet(Dice &dice);
+Sheet sheet_of_many_cafes(Dice &dice);
 Sheet sheet_at_the_limits(Dice &dice);
 
 #endif

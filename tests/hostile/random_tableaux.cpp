@@ -46,10 +46,9 @@ static std::vector<Lane> random_spanning_lanes(Dice &dice, const Sheet &sheet) {
     return kept;
 }
 
-// Strikes off a party with a single lane, again and again: that lane carries all that the party has left.
-Cells random_tree(Dice &dice, const Sheet &sheet) {
-    std::vector<Lane> open = random_spanning_lanes(dice, sheet);
-    std::vector<Amount> left = paired_supplies(sheet), wanted = paired_demands(sheet);
+// The pairs that add up on lanes that join all parties without a loop. Strikes off a party with a single lane, again and again: that lane carries all that the
+// party has left.
+static Cells carried_on(std::vector<Lane> open, std::vector<Amount> left, std::vector<Amount> wanted) {
     Tableau tableau;
     while (!open.empty()) {
         for (size_t k = 0; k < open.size(); k++) {
@@ -66,6 +65,10 @@ Cells random_tree(Dice &dice, const Sheet &sheet) {
         }
     }
     return cells_of(tableau);
+}
+
+Cells random_tree(Dice &dice, const Sheet &sheet) {
+    return carried_on(random_spanning_lanes(dice, sheet), paired_supplies(sheet), paired_demands(sheet));
 }
 
 // ---- counts
@@ -138,6 +141,61 @@ void change_order(Dice &dice, const Sheet &, Cells &cells) {
     default:
         cells[k].row = cells[other].row;
         cells[k].col = cells[other].col;
+    }
+}
+
+// ---- the last column, which is the extra café's if there is a surplus
+
+static void drop_last_column(const Sheet &sheet, Cells &cells) {
+    auto is_last = [&](const Cell &cell) { return cell.col + 1 == sheet.n(); };
+    cells.erase(std::remove_if(cells.begin(), cells.end(), is_last), cells.end());
+}
+
+// The start if the roasteries had only what they send to the other cafés.
+static void start_without_last_column(const Sheet &sheet, Cells &cells) {
+    Sheet other = {sheet.supply, List(sheet.demand.begin(), sheet.demand.end() - 1), {}};
+    for (const Cell &cell : cells)
+        if (cell.col + 1 == sheet.n()) other.supply[cell.row] -= cell.amount.first;
+    if (other.n() > 0) cells = cells_of(start(other));
+}
+
+// The start if one café more took a part of what the last one takes, or only the marks.
+static void start_with_one_column_more(Dice &dice, const Sheet &sheet, Cells &cells) {
+    Sheet other = sheet;
+    Whole bags = dice.once_in(2) ? 0 : dice.between(0, sheet.demand.back() - 1);
+    other.demand.back() -= bags;
+    other.demand.push_back(bags);
+    cells = cells_of(start(other));
+}
+
+// The pairs if the marks were another café's.
+static void give_marks_to_other(Dice &dice, const Sheet &sheet, Cells &cells) {
+    std::vector<Lane> lanes;
+    for (const Cell &cell : cells) lanes.push_back({cell.row, cell.col});
+    std::vector<Amount> wanted = paired_demands(sheet);
+    wanted.back().second = 0;
+    wanted[sheet.n() - 1 - std::min<size_t>(1 + dice.below(2), sheet.n() - 1)].second = (Whole)sheet.m();
+    cells = carried_on(lanes, paired_supplies(sheet), wanted);
+}
+
+static void put_last_column_first(const Sheet &sheet, Cells &cells) {
+    for (Cell &cell : cells) cell.col = (cell.col + 1) % sheet.n();
+    std::sort(cells.begin(), cells.end(), is_before);
+}
+
+static void put_last_column_at(const Sheet &sheet, Cells &cells, size_t col) {
+    for (Cell &cell : cells)
+        if (cell.col + 1 == sheet.n()) cell.col = col;
+}
+
+void change_last_column(Dice &dice, const Sheet &sheet, Cells &cells) {
+    switch (dice.below(6)) {
+    case 0: return drop_last_column(sheet, cells);
+    case 1: return start_without_last_column(sheet, cells);
+    case 2: return start_with_one_column_more(dice, sheet, cells);
+    case 3: return give_marks_to_other(dice, sheet, cells);
+    case 4: return put_last_column_first(sheet, cells);
+    default: return put_last_column_at(sheet, cells, dice.one_of<size_t>({sheet.n(), 31, 32, 63, 64}));
     }
 }
 

@@ -1,4 +1,4 @@
-// Random tableaux of a sheet, and lists of cells that are none.
+// Random tableaux of a sheet, and lists of cells that are none. Sheets are extended here.
 #ifndef RANDOM_TABLEAUX_H
 #define RANDOM_TABLEAUX_H
 
@@ -17,6 +17,8 @@ void change_count(Dice &dice, const Sheet &sheet, Cells &cells);
 void put_off_sheet(Dice &dice, const Sheet &sheet, Cells &cells);
 void change_order(Dice &dice, const Sheet &sheet, Cells &cells);
 void change_amounts(Dice &dice, const Sheet &sheet, Cells &cells);
+// As if the extra café were missing, one more were there, or it stood elsewhere.
+void change_last_column(Dice &dice, const Sheet &sheet, Cells &cells);
 // Pairs that add up, or nearly so.
 void shift_pairs(Dice &dice, const Sheet &sheet, Cells &cells);
 // Cells by chance.

@@ -131,7 +131,7 @@ static std::string text_of_odd_lines(Dice &dice) {
     return joined(lines);
 }
 
-// With the longest numbers. Some are as the dice say, so that it may be refused by 3, 4 or 5.
+// With the longest numbers. Some are as the dice say, so that it may be refused by 3 or 4.
 static std::string longest_text(Dice &dice) {
     Sheet sheet = blank(full, full);
     sheet.supply.assign(full, most);
@@ -190,6 +190,7 @@ const std::vector<TextKind> text_kinds = {
     {"narrow sheets", text_of<narrow_sheet>},
     {"full sheets", text_of<full_sheet>},
     {"unequal sheets", text_of<unequal_sheet>},
+    {"sheets of 31 or 32 cafés", text_of<sheet_of_many_cafes>},
     {"sheets at the limits", text_of<sheet_at_the_limits>},
     {"cut texts", cut_text},
     {"spliced texts", spliced_text},

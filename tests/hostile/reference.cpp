@@ -19,6 +19,16 @@ Whole total(const List &list) {
     return sum;
 }
 
+Whole surplus(const Sheet &sheet) { return total(sheet.supply) - total(sheet.demand); }
+
+Sheet extended(const Sheet &sheet) {
+    if (surplus(sheet) == 0) return sheet;
+    Sheet with_extra = sheet;
+    with_extra.demand.push_back(surplus(sheet));
+    for (List &row : with_extra.cost) row.push_back(0);
+    return with_extra;
+}
+
 Lists lists_of(const Sheet &sheet) {
     Lists lists = {Numbers(sheet.supply.begin(), sheet.supply.end()), Numbers(sheet.demand.begin(), sheet.demand.end()), {}};
     for (const List &row : sheet.cost) lists.cost.insert(lists.cost.end(), row.begin(), row.end());
@@ -41,7 +51,8 @@ static int refusal_of_numbers(const Lists &lists) {
     if (any_outside(lists.supply, 1, most) || any_outside(lists.demand, 1, most)) return 3;
     if (any_outside(lists.cost, 0, most)) return 4;
     auto sum = [](const Numbers &list) { return std::accumulate(list.begin(), list.end(), uint64_t{0}); };
-    if (sum(lists.supply) != sum(lists.demand)) return 5;
+    if (sum(lists.supply) < sum(lists.demand)) return 5;
+    if (sum(lists.supply) > sum(lists.demand) && lists.demand.size() == most_parties) return 10;
     return no_refusal;
 }
 
@@ -342,13 +353,14 @@ const Path::Stop &Path::after(uint64_t rounds) {
 
 // ---- plans
 
-Grid bags_of(const Sheet &sheet, const Tableau &tableau) {
+static Grid bags_of(const Sheet &sheet, const Tableau &tableau) {
     Grid bags(sheet.m(), List(sheet.n(), 0));
     for (const auto &[lane, amount] : tableau) bags[lane.first][lane.second] = amount.first;
     return bags;
 }
 
-// Brings as many bags to the lane as tight lanes after it can give, and leaves the lanes before it alone.
+// Brings as many bags to the lane as tight lanes after it can give, and leaves the lanes before it alone. The lane of the extra café stands at the end of its
+// row; in the rows before, where all else stays, it stays too.
 static void fill(const Sheet &sheet, const Prices &prices, Grid &bags, Lane lane) {
     Test may_lose = [&](Lane other) { return other > lane && bags[other.first][other.second] > 0; };
     Test may_gain = [&](Lane other) { return other > lane && prices.reduced(sheet, other) == 0; };
@@ -362,10 +374,14 @@ static void fill(const Sheet &sheet, const Prices &prices, Grid &bags, Lane lane
     }
 }
 
-Grid settle(const Sheet &sheet, const Prices &prices, Grid bags) {
+// The lanes of the extra café only give and take, and are dropped at the end.
+Grid settled_plan(const Sheet &sheet, const Prices &prices, const Tableau &tableau) {
+    Sheet extended = ::extended(sheet);
+    Grid bags = bags_of(extended, tableau);
     for (size_t i = 0; i < sheet.m(); i++)
         for (size_t j = 0; j < sheet.n(); j++)
-            if (prices.reduced(sheet, {i, j}) == 0) fill(sheet, prices, bags, {i, j});
+            if (prices.reduced(extended, {i, j}) == 0) fill(extended, prices, bags, {i, j});
+    for (List &row : bags) row.resize(sheet.n());
     return bags;
 }
 
@@ -376,11 +392,12 @@ Whole cost_of(const Sheet &sheet, const Grid &plan) {
     return cost;
 }
 
-// Takes the plans in order, more on an earlier lane first, and keeps the first of least cost.
+// Takes the plans in order, more on an earlier lane first, and keeps the first of least cost. A roastery may keep what is left of the surplus.
 Grid search(const Sheet &sheet) {
     const size_t m = sheet.m(), n = sheet.n();
     Grid plan(m, List(n, 0)), best;
     List left = sheet.supply, wanted = sheet.demand;
+    Whole spare = surplus(sheet);
     std::function<void(size_t)> choose = [&](size_t k) {
         if (k == m * n) {
             if (best.empty() || cost_of(sheet, plan) < cost_of(sheet, best)) best = plan;
@@ -389,10 +406,13 @@ Grid search(const Sheet &sheet) {
         size_t i = k / n, j = k % n;
         Whole &lane = plan[i][j];
         for (lane = std::min(left[i], wanted[j]); lane >= 0; lane--) {
-            if ((j + 1 == n && lane < left[i]) || (i + 1 == m && lane < wanted[j])) break;
+            if ((j + 1 == n && lane < left[i] - spare) || (i + 1 == m && lane < wanted[j])) break;
             left[i] -= lane;
             wanted[j] -= lane;
+            Whole kept = j + 1 == n ? left[i] : 0;
+            spare -= kept;
             choose(k + 1);
+            spare += kept;
             left[i] += lane;
             wanted[j] += lane;
         }
@@ -401,10 +421,10 @@ Grid search(const Sheet &sheet) {
     return best;
 }
 
-bool has_few_plans(const Sheet &sheet) { return sheet.m() * sheet.n() <= 16 && total(sheet.supply) <= 12; }
+bool has_few_plans(const Sheet &sheet) { return sheet.m() * sheet.n() <= 16 && (total(sheet.supply) <= 12 || total(sheet.demand) <= 8); }
 
 static void claim_meets(const Sheet &sheet, const Grid &plan) {
-    for (size_t i = 0; i < sheet.m(); i++) claim(total(plan[i]) == sheet.supply[i], "a plan meets each supply");
+    for (size_t i = 0; i < sheet.m(); i++) claim(total(plan[i]) <= sheet.supply[i], "a plan sends at most each supply");
     for (size_t j = 0; j < sheet.n(); j++) {
         Whole bags = 0;
         for (const List &row : plan) bags += row[j];
@@ -412,23 +432,33 @@ static void claim_meets(const Sheet &sheet, const Grid &plan) {
     }
 }
 
+// By the prices that are given: without that of the extra café, w. Its lanes cost 0, so no u + w is above 0, and a roastery that keeps bags has u + w = 0: no
+// other has a greater u.
 static void claim_least(const Sheet &sheet, const Prices &prices, const Grid &plan) {
-    for (size_t i = 0; i < sheet.m(); i++)
+    Whole greatest = *std::max_element(prices.u.begin(), prices.u.end());
+    for (size_t i = 0; i < sheet.m(); i++) {
         for (size_t j = 0; j < sheet.n(); j++) {
             Whole reduced = prices.reduced(sheet, {i, j});
             claim(plan[i][j] >= 0 && reduced >= 0 && (plan[i][j] == 0 || reduced == 0), "the prices prove the plan");
         }
+        claim(total(plan[i]) == sheet.supply[i] || prices.u[i] == greatest, "a roastery that keeps bags has the greatest price");
+    }
 }
 
 Solution solution_at(const Sheet &sheet, const Path::Stop &end) {
-    Grid plan = settle(sheet, end.prices, bags_of(sheet, end.tableau));
+    Grid plan = settled_plan(sheet, end.prices, end.tableau);
+    Prices given = end.prices;
+    given.v.resize(sheet.n());
     claim_meets(sheet, plan);
-    claim_least(sheet, end.prices, plan);
+    claim_least(sheet, given, plan);
     claim(!has_few_plans(sheet) || search(sheet) == plan, "a search through all plans finds the settled plan");
-    return {cost_of(sheet, plan), end.rounds, end.prices, plan};
+    return {cost_of(sheet, plan), end.rounds, given, plan};
 }
 
-Solution solve(const Sheet &sheet) { return solution_at(sheet, Path(sheet, start(sheet)).end()); }
+Solution solve(const Sheet &sheet) {
+    Sheet extended = ::extended(sheet);
+    return solution_at(sheet, Path(extended, start(extended)).end());
+}
 
 static void write_list(std::ostream &text, const char *name, const List &list) {
     text << name << " " << list.size() << "\n";

@@ -1,5 +1,5 @@
-// What the program has to print for any input, and what the calls have to give, found in the plainest way from the words of paper 01. Shares nothing with the
-// panel's code.
+// What the program has to print for any input, and what the calls have to give, found in the plainest way from the words of paper 01 and of paper 02, One.
+// Shares nothing with the panel's code.
 #ifndef REFERENCE_H
 #define REFERENCE_H
 
@@ -24,6 +24,11 @@ struct Sheet {
 };
 
 Whole total(const List &list);
+// What supply is above demand.
+Whole surplus(const Sheet &sheet);
+// The sheet that tableaux are of: where there is a surplus, an extra café, the last one, takes it at cost 0. All that follows about tableaux and prices is said
+// of sheets that are extended.
+Sheet extended(const Sheet &sheet);
 
 // A sheet as it is lent: lists of any length, with any numbers.
 using Numbers = std::vector<uint64_t>;
@@ -93,7 +98,7 @@ struct Cell {
 using Cells = std::vector<Cell>;
 
 Cells cells_of(const Tableau &tableau);
-// Whether the cells are a tableau of the sheet.
+// Whether the cells are a tableau of the extended sheet.
 bool belongs(const Sheet &sheet, const Cells &cells);
 // Of cells that belong.
 Tableau tableau_of(const Cells &cells);
@@ -131,15 +136,15 @@ private:
 
 // ---- plans
 
-Grid bags_of(const Sheet &sheet, const Tableau &tableau);
-// From the bags of a finished tableau with these prices.
-Grid settle(const Sheet &sheet, const Prices &prices, Grid bags);
+// From a finished tableau of the extended sheet with these prices.
+Grid settled_plan(const Sheet &sheet, const Prices &prices, const Tableau &tableau);
 Whole cost_of(const Sheet &sheet, const Grid &plan);
 // The plan that a search through all plans finds.
 Grid search(const Sheet &sheet);
 // Whether such a search is quick.
 bool has_few_plans(const Sheet &sheet);
 
+// Of the sheet alone, without the extra café.
 struct Solution {
     Whole cost;
     uint64_t rounds;
@@ -149,7 +154,7 @@ struct Solution {
 
 // The solution, once its prices have proved its plan, and a search has found it again if that is quick.
 Solution solve(const Sheet &sheet);
-// The same from the end of the path from the start.
+// The same from the end of the path from the start, on the extended sheet.
 Solution solution_at(const Sheet &sheet, const Path::Stop &end);
 std::string plan_text(const Solution &solution);
 

@@ -1,5 +1,5 @@
-// Holds a program to the reference: to the samples of paper 01, and then to COUNT texts that are made from a seed, of each kind in turn.
-// A kind of text is one test. A case that differs is told in full; with its number as FIRST and a count of 1 it runs alone.
+// Holds a program to the reference: to the samples of paper 01 and to sheets with a surplus, and then to COUNT texts that are made from a seed, of each kind in
+// turn. A kind of text is one test. A case that differs is told in full; with its number as FIRST and a count of 1 it runs alone.
 #include "program.h"
 #include "random_texts.h"
 #include "report.h"
@@ -30,7 +30,7 @@ static bool agrees(const std::string &program, const std::string &name, const st
     return false;
 }
 
-// ---- the samples of paper 01
+// ---- the samples of paper 01, and sheets with a surplus for paper 02, One
 
 struct Sample {
     const char *name;
@@ -40,8 +40,25 @@ struct Sample {
 static const Sheet sheet1 = {{3, 4}, {5, 2}, {{4, 1}, {2, 6}}};
 static const Sheet sheet3 = {{5, 5}, {5, 5}, {{1, 1}, {1, 1}}};
 static const Sheet sheet4 = {{1, 3}, {2, 1, 1}, {{9, 0, 0}, {0, 0, 0}}};
+static const Sheet dear = {{3, 3}, {4}, {{5}, {1}}};
+static const Sheet split = {{3, 3}, {2, 2}, {{1, 9}, {9, 1}}};
+static const Sheet even = {{3, 3}, {4}, {{1}, {1}}};
+static const Sheet extra_first = {{1, 2}, {1, 1}, {{2, 2}, {0, 1}}};
+static const Sheet extra_later = {{1, 3}, {2, 1}, {{3, 0}, {2, 0}}};
 
 static std::string single(Whole supply, Whole demand, Whole cost) { return sheet_text({{supply}, {demand}, {{cost}}}); }
+
+// One roastery, and cafés that want a bag each, at 1 cent.
+static std::string wide(Whole supply, size_t cafes) { return sheet_text({{supply}, List(cafes, 1), {List(cafes, 1)}}); }
+
+static std::string wide_plan(size_t cafes) {
+    std::string count = std::to_string(cafes), prices, lanes;
+    for (size_t cafe = 1; cafe <= cafes; cafe++) {
+        prices += "1\n";
+        lanes += "1 " + std::to_string(cafe) + " 1\n";
+    }
+    return "total 1\n" + count + "\nrounds 1\n0\nroasteries 1\n0\ncafes " + count + "\n" + prices + "lanes " + count + "\n" + lanes;
+}
 
 static const std::vector<Sample> samples = {
     {"P1", "supply 2\n3\n4\ndemand 2\n5\n2\ncost 2\n4 1\n2 6\n",
@@ -52,11 +69,21 @@ static const std::vector<Sample> samples = {
     {"P7", single(1'000'000, 1'000'000, 1'000'000),
      "total 1\n1000000000000\nrounds 1\n0\nroasteries 1\n0\ncafes 1\n1000000\nlanes 1\n1 1 1000000\n"},
     {"P7, dearer", single(1'000'000, 1'000'000, 1'000'001), "refused 4\n"},
-    {"P8, supply 3", single(3, 2, 0), "refused 5\n"},
+    {"P8, supply 3", single(3, 2, 0), "total 1\n0\nrounds 1\n0\nroasteries 1\n0\ncafes 1\n0\nlanes 1\n1 1 2\n"},
     {"P8, supply 0", single(0, 2, 0), "refused 3\n"},
     {"the empty text", "", "refused 9 0\n"},
     {"supply 33", "supply 33", "refused 9 8\n"},
     {"supply 01", "supply 01", "refused 9 7\n"},
+    {"more demand than supply", single(2, 3, 0), "refused 5\n"},
+    {"the surplus at the dear roastery", sheet_text(dear), "total 1\n8\nrounds 1\n1\nroasteries 2\n0\n-4\ncafes 1\n5\nlanes 2\n1 1 1\n2 1 3\n"},
+    {"the surplus at both", sheet_text(split), "total 1\n4\nrounds 1\n1\nroasteries 2\n0\n0\ncafes 2\n1\n1\nlanes 2\n1 1 2\n2 2 2\n"},
+    {"equal costs", sheet_text(even), "total 1\n4\nrounds 1\n0\nroasteries 2\n0\n0\ncafes 1\n1\nlanes 2\n1 1 3\n2 1 1\n"},
+    {"a tie, the extra café first", sheet_text(extra_first), "total 1\n1\nrounds 1\n2\nroasteries 2\n0\n0\ncafes 2\n0\n1\nlanes 2\n2 1 1\n2 2 1\n"},
+    {"a tie, the extra café later", sheet_text(extra_later), "total 1\n4\nrounds 1\n2\nroasteries 2\n0\n0\ncafes 2\n2\n0\nlanes 2\n1 2 1\n2 1 2\n"},
+    {"31 cafés and a surplus", wide(40, 31), wide_plan(31)},
+    {"32 cafés and none", wide(32, 32), wide_plan(32)},
+    {"32 cafés and a surplus", wide(40, 32), "refused 10\n"},
+    {"32 cafés and too few bags", wide(31, 32), "refused 5\n"},
 };
 
 static bool samples_are_met(const std::string &program) {
@@ -104,13 +131,32 @@ static bool meets_small_step() {
 // P5: another finished tableau settles to the plan of P4.
 static bool meets_other_end() {
     Tableau tableau = {{{0, 2}, {1, 1}}, {{1, 0}, {2, 0}}, {{1, 1}, {1, 0}}, {{1, 2}, {0, 1}}};
-    return belongs(sheet4, cells_of(tableau)) && settle(sheet4, prices(sheet4, tableau), bags_of(sheet4, tableau)) == Grid{{0, 1, 0}, {2, 0, 1}};
+    return belongs(sheet4, cells_of(tableau)) && settled_plan(sheet4, prices(sheet4, tableau), tableau) == Grid{{0, 1, 0}, {2, 0, 1}};
+}
+
+// The tableau has a column more than the sheet has cafés, with the marks; and without it, it does not belong.
+static bool meets_extra_cafe() {
+    Sheet extended = ::extended(dear);
+    Tableau tableau = start(extended);
+    Lane lane = least_lane(extended, prices(extended, tableau));
+    bool met = tableau == Tableau{{{0, 0}, {3, 1}}, {{1, 0}, {1, -1}}, {{1, 1}, {2, 2}}} && belongs(extended, cells_of(tableau));
+    met &= !belongs(extended, cells_of(start({{1, 3}, {4}, {{5}, {1}}})));
+    met &= lane == Lane{0, 1} && make_round(extended, tableau, lane) == Amount{2, 2};
+    return met && tableau == Tableau{{{0, 0}, {1, -1}}, {{0, 1}, {2, 2}}, {{1, 0}, {3, 1}}};
+}
+
+// The first lane of the least reduced cost enters, of the extra café or not.
+static bool meets_entering_lane(const Sheet &sheet, Lane lane, Lane other) {
+    Sheet extended = ::extended(sheet);
+    Prices found = prices(extended, start(extended));
+    return least_lane(extended, found) == lane && found.reduced(extended, lane) == found.reduced(extended, other);
 }
 
 static void test_samples(const std::string &program) {
-    test("the paper's samples, by the program and by the reference", samples_are_met(program));
-    bool met = meets_first_round() && meets_allowances() && meets_tied_start() && meets_small_step() && meets_other_end();
-    test("the paper's tableaux, by the reference", met);
+    test("the papers' samples, by the program and by the reference", samples_are_met(program));
+    bool met = meets_first_round() && meets_allowances() && meets_tied_start() && meets_small_step() && meets_other_end() && meets_extra_cafe();
+    met &= meets_entering_lane(extra_first, {0, 2}, {1, 0}) && meets_entering_lane(extra_later, {0, 1}, {0, 2});
+    test("the papers' tableaux, by the reference", met);
 }
 
 // ---- random texts
@@ -124,6 +170,7 @@ static void note(Tally &tally, const std::string &text, const std::string &expec
         return;
     }
     tally.count("plans");
+    tally.count("with a surplus", surplus(reading.sheet) > 0);
     tally.count("plans searched", has_few_plans(reading.sheet));
     long long rounds = 0;
     if (std::sscanf(expected.c_str(), "total 1 %*d rounds 1 %lld", &rounds) == 1) tally.note_most("most rounds", (uint64_t)rounds);

@@ -1,5 +1,5 @@
-"""Holds the program to stored texts, to a search through all plans, and to plans that prove themselves; and its reading and writing
-to docs/FORMATS.md. The variable PANEL may name another program to hold to them.
+"""Holds the program to stored texts, to a search through all plans, and to plans that prove themselves, on balanced sheets and on
+sheets with a surplus; and its reading and writing to docs/FORMATS.md. The variable PANEL may name another program to hold to them.
 
 P2, P5 and P9 of paper 01 speak of run and settle on tableaux, which no text can ask for: rust/tests has them.
 """
@@ -123,11 +123,19 @@ def random_sheet(rng, m, n, bags, top):
             return supply, demand, [[rng.randint(0, top) for _ in range(n)] for _ in range(m)]
 
 
-def row_plans(left, wanted):
-    """All ways to send what is left to cafés that want so much."""
+def with_surplus(rng, sheet, bags):
+    """The sheet where roasteries have up to so many bags more, one of them at least 1."""
+    supply, demand, cost = sheet
+    more = [rng.randint(0, bags) for _ in supply]
+    more[rng.randrange(len(supply))] += 1
+    return [min(have + got, 1_000_000) for have, got in zip(supply, more)], demand, cost
+
+
+def row_plans(left, wanted, spare):
+    """All ways to send what is left to cafés that want so much, where so many bags may be kept."""
     if not wanted:
-        return [()] if left == 0 else []
-    return [(bags, *rest) for bags in range(min(left, wanted[0]) + 1) for rest in row_plans(left - bags, wanted[1:])]
+        return [()] if left <= spare else []
+    return [(bags, *rest) for bags in range(min(left, wanted[0]) + 1) for rest in row_plans(left - bags, wanted[1:], spare)]
 
 
 def all_plans(supply, wanted):
@@ -136,7 +144,7 @@ def all_plans(supply, wanted):
         return [()] if not any(wanted) else []
     return [
         row + rest
-        for row in row_plans(supply[0], wanted)
+        for row in row_plans(supply[0], wanted, sum(supply) - sum(wanted))
         for rest in all_plans(supply[1:], [want - bags for want, bags in zip(wanted, row)])
     ]
 
@@ -181,11 +189,12 @@ def every_place():
         test(f"the worked sheet with byte {stranger} at {k}", answers(WORKED[:k] + bytes([stranger]) + WORKED[k + 1:], refused))
 
 
-def small_sheets():
+def hold_small_sheets(name, count, make):
     rng = random.Random(11)
     other, unproved = [], []
-    for _ in range(400):
-        sheet = random_sheet(rng, rng.randint(1, 3), rng.randint(1, 3), rng.randint(1, 3), rng.choice([0, 1, 2, 5, 1_000_000]))
+    for _ in range(count):
+        bags = rng.randint(1, 3)
+        sheet = make(rng, random_sheet(rng, rng.randint(1, 3), rng.randint(1, 3), bags, rng.choice([0, 1, 2, 5, 1_000_000])), bags)
         text = sheet_text(*sheet)
         plan = run([PANEL], text)[0]
         total, lanes = best_total_and_lanes(*sheet)
@@ -193,17 +202,28 @@ def small_sheets():
             other.append(text)
         if what_is_wrong(text, plan) is not None:
             unproved.append(text)
-    test(f"400 small sheets: total and lanes are those that a search through all plans finds; not on {other[:1]}", not other)
-    test(f"400 small sheets: the prices prove the plan; not on {unproved[:1]}", not unproved)
+    test(f"{count} small sheets {name}: total and lanes are those that a search through all plans finds; not on {other[:1]}", not other)
+    test(f"{count} small sheets {name}: the prices prove the plan; not on {unproved[:1]}", not unproved)
+
+
+def small_sheets():
+    hold_small_sheets("in balance", 400, lambda rng, sheet, bags: sheet)
+    hold_small_sheets("with a surplus", 400, with_surplus)
+
+
+def hold_large_sheet(name, sheet):
+    text = sheet_text(*sheet)
+    wrong = what_is_wrong(text, run([PANEL], text)[0])
+    test(f"{name}: {wrong}", wrong is None)
 
 
 def large_sheets():
     rng = random.Random(13)
     for k in range(20):
         bags, top = rng.choice([1, 5, 31_250]), rng.choice([3, 1_000, 1_000_000])
-        text = sheet_text(*random_sheet(rng, 32, 32, bags, top))
-        wrong = what_is_wrong(text, run([PANEL], text)[0])
-        test(f"large sheet {k}, bags to {bags}, costs to {top}: {wrong}", wrong is None)
+        hold_large_sheet(f"large sheet {k}, bags to {bags}, costs to {top}", random_sheet(rng, 32, 32, bags, top))
+        sheet = with_surplus(rng, random_sheet(rng, 32, 31, bags, top), 16 * bags)
+        hold_large_sheet(f"large sheet {k} with a surplus, bags to {bags}, costs to {top}", sheet)
 
 
 def long_sheet():
@@ -278,7 +298,9 @@ def script_with_status():
         program.symlink_to(PANEL)
         test("script on a plan: 0", run([script], WORKED) == (WORKED_PLAN, b"", 0))
         test("script called from its own place: 0", run(["./panel"], WORKED, cwd=script.parent) == (WORKED_PLAN, b"", 0))
-        test("script on unequal totals: 1", run([script], sheet_text([3], [2], [[0]])) == (b"refused 5\n", b"", 1))
+        test("script on a surplus: 0", run([script], sheet_text([3], [2], [[0]]))[2] == 0)
+        test("script on more demand than supply: 1", run([script], sheet_text([2], [3], [[0]])) == (b"refused 5\n", b"", 1))
+        test("script on 32 cafés and a surplus: 1", run([script], sheet_text([33], [1] * 32, [[0] * 32])) == (b"refused 10\n", b"", 1))
         test("script on an empty text: 1", run([script], b"") == (b"refused 9 0\n", b"", 1))
         test("script on a directory: 2", run_on_directory(script) == (b"", CANNOT_READ, 2))
         test("script with its input closed: 2", run_with_closed(script, "<&-") == (b"", CANNOT_READ, 2))
@@ -323,7 +345,8 @@ def wrong_plans():
         ("unedited", right, None),
         ("a bag more", edited(bags={(2, 1): 1}), "roastery 2 has 45 bags on the sheet and 46 in the plan"),
         ("a bag moved to another café", edited(bags={(2, 1): -1, (2, 2): 1}), "café 1 has 40 bags on the sheet and 39 in the plan"),
-        ("a bag moved to another roastery", edited(bags={(1, 4): -1, (3, 4): 1}), "roastery 1 has 60 bags on the sheet and 59 in the plan"),
+        ("a bag moved to another roastery", edited(bags={(1, 4): -1, (3, 4): 1}), "roastery 3 has 35 bags on the sheet and 36 in the plan"),
+        ("a bag less", edited(bags={(1, 4): -1}), "café 4 has 25 bags on the sheet and 24 in the plan"),
         ("a circle of bags moved", edited(bags=circle), "the bags cost 21180, and the total is 20950"),
         ("a circle of bags moved, and the total", edited(total=230, bags=circle), "lane 1 1 carries bags and costs 230 more than its prices"),
         ("a dearer total", edited(total=1), "the bags cost 20950, and the total is 20951"),
@@ -346,14 +369,43 @@ def wrong_plans():
     for name, plan, what in cases:
         said = what_is_wrong(island, plan)
         test(f"check_plan, {name}: {said}", said == what)
-    for path in sorted(CASES.glob("[3459]*.in")):
+    for path in sorted(path for path in CASES.glob("*.in") if path.with_suffix(".out").read_bytes().startswith(b"refused")):
         said = what_is_wrong(path.read_bytes(), WORKED_PLAN)
         test(f"check_plan, the sheet of case {path.stem}: {said}", said is not None)
 
 
+def wrong_plans_with_surplus():
+    """check_plan names what is wrong with the bags that roasteries keep. In the example surplus the first keeps two."""
+    sheet = (EXAMPLES / "surplus.sheet").read_bytes()
+    lanes = {(1, 1): 16, (1, 3): 6, (2, 2): 14, (2, 3): 4}
+
+    def said(total=3_850, u=(0, -15), v=(95, 100, 120), bags=()):
+        carried = [(i, j, more) for (i, j), more in sorted({**lanes, **dict(bags)}.items())]
+        lines = ["total 1", total, "rounds 1", 2, "roasteries 2", *u, "cafes 3", *v]
+        return what_is_wrong(sheet, "".join(f"{line}\n" for line in lines).encode() + lane_section(carried))
+
+    dear = {(1, 3): 8, (2, 3): 2}
+    cases = [
+        ("unedited", said(), None),
+        ("a bag more than a roastery has", said(bags={(2, 3): 5}), "roastery 2 has 18 bags on the sheet and 19 in the plan"),
+        ("a bag that is not wanted", said(bags={(1, 3): 7}), "café 3 has 10 bags on the sheet and 11 in the plan"),
+        ("a bag more kept", said(bags={(1, 3): 5}), "café 3 has 10 bags on the sheet and 9 in the plan"),
+        ("the other roastery keeps them", said(total=3_880, bags=dear), "roastery 2 keeps bags, and its price is 15 below the greatest"),
+        ("so it does, at the old total", said(bags=dear), "the bags cost 3880, and the total is 3850"),
+        ("a price above the keeper's", said(u=(0, 1), v=(95, 84, 104)), "lane 1 3 carries bags and costs 16 more than its prices"),
+    ]
+    for name, what, expected in cases:
+        test(f"check_plan with a surplus, {name}: {what}", what == expected)
+    # No lane costs less than its prices or carries bags at another cost; yet roastery 2 should send the bag.
+    one_bag = sheet_text([1, 1], [1], [[5], [3]])
+    plan = b"total 1\n5\nrounds 1\n0\nroasteries 2\n0\n-2\ncafes 1\n5\n" + lane_section([(1, 1, 1)])
+    what = what_is_wrong(one_bag, plan)
+    test(f"check_plan with a surplus, the dear lane used: {what}", what == "roastery 2 keeps bags, and its price is 2 below the greatest")
+
+
 def main():
     groups = [stored_cases, every_place, small_sheets, large_sheets, long_texts, bytes_read, slow_input, failing_streams]
-    groups += [script_with_status, examples, wrong_plans]
+    groups += [script_with_status, examples, wrong_plans, wrong_plans_with_surplus]
     if not os.access(PANEL, os.X_OK):
         print(f"no program {os.path.relpath(PANEL, ROOT)}: build it first")
         groups = []

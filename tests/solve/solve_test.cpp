@@ -1,10 +1,12 @@
 // Holds solve to answers found another way: small sheets to a search through all plans and to rounds made in the plainest way, large sheets to such rounds and to a certificate; and refusals.
+// All on balanced sheets and on sheets with a surplus.
 #include "../../crates/exports/panel.h"
 #include "../sheets.h"
 
 #include <algorithm>
 #include <cstdio>
 #include <functional>
+#include <numeric>
 #include <string>
 #include <utility>
 
@@ -49,12 +51,23 @@ static uint64_t cost_of(const Sheet &s, const Numbers &plan) {
     return sum;
 }
 
+static uint64_t total(const Numbers &list) { return std::accumulate(list.begin(), list.end(), uint64_t{0}); }
+
+static uint64_t surplus(const Sheet &s) { return total(s.supply) - total(s.demand); }
+
+// The bags that a roastery does not send.
+static uint64_t kept(const Sheet &s, const Numbers &plan, size_t i) {
+    uint64_t sent = 0;
+    for (size_t j = 0; j < s.n(); j++) sent += plan[i * s.n() + j];
+    return s.supply[i] - sent;
+}
+
 // ---- a search through all plans: the first of least cost, where more on an earlier lane comes first
 
 static Numbers best_plan(const Sheet &s) {
     size_t m = s.m(), n = s.n();
     Numbers plan(m * n, 0), best, left = s.supply, wanted = s.demand;
-    uint64_t least = UINT64_MAX;
+    uint64_t least = UINT64_MAX, spare = surplus(s); // the bags that may still be kept
     std::function<void(size_t)> go = [&](size_t k) {
         if (k == m * n) {
             for (uint64_t d : wanted)
@@ -67,13 +80,16 @@ static Numbers best_plan(const Sheet &s) {
             return;
         }
         size_t i = k / n, j = k % n;
+        bool last = j + 1 == n;
         uint64_t top = std::min(left[i], wanted[j]);
-        uint64_t low = j + 1 == n ? left[i] : 0;
+        uint64_t low = last ? left[i] - std::min(left[i], spare) : 0;
         for (uint64_t x = top + 1; x-- > low;) {
             plan[k] = x;
             left[i] -= x;
             wanted[j] -= x;
+            if (last) spare -= left[i];
             go(k + 1);
+            if (last) spare += left[i];
             left[i] += x;
             wanted[j] += x;
         }
@@ -84,6 +100,18 @@ static Numbers best_plan(const Sheet &s) {
 }
 
 // ---- rounds in the plainest way: amounts are pairs of bags and marks, and the loop is found by a walk through the basic cells
+
+// The sheet of the tableaux: an extra café, the last one, takes the surplus at cost 0.
+static Sheet extended(const Sheet &s) {
+    if (surplus(s) == 0) return s;
+    Sheet e = {s.supply, s.demand, {}};
+    e.demand.push_back(surplus(s));
+    for (size_t k = 0; k < s.cost.size(); k++) {
+        e.cost.push_back(s.cost[k]);
+        if (k % s.n() + 1 == s.n()) e.cost.push_back(0);
+    }
+    return e;
+}
 
 using Amount = std::pair<int64_t, int64_t>;
 struct Basic {
@@ -142,7 +170,7 @@ static bool walk(const std::vector<Basic> &cells, bool at_row, size_t at, size_t
 }
 
 // The rounds to the first finished tableau, and its prices.
-static uint64_t plain_rounds(const Sheet &s, Whole &u, Whole &v) {
+static uint64_t rounds_of_tableaux(const Sheet &s, Whole &u, Whole &v) {
     std::vector<Basic> cells = corner_start(s);
     for (uint64_t rounds = 0;; rounds++) {
         price(s, cells, u, v);
@@ -169,8 +197,16 @@ static uint64_t plain_rounds(const Sheet &s, Whole &u, Whole &v) {
     }
 }
 
+// Those of the extended sheet, without the price of the extra café.
+static uint64_t plain_rounds(const Sheet &s, Whole &u, Whole &v) {
+    uint64_t rounds = rounds_of_tableaux(extended(s), u, v);
+    v.resize(s.n());
+    return rounds;
+}
+
 // ---- a certificate for large sheets
 
+// Each roastery sends at most its supply, and each café gets its demand.
 static bool meets(const Sheet &s, const Numbers &plan) {
     Numbers left = s.supply, wanted = s.demand;
     for (size_t i = 0; i < s.m(); i++)
@@ -180,24 +216,42 @@ static bool meets(const Sheet &s, const Numbers &plan) {
             left[i] -= x;
             wanted[j] -= x;
         }
-    for (uint64_t x : left)
-        if (x != 0) return false;
     for (uint64_t x : wanted)
         if (x != 0) return false;
     return true;
 }
 
-// No lane costs less than its prices, and a lane with bags costs just them: the plan is of least cost.
+static int64_t greatest(const Whole &prices) { return *std::max_element(prices.begin(), prices.end()); }
+
+// No lane costs less than its prices, and a lane with bags costs just them: the plan is of least cost. With a surplus this has to hold of the lanes of the
+// extra café too. They cost 0, so with its price w no u + w is above 0, and a roastery that keeps bags has u + w = 0: hence none has a greater u. Since w is
+// not given, that is what is asked; and where it holds, w = -(the greatest u) is a price that fits.
 static bool priced(const Sheet &s, const Answer &a) {
-    for (size_t i = 0; i < s.m(); i++)
+    for (size_t i = 0; i < s.m(); i++) {
         for (size_t j = 0; j < s.n(); j++) {
             int64_t reduced = (int64_t)s.cost[i * s.n() + j] - a.u[i] - a.v[j];
             if (reduced < 0 || (a.plan[i * s.n() + j] > 0 && reduced > 0)) return false;
         }
+        if (kept(s, a.plan, i) > 0 && a.u[i] != greatest(a.u)) return false;
+    }
     return a.u[0] == 0;
 }
 
-// On no lane of reduced cost 0 more can be carried by moving bags on such lanes after it: no way leads back from its sink to its source.
+// The answer as one for the extended sheet: what is kept goes to the extra café, at the price that fits.
+static Answer extended(const Sheet &s, const Answer &a) {
+    if (surplus(s) == 0) return a;
+    Answer e = a;
+    e.plan.clear();
+    for (size_t k = 0; k < a.plan.size(); k++) {
+        e.plan.push_back(a.plan[k]);
+        if (k % s.n() + 1 == s.n()) e.plan.push_back(kept(s, a.plan, k / s.n()));
+    }
+    e.v.push_back(-greatest(a.u));
+    return e;
+}
+
+// On no lane of reduced cost 0 more can be carried by moving bags on such lanes after it: no way leads back from its sink to its source. On an extended sheet
+// that is so of all its lanes exactly if it is of those without the extra café: when all else in a row stays, so does what the roastery keeps.
 static bool settled(const Sheet &s, const Answer &a) {
     size_t m = s.m(), n = s.n();
     for (size_t lane = 0; lane < m * n; lane++) {
@@ -234,13 +288,18 @@ static void test(const std::string &name, bool good) {
     if (!good) std::printf("failed: %s\n", name.c_str());
 }
 
-static void small_sheets() {
+static Sheet random_sheet(std::mt19937_64 &rng, bool surplus, size_t m, size_t n, uint64_t bags, uint64_t top) {
+    Sheet s = random_sheet(rng, m, n, bags, top);
+    return surplus ? with_surplus(rng, s, bags) : s;
+}
+
+static void small_sheets(const std::string &sheets, bool surplus) {
     std::mt19937_64 rng(11);
     bool plans = true, costs = true, rounds = true, prices = true, kept = true;
     for (int k = 0; k < 3000; k++) {
         size_t m = 1 + rng() % 4, n = 1 + rng() % 4;
         const uint64_t tops[] = {0, 1, 2, 5, 1000000};
-        Sheet s = random_sheet(rng, m, n, m * n > 9 ? 3 : 5, tops[rng() % 5]);
+        Sheet s = random_sheet(rng, surplus, m, n, m * n > 9 ? 3 : 5, tops[rng() % 5]);
         Answer a = solve(s, rng() % 3);
         Numbers best = best_plan(s);
         Whole u, v;
@@ -250,31 +309,31 @@ static void small_sheets() {
         prices &= a.u == u && a.v == v;
         kept &= a.rest_kept;
     }
-    test("3,000 small sheets: the plan is the one that a search through all plans finds", plans);
-    test("3,000 small sheets: the cost is that plan's", costs);
-    test("3,000 small sheets: the rounds are those of the plainest way", rounds);
-    test("3,000 small sheets: so are the prices", prices);
-    test("3,000 small sheets: places past the result are as they were", kept);
+    test(sheets + ": the plan is the one that a search through all plans finds", plans);
+    test(sheets + ": the cost is that plan's", costs);
+    test(sheets + ": the rounds are those of the plainest way", rounds);
+    test(sheets + ": so are the prices", prices);
+    test(sheets + ": places past the result are as they were", kept);
 }
 
-static void large_sheets() {
+static void large_sheets(const std::string &sheets, bool surplus) {
     std::mt19937_64 rng(13);
     bool least = true, first = true, rounds = true, kept = true;
     for (int k = 0; k < 300; k++) {
         const uint64_t tops[] = {0, 1, 3, 50, 1000000}, bags[] = {1, 2, 5, 1000};
-        size_t m = 1 + rng() % 32, n = 1 + rng() % 32;
-        Sheet s = random_sheet(rng, m, n, bags[rng() % 4], tops[rng() % 5]);
+        size_t m = 1 + rng() % 32, n = 1 + rng() % (surplus ? 31 : 32);
+        Sheet s = random_sheet(rng, surplus, m, n, bags[rng() % 4], tops[rng() % 5]);
         Answer a = solve(s, 2);
         Whole u, v;
         least &= a.refused == 0 && meets(s, a.plan) && priced(s, a) && a.cost == cost_of(s, a.plan);
-        first &= settled(s, a);
+        first &= settled(extended(s), extended(s, a));
         rounds &= a.rounds == plain_rounds(s, u, v) && a.u == u && a.v == v;
         kept &= a.rest_kept;
     }
-    test("300 large sheets: the plan meets the sheet, and prices show that none costs less", least);
-    test("300 large sheets: on no lane more can be carried by moving later ones", first);
-    test("300 large sheets: the rounds and the prices are those of the plainest way", rounds);
-    test("300 large sheets: places past the result are as they were", kept);
+    test(sheets + ": the plan meets the sheet, and prices show that none costs less", least);
+    test(sheets + ": on no lane more can be carried by moving later ones", first);
+    test(sheets + ": the rounds and the prices are those of the plainest way", rounds);
+    test(sheets + ": places past the result are as they were", kept);
 }
 
 // A call that is refused by `number`, and changes nothing.
@@ -297,8 +356,15 @@ static void refusals() {
     refused("a supply of 1,000,001: 3", 3, {{1000001}, {1000001}, {1}}, 1, 1, 1);
     refused("a demand of 2^64 - 1: 3", 3, {{1}, {UINT64_MAX}, {1}}, 1, 1, 1);
     refused("a cost of 1,000,001: 4", 4, {{1000000}, {1000000}, {1000001}}, 1, 1, 1);
-    refused("unequal totals: 5", 5, {{3}, {2}, {0}}, 1, 1, 1);
-    refused("unequal totals before short lists: 5", 5, {{3}, {2}, {0}}, 0, 0, 0);
+    refused("more demand than supply: 5", 5, {{2}, {3}, {0}}, 1, 1, 1);
+    refused("more demand than supply before short lists: 5", 5, {{2}, {3}, {0}}, 0, 0, 0);
+    refused("more demand than supply with 32 sinks: 5", 5, {{31}, Numbers(32, 1), Numbers(32, 1)}, 1, 32, 32);
+    refused("a surplus and 32 sinks: 10", 10, {{40}, Numbers(32, 1), Numbers(32, 1)}, 1, 32, 32);
+    refused("a surplus of a single bag and 32 sinks: 10", 10, {{33}, Numbers(32, 1), Numbers(32, 1)}, 1, 32, 32);
+    refused("a surplus and 32 sinks before short lists: 10", 10, {{40}, Numbers(32, 1), Numbers(32, 1)}, 0, 0, 0);
+    refused("a supply of 1,000,001 before a surplus and 32 sinks: 3", 3, {{1000001}, Numbers(32, 1), Numbers(32, 1)}, 1, 32, 32);
+    refused("a cost of 1,000,001 before a surplus and 32 sinks: 4", 4, {{40}, Numbers(32, 1), Numbers(32, 1000001)}, 1, 32, 32);
+    refused("a surplus, and v too short: 8", 8, {{3}, {2}, {0}}, 1, 0, 1);
     refused("u too short: 8", 8, worked, 1, 2, 4);
     refused("v too short: 8", 8, worked, 2, 1, 4);
     refused("the plan too short: 8", 8, worked, 2, 2, 3);
@@ -317,11 +383,34 @@ static void samples() {
     test("the tied sheet: 0 in 2 rounds, settled", a.refused == 0 && a.cost == 0 && a.rounds == 2 && a.plan == Numbers{0, 1, 0, 2, 0, 1});
 }
 
+// Solve gives this, and fills no place beyond the cafés of the sheet.
+static void solved(const std::string &name, const Sheet &s, uint64_t cost, uint64_t rounds, const Whole &u, const Whole &v, const Numbers &plan) {
+    Answer a = solve(s, 1);
+    test(name, a.refused == 0 && a.cost == cost && a.rounds == rounds && a.u == u && a.v == v && a.plan == plan && a.rest_kept);
+}
+
+static void samples_with_surplus() {
+    solved("one bag of three stays at home", {{3}, {2}, {0}}, 0, 0, {0}, {0}, {2});
+    solved("the dear source keeps the surplus", {{3, 3}, {4}, {5, 1}}, 8, 1, {0, -4}, {5}, {1, 3});
+    solved("each source keeps a bag", {{3, 3}, {2, 2}, {1, 9, 9, 1}}, 4, 1, {0, 0}, {1, 1}, {2, 0, 0, 2});
+    solved("equal costs: the first lane carries all it can", {{3, 3}, {4}, {1, 1}}, 4, 0, {0, 0}, {1}, {3, 1});
+    solved("a lane of the extra café enters before a later one", {{1, 2}, {1, 1}, {2, 2, 0, 1}}, 1, 2, {0, 0}, {0, 1}, {0, 0, 1, 1});
+    solved("a lane of the extra café enters after an earlier one", {{1, 3}, {2, 1}, {3, 0, 2, 0}}, 4, 2, {0, 0}, {2, 0}, {0, 1, 2, 0});
+    solved("31 sinks and a surplus", {{40}, Numbers(31, 1), Numbers(31, 1)}, 31, 0, {0}, Whole(31, 1), Numbers(31, 1));
+    solved("32 sinks and none", {{32}, Numbers(32, 1), Numbers(32, 1)}, 32, 0, {0}, Whole(32, 1), Numbers(32, 1));
+    Numbers most(32, 1000000), one_bag(32, 0);
+    one_bag[0] = 1;
+    solved("the greatest surplus: 32 million bags but one", {most, {1}, Numbers(32, 0)}, 0, 0, Whole(32, 0), {0}, one_bag);
+}
+
 int main() {
-    small_sheets();
-    large_sheets();
+    small_sheets("3,000 small balanced sheets", false);
+    small_sheets("3,000 small sheets with a surplus", true);
+    large_sheets("300 large balanced sheets", false);
+    large_sheets("300 large sheets with a surplus", true);
     refusals();
     samples();
+    samples_with_surplus();
     std::printf("%d passed, %d failed\n", passed, failed);
     return failed == 0 ? 0 : 1;
 }

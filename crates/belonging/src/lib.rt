@@ -1,4 +1,4 @@
-// Whether a tableau belongs to a sheet.
+// Whether a tableau belongs to a problem.
 pub mod flows;
 pub mod weights;
 
@@ -54,7 +54,7 @@ fn balances(
     flows::flows_match(&mut marks, e, leaf, other, lane, count)
 }
 
-// Whether the tableau belongs to the sheet with these supplies and demands, whatever its costs. If it does, its amounts then lie on their lanes, and the
+// Whether the tableau belongs to the problem with these supplies and demands, whatever its costs. If it does, its amounts then lie on their lanes, and the
 // strikes strike off its basis. There are m + n - 1 lanes, so they join all nodes without a loop if all are struck off.
 pub fn load(
     supply: &[u64],

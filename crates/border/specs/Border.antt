@@ -13,8 +13,8 @@ pub use Rattle.border.specs.declared.ReadOut.{ReadOut}
 pub use Rattle.border.specs.declared.WriteOut.{WriteOut}
 use Rattle.transport.specs.Sheet.{Sheet, roasteries, cafes}
 use Rattle.transport.specs.Tableau.{tableauOf, noTableau}
-use Rattle.transport.specs.Round.{Round, finished, moved, Run}
-use Rattle.transport.specs.Calls.{Answer, refused, given, Solution}
+use Rattle.transport.specs.Round.{Run}
+use Rattle.transport.specs.Calls.{Answer, refused, given, Solution, Round, finished, moved}
 use Rattle.transport.specs.Answers.{prices, noPrices}
 use Rattle.transport.specs.declared.Cell.{Cell}
 

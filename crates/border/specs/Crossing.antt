@@ -13,8 +13,8 @@ use Rattle.transport.specs.declared.SettleAnswer.{SettleAnswer}
 use Rattle.transport.specs.declared.SettleAnswer.the-variants as SettleAnswer
 use Rattle.transport.specs.declared.WriteAnswer.{WriteAnswer}
 use Rattle.transport.specs.declared.WriteAnswer.the-variants as WriteAnswer
-use Rattle.transport.specs.Round.{Round, finished, moved, Run}
-use Rattle.transport.specs.Calls.{Answer, refused, given}
+use Rattle.transport.specs.Round.{Run}
+use Rattle.transport.specs.Calls.{Answer, refused, given, Round, finished, moved}
 use Rattle.transport.specs.Answers.{roundAnswer, runOutcome, runAnswer, settleAnswer, writeAnswer}
 use Rattle.border.specs.Border.{RoundOut, roundOut, RunOut, runOut, numberOf, WriteOut, writeOut}
 

@@ -111,7 +111,7 @@ impl Corner {
     }
 }
 
-// The first tableau of a sheet with these supplies and demands, whatever its costs.
+// The first tableau of a problem with these supplies and demands, whatever its costs.
 pub fn first_tableau(supply: &[u64], demand: &[u64]) -> Tableau
     requires { ⌜ Sound (costless (now supply) (now demand)) ⌝ }
     ensures { λ r. ⌜ r ≡ tableauOf (start (costless (now (supply .entry)) (now (demand .entry)))) ⌝ }

@@ -1,20 +1,24 @@
 -- What is bought, from the contract of solve.
 use mathlib.Core.Path.{_≡_, refl, sym, ap, _∙_}
-use mathlib.Core.Logic.{_↔_}
+use mathlib.Core.Logic.{_↔_, _⊎_, inl, inr, by-cases}
 use mathlib.Core.List.{List}
 use Prim.Native.Nat.{ℕ, _*_}
 use native.Mathlib.Omega.{arith}
+use native.Mathlib.Decide.{decLt, ℕ-discrete}
 use lib.IntN.{ℤ, pos, natAbs}
 use lib.ListN.{length, take, drop}
 use lib.Seq.{take-at, drop-at}
 use Rattle.transport.specs.declared.SolveAnswer.{SolveAnswer}
 use Rattle.transport.specs.declared.SolveAnswer.the-variants as SolveAnswer
+use Rattle.transport.specs.Lists.{total}
+use Rattle.transport.specs.Limits.{maxSide}
 use Rattle.transport.specs.Sheet.{Sheet, roasteries, cafes}
 use Rattle.transport.specs.Calls.{Answer, refused, given, refusedBy, lentAfter, Solution, solveCall}
 use Rattle.transport.specs.Answers.{solveAnswer}
-use Rattle.transport.specs.Statements.{Balanced, Best, Bought}
+use Rattle.transport.specs.Statements.{WithinLimits, Balanced, Lacking, Crowded, Best, BestExactly, LongEnough, Bought}
 use Rattle.transport.specs.Laws.PlanLaws.{planCost-size}
 use Rattle.transport.specs.Laws.CallLaws.{Fills}
+use Rattle.reduction.specs.Balanced.{best-exactly}
 use Rattle.demands.specs.Demand3.{Solved, demand3, solve-fills}
 
 solved≢refused : {cost rounds k : ℕ} → SolveAnswer.Solved cost rounds ≡ SolveAnswer.Refused k → ⊥
@@ -42,16 +46,26 @@ gives-best S a plan h =
     let size : pos (natAbs (s .cost)) ≡ s .cost = ap (λ (c : ℤ). pos (natAbs c)) (h .best .shown) ∙ planCost-size S (s .plan) ∙ sym (h .best .shown) in
     (natAbs (s .cost), s .rounds, rw (h .answered), rw (h .answered, front, size) (h .best))
 
-refuses-exactly : (S : Sheet) (a : Answer Solution) → (Balanced S → Solved S a) × (¬ Balanced S → a ≡ refusedBy 5)
-    → (k : ℕ) → (solveAnswer a ≡ SolveAnswer.Refused k) ↔ (k ≡ 5) × ¬ Balanced S
+-- The sheets that are refused are lacking or crowded, since all others are solved; and each of the two has its number.
+refuses-exactly : (S : Sheet) (a : Answer Solution)
+    → (¬ Lacking S → ¬ Crowded S → Solved S a) × (Lacking S → a ≡ refusedBy 5) × (Crowded S → a ≡ refusedBy 10)
+    → (k : ℕ) → (solveAnswer a ≡ SolveAnswer.Refused k) ↔ ((k ≡ 5) × Lacking S) ⊎ ((k ≡ 10) × Crowded S)
 unfolding solveAnswer refusedBy
-refuses-exactly S a h k = (there, λ r. rw (h .1 (r .1), r .0))
+refuses-exactly S a h k = (λ e. there e (decLt (total (S .supply)) (total (S .demand))) crowded-dec, back)
   where
-    there : solveAnswer a ≡ SolveAnswer.Refused k → (k ≡ 5) × ¬ Balanced S
-    there e =
-        let unbalanced : ¬ Balanced S = λ b. solved≢refused (sym (ap solveAnswer (h .0 b .answered)) ∙ e) in
-        let five : k ≡ 5 = cc (e, ap solveAnswer (h .1 unbalanced)) in
-        (five, unbalanced)
+    crowded-dec : Dec (Crowded S)
+    crowded-dec = by-cases (decLt (total (S .demand)) (total (S .supply)))
+        (λ l. by-cases (ℕ-discrete (cafes S) maxSide) (λ e. yes (l, e)) (λ e. no (λ c. e (c .1))))
+        (λ l. no (λ c. l (c .0)))
+
+    there : solveAnswer a ≡ SolveAnswer.Refused k → Dec (Lacking S) → Dec (Crowded S) → ((k ≡ 5) × Lacking S) ⊎ ((k ≡ 10) × Crowded S)
+    there e (yes l) d = let five : k ≡ 5 = cc (e, ap solveAnswer (h .1 l)) in inl (five, l)
+    there e (no l) (yes c) = let ten : k ≡ 10 = cc (e, ap solveAnswer (h .2 c)) in inr (ten, c)
+    there e (no l) (no c) = absurd (solved≢refused (sym (ap solveAnswer (h .0 l c .answered)) ∙ e))
+
+    back : ((k ≡ 5) × Lacking S) ⊎ ((k ≡ 10) × Crowded S) → solveAnswer a ≡ SolveAnswer.Refused k
+    back (inl (five, l)) = rw (h .1 l, five)
+    back (inr (ten, c)) = rw (h .2 c, ten)
 
 leaves-all : (a : Answer Solution) (u v : List ℤ) (plan : List ℕ) (k : ℕ) → solveAnswer a ≡ SolveAnswer.Refused k
     → (lentAfter (λ s. s .u) a u ≡ u) × (lentAfter (λ s. s .v) a v ≡ v) × (lentAfter (λ s. s .plan) a plan ≡ plan)
@@ -87,8 +101,19 @@ bought S r u v plan uAfter vAfter planAfter answered uHeld vHeld planHeld =
     let d = demand3 S (length u) (length v) (length plan) in
     rw (answered, uHeld, vHeld, planHeld)
     (record {
-      solved = λ w l e. gives-best S a plan (d w l .0 e);
+      solved = λ w l enough room. gives-best S a plan (d w l .0 enough room);
       refuses = λ w l. refuses-exactly S a (d w l);
       unchanged = leaves-all a u v plan;
       rest = leaves-rest S a u v plan (solve-fills S (length u) (length v) (length plan));
     })
+
+-- On balanced sheets this is what was bought before One: solve gives a plan that is best in 01's own words, and refuses none of them.
+pub bought-balanced : {S : Sheet} {r : SolveAnswer} {u v : List ℤ} {plan : List ℕ} {uAfter vAfter : List ℤ} {planAfter : List ℕ}
+    → Bought S r u v plan uAfter vAfter planAfter → WithinLimits S → LongEnough S (length u) (length v) (length plan) → Balanced S
+    → ((cost : ℕ) × (rounds : ℕ) × (r ≡ SolveAnswer.Solved cost rounds) × BestExactly S (take (roasteries S * cafes S) planAfter) (pos cost))
+    × ((k : ℕ) → ¬ (r ≡ SolveAnswer.Refused k))
+bought-balanced {S} {planAfter} b w l e =
+    let (cost, rounds, solved, best) = b .solved w l (λ lacking. omega arith) (λ crowded. omega (arith, crowded .0)) in (
+      (cost, rounds, solved, best-exactly e (take (roasteries S * cafes S) planAfter) (pos cost) .0 best),
+      λ k refused. solved≢refused (sym solved ∙ refused),
+    )

@@ -1,4 +1,5 @@
 pub mod Refusing
 pub mod Demand3
 pub mod Bought
+pub mod Certificate
 pub mod Says

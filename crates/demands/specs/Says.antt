@@ -7,24 +7,27 @@ use mathlib.Core.Path.{_≡_, refl, ap, sym, _∙_}
 use mathlib.Core.Bool.{Bool, true, false}
 use mathlib.Core.Option.{Option, none, some}
 use mathlib.Core.List.{List, _++_}
-use Prim.Native.Nat.{ℕ, _*_}
-use lib.IntN.{ℤ}
+use Prim.Native.Nat.{ℕ, _+_, _*_, _<_}
+use native.Mathlib.Omega.{arith}
+use lib.IntN.{ℤ, pos}
 use lib.ListN.{length, take}
 use lib.Seq.{take-at, take-append-seam}
 use Rattle.transport.specs.declared.Cell.{Cell}
 use Rattle.transport.specs.declared.Tableau.{Tableau}
-use Rattle.transport.specs.Lists.{padded}
-use Rattle.transport.specs.Laws.ListLaws.{length-table}
-use Rattle.transport.specs.Problem.{Problem, sources, sinks}
+use Rattle.transport.specs.Lists.{atZ, padded}
+use Rattle.transport.specs.Laws.ListLaws.{length-table, getD-table}
+use Rattle.transport.specs.Problem.{sources, sinks}
 use Rattle.transport.specs.Laws.PlanLaws.{planCost-size}
 use Rattle.transport.specs.Calls.{solutionFrom, Answer, given, refusedBy, unless, lentAfter, tableauTests, startCall, roundCall, runCall, settleCall, solution}
-use Rattle.transport.specs.Calls.{solveCall}
-use Rattle.transport.specs.Sheet.{roasteries, cafes, problemOf, Sheet, sheetTests, refusal}
+use Rattle.transport.specs.Calls.{solveCall, cafePrices, round}
+use Rattle.transport.specs.Sheet.{roasteries, cafes, Sheet, sheetTests, refusal}
+use Rattle.transport.specs.Extended.{wanted, extended}
+use Rattle.transport.specs.Laws.ExtendedLaws.{width-low}
 use Rattle.transport.specs.Laws.SheetLaws.{refusal-stands}
 use Rattle.transport.specs.Laws.Sound.{accepted-sound}
 use Rattle.transport.specs.Tableau.{cellsOf, tableauOf, start}
-use Rattle.transport.specs.Potential.{sourcePrices, sinkPrices, isFinished}
-use Rattle.transport.specs.Round.{round, Run, run}
+use Rattle.transport.specs.Potential.{potential, sourcePrices, sinkPrices, isFinished}
+use Rattle.transport.specs.Round.{Run, run}
 use Rattle.transport.specs.Plan.{settled}
 use Rattle.transport.specs.Laws.CallLaws.{some≢none, unless-given, unless-refused, unless-given-iff}
 use Rattle.transport.specs.SheetText.{Reading, stuck, got, sheetReader, sheetText, writeSheetCall, readWith, readTests, readSheetCall}
@@ -57,28 +60,37 @@ prices-front : (u : List ℤ) (n : ℕ) → length u ≡ n → take n (prices u)
 unfolding prices padded
 prices-front u n e = take-at u _ n e
 
+-- The prices v that are given are those of the first columns of the extended problem, one for each café.
+pub shown-prices : (S : Sheet) (T : List Cell) (j : ℕ) → j < cafes S → atZ (cafePrices S T) j ≡ atZ (sinkPrices (extended S) T) j
+unfolding atZ cafePrices sinkPrices extended sources sinks roasteries
+shown-prices S T j l =
+    getD-table price (cafes S) j (pos 0) l ∙ sym (getD-table price (length (wanted S)) j (pos 0) (omega (arith, width-low S)))
+  where
+    price : ℕ → ℤ
+    price j = potential (extended S) T (roasteries S + j)
+
 pub start-says : (S : Sheet) → startSays (startAnswer (startCall S)) ≡ startCall S
 unfolding startCall startAnswer startSays refusedBy
-start-says S = unless-says (λ a. startSays (startAnswer a)) (sheetTests S) (start (problemOf S)) (λ k. refl) (λ e. ap given (cells-of (start (problemOf S))))
+start-says S = unless-says (λ a. startSays (startAnswer a)) (sheetTests S) (start (extended S)) (λ k. refl) (λ e. ap given (cells-of (start (extended S))))
 
-round-back : (P : Problem) (T : List Cell) → roundSays (sources P) (sinks P) (roundAnswer (given (round P T))) ≡ given (round P T)
-unfolding round roundAnswer roundSays sourcePrices sinkPrices
-round-back P T = go (isFinished P T) refl
+round-back : (S : Sheet) (T : List Cell) → roundSays (roasteries S) (cafes S) (roundAnswer (given (round S T))) ≡ given (round S T)
+unfolding round roundAnswer roundSays sourcePrices cafePrices extended sources roasteries
+round-back S T = go (isFinished (extended S) T) refl
   where
-    go : (b : Bool) → isFinished P T ≡ b → roundSays (sources P) (sinks P) (roundAnswer (given (round P T))) ≡ given (round P T)
+    go : (b : Bool) → isFinished (extended S) T ≡ b → roundSays (roasteries S) (cafes S) (roundAnswer (given (round S T))) ≡ given (round S T)
     go true e = rw (
       e,
       round,
-      prices-front (sourcePrices P T) (sources P) (length-table _ (sources P)),
-      prices-front (sinkPrices P T) (sinks P) (length-table _ (sinks P)),
+      prices-front (sourcePrices (extended S) T) (roasteries S) (length-table _ (roasteries S)),
+      prices-front (cafePrices S T) (cafes S) (length-table _ (cafes S)),
     )
     go false e = rw (e, round, cells-of)
 
 pub round-says : (S : Sheet) (t : Tableau) → roundSays (roasteries S) (cafes S) (roundAnswer (roundCall S t)) ≡ roundCall S t
-unfolding roundCall roundAnswer roundSays refusedBy problemOf sources sinks roasteries cafes
+unfolding roundCall roundAnswer roundSays refusedBy
 round-says S t =
-    unless-says (λ a. roundSays (roasteries S) (cafes S) (roundAnswer a)) (tableauTests S t) (round (problemOf S) (cellsOf t)) (λ k. refl)
-    (λ e. round-back (problemOf S) (cellsOf t))
+    unless-says (λ a. roundSays (roasteries S) (cafes S) (roundAnswer a)) (tableauTests S t) (round S (cellsOf t)) (λ k. refl)
+    (λ e. round-back S (cellsOf t))
 
 run-back : (r : Run) → runSays (runAnswer (given r)) ≡ given r
 unfolding runOutcome runAnswer runSays
@@ -92,8 +104,8 @@ run-back r = go (r .finished)
 pub run-says : (S : Sheet) (t : Tableau) (allowance : ℕ) → runSays (runAnswer (runCall S t allowance)) ≡ runCall S t allowance
 unfolding runCall runAnswer runSays refusedBy
 run-says S t allowance =
-    unless-says (λ a. runSays (runAnswer a)) (tableauTests S t) (run (problemOf S) allowance (cellsOf t)) (λ k. refl)
-    (λ e. run-back (run (problemOf S) allowance (cellsOf t)))
+    unless-says (λ a. runSays (runAnswer a)) (tableauTests S t) (run (extended S) allowance (cellsOf t)) (λ k. refl)
+    (λ e. run-back (run (extended S) allowance (cellsOf t)))
 
 -- ---- plans
 

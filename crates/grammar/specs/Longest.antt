@@ -7,7 +7,7 @@ use native.Mathlib.Nat.{mul-le-mul}
 use lib.ListN.{length, length-append, replicate}
 use Rattle.transport.specs.Lists.{within, at, all, total, sumTo}
 use Rattle.transport.specs.Limits.{maxSources, maxSinks, maxSide, maxDigits, maxText, maxAmount, maxCost}
-use Rattle.transport.specs.Sheet.{Sheet, roasteries, cafes, refusal, sheetTests, numberTests, badSides, badLength, badAmount, badCost, unbalanced}
+use Rattle.transport.specs.Sheet.{Sheet, roasteries, cafes, refusal, sheetTests, numberTests, badSides, badLength, badAmount, badCost, lacking, crowded}
 use Rattle.transport.specs.Text.{bytes, digits, digitsUpTo, headLine, numberLine, rowLine}
 use Rattle.transport.specs.SheetText.{sheetText, rowsOf}
 use Rattle.transport.specs.Laws.SheetLaws.{accepted}
@@ -88,7 +88,7 @@ unfolding largest sheetText roasteries cafes headLine bytes digits digitsUpTo fl
 largest-length = refl
 
 pub largest-accepted : Accepted largest
-unfolding largest roasteries cafes refusal sheetTests numberTests badSides badLength badAmount badCost unbalanced within all total sumTo at maxSources
+unfolding largest roasteries cafes refusal sheetTests numberTests badSides badLength badAmount badCost lacking crowded within all total sumTo at maxSources
     maxSinks maxAmount maxCost
 largest-accepted = accepted largest refl
 

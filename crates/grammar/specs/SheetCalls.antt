@@ -92,7 +92,7 @@ module _ (tests : Sheet → List (Bool × ℕ)) (text : List ℕ) where
       back (stuck rest) e other h = rw (← place-unique text _ p (place text rest e) h) (read-stuck rest e)
       back (got R rest) e other h = absurd (other R (reader-iff text R rest .0 e .1))
 
--- A text is read exactly if it is a sheet text, of a sheet within the limits and balanced, and the lent lists are long enough.
+-- A text is read exactly if it is a sheet text, of a sheet within the limits that is neither lacking nor crowded, and the lent lists are long enough.
 pub readSheet-iff : (text : List ℕ) (a b c : ℕ) (S : Sheet)
     → (readSheetCall text a b c ≡ given S)
     ↔ SheetTextOf S text × Accepted S × (roasteries S ≤ a) × (cafes S ≤ b) × (roasteries S * cafes S ≤ c)

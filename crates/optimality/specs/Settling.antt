@@ -1,12 +1,11 @@
 -- Settling over problems: a plan on the tight lanes of feasible potentials, all of whose lanes are decided, is the optimal plan that carries more on the first
 -- lane where it differs from any other; and from every finished tableau there is one.
-use mathlib.Core.Path.{_≡_, refl, ap, sym, _∙_}
+use mathlib.Core.Path.{_≡_, refl, ap, _∙_}
 use mathlib.Core.Logic.{_↔_}
 use mathlib.Core.Bool.{Bool, true}
-use mathlib.Core.List.{List, [], _∷_, map}
-use Prim.Native.Nat.{ℕ, zero, suc, _+_, _*_, _-_, _<_}
+use mathlib.Core.List.{List, map}
+use Prim.Native.Nat.{ℕ, suc, _+_, _*_, _-_, _<_}
 use native.Mathlib.Omega.{arith}
-use native.Mathlib.Nat.{mul-zero}
 use lib.IntN.{pos, _*ℤ_}
 use lib.ListN.{length, length-map}
 use Rattle.integers.specs.Integer.{Z, _≈_, ≈-dec, _⊕_, _⊗_, nat}
@@ -22,6 +21,7 @@ use Rattle.network.specs.Settles.{settles-to}
 use Rattle.transport.specs.Lists.{at}
 use Rattle.transport.specs.Laws.ListLaws.{getD-map}
 use Rattle.transport.specs.Problem.{Problem, sources, sinks, Lane, lanes, place}
+use Rattle.transport.specs.Laws.PlanLaws.{scaled-at}
 use Rattle.transport.specs.Laws.Sound.{Sound}
 use Rattle.transport.specs.Laws.ProblemLaws.{lane, length-lanes, getD-lanes, place-below, place-of}
 use Rattle.transport.specs.Amount.{eqZ}
@@ -64,12 +64,6 @@ basics-single {P} {T} ok belongs k y g = basis-single (basis-of ok belongs) (flo
     cell i j hi hj b = basic-in T (suc (sources P + sinks P - 2)) i j (cells-many ok T (belongs .count)) .0 b
 
 -- ---- all lanes are decided
-
-scaled-at : (k : ℕ) (xs : List ℕ) (l : ℕ) → at (scaled k xs) l ≡ k * at xs l
-unfolding scaled at
-scaled-at k [] l = sym (mul-zero k)
-scaled-at k (x ∷ xs) zero = refl
-scaled-at k (x ∷ xs) (suc l) = scaled-at k xs l
 
 module _ (P : Problem) (u v : ℕ → Z) (feasible : (i j : ℕ) → i < sources P → j < sinks P → Feasible (costs P) u v i j)
     (plan : List ℕ) (long : length plan ≡ sources P * sinks P)

@@ -10,19 +10,20 @@ use borrow.Author.Tests.{eq-eqb}
 use lib.IntN.{ℤ, natAbs}
 use lib.ListN.{length, take, length-append, length-take}
 use Rattle.transport.specs.declared.Cell.{Cell}
-use Rattle.transport.specs.Lists.{at, table, below, sumTo}
+use Rattle.transport.specs.Lists.{at, table, below, grid, sumTo}
 use Rattle.transport.specs.Laws.ListLaws.{length-table, table-member, flatMap-member, keep-member, length-keep, sumTo-le, sumTo-scale, sumTo-bound, sumTo-runs}
 use Rattle.transport.specs.Limits.{maxSide, maxAmount, maxCost, maxText, maxPlanText}
-use Rattle.transport.specs.Sheet.{Sheet, roasteries, cafes, numberTests, sheetTests, refusal, problemOf}
-use Rattle.transport.specs.Problem.{Lane, lanes, place, sources, sinks}
+use Rattle.transport.specs.Sheet.{Sheet, roasteries, cafes, numberTests, sheetTests, refusal}
+use Rattle.transport.specs.Extended.{extended}
+use Rattle.transport.specs.Problem.{Lane, lanes, place, sources}
 use Rattle.transport.specs.Laws.SheetLaws.{accepted}
 use Rattle.transport.specs.Laws.Sound.{sound, sources-room, sinks-room}
 use Rattle.transport.specs.Laws.PlanLaws.{planCost-natural}
 use Rattle.transport.specs.Statements.{Accepted, HasText, Belongs, Meets}
-use Rattle.transport.specs.Calls.{solutionFrom, solution}
+use Rattle.transport.specs.Calls.{cafePrices, solutionFrom, solution}
 use Rattle.transport.specs.Laws.ProblemLaws.{lane, length-lanes, place-below}
 use Rattle.transport.specs.Tableau.{start}
-use Rattle.transport.specs.Potential.{potential, sourcePrices, sinkPrices}
+use Rattle.transport.specs.Potential.{potential, sourcePrices}
 use Rattle.transport.specs.Plan.{planCost}
 use Rattle.transport.specs.Round.{roundBound}
 use Rattle.transport.specs.Text.{bytes, headLine, numberLine, rowLine}
@@ -60,7 +61,7 @@ members-length write most count xs few each =
 
 -- A lane in sheet order is on the sheet.
 lane-inside : (m n : ℕ) {l : Lane} → List·Memᴰ l (lanes m n) → (l .row < m) × (l .col < n)
-unfolding lanes below
+unfolding lanes grid below
 lane-inside m n member =
     let (i, row, cell) = flatMap-member (λ i. table n (lane i)) (table m (λ k. k)) member in
     let (k, p, e) = table-member m (λ k. k) row in
@@ -70,7 +71,7 @@ lane-inside m n member =
 -- ---- the figures
 
 module _ {S : Sheet} (ok : Accepted S) where
-  -- A source sends its supply, and no bag costs more than the greatest cost.
+  -- A roastery sends at most its supply, and no bag costs more than the greatest cost.
   row-cost : {Q : List ℕ} → Meets S 1 Q → (i : ℕ) → i < roasteries S
       → sumTo (cafes S) (λ j. at Q (place (cafes S) i j) * at (S .cost) (place (cafes S) i j)) ≤ maxCost * maxAmount
   row-cost {Q} meets i p =
@@ -88,7 +89,7 @@ module _ {S : Sheet} (ok : Accepted S) where
       )
 
   plan-cost : {Q : List ℕ} → Meets S 1 Q → natAbs (planCost S Q) ≤ maxSide * (maxCost * maxAmount)
-  unfolding place problemOf sources roasteries
+  unfolding place extended sources roasteries
   plan-cost {Q} meets =
       rw
       (planCost-natural S Q, sumTo-runs)
@@ -102,32 +103,34 @@ module _ {S : Sheet} (ok : Accepted S) where
   -- No more rounds are made than solve allows, whose bound has 16 digits.
   rounds-most : solution S .rounds < 10 ^ 16
   unfolding solution solutionFrom
-  rounds-most = let P = problemOf S in omega (arith, run-rounds P (roundBound P) (start P), roundBound-most (sound ok))
+  rounds-most = let P = extended S in omega (arith, run-rounds P (roundBound P) (start P), roundBound-most (sound ok))
 
   -- ---- the prices
 
   -- A minus, at most 8 digits and LF.
-  price-line : {T : List Cell} → Belongs (problemOf S) T → (k : ℕ) → length (wholeLine (potential (problemOf S) T k)) ≤ 10
+  price-line : {T : List Cell} → Belongs (extended S) T → (k : ℕ) → length (wholeLine (potential (extended S) T k)) ≤ 10
   price-line {T} w k =
-      let small = price-size (problemOf S) (sound ok) T (fits-of (sound ok) w) (spans-of (sound ok) w) k in
-      omega (arith, length-whole-line (potential (problemOf S) T k), whole-most 7 (potential (problemOf S) T k) (omega (arith, small, price-limit)))
+      let small = price-size (extended S) (sound ok) T (fits-of (sound ok) w) (spans-of (sound ok) w) k in
+      omega (arith, length-whole-line (potential (extended S) T k), whole-most 7 (potential (extended S) T k) (omega (arith, small, price-limit)))
 
-  prices-length : {T : List Cell} → Belongs (problemOf S) T → (count : ℕ) → count ≤ maxSide → (node : ℕ → ℕ)
-      → length (flatMap wholeLine (table count (λ k. potential (problemOf S) T (node k)))) ≤ maxSide * 10
+  prices-length : {T : List Cell} → Belongs (extended S) T → (count : ℕ) → count ≤ maxSide → (node : ℕ → ℕ)
+      → length (flatMap wholeLine (table count (λ k. potential (extended S) T (node k)))) ≤ maxSide * 10
   prices-length {T} w count few node =
-      let prices : List ℤ = table count (λ k. potential (problemOf S) T (node k)) in
+      let prices : List ℤ = table count (λ k. potential (extended S) T (node k)) in
       let line : (z : ℤ) → List·Memᴰ z prices → length (wholeLine z) ≤ 10 =
-      λ z m. let (k, p, e) = table-member count (λ k. potential (problemOf S) T (node k)) m in rw e (price-line w (node k))
+      λ z m. let (k, p, e) = table-member count (λ k. potential (extended S) T (node k)) m in rw e (price-line w (node k))
       in
-      members-length wholeLine 10 maxSide prices (omega (arith, length-table (λ k. potential (problemOf S) T (node k)) count)) line
+      members-length wholeLine 10 maxSide prices (omega (arith, length-table (λ k. potential (extended S) T (node k)) count)) line
 
   u-length : length (flatMap wholeLine (solution S .u)) ≤ maxSide * 10
-  unfolding sourcePrices problemOf sources roasteries
+  unfolding sourcePrices extended sources roasteries
   u-length = let last = solution-finished S (sound ok) in rw (last .u) (prices-length (last .belongs) (roasteries S) (sound ok .sourcesHigh) (λ k. k))
 
   v-length : length (flatMap wholeLine (solution S .v)) ≤ maxSide * 10
-  unfolding sinkPrices problemOf sources sinks roasteries cafes
-  v-length = let last = solution-finished S (sound ok) in rw (last .v) (prices-length (last .belongs) (cafes S) (sound ok .sinksHigh) (λ j. roasteries S + j))
+  unfolding cafePrices
+  v-length =
+      let last = solution-finished S (sound ok) in
+      rw (last .v) (prices-length (last .belongs) (cafes S) (omega (arith, ok .limits .cafesHigh, sinks-room)) (λ j. roasteries S + j))
 
   -- ---- the lanes
 
@@ -199,10 +202,10 @@ text-numbers : (S : Sheet) → HasText S → refusal (sheetTests S) ≡ refusal 
 unfolding roasteries cafes
 text-numbers S h = sheet-numbers S (h .sides .0) (h .sides .1) (eq-eqb _ _ (h .lengths))
 
--- `refused `, a number of one digit and LF.
-refused-length : (k : ℕ) → k < 10 → length (bytes "refused " ++ ended k 10) ≤ 10
+-- `refused `, a number of at most two digits and LF.
+refused-length : (k : ℕ) → k ≤ 10 → length (bytes "refused " ++ ended k 10) ≤ 11
 unfolding bytes
-refused-length k p = omega (arith, length-append (bytes "refused ") (ended k 10), length-ended k 10, digits-length 0 k .1 p)
+refused-length k p = omega (arith, length-append (bytes "refused ") (ended k 10), length-ended k 10, digits-length 1 k .1 (omega arith))
 
 -- .. and with a place, which is at most one more than the longest sheet text.
 place-length : (k : ℕ) → k ≤ suc maxText → length (bytes "refused 9 " ++ ended k 10) ≤ 15
@@ -219,7 +222,7 @@ printed-length input = go (sheetReader text) refl
 
     of-sheet : (S : Sheet) → (o : Option ℕ) → refusal (sheetTests S) ≡ o → length (sheetShown S) ≤ maxPlanText
     of-sheet S none e = rw (shown-plan S e) (plan-length S e)
-    of-sheet S (some k) e = rw (shown-refusal S k e) (omega (arith, refused-length k (omega (arith, check-number S k e))))
+    of-sheet S (some k) e = rw (shown-refusal S k e) (omega (arith, refused-length k (check-number S k e .0)))
 
     go : (o : Reading Sheet) → sheetReader text ≡ o → length (printed input) ≤ maxPlanText
     go (stuck rest) e =

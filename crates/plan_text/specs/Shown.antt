@@ -12,7 +12,7 @@ use lib.Seq.{take-all}
 use borrow.Author.Tests.{eq-eqb}
 use Rattle.transport.specs.declared.WriteAnswer.the-variants.{Written, Refused}
 use Rattle.transport.specs.Limits.{maxSources, maxSinks, maxText}
-use Rattle.transport.specs.Sheet.{Sheet, sheetTests, numberTests, badSides, badLength, badAmount, badCost, unbalanced, refusal}
+use Rattle.transport.specs.Sheet.{Sheet, sheetTests, numberTests, badSides, badLength, badAmount, badCost, lacking, crowded, refusal}
 use Rattle.transport.specs.Laws.SheetLaws.{true-within, refusal-yes, refusal-no}
 use Rattle.transport.specs.Calls.{Answer, given, refusedBy, lentAfter}
 use Rattle.transport.specs.Laws.CallLaws.{some≢none, short-yes, short-no, unless-given, unless-refused}
@@ -65,19 +65,34 @@ unfolding sheetShown
 shown-refusal S k e = rw (e, sheetShown)
 
 -- A refusal's number is that of one of the tests.
-refusal-within : (most : ℕ) (ts : List (Bool × ℕ)) → Every (λ t. t .1 ≤ most) ts → (k : ℕ) → refusal ts ≡ some k → k ≤ most
+refusal-number : (Good : ℕ → Type 0) (ts : List (Bool × ℕ)) → Every (λ t. Good (t .1)) ts → (k : ℕ) → refusal ts ≡ some k → Good k
 unfolding refusal
-refusal-within most [] e k h = absurd (some≢none (sym h))
-refusal-within most (t ∷ ts) e k h = go (t .0) refl (refusal-within most ts (e .1) k)
+refusal-number Good [] e k h = absurd (some≢none (sym h))
+refusal-number Good (t ∷ ts) e k h = go (t .0) refl (refusal-number Good ts (e .1) k)
   where
-    go : (b : Bool) → t .0 ≡ b → (refusal ts ≡ some k → k ≤ most) → k ≤ most
+    go : (b : Bool) → t .0 ≡ b → (refusal ts ≡ some k → Good k) → Good k
     go true p rest = let same : some (t .1) ≡ some k = sym (refusal-yes t ts p) ∙ h in let n : t .1 ≡ k = cc in rw (← n) (e .0)
     go false p rest = rest (sym (refusal-no t ts p) ∙ h)
 
--- The sheet check has no number above 5.
-pub check-number : (S : Sheet) (k : ℕ) → refusal (sheetTests S) ≡ some k → k ≤ 5
-unfolding sheetTests numberTests badSides badLength badAmount badCost unbalanced
-check-number S k = refusal-within 5 (sheetTests S) (omega arith, (omega arith, (omega arith, (omega arith, (omega arith, tt))))) k
+-- The sheet check has no number above 10, and not 8.
+pub check-number : (S : Sheet) (k : ℕ) → refusal (sheetTests S) ≡ some k → (k ≤ 10) × (k ≡ 8 → ⊥)
+unfolding sheetTests numberTests badSides badLength badAmount badCost lacking crowded
+check-number S k = refusal-number (λ n. (n ≤ 10) × (n ≡ 8 → ⊥)) (sheetTests S) (
+  (omega arith, λ e. omega arith),
+  (
+    (omega arith, λ e. omega arith),
+    (
+      (omega arith, λ e. omega arith),
+      (
+        (omega arith, λ e. omega arith),
+        (
+          (omega arith, λ e. omega arith),
+          ((omega arith, λ e. omega arith), tt),
+        ),
+      ),
+    ),
+  ),
+) k
 
 -- Write plan, case by case: what it answers, what it leaves in the output, and what is then to be shown.
 module _ (S : Sheet) (out after : List ℕ) where
@@ -124,7 +139,7 @@ module _ (S : Sheet) (out after : List ℕ) where
   shown-short h held = go which
     where
       go : Case → (0 ≡ length text) × (after ≡ front text out)
-      go (checked k e f) = let z : Refused 8 ≡ Refused k = h ∙ ap writeAnswer f in let y : 8 ≡ k = cc in absurd (omega (arith, check-number S k e))
+      go (checked k e f) = let z : Refused 8 ≡ Refused k = h ∙ ap writeAnswer f in let y : 8 ≡ k = cc in absurd (check-number S k e .1 (sym y))
       go (short e f) = rw e (refl, held ∙ rw f)
       go (written e f) = let z : Refused 8 ≡ Written (length (planText S)) = h ∙ ap writeAnswer f in let y : _≡_ {A = ℕ} 0 1 = cc in absurd (omega arith)
 

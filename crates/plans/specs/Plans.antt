@@ -12,7 +12,7 @@ use lib.Seq.{length-take-le}
 use borrow.Author.Tests.{eqb-true, eq-eqb}
 use Rattle.transport.specs.Lists.{all, sumTo, at, total}
 use Rattle.transport.specs.Laws.ListLaws.{all-at, all-of, member-at, member-place, member-map, map-member, member-flatMap, flatMap-member, getD-append-at}
-use Rattle.transport.specs.Laws.ListLaws.{sumTo-cong, sumTo-first, at-past}
+use Rattle.transport.specs.Laws.ListLaws.{sumTo-cong, sumTo-swap, sumTo-le, sumTo-first, at-past}
 use Rattle.transport.specs.Sheet.{Sheet, roasteries, cafes}
 use Rattle.transport.specs.Problem.{place}
 use Rattle.transport.specs.Plan.{rowPlans, plansFor, plans}
@@ -39,7 +39,7 @@ at-taken (d ∷ ds) (x ∷ xs) (suc j) e = at-taken ds xs j (omega arith)
 
 record FitsSides (n : ℕ) (ss ds x : List ℕ) : Type 0 where
   size : length x ≡ length ss * n
-  rows : (i : ℕ) → i < length ss → sumTo n (λ j. at x (place n i j)) ≡ at ss i
+  rows : (i : ℕ) → i < length ss → sumTo n (λ j. at x (place n i j)) ≤ at ss i
   columns : (j : ℕ) → j < n → sumTo (length ss) (λ i. at x (place n i j)) ≡ at ds j
 
 -- Where no source is left, each sink has all that it wants.
@@ -79,20 +79,43 @@ module _ (n : ℕ) (xs p : List ℕ) (e : length xs ≡ n) where
       )
 
   module _ (s : ℕ) (ss ds : List ℕ) (f : length ds ≡ n) where
-    fits-cons : RowPlan s ds xs → FitsSides n ss (zipWith (_-_) ds xs) p → FitsSides n (s ∷ ss) ds (xs ++ p)
+    fits-cons : {low : ℕ} → RowPlan low s ds xs → FitsSides n ss (zipWith (_-_) ds xs) p → FitsSides n (s ∷ ss) ds (xs ++ p)
     unfolding at
     fits-cons r g = record { size = omega (arith, length-append xs p, g .size, suc-mul (length ss) n); rows = rows; columns = columns }
       where
-        rows : (i : ℕ) → i < suc (length ss) → sumTo n (λ j. at (xs ++ p) (place n i j)) ≡ at (s ∷ ss) i
-        rows zero l = first-row ∙ r .sum
-        rows (suc i) l = other-row i ∙ g .rows i (omega arith)
+        rows : (i : ℕ) → i < suc (length ss) → sumTo n (λ j. at (xs ++ p) (place n i j)) ≤ at (s ∷ ss) i
+        rows zero l = omega (arith, first-row, r .most)
+        rows (suc i) l = omega (arith, other-row i, g .rows i (omega arith))
 
         columns : (j : ℕ) → j < n → sumTo (suc (length ss)) (λ i. at (xs ++ p) (place n i j)) ≡ at ds j
         columns j l = omega (arith, column (length ss) j l, g .columns j l, at-taken ds xs j (r .size), r .wanted j)
 
-    fits-row : FitsSides n (s ∷ ss) ds (xs ++ p) → RowPlan s ds xs
+    -- All that is sent is all that is wanted, and the other sources send no more than they have: the first row sends what they lack.
+    fits-low : FitsSides n (s ∷ ss) ds (xs ++ p) → total ds ≤ total xs + total ss
+    unfolding at total
+    fits-low g = rw f (omega (
+      arith,
+      sumTo-cong n (λ j. sumTo (suc m) (λ i. sent i j)) (at ds) (g .columns),
+      sumTo-swap (suc m) n sent,
+      sumTo-first m (λ i. sumTo n (sent i)),
+      first-row,
+      sumTo-le m (λ i. sumTo n (sent (suc i))) (at ss) (λ i l. g .rows (suc i) (omega arith)),
+    ))
+      where
+        m : ℕ
+        m = length ss
+
+        sent : ℕ → ℕ → ℕ
+        sent i j = at (xs ++ p) (place n i j)
+
+    fits-row : FitsSides n (s ∷ ss) ds (xs ++ p) → RowPlan (total ds - total ss) s ds xs
     unfolding at
-    fits-row g = record { size = e ∙ sym f; wanted = λ j. wanted j (decLt j n); sum = sym first-row ∙ g .rows 0 (omega arith) }
+    fits-row g = record {
+      size = e ∙ sym f;
+      wanted = λ j. wanted j (decLt j n);
+      least = omega (arith, fits-low g);
+      most = omega (arith, first-row, g .rows 0 (omega arith));
+    }
       where
         wanted : (j : ℕ) → Dec (j < n) → at xs j ≤ at ds j
         wanted j (yes l) = omega (arith, column (length ss) j l, g .columns j l)
@@ -103,7 +126,7 @@ module _ (n : ℕ) (xs p : List ℕ) (e : length xs ≡ n) where
     fits-rest g =
         record {
           size = omega (arith, length-append xs p, g .size, suc-mul (length ss) n);
-          rows = λ i l. sym (other-row i) ∙ g .rows (suc i) (omega arith);
+          rows = λ i l. omega (arith, other-row i, g .rows (suc i) (omega arith));
           columns = λ j l. omega (arith, column (length ss) j l, g .columns j l, at-taken ds xs j (e ∙ sym f));
         }
 
@@ -116,9 +139,9 @@ plansFor-sound n [] ds {x} e m = go (all (eqb 0) ds) refl m
     go true f m = rw (List·Memᴰ·eq-of-singleton m) (fits-nothing n ds e f)
     go false f m = absurd (List·Memᴰ·not-nil m)
 plansFor-sound n (s ∷ ss) ds e m =
-    let (xs, l, m) = flatMap-member (λ xs. map (λ p. xs ++ p) (plansFor ss (zipWith (_-_) ds xs))) (rowPlans s ds) m in
+    let (xs, l, m) = flatMap-member (λ xs. map (λ p. xs ++ p) (plansFor ss (zipWith (_-_) ds xs))) (rowPlans (total ds - total ss) s ds) m in
     let (p, k, f) = map-member (λ p. xs ++ p) (plansFor ss (zipWith (_-_) ds xs)) m in
-    let r = rowPlans-sound s ds l in
+    let r = rowPlans-sound (total ds - total ss) s ds l in
     rw f (fits-cons n xs p (r .size ∙ e) s ss ds e r (plansFor-sound n ss (zipWith (_-_) ds xs) (length-taken ds xs (r .size) ∙ e) k))
 
 -- Every such plan is among them.
@@ -131,12 +154,12 @@ plansFor-complete n (s ∷ ss) ds x e g =
     let p = drop n x in
     let f : length xs ≡ n = length-take-le n x (omega (arith, g .size, suc-mul (length ss) n)) in
     let g : FitsSides n (s ∷ ss) ds (xs ++ p) = rw (take-append-drop n x) g in
-    let r : RowPlan s ds xs = fits-row n xs p f s ss ds e g in
+    let r : RowPlan (total ds - total ss) s ds xs = fits-row n xs p f s ss ds e g in
     Memᴰ·cast
     (sym (take-append-drop n x))
     (member-flatMap
     (λ xs. map (λ p. xs ++ p) (plansFor ss (zipWith (_-_) ds xs)))
-    (rowPlans-complete s ds xs r)
+    (rowPlans-complete (total ds - total ss) s ds xs r)
     (member-map
     (λ p. xs ++ p)
     (plansFor-complete n ss (zipWith (_-_) ds xs) p (length-taken ds xs (r .size) ∙ e) (fits-rest n xs p f s ss ds e g))))
@@ -177,17 +200,17 @@ plansFor-sorted (s ∷ ss) ds =
     rest
     apart
     (λ xs m. sorted-map (λ p. xs ++ p) (ahead-right xs) (plansFor-sorted ss (zipWith (_-_) ds xs)))
-    (rowPlans-sorted s ds)
+    (rowPlans-sorted (total ds - total ss) s ds)
   where
     rest : List ℕ → List (List ℕ)
     rest xs = map (λ p. xs ++ p) (plansFor ss (zipWith (_-_) ds xs))
 
-    apart : (xs ys : List ℕ) → List·Memᴰ xs (rowPlans s ds) → List·Memᴰ ys (rowPlans s ds) → Ahead xs ys
+    apart : (xs ys : List ℕ) → List·Memᴰ xs (rowPlans (total ds - total ss) s ds) → List·Memᴰ ys (rowPlans (total ds - total ss) s ds) → Ahead xs ys
         → (x y : List ℕ) → List·Memᴰ x (rest xs) → List·Memᴰ y (rest ys) → Ahead x y
     apart xs ys m n a x y k h =
         let (p, k, e) = map-member (λ p. xs ++ p) (plansFor ss (zipWith (_-_) ds xs)) k in
         let (q, h, f) = map-member (λ p. ys ++ p) (plansFor ss (zipWith (_-_) ds ys)) h in
-        rw (e, f) (ahead-left xs ys p q (rowPlans-sound s ds m .size ∙ sym (rowPlans-sound s ds n .size)) a)
+        rw (e, f) (ahead-left xs ys p q (rowPlans-sound (total ds - total ss) s ds m .size ∙ sym (rowPlans-sound (total ds - total ss) s ds n .size)) a)
 
 -- ---- the plans of a sheet
 

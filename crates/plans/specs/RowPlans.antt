@@ -1,4 +1,5 @@
--- The ways to send what one source has: `rowPlans` lists them all, the one that carries more on the first lane where two differ first.
+-- The ways to send at least `low` and at most `left` from one source: `rowPlans` lists them all, the one that carries more on the first lane where two differ
+-- first.
 use Prim.Native.Nat.{ℕ, zero, suc, _+_, _-_, _≤_, _<_, min}
 use native.Mathlib.Omega.{arith}
 use mathlib.Core.Path.{_≡_, refl, ap}
@@ -30,62 +31,73 @@ sorted-downTo : (low high : ℕ) → Sorted (λ (x y : ℕ). y < x) (downTo low 
 unfolding downTo
 sorted-downTo low high = sorted-table (suc high - low) (λ k. high - k) (λ h k p q. omega arith)
 
--- ---- a row: one quantity for each sink, no more than it wants, that add up to what the source has
+-- ---- a row: one quantity for each sink, no more than it wants, that add up to at least `low` and at most `left`
 
-pub record RowPlan (left : ℕ) (ds xs : List ℕ) : Type 0 where
+pub record RowPlan (low left : ℕ) (ds xs : List ℕ) : Type 0 where
   pub size : length xs ≡ length ds
   pub wanted : (j : ℕ) → at xs j ≤ at ds j
-  pub sum : total xs ≡ left
+  pub least : low ≤ total xs
+  pub most : total xs ≤ left
 
 total-le : (xs ds : List ℕ) → length xs ≡ length ds → ((j : ℕ) → at xs j ≤ at ds j) → total xs ≤ total ds
 unfolding total
 total-le xs ds e h = rw e (sumTo-le (length ds) (at xs) (at ds) (λ k l. h k))
 
-row-cons : (left d x : ℕ) (ds xs : List ℕ) → x ≤ d → x ≤ left → RowPlan (left - x) ds xs → RowPlan left (d ∷ ds) (x ∷ xs)
+row-cons : (low left d x : ℕ) (ds xs : List ℕ) → x ≤ d → x ≤ left → RowPlan (low - x) (left - x) ds xs → RowPlan low left (d ∷ ds) (x ∷ xs)
 unfolding at
-row-cons left d x ds xs p q r = record { size = ap suc (r .size); wanted = wanted; sum = omega (arith, total-cons x xs, r .sum) }
+row-cons low left d x ds xs p q r = record {
+  size = ap suc (r .size);
+  wanted = wanted;
+  least = omega (arith, total-cons x xs, r .least);
+  most = omega (arith, total-cons x xs, r .most);
+}
   where
     wanted : (j : ℕ) → getD (x ∷ xs) j 0 ≤ getD (d ∷ ds) j 0
     wanted zero = p
     wanted (suc j) = r .wanted j
 
-row-rest : (left d x : ℕ) (ds xs : List ℕ) → RowPlan left (d ∷ ds) (x ∷ xs) → RowPlan (left - x) ds xs
+row-rest : (low left d x : ℕ) (ds xs : List ℕ) → RowPlan low left (d ∷ ds) (x ∷ xs) → RowPlan (low - x) (left - x) ds xs
 unfolding at
-row-rest left d x ds xs r =
+row-rest low left d x ds xs r =
     record {
       size = omega (arith, r .size);
       wanted = λ j. r .wanted (suc j);
-      sum = omega (arith, total-cons x xs, r .sum);
+      least = omega (arith, total-cons x xs, r .least);
+      most = omega (arith, total-cons x xs, r .most);
     }
 
-pub rowPlans-sound : (left : ℕ) (ds : List ℕ) {xs : List ℕ} → List·Memᴰ xs (rowPlans left ds) → RowPlan left ds xs
+pub rowPlans-sound : (low left : ℕ) (ds : List ℕ) {xs : List ℕ} → List·Memᴰ xs (rowPlans low left ds) → RowPlan low left ds xs
 unfolding rowPlans
-rowPlans-sound left [] {xs} m = go (eqb left 0) refl m
+rowPlans-sound low left [] {xs} m = go (eqb low 0) refl m
   where
-    go : (b : Bool) → eqb left 0 ≡ b → List·Memᴰ xs (cond b ([] ∷ []) []) → RowPlan left [] xs
-    go true e m =
-        rw (List·Memᴰ·eq-of-singleton m) (record { size = refl; wanted = λ j. omega arith; sum = omega (arith, total-nil, eqb-true left 0 e) })
+    go : (b : Bool) → eqb low 0 ≡ b → List·Memᴰ xs (cond b ([] ∷ []) []) → RowPlan low left [] xs
+    go true e m = rw (List·Memᴰ·eq-of-singleton m) (record {
+      size = refl;
+      wanted = λ j. omega arith;
+      least = omega (arith, eqb-true low 0 e);
+      most = omega (arith, total-nil);
+    })
     go false e m = absurd (List·Memᴰ·not-nil m)
-rowPlans-sound left (d ∷ ds) m =
-    let (x, l, m) = flatMap-member (λ x. map (λ xs. x ∷ xs) (rowPlans (left - x) ds)) (downTo (left - total ds) (min left d)) m in
-    let (ys, k, e) = map-member (λ xs. x ∷ xs) (rowPlans (left - x) ds) m in
-    let (p, q) = downTo-member (left - total ds) (min left d) l in
-    rw e (row-cons left d x ds ys (omega arith) (omega arith) (rowPlans-sound (left - x) ds k))
+rowPlans-sound low left (d ∷ ds) m =
+    let (x, l, m) = flatMap-member (λ x. map (λ xs. x ∷ xs) (rowPlans (low - x) (left - x) ds)) (downTo (low - total ds) (min left d)) m in
+    let (ys, k, e) = map-member (λ xs. x ∷ xs) (rowPlans (low - x) (left - x) ds) m in
+    let (p, q) = downTo-member (low - total ds) (min left d) l in
+    rw e (row-cons low left d x ds ys (omega arith) (omega arith) (rowPlans-sound (low - x) (left - x) ds k))
 
-pub rowPlans-complete : (left : ℕ) (ds xs : List ℕ) → RowPlan left ds xs → List·Memᴰ xs (rowPlans left ds)
+pub rowPlans-complete : (low left : ℕ) (ds xs : List ℕ) → RowPlan low left ds xs → List·Memᴰ xs (rowPlans low left ds)
 unfolding rowPlans at
-rowPlans-complete left [] [] r = rw (eq-eqb left 0 (omega (arith, r .sum, total-nil))) (List·Memᴰ·head refl)
-rowPlans-complete left [] (x ∷ xs) r = absurd (omega (arith, r .size))
-rowPlans-complete left (d ∷ ds) [] r = absurd (omega (arith, r .size))
-rowPlans-complete left (d ∷ ds) (x ∷ xs) r =
-    let rest = row-rest left d x ds xs r in
+rowPlans-complete low left [] [] r = rw (eq-eqb low 0 (omega (arith, r .least, total-nil))) (List·Memᴰ·head refl)
+rowPlans-complete low left [] (x ∷ xs) r = absurd (omega (arith, r .size))
+rowPlans-complete low left (d ∷ ds) [] r = absurd (omega (arith, r .size))
+rowPlans-complete low left (d ∷ ds) (x ∷ xs) r =
+    let rest = row-rest low left d x ds xs r in
     let fits : x ≤ d = r .wanted 0 in
     let room : total xs ≤ total ds = total-le xs ds (rest .size) (rest .wanted) in
-    let sum : x + total xs ≡ left = omega (arith, total-cons x xs, r .sum) in
+    let sum : total (x ∷ xs) ≡ x + total xs = total-cons x xs in
     member-flatMap
-    (λ x. map (λ xs. x ∷ xs) (rowPlans (left - x) ds))
-    (member-downTo (left - total ds) (min left d) x (omega arith) (omega arith))
-    (member-map (λ xs. x ∷ xs) (rowPlans-complete (left - x) ds xs rest))
+    (λ x. map (λ xs. x ∷ xs) (rowPlans (low - x) (left - x) ds))
+    (member-downTo (low - total ds) (min left d) x (omega (arith, r .least)) (omega (arith, r .most)))
+    (member-map (λ xs. x ∷ xs) (rowPlans-complete (low - x) (left - x) ds xs rest))
 
 -- ---- order
 
@@ -114,26 +126,26 @@ ahead-cons x xs ys a =
     before zero p = refl
     before (suc h) p = a .difference .before h (omega arith)
 
-pub rowPlans-sorted : (left : ℕ) (ds : List ℕ) → Sorted Ahead (rowPlans left ds)
+pub rowPlans-sorted : (low left : ℕ) (ds : List ℕ) → Sorted Ahead (rowPlans low left ds)
 unfolding rowPlans
-rowPlans-sorted left [] = go (eqb left 0)
+rowPlans-sorted low left [] = go (eqb low 0)
   where
     go : (b : Bool) → Sorted Ahead (cond b ([] ∷ []) [])
     go true = sorted-single []
     go false = none
-rowPlans-sorted left (d ∷ ds) =
+rowPlans-sorted low left (d ∷ ds) =
     sorted-flatMap
     rows
     apart
-    (λ x m. sorted-map (λ xs. x ∷ xs) (ahead-cons x) (rowPlans-sorted (left - x) ds))
-    (sorted-downTo (left - total ds) (min left d))
+    (λ x m. sorted-map (λ xs. x ∷ xs) (ahead-cons x) (rowPlans-sorted (low - x) (left - x) ds))
+    (sorted-downTo (low - total ds) (min left d))
   where
     rows : ℕ → List (List ℕ)
-    rows x = map (λ xs. x ∷ xs) (rowPlans (left - x) ds)
+    rows x = map (λ xs. x ∷ xs) (rowPlans (low - x) (left - x) ds)
 
-    apart : (x y : ℕ) → List·Memᴰ x (downTo (left - total ds) (min left d)) → List·Memᴰ y (downTo (left - total ds) (min left d)) → y < x
+    apart : (x y : ℕ) → List·Memᴰ x (downTo (low - total ds) (min left d)) → List·Memᴰ y (downTo (low - total ds) (min left d)) → y < x
         → (a b : List ℕ) → List·Memᴰ a (rows x) → List·Memᴰ b (rows y) → Ahead a b
     apart x y m n l a b k h =
-        let (xs, k, e) = map-member (λ xs. x ∷ xs) (rowPlans (left - x) ds) k in
-        let (ys, h, f) = map-member (λ xs. y ∷ xs) (rowPlans (left - y) ds) h in
+        let (xs, k, e) = map-member (λ xs. x ∷ xs) (rowPlans (low - x) (left - x) ds) k in
+        let (ys, h, f) = map-member (λ xs. y ∷ xs) (rowPlans (low - y) (left - y) ds) h in
         rw (e, f) (ahead-first x y xs ys l)

@@ -4,40 +4,42 @@ use native.Mathlib.Omega.{arith}
 use native.Mathlib.Decide.{decLt, ℕ-discrete}
 use mathlib.Core.Path.{_≡_, refl, sym, _∙_}
 use mathlib.Core.Logic.{by-cases}
-use mathlib.Core.List.{List, map}
+use mathlib.Core.List.{List}
 use lib.IntN.{ℤ, pos, natAbs}
-use lib.ListN.{length, getD, set, replicate, length-set, List·getD-map}
+use lib.ListN.{length, getD, set, replicate, length-set}
 use lib.Seq.{getD-set-same, getD-set-other}
 use Rattle.transport.specs.Limits.{maxCost, costAbove}
-use Rattle.transport.specs.Lists.{at, atZ}
+use Rattle.transport.specs.Lists.{at}
 use Rattle.transport.specs.Problem.{Problem, sources, sinks, place, laneCost}
+use Rattle.transport.specs.Sheet.{Sheet, roasteries, cafes}
+use Rattle.transport.specs.Extended.{extended}
 use Rattle.transport.specs.Laws.ProblemLaws.{lane}
-use Rattle.tree.specs.Layout.{stride, laneRoom, getD-all}
+use Rattle.transport.specs.Laws.ExtendedLaws.{cost-cafe, cost-extra, laneCost-at}
+use Rattle.transport.specs.Laws.Sound.{sources-room, sinks-room}
+use Rattle.transport.specs.Statements.{Accepted}
+use Rattle.tree.specs.Layout.{stride, stride-is, laneRoom, getD-all}
 
 -- ---- filled in
 
--- The costs of m rows and n columns lie by column, and no number in the array is greater than a cost can be.
+-- The costs of m rows and n columns lie by column, the columns after them are all 0, and no number in the array is greater than a cost can be.
 pub record Spread (cost : List ℕ) (m n : ℕ) (out : List ℤ) : Type 0 where
-  pub long : length out ≡ laneRoom
   pub lanes : (i j : ℕ) → i < m → j < n → getD out (j * stride + i) (pos 0) ≡ pos (at cost (place n i j))
+  pub beyond : (i j : ℕ) → i < stride → n ≤ j → getD out (j * stride + i) (pos 0) ≡ pos 0
   pub small : (l : ℕ) → natAbs (getD out l (pos 0)) ≤ maxCost
 
--- The rows before i are filled in, and of row i the columns before j.
-pub record Part (cost : List ℕ) (n i j : ℕ) (out : List ℤ) : Type 0 where
+-- The rows before i are filled in, and of row i the columns before j. In the columns after n the array is as it was before.
+pub record Part (cost : List ℕ) (n : ℕ) (before : List ℤ) (i j : ℕ) (out : List ℤ) : Type 0 where
   pub long : length out ≡ laneRoom
   pub lanes : (h k : ℕ) → h * stride + k < i * stride + j → k < n → getD out (k * stride + h) (pos 0) ≡ pos (at cost (place n h k))
-  pub small : (l : ℕ) → natAbs (getD out l (pos 0)) ≤ maxCost
+  pub kept : (h k : ℕ) → h < stride → n ≤ k → getD out (k * stride + h) (pos 0) ≡ getD before (k * stride + h) (pos 0)
+  pub small : ((l : ℕ) → natAbs (getD before l (pos 0)) ≤ maxCost) → (l : ℕ) → natAbs (getD out l (pos 0)) ≤ maxCost
 
-module _ (cost : List ℕ) (n : ℕ) where
-  pub part-none : Part cost n 0 0 (replicate laneRoom (pos 0))
-  part-none = record {
-    long = refl;
-    lanes = λ h k l r. absurd (omega arith);
-    small = λ l. rw (getD-all laneRoom l (pos 0)) (omega arith);
-  }
+module _ (cost : List ℕ) (n : ℕ) (before : List ℤ) where
+  pub part-none : length before ≡ laneRoom → Part cost n before 0 0 before
+  part-none e = record { long = e; lanes = λ h k l r. absurd (omega arith); kept = λ h k l r. refl; small = λ s. s }
 
-  module _ (i j : ℕ) (out : List ℤ) (p : Part cost n i j out) (low : n ≤ stride) where
-    pub part-one : i < stride → j < n → at cost (place n i j) ≤ maxCost → Part cost n i (j + 1) (set out (j * stride + i) (pos (at cost (place n i j))))
+  module _ (i j : ℕ) (out : List ℤ) (p : Part cost n before i j out) (low : n ≤ stride) where
+    pub part-one : i < stride → j < n → at cost (place n i j) ≤ maxCost → Part cost n before i (j + 1) (set out (j * stride + i) (pos (at cost (place n i j))))
     part-one l r q = record {
       long = simp length-set (p .long);
       lanes = λ h k s t. by-cases (decLt (h * stride + k) (i * stride + j))
@@ -46,9 +48,10 @@ module _ (cost : List ℕ) (n : ℕ) where
           let a : h ≡ i = omega arith in
           let b : k ≡ j = omega arith in
           rw (a, b) here);
-      small = λ s. by-cases (ℕ-discrete s (j * stride + i))
+      kept = λ h k s t. getD-set-other out (j * stride + i) (k * stride + h) x (pos 0) (λ e. absurd (omega arith)) ∙ p .kept h k s t;
+      small = λ f s. by-cases (ℕ-discrete s (j * stride + i))
           (λ e. rw (e, here) q)
-          (λ d. rw (getD-set-other out (j * stride + i) s x (pos 0) d) (p .small s));
+          (λ d. rw (getD-set-other out (j * stride + i) s x (pos 0) d) (p .small f s));
     }
       where
         x : ℤ
@@ -57,11 +60,16 @@ module _ (cost : List ℕ) (n : ℕ) where
         here : getD (set out (j * stride + i) (pos (at cost (place n i j)))) (j * stride + i) (pos 0) ≡ pos (at cost (place n i j))
         here = getD-set-same out (j * stride + i) (pos (at cost (place n i j))) (pos 0) (omega (arith, p .long))
 
-    pub part-row : n ≤ j → Part cost n (i + 1) 0 out
-    part-row r = record { long = p .long; lanes = λ h k s t. p .lanes h k (omega arith) t; small = p .small }
+    pub part-row : n ≤ j → Part cost n before (i + 1) 0 out
+    part-row r = record { long = p .long; lanes = λ h k s t. p .lanes h k (omega arith) t; kept = p .kept; small = p .small }
 
-    pub part-all : j ≡ 0 → Spread cost i n out
-    part-all e = record { long = p .long; lanes = λ h k s t. p .lanes h k (omega arith) t; small = p .small }
+-- Over zeros.
+pub part-all : (cost : List ℕ) (n i : ℕ) (out : List ℤ) → n ≤ stride → Part cost n (replicate laneRoom (pos 0)) i 0 out → Spread cost i n out
+part-all cost n i out low p = record {
+  lanes = λ h k s t. p .lanes h k (omega arith) t;
+  beyond = λ h k s t. p .kept h k s t ∙ getD-all laneRoom (k * stride + h) (pos 0);
+  small = p .small (λ l. rw (getD-all laneRoom l (pos 0)) (omega arith));
+}
 
 -- ---- for a problem
 
@@ -70,9 +78,21 @@ pub record Costed (P : Problem) (cost : List ℤ) : Type 0 where
   pub lanes : (i j : ℕ) → i < sources P → j < sinks P → getD cost (j * stride + i) (pos 0) ≡ laneCost P (lane i j)
   pub small : (l : ℕ) → natAbs (getD cost l (pos 0)) ≤ costAbove
 
-pub spread-costed : (P : Problem) (cost : List ℕ) (out : List ℤ) → P .cost ≡ map pos cost → Spread cost (sources P) (sinks P) out → Costed P out
-unfolding laneCost atZ at sinks costAbove
-spread-costed P cost out e p = record {
-  lanes = λ i j hi hj. rw e (p .lanes i j hi hj ∙ sym (List·getD-map pos cost (place (sinks P) i j) 0));
-  small = p .small;
-}
+-- The costs of a sheet are those of its extended problem: the extra café's lanes cost nothing.
+pub spread-costed : (S : Sheet) {out : List ℤ} → roasteries S ≤ stride → Spread (S .cost) (roasteries S) (cafes S) out → Costed (extended S) out
+unfolding extended sources sinks roasteries costAbove
+spread-costed S {out} few p = record { lanes = lanes; small = p .small }
+  where
+    lanes : (i j : ℕ) → i < sources (extended S) → j < sinks (extended S) → getD out (j * stride + i) (pos 0) ≡ laneCost (extended S) (lane i j)
+    lanes i j hi hj = by-cases (decLt j (cafes S))
+        (λ h. p .lanes i j hi h ∙ sym (laneCost-at S i j hi hj ∙ cost-cafe S i j h))
+        (λ h. p .beyond i j (omega arith) (omega arith) ∙ sym (laneCost-at S i j hi hj ∙ cost-extra S i j (omega arith)))
+
+-- The costs of an accepted sheet can be spread.
+pub spreadable : {S : Sheet} → Accepted S
+    → (length (S .supply) ≤ stride) × (length (S .demand) ≤ stride) × (length (S .cost) ≡ length (S .supply) * length (S .demand))
+    × ((k : ℕ) → at (S .cost) k ≤ maxCost)
+unfolding roasteries cafes
+spreadable ok =
+    let w = ok .limits in
+    (omega (arith, w .roasteriesHigh, sources-room, stride-is), omega (arith, w .cafesHigh, sinks-room, stride-is), w .costLength, w .costHigh)

@@ -10,7 +10,7 @@ ghost use Rattle.transport.specs.Limits.{maxCost};
 ghost use Rattle.tree.specs.Layout.{stride};
 ghost use Rattle.pricing.specs.Costs.{Spread};
 
-// Where there is no lane, the cost is 0: no scan looks at it.
+// All else is 0: the lanes of an extra café, in the column after the last, and what is no lane, at which no scan looks.
 pub fn spread_costs(cost: &[u64], m: usize, n: usize, out: &mut [Price; LANES])
     requires { ⌜ (m ≤ stride) × (n ≤ stride) × (length (now cost) ≡ m * n) × ((k : ℕ) → at (now cost) k ≤ maxCost) ⌝ }
     ensures { λ _. ⌜ Spread (now (cost .entry)) m n (now (out .exit)) ⌝ }

@@ -1,1 +1,4 @@
+pub mod SheetLanes
+pub mod Extending
 pub mod Reduction
+pub mod Balanced

@@ -1,46 +1,123 @@
--- From the problem behind a sheet back to the sheet: its plans are the sheet's plans at the same cost, so what is optimal there is best here, and the settled
--- plan.
-use mathlib.Core.Path.{_≡_, refl, ap, _∙_}
-use mathlib.Core.List.{List}
-use Prim.Native.Nat.{ℕ, zero, suc, _*_}
+-- From the extended problem back to the sheet: its plans are the sheet's at the same cost, so what is optimal there is best here, and the settled plan.
+use mathlib.Core.Path.{_≡_, sym, ap, _∙_}
+use mathlib.Core.Bool.{cond}
+use mathlib.Core.List.{List, [], _∷_}
+use Prim.Native.Nat.{ℕ, _*_, _≤_, _<_}
+use native.Mathlib.Omega.{arith}
+use native.Mathlib.Nat.{one-mul}
+use lib.Dec.{eqb}
 use lib.IntN.{ℤ, pos, _*ℤ_}
-use Rattle.transport.specs.Lists.{at, atZ, sumZ}
-use Rattle.transport.specs.Problem.{sources, sinks}
-use Rattle.transport.specs.Sheet.{Sheet, roasteries, cafes, problemOf}
+use lib.ListN.{length, length-map}
+use Rattle.transport.specs.Lists.{at, grid, sumTo, total}
+use Rattle.transport.specs.Problem.{sources, sinks, place}
+use Rattle.transport.specs.Sheet.{Sheet, roasteries, cafes}
+use Rattle.transport.specs.Extended.{surplus, wanted, extended}
 use Rattle.transport.specs.Plan.{planCost, settled}
-use Rattle.transport.specs.Statements.{Meets, Best}
-use Rattle.transport.specs.Laws.Sound.{cost-of}
+use Rattle.transport.specs.Statements.{Meets, FirstDifference, scaled, Best}
+use Rattle.transport.specs.Laws.ListLaws.{sumTo-cong, sumTo-scale, sumTo-part, total-append}
+use Rattle.transport.specs.Laws.ProblemLaws.{place-of, length-grid, getD-grid}
+use Rattle.transport.specs.Laws.PlanLaws.{scaled-at}
+use Rattle.transport.specs.Laws.ExtendedLaws.{width-low, wanted-at}
+use Rattle.transport.specs.Laws.Sound.{Sound}
 use Rattle.plans.specs.Settled.{best-settled}
 use Rattle.tableaux.specs.ProblemPlans.{flowCost, Fulfils, Optimal}
+use Rattle.reduction.specs.SheetLanes.{widthOf, SameOnSheet, same-scaled, cost-same, first-same}
+use Rattle.reduction.specs.Extending.{extendedPlan, extended-same, meets-fulfils}
 
-module _ {S : Sheet} {k : ℕ} {Q : List ℕ} where
-  pub meets-fulfils : Meets S k Q → Fulfils (problemOf S) k Q
-  unfolding problemOf sources sinks roasteries cafes
-  meets-fulfils q = record { quantities = q .quantities; rows = q .rows; columns = q .columns }
+-- What a plan of the extended problem carries on the sheet's lanes.
+unfoldable pub sheetPlan : Sheet → List ℕ → List ℕ
+sheetPlan S x = grid (roasteries S) (cafes S) (λ i j. at x (place (length (wanted S)) i j))
 
-  pub fulfils-meets : Fulfils (problemOf S) k Q → Meets S k Q
-  unfolding problemOf sources sinks roasteries cafes
-  fulfils-meets q = record { quantities = q .quantities; rows = q .rows; columns = q .columns }
+module _ (S : Sheet) (x : List ℕ) where
+  pub sheetPlan-same : SameOnSheet S (sheetPlan S x) x
+  unfolding sheetPlan at
+  sheetPlan-same i j l h = getD-grid (cafes S) (λ i j. at x (place (widthOf S) i j)) (roasteries S) i j 0 l h
 
-sumZ-cong : (n : ℕ) (f g : ℕ → ℤ) → ((k : ℕ) → f k ≡ g k) → sumZ n f ≡ sumZ n g
-unfolding sumZ
-sumZ-cong zero f g e = refl
-sumZ-cong (suc n) f g e = rw (sumZ-cong n f g e, e n)
+  pub sheetPlan-cost : planCost S (sheetPlan S x) ≡ flowCost (extended S) x
+  sheetPlan-cost = cost-same S (sheetPlan S x) x sheetPlan-same
 
-pub cost-same : (S : Sheet) (x : List ℕ) → flowCost (problemOf S) x ≡ planCost S x
-unfolding flowCost planCost problemOf sources sinks roasteries cafes
-cost-same S x = sumZ-cong (roasteries S * cafes S) (λ l. pos (at x l) *ℤ atZ (problemOf S .cost) l) (λ l. pos (at x l) *ℤ pos (at (S .cost) l))
-    (λ l. ap (λ (c : ℤ). pos (at x l) *ℤ c) (cost-of S l))
+  -- What goes to the extra café is left out, and stays at home.
+  pub fulfils-meets : {k : ℕ} → Fulfils (extended S) k x → Meets S k (sheetPlan S x)
+  unfolding extended sources sinks roasteries sheetPlan
+  fulfils-meets {k} f = record {
+    quantities = length-grid (cafes S) (λ i j. at x (place (widthOf S) i j)) (roasteries S);
+    rows = λ i l. omega (
+      arith,
+      sumTo-cong (cafes S) (λ j. at (sheetPlan S x) (place (cafes S) i j)) (λ j. at x (place (widthOf S) i j)) (λ j h. sheetPlan-same i j l h),
+      sumTo-part (cafes S) (widthOf S) (λ j. at x (place (widthOf S) i j)) (width-low S),
+      f .rows i l,
+    );
+    columns = λ j h.
+        sumTo-cong (roasteries S) (λ i. at (sheetPlan S x) (place (cafes S) i j)) (λ i. at x (place (widthOf S) i j)) (λ i l. sheetPlan-same i j l h)
+        ∙ f .columns j (omega (arith, width-low S))
+        ∙ ap (λ (t : ℕ). k * t) (wanted-at S j h);
+  }
 
--- A plan that is optimal for the problem is best for the sheet ..
-pub optimal-best : (S : Sheet) (x : List ℕ) (c : ℤ) → Optimal (problemOf S) x c → Best S x c
-optimal-best S x c b = record {
-  meets = fulfils-meets (b .fulfils);
-  shown = b .shown ∙ cost-same S x;
-  least = λ k Q l q. rw (cost-same S Q) at (b .least k Q l (meets-fulfils q));
-  first = λ k Q l q e. b .first k Q l (meets-fulfils q) (cost-same S Q ∙ e);
-}
+-- ---- optimal is best
 
--- .. and is the settled plan.
-pub optimal-settled : (S : Sheet) (x : List ℕ) (c : ℤ) → Optimal (problemOf S) x c → settled S ≡ x
-optimal-settled S x c b = best-settled S x c (optimal-best S x c b)
+module _ (S : Sheet) (x : List ℕ) (c : ℤ) (ok : Sound (extended S)) (b : Optimal (extended S) x c) where
+  -- The columns want as much as there is, and the cafés are among them.
+  enough-for-all : total (S .demand) ≤ total (S .supply)
+  unfolding extended wanted
+  enough-for-all = omega (arith, ok .balance, total-append (S .demand) (cond (eqb (surplus S) 0) [] (surplus S ∷ [])))
+
+  extended-length : length x ≡ roasteries S * widthOf S
+  unfolding extended sources sinks roasteries
+  extended-length = b .fulfils .quantities
+
+  -- Any plan Q in k-ths that meets the sheet, beside ours taken k times.
+  module _ (k : ℕ) (Q : List ℕ) (q : Meets S k Q) where
+    abbrev theirs : List ℕ
+    theirs = extendedPlan S k Q
+
+    fulfilled : Fulfils (extended S) k theirs
+    fulfilled = meets-fulfils S k Q enough-for-all q
+
+    -- Extended, both send from each row all that it has.
+    same-rows : (i : ℕ) → i < roasteries S
+        → sumTo (widthOf S) (λ j. at (scaled k x) (place (widthOf S) i j)) ≡ sumTo (widthOf S) (λ j. at theirs (place (widthOf S) i j))
+    unfolding extended sources sinks roasteries
+    same-rows i l =
+        sumTo-cong (widthOf S) _ (λ j. k * at x (place (widthOf S) i j))
+        (λ j h. scaled-at k x (place (widthOf S) i j))
+        ∙ sumTo-scale (widthOf S) k (λ j. at x (place (widthOf S) i j))
+        ∙ ap (λ (t : ℕ). k * t) (b .fulfils .rows i l ∙ one-mul (at (S .supply) i))
+        ∙ sym (fulfilled .rows i l)
+
+    ours-same : SameOnSheet S (scaled k (sheetPlan S x)) (scaled k x)
+    ours-same = same-scaled S k (sheetPlan S x) x (sheetPlan-same S x)
+
+    carries-more : 1 ≤ k → planCost S Q ≡ (pos k *ℤ c) → (i j : ℕ) → i < roasteries S → j < cafes S
+        → FirstDifference (scaled k (sheetPlan S x)) Q (place (cafes S) i j)
+        → at Q (place (cafes S) i j) < at (scaled k (sheetPlan S x)) (place (cafes S) i j)
+    unfolding scaled
+    carries-more l e i j hi hj d =
+        let long : length (scaled k x) ≡ roasteries S * widthOf S = length-map x (λ t. k * t) ∙ extended-length in
+        let first : FirstDifference (scaled k x) theirs (place (widthOf S) i j) =
+        first-same S (scaled k x) theirs same-rows (scaled k (sheetPlan S x)) Q ours-same (extended-same S k Q) long i j hi hj d in
+        omega (
+          arith,
+          b .first k theirs l fulfilled (sym (cost-same S Q theirs (extended-same S k Q)) ∙ e) (place (widthOf S) i j) first,
+          extended-same S k Q i j hi hj,
+          ours-same i j hi hj,
+        )
+
+  -- A plan that is optimal for the extended problem is best for the sheet. Any plan Q of the sheet, with what stays at home sent to the extra café, is a plan
+  -- of the extended problem at Q's cost, so ours costs no more. Where it costs the same, ours carries more on the first lane where the two extended plans
+  -- differ. That is the first lane where Q and ours differ: what stays at home is decided by the rest of its row, so where they agree on a row's lanes of the
+  -- sheet, they agree on its extra lane too.
+  pub optimal-best : Best S (sheetPlan S x) c
+  unfolding scaled
+  optimal-best = record {
+    meets = fulfils-meets S x (b .fulfils);
+    shown = b .shown ∙ sym (sheetPlan-cost S x);
+    least = λ k Q l q. rw (cost-same S Q (extendedPlan S k Q) (extended-same S k Q)) (b .least k (extendedPlan S k Q) l (fulfilled k Q q));
+    first = λ k Q l q e h d.
+        let w = place-of (roasteries S) (cafes S) h
+        (omega (arith, d .lane, length-map (sheetPlan S x) (λ t. k * t), fulfils-meets S x (b .fulfils) .quantities)) in
+        rw (← w .placed) (carries-more k Q q l e (w .row) (w .col) (w .rowBelow) (w .colBelow) (rw (w .placed) d));
+  }
+
+  -- It is the settled plan.
+  pub optimal-settled : settled S ≡ sheetPlan S x
+  optimal-settled = best-settled S (sheetPlan S x) c optimal-best

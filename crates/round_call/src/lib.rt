@@ -2,19 +2,26 @@
 use board::gather;
 use dealing::prices::side_prices;
 use dealing::tableau;
-use rounds::round::Turn;
+use pricing::costs::spread_costs;
 use rounds::round::make_round;
 use sheet::SheetCheck;
+use sheet::extended::extend_demands;
 use transport::MAX_SIDE;
 use transport::RoundAnswer;
 use transport::RoundOutcome;
 use transport::Tableau;
 use tree::LANES;
 use tree::NODES;
+use tree::Price;
 ghost use mathlib.Core.Path.{_≡_};
+ghost use Prim.Native.Nat.{ℕ, _+_, _<_, _≤_};
+ghost use lib.IntN.{pos, natAbs};
+ghost use lib.ListN.{getD};
 ghost use Rattle.transport.specs.Sheet.{sheetOf};
-ghost use Rattle.transport.specs.Calls.{refusedBy, roundCall};
+ghost use Rattle.transport.specs.Lists.{table};
+ghost use Rattle.transport.specs.Calls.{given, refusedBy, finished, roundCall};
 ghost use Rattle.transport.specs.Answers.{roundAnswer};
+ghost use Rattle.tree.specs.Layout.{stride, maxPotential};
 
 fn refused_round(number: u8) -> RoundAnswer
     ensures { λ r. ⌜ r ≡ roundAnswer (refusedBy number) ⌝ }
@@ -24,6 +31,22 @@ fn refused_round(number: u8) -> RoundAnswer
         tableau: tableau::empty_tableau(),
         u: [0; MAX_SIDE],
         v: [0; MAX_SIDE],
+    }
+}
+
+// The answer for a finished tableau: the prices of m roasteries and n cafés. That of an extra café, which stands after them, is not given.
+fn finished_round(price: &[Price; NODES], m: usize, n: usize) -> RoundAnswer
+    requires { ⌜ (m ≤ stride) × (n ≤ stride) × ((k : ℕ) → k < m + n → natAbs (getD (now price) k (pos 0)) ≤ maxPotential) ⌝ }
+    ensures { λ r.
+        let u = table m (λ k. getD (now (price .entry)) (0 + k) (pos 0)) in
+        let v = table n (λ k. getD (now (price .entry)) (m + k) (pos 0)) in
+        ⌜ r ≡ roundAnswer (given (finished u v)) ⌝ }
+{
+    RoundAnswer {
+        outcome: RoundOutcome::Finished,
+        tableau: tableau::empty_tableau(),
+        u: side_prices(price, 0, m),
+        v: side_prices(price, m, n),
     }
 }
 
@@ -38,7 +61,8 @@ pub fn round(supply: &[u64], demand: &[u64], cost: &[u64], t: Tableau) -> RoundA
         return refused_round(number);
     }
     let m = supply.len();
-    let n = demand.len();
+    let mut columns = [0u64; MAX_SIDE];
+    let n = extend_demands(supply, demand, &mut columns);
     let mut q = [0i64; LANES];
     let mut e = [0i64; LANES];
     let mut leaf = [0usize; NODES];
@@ -46,7 +70,7 @@ pub fn round(supply: &[u64], demand: &[u64], cost: &[u64], t: Tableau) -> RoundA
     let mut lane = [0usize; NODES];
     if !belonging::load(
         supply,
-        demand,
+        &columns[..n],
         t,
         &mut q,
         &mut e,
@@ -56,14 +80,13 @@ pub fn round(supply: &[u64], demand: &[u64], cost: &[u64], t: Tableau) -> RoundA
     ) {
         return refused_round(6);
     }
-    let Turn { finished, price } = make_round(cost, m, n, &mut q, &mut e, &leaf, &other, &mut lane);
+    let mut lane_cost: [Price; LANES] = [0; LANES];
+    spread_costs(cost, m, demand.len(), &mut lane_cost);
+    let turn = make_round(&mut q, &mut e, &lane_cost, &leaf, &other, &mut lane, m, n);
+    let finished = turn.finished;
+    let price = turn.price;
     if finished {
-        return RoundAnswer {
-            outcome: RoundOutcome::Finished,
-            tableau: tableau::empty_tableau(),
-            u: side_prices(&price, 0, m),
-            v: side_prices(&price, m, n),
-        };
+        return finished_round(&price, m, demand.len());
     }
     let next = gather::gather(&lane, &q, &e, m, n);
     RoundAnswer {

@@ -1,3 +1,3 @@
 pub mod Kept
 pub mod Begun
-pub mod Dealt
+pub mod PricesShown

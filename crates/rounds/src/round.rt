@@ -1,7 +1,6 @@
 // A round on flat arrays. The tree, the prices and the least slacks of the rows are kept from round to round.
 use cuts::cut::plant;
 use pivoting::pivot::pivot;
-use pricing::costs::spread_costs;
 use pricing::scan::entering;
 use pricing::scan::refresh_slacks;
 use pricing::scan::scan_slacks;
@@ -17,7 +16,6 @@ ghost use Rattle.transport.specs.Problem.{Problem};
 ghost use Rattle.transport.specs.declared.Cell.{Cell};
 ghost use Rattle.rounds.specs.Kept.{Kept, Advanced};
 ghost use Rattle.rounds.specs.Begun.{Begun, Judged, Rounded};
-ghost use Rattle.rounds.specs.Dealt.{Dealt};
 
 // The tree and the prices of a tableau whose basis the strikes strike off; gives the least slacks of its rows.
 pub fn begin(
@@ -111,31 +109,29 @@ pub struct Turn {
     pub price: [Price; NODES],
 }
 
-// One round on a tableau of m sources and n sinks that belongs to its sheet. The arrays then hold it, or the next one if it is not finished.
+// One round on a tableau of m sources and n sinks. The arrays then hold it, or the next one if it is not finished.
 pub fn make_round(
-    cost: &[u64],
-    m: usize,
-    n: usize,
     q: &mut [i64; LANES],
     e: &mut [i64; LANES],
+    cost: &[Price; LANES],
     leaf: &[usize; NODES],
     other: &[usize; NODES],
     lane: &mut [usize; NODES],
+    m: usize,
+    n: usize,
 ) -> Turn
-    requires { ⌜ ((P : Problem) × (T : List Cell) × Dealt P T (now cost) (now q) (now e) (now leaf) (now other) (now lane) m n) ⌝ }
+    requires { ⌜ ((P : Problem) × (T : List Cell) × Begun P T (now q) (now e) (now cost) (now leaf) (now other) (now lane) m n) ⌝ }
     ensures { λ r. ⌜
         ((P : Problem) (T : List Cell)
-        → Dealt P T (now (cost .entry)) (now (q .entry)) (now (e .entry)) (now (leaf .entry)) (now (other .entry)) (now (lane .entry)) m n
+        → Begun P T (now (q .entry)) (now (e .entry)) (now (cost .entry)) (now (leaf .entry)) (now (other .entry)) (now (lane .entry)) m n
         → Rounded P T (now (q .exit)) (now (e .exit)) (r .price) (now (lane .exit)) m n (r .finished))
         ⌝ }
 {
-    let mut lane_cost: [Price; LANES] = [0; LANES];
     let mut price: [Price; NODES] = [0; NODES];
     let mut path = [0u64; NODES];
     let mut sub = [0u64; NODES];
-    spread_costs(cost, m, n, &mut lane_cost);
     let mut slack = begin(
-        &lane_cost,
+        cost,
         leaf,
         other,
         lane,
@@ -148,7 +144,7 @@ pub fn make_round(
     let finished = advance(
         q,
         e,
-        &lane_cost,
+        cost,
         &mut price,
         &mut slack,
         &mut path,

@@ -1,16 +1,23 @@
 // Run: rounds within an allowance.
-use board::gather;
+use board::gather::gather;
 use dealing::tableau;
+use pricing::costs::spread_costs;
 use runs::run::make_run;
 use sheet::SheetCheck;
+use sheet::extended::extend_demands;
+use transport::MAX_SIDE;
 use transport::RunAnswer;
 use transport::RunOutcome;
 use transport::Tableau;
 use tree::LANES;
 use tree::NODES;
+use tree::Price;
 ghost use mathlib.Core.Path.{_≡_};
+ghost use mathlib.Core.List.{List};
 ghost use Rattle.transport.specs.Sheet.{sheetOf};
-ghost use Rattle.transport.specs.Calls.{refusedBy, runCall};
+ghost use Rattle.transport.specs.Tableau.{tableauOf};
+ghost use Rattle.transport.specs.declared.Cell.{Cell};
+ghost use Rattle.transport.specs.Calls.{given, refusedBy, runCall};
 ghost use Rattle.transport.specs.Answers.{runAnswer};
 
 fn refused_run(number: u8) -> RunAnswer
@@ -19,6 +26,24 @@ fn refused_run(number: u8) -> RunAnswer
     RunAnswer {
         outcome: RunOutcome::Refused(number),
         tableau: tableau::empty_tableau(),
+    }
+}
+
+// The answer for a run that made so many rounds: finished, or spent; with its last tableau.
+fn ended_run(finished: bool, made: u64, last: Tableau) -> RunAnswer
+    ensures { λ r. ⌜
+        ((T : List Cell) → last ≡ tableauOf T → r ≡ runAnswer (given (record { finished = finished; tableau = T; rounds = made })))
+        ⌝ }
+{
+    if finished {
+        return RunAnswer {
+            outcome: RunOutcome::Finished(made),
+            tableau: last,
+        };
+    }
+    RunAnswer {
+        outcome: RunOutcome::Spent(made),
+        tableau: last,
     }
 }
 
@@ -34,7 +59,8 @@ pub fn run(supply: &[u64], demand: &[u64], cost: &[u64], t: Tableau, allowance: 
         return refused_run(number);
     }
     let m = supply.len();
-    let n = demand.len();
+    let mut columns = [0u64; MAX_SIDE];
+    let n = extend_demands(supply, demand, &mut columns);
     let mut q = [0i64; LANES];
     let mut e = [0i64; LANES];
     let mut leaf = [0usize; NODES];
@@ -42,7 +68,7 @@ pub fn run(supply: &[u64], demand: &[u64], cost: &[u64], t: Tableau, allowance: 
     let mut lane = [0usize; NODES];
     if !belonging::load(
         supply,
-        demand,
+        &columns[..n],
         t,
         &mut q,
         &mut e,
@@ -52,18 +78,19 @@ pub fn run(supply: &[u64], demand: &[u64], cost: &[u64], t: Tableau, allowance: 
     ) {
         return refused_run(6);
     }
+    let mut lane_cost: [Price; LANES] = [0; LANES];
+    spread_costs(cost, m, demand.len(), &mut lane_cost);
     let within = allowance as u64;
-    let end = make_run(cost, m, n, &mut q, &mut e, &leaf, &other, &mut lane, within);
-    let made = end.made;
-    let last = gather::gather(&lane, &q, &e, m, n);
-    if end.finished {
-        return RunAnswer {
-            outcome: RunOutcome::Finished(made),
-            tableau: last,
-        };
-    }
-    RunAnswer {
-        outcome: RunOutcome::Spent(made),
-        tableau: last,
-    }
+    let end = make_run(
+        &mut q,
+        &mut e,
+        &lane_cost,
+        &leaf,
+        &other,
+        &mut lane,
+        m,
+        n,
+        within,
+    );
+    ended_run(end.finished, end.made, gather(&lane, &q, &e, m, n))
 }

@@ -1,5 +1,4 @@
 // Runs: rounds made until a tableau is finished, or an allowance is spent.
-use pricing::costs::spread_costs;
 use pricing::scan::entering;
 use rounds::round::advance;
 use rounds::round::begin;
@@ -12,7 +11,6 @@ ghost use Rattle.transport.specs.Problem.{Problem};
 ghost use Rattle.transport.specs.Round.{roundBound};
 ghost use Rattle.transport.specs.declared.Cell.{Cell};
 ghost use Rattle.rounds.specs.Begun.{Begun};
-ghost use Rattle.rounds.specs.Dealt.{Dealt};
 ghost use Rattle.runs.specs.Runs.{Ended, Ran};
 
 // How a run ended, and how many rounds it made.
@@ -75,40 +73,27 @@ fn rounds(
     }
 }
 
-// The run on a tableau of m sources and n sinks that belongs to its sheet: how it ended. The arrays then hold its last tableau.
+// The run on a tableau of m sources and n sinks: how it ended. The arrays then hold its last tableau.
 pub fn make_run(
-    cost: &[u64],
-    m: usize,
-    n: usize,
     q: &mut [i64; LANES],
     e: &mut [i64; LANES],
+    cost: &[Price; LANES],
     leaf: &[usize; NODES],
     other: &[usize; NODES],
     lane: &mut [usize; NODES],
+    m: usize,
+    n: usize,
     allowance: u64,
 ) -> Made
-    requires { ⌜ ((P : Problem) × (T : List Cell) × Dealt P T (now cost) (now q) (now e) (now leaf) (now other) (now lane) m n) ⌝ }
+    requires { ⌜ ((P : Problem) × (T : List Cell) × Begun P T (now q) (now e) (now cost) (now leaf) (now other) (now lane) m n) ⌝ }
     ensures { λ r. ⌜
         ((P : Problem) (T : List Cell)
-        → Dealt P T (now (cost .entry)) (now (q .entry)) (now (e .entry)) (now (leaf .entry)) (now (other .entry)) (now (lane .entry)) m n
+        → Begun P T (now (q .entry)) (now (e .entry)) (now (cost .entry)) (now (leaf .entry)) (now (other .entry)) (now (lane .entry)) m n
         → Ended P T allowance (now (q .exit)) (now (e .exit)) (now (lane .exit)) m n (r .finished) (r .made))
         ⌝ }
 {
-    let mut lane_cost: [Price; LANES] = [0; LANES];
     let mut price: [Price; NODES] = [0; NODES];
-    spread_costs(cost, m, n, &mut lane_cost);
-    rounds(
-        q,
-        e,
-        &lane_cost,
-        leaf,
-        other,
-        lane,
-        m,
-        n,
-        &mut price,
-        allowance,
-    )
+    rounds(q, e, cost, leaf, other, lane, m, n, &mut price, allowance)
 }
 
 // Rounds until the tableau is finished, however many: how many they were. The arrays then hold the finished tableau, and `price` its prices.

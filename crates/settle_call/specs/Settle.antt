@@ -5,7 +5,8 @@ use mathlib.Core.List.{List, [], _∷_, _++_}
 use mathlib.Core.Option.{none, some}
 use Prim.Native.Nat.{ℕ, _*_, _<_, _≤_}
 use lib.ListN.{drop}
-use Rattle.transport.specs.Sheet.{Sheet, roasteries, cafes, problemOf, sheetTests, refusal}
+use Rattle.transport.specs.Sheet.{Sheet, roasteries, cafes, sheetTests, refusal}
+use Rattle.transport.specs.Extended.{extended}
 use Rattle.transport.specs.Statements.{Accepted}
 use Rattle.transport.specs.Laws.Sound.{sound}
 use Rattle.transport.specs.Laws.SheetLaws.{refusal-yes, refusal-no, refusal-pass, refusal-stands}
@@ -22,32 +23,32 @@ use Rattle.demands.specs.Demand3.{settled-length}
 
 module _ (S : Sheet) (t : Tableau) (room : ℕ) where
   abbrev late : List (Bool × ℕ)
-  late = (not (isFinished (problemOf S) (cellsOf t)), 7) ∷ (tooShort room (roasteries S * cafes S), 8) ∷ []
+  late = (not (isFinished (extended S) (cellsOf t)), 7) ∷ (tooShort room (roasteries S * cafes S), 8) ∷ []
 
   abbrev tests : List (Bool × ℕ)
   tests = tableauTests S t ++ late
 
   pub sheet-refuses : (k : ℕ) → refusal (sheetTests S) ≡ some k → refusal tests ≡ some k
   unfolding tableauTests
-  sheet-refuses k e = refusal-stands (tableauTests S t) late k (refusal-stands (sheetTests S) ((not (belongs (problemOf S) t), 6) ∷ []) k e)
+  sheet-refuses k e = refusal-stands (tableauTests S t) late k (refusal-stands (sheetTests S) ((not (belongs (extended S) t), 6) ∷ []) k e)
 
   module _ (e : refusal (sheetTests S) ≡ none) where
-    pub tableau-refuses : belongs (problemOf S) t ≡ false → refusal tests ≡ some 6
+    pub tableau-refuses : belongs (extended S) t ≡ false → refusal tests ≡ some 6
     unfolding tableauTests
-    tableau-refuses b = refusal-stands (tableauTests S t) late 6 (refusal-pass (sheetTests S) ((not (belongs (problemOf S) t), 6) ∷ []) e
-        ∙ refusal-yes (not (belongs (problemOf S) t), 6) [] (rw b))
+    tableau-refuses b = refusal-stands (tableauTests S t) late 6 (refusal-pass (sheetTests S) ((not (belongs (extended S) t), 6) ∷ []) e
+        ∙ refusal-yes (not (belongs (extended S) t), 6) [] (rw b))
 
-    module _ (b : belongs (problemOf S) t ≡ true) where
+    module _ (b : belongs (extended S) t ≡ true) where
       passes : refusal tests ≡ refusal late
       unfolding tableauTests
-      passes = refusal-pass (tableauTests S t) late (refusal-last (sheetTests S) (not (belongs (problemOf S) t), 6) .1 (e, rw b))
+      passes = refusal-pass (tableauTests S t) late (refusal-last (sheetTests S) (not (belongs (extended S) t), 6) .1 (e, rw b))
 
-      pub unfinished-refuses : isFinished (problemOf S) (cellsOf t) ≡ false → refusal tests ≡ some 7
-      unfinished-refuses f = passes ∙ refusal-yes (not (isFinished (problemOf S) (cellsOf t)), 7) ((tooShort room (roasteries S * cafes S), 8) ∷ []) (rw f)
+      pub unfinished-refuses : isFinished (extended S) (cellsOf t) ≡ false → refusal tests ≡ some 7
+      unfinished-refuses f = passes ∙ refusal-yes (not (isFinished (extended S) (cellsOf t)), 7) ((tooShort room (roasteries S * cafes S), 8) ∷ []) (rw f)
 
-      module _ (f : isFinished (problemOf S) (cellsOf t) ≡ true) where
+      module _ (f : isFinished (extended S) (cellsOf t) ≡ true) where
         last : refusal tests ≡ refusal ((tooShort room (roasteries S * cafes S), 8) ∷ [])
-        last = passes ∙ refusal-no (not (isFinished (problemOf S) (cellsOf t)), 7) ((tooShort room (roasteries S * cafes S), 8) ∷ []) (rw f)
+        last = passes ∙ refusal-no (not (isFinished (extended S) (cellsOf t)), 7) ((tooShort room (roasteries S * cafes S), 8) ∷ []) (rw f)
 
         pub short-refuses : room < roasteries S * cafes S → refusal tests ≡ some 8
         short-refuses l = last ∙ refusal-yes (tooShort room (roasteries S * cafes S), 8) [] (short-yes room (roasteries S * cafes S) l)

@@ -3,7 +3,9 @@ use board::gather::draw;
 use pricing::costs;
 use rounds::round::is_finished;
 use sheet::SheetCheck;
+use sheet::extended::extend_demands;
 use solving::finished::settle_board;
+use transport::MAX_SIDE;
 use transport::SettleAnswer;
 use transport::Tableau;
 use tree::LANES;
@@ -15,8 +17,8 @@ ghost use Rattle.transport.specs.Sheet.{sheetOf};
 ghost use Rattle.transport.specs.Calls.{lentAfter, settleCall};
 ghost use Rattle.transport.specs.Answers.{settleAnswer};
 
-// Settle writes the m × n quantities of the settled plan. Sheet check, then 6 if the tableau does not belong to the sheet, 7 if it is not finished, and 8 if
-// the list is too short.
+// Settle writes the quantities of the settled plan, one for each roastery and café of the sheet. Sheet check, then 6 if the tableau does not belong to the
+// sheet, 7 if it is not finished, and 8 if the list is too short.
 pub fn settle(
     supply: &[u64],
     demand: &[u64],
@@ -34,7 +36,8 @@ pub fn settle(
         return SettleAnswer::Refused(number);
     }
     let m = supply.len();
-    let n = demand.len();
+    let mut columns = [0u64; MAX_SIDE];
+    let n = extend_demands(supply, demand, &mut columns);
     let mut q = [0i64; LANES];
     let mut e = [0i64; LANES];
     let mut leaf = [0usize; NODES];
@@ -42,7 +45,7 @@ pub fn settle(
     let mut lane = [0usize; NODES];
     if !belonging::load(
         supply,
-        demand,
+        &columns[..n],
         t,
         &mut q,
         &mut e,
@@ -54,15 +57,17 @@ pub fn settle(
     }
     let mut lane_cost: [Price; LANES] = [0; LANES];
     let mut price: [Price; NODES] = [0; NODES];
-    costs::spread_costs(cost, m, n, &mut lane_cost);
+    costs::spread_costs(cost, m, demand.len(), &mut lane_cost);
     if !is_finished(&lane_cost, &leaf, &other, &lane, m, n, &mut price) {
         return SettleAnswer::Refused(7);
     }
-    if plan.len() < m * n {
+    // A name of its own from here on, so that a program that wants room for the extra column too is an operand away.
+    let cafes = demand.len();
+    if plan.len() < m * cafes {
         return SettleAnswer::Refused(8);
     }
     let mut adj = [0u64; NODES];
     draw(&lane, m, m + n - 1, &mut adj);
-    settle_board(&adj, &mut q, &lane_cost, &price, plan, m, n);
+    settle_board(&adj, &mut q, &lane_cost, &price, plan, m, n, cafes);
     SettleAnswer::Settled
 }

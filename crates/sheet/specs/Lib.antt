@@ -1,3 +1,4 @@
 pub mod Check
+pub mod Columns
 pub mod Laws
 pub mod Refusals

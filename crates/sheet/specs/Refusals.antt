@@ -3,13 +3,15 @@ use mathlib.Core.Path.{_≡_}
 use mathlib.Core.Bool.{Bool, true, false}
 use mathlib.Core.Option.{none, some}
 use Prim.Native.Nat.{_*_, _≤_}
+use native.Mathlib.Omega.{arith}
 use native.Mathlib.Nat.{mul-le-mul}
 use lib.Dec.{eqb}
 use lib.ListN.{length}
-use Rattle.transport.specs.Lists.{all, within, total}
+use Rattle.transport.specs.Lists.{all, within}
 use Rattle.transport.specs.Limits.{maxSources, maxSinks, maxAmount, maxCost}
-use Rattle.transport.specs.Sheet.{Sheet, roasteries, cafes, badSides, badLength, badAmount, badCost, unbalanced, numberTests, sheetTests, refusal}
-use Rattle.transport.specs.Statements.{WithinLimits}
+use Rattle.transport.specs.Sheet.{Sheet, roasteries, cafes, badSides, badLength, badAmount, badCost, lacking, crowded, numberTests, sheetTests, refusal}
+use Rattle.transport.specs.Statements.{WithinLimits, Lacking, Crowded}
+use Rattle.transport.specs.Laws.SheetLaws.{lacking-yes, lacking-no, crowded-yes, crowded-no}
 
 module _ (S : Sheet) where
   abbrev supplies : Bool
@@ -20,9 +22,6 @@ module _ (S : Sheet) where
 
   abbrev costs : Bool
   costs = all (within 0 maxCost) (S .cost)
-
-  abbrev even : Bool
-  even = eqb (total (S .supply)) (total (S .demand))
 
   pub refused-supply : supplies ≡ false → refusal (numberTests S) ≡ some 3
   unfolding refusal numberTests badAmount
@@ -36,13 +35,19 @@ module _ (S : Sheet) where
   unfolding refusal numberTests badAmount badCost
   refused-cost s d c = rw (s, d, c)
 
-  pub refused-totals : supplies ≡ true → demands ≡ true → costs ≡ true → even ≡ false → refusal (numberTests S) ≡ some 5
-  unfolding refusal numberTests badAmount badCost unbalanced
-  refused-totals s d c t = rw (s, d, c, t)
+  -- The numbers are within their limits: only the totals are left.
+  module _ (s : supplies ≡ true) (d : demands ≡ true) (c : costs ≡ true) where
+    pub refused-lacking : Lacking S → refusal (numberTests S) ≡ some 5
+    unfolding refusal numberTests badAmount badCost lacking
+    refused-lacking l = rw (s, d, c, lacking-yes S l)
 
-  pub numbers-accepted : supplies ≡ true → demands ≡ true → costs ≡ true → even ≡ true → refusal (numberTests S) ≡ none
-  unfolding refusal numberTests badAmount badCost unbalanced
-  numbers-accepted s d c t = rw (s, d, c, t)
+    pub refused-crowded : Crowded S → refusal (numberTests S) ≡ some 10
+    unfolding refusal numberTests badAmount badCost lacking crowded
+    refused-crowded (l, n) = rw (s, d, c, lacking-no S (λ b. absurd (omega arith)), crowded-yes S (l, n))
+
+    pub numbers-accepted : ¬ Lacking S → ¬ Crowded S → refusal (numberTests S) ≡ none
+    unfolding refusal numberTests badAmount badCost lacking crowded
+    numbers-accepted l n = rw (s, d, c, lacking-no S l, crowded-no S n)
 
   pub refused-sources : within 1 maxSources (length (S .supply)) ≡ false → refusal (sheetTests S) ≡ some 1
   unfolding refusal sheetTests badSides roasteries

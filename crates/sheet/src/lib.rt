@@ -1,4 +1,4 @@
-// The sheet check, part of every call that takes a sheet as lists: refusals 1 to 5, of several the first.
+// The sheet check, part of every call that takes a sheet as lists: refusals 1 to 5 and 10, of several the first.
 ghost use mathlib.Core.Path.{_≡_};
 ghost use mathlib.Core.Bool.{true};
 ghost use Prim.Native.Nat.{_≤_};
@@ -9,8 +9,12 @@ ghost use Rattle.transport.specs.Sheet.{refusal, numberTests, sheetTests, sheet
 ghost use Rattle.sheet.specs.Check.{checkAnswer};
 use transport::MAX_AMOUNT;
 use transport::MAX_COST;
+use transport::MAX_SIDE;
 use transport::MAX_SINKS;
 use transport::MAX_SOURCES;
+
+pub mod extended;
+pub mod lists;
 
 pub enum SheetCheck {
     Accepted,
@@ -56,7 +60,7 @@ fn total_of(amounts: &[u64]) -> u64
     sum
 }
 
-// Refusals 3, 4 and 5 of a sheet whose sides are within their limits. A total is taken once its parts are known to be.
+// Refusals 3, 4, 5 and 10 of a sheet whose sides are within their limits. A total is taken once its parts are known to be.
 pub fn check_numbers(supply: &[u64], demand: &[u64], cost: &[u64]) -> SheetCheck
     requires { ⌜ (length (now supply) ≤ maxSide) × (length (now demand) ≤ maxSide) ⌝ }
     ensures { λ r.
@@ -72,8 +76,16 @@ pub fn check_numbers(supply: &[u64], demand: &[u64], cost: &[u64]) -> SheetCheck
     if !all_within(cost, 0, MAX_COST) {
         return SheetCheck::Refused(4);
     }
-    if total_of(supply) != total_of(demand) {
+    let supply_total = total_of(supply);
+    let demand_total = total_of(demand);
+    let lacking = supply_total < demand_total;
+    // What is not wanted goes to an extra café in the tableau, for which there must be a column.
+    let crowded = supply_total != demand_total && demand.len() == MAX_SIDE;
+    if lacking {
         return SheetCheck::Refused(5);
+    }
+    if crowded {
+        return SheetCheck::Refused(10);
     }
     SheetCheck::Accepted
 }

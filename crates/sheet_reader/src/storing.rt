@@ -10,19 +10,8 @@ ghost use Rattle.transport.specs.Calls.{unless, lentAfter};
 ghost use Rattle.transport.specs.Answers.{readAnswer};
 ghost use Rattle.sections.specs.Front.{front};
 use sheet::SheetCheck;
+use sheet::lists::copy_list;
 use transport::ReadAnswer;
-
-// Copies a list to the front of a longer one.
-fn copy_list(from: &[u64], list: &mut [u64])
-    requires { ⌜ length (now from) ≤ length (now list) ⌝ }
-    ensures { λ r. ⌜ now (list .exit) ≡ front (now (from .entry)) (now (list .entry)) ⌝ }
-{
-    let mut i: usize = 0;
-    while i < from.len() {
-        list[i] = from[i];
-        i += 1;
-    }
-}
 
 // Copies a list to the front of a longer one if that is wanted; if not, the other stays as it was, whatever its length.
 fn store_list(from: &[u64], list: &mut [u64], wanted: bool)
@@ -37,7 +26,7 @@ fn store_list(from: &[u64], list: &mut [u64], wanted: bool)
     }
 }
 
-// A sheet that was read goes to the lent lists, unless 3, 4, 5 or 8 refuses it.
+// A sheet that was read goes to the lent lists, unless 3, 4, 5, 10 or 8 refuses it.
 pub(crate) fn store_sheet(
     sheet_supply: &[u64],
     sheet_demand: &[u64],

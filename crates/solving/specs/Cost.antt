@@ -26,7 +26,7 @@ pub record Summable (plan cost : List ℕ) : Type 0 where
   pub quantities : (l : ℕ) → l < length cost → at plan l ≤ maxAmount
   pub costs : (l : ℕ) → at cost l ≤ maxCost
 
--- A lane of a plan that meets the sheet carries no more than its source's supply.
+-- A lane of a plan that meets the sheet carries no more than its roastery's supply.
 pub meets-small : {S : Sheet} {Q : List ℕ} → Accepted S → Meets S 1 Q → (l : ℕ) → l < roasteries S * cafes S → at Q l ≤ maxAmount
 meets-small {S} {Q} ok meets l p =
     let w = place-of (roasteries S) (cafes S) l p in

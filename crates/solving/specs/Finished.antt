@@ -3,21 +3,24 @@ use mathlib.Core.Path.{_≡_, sym, _∙_}
 use mathlib.Core.Logic.{_↔_, by-cases}
 use mathlib.Core.Bool.{true, false≢true}
 use mathlib.Core.List.{List, _++_}
-use Prim.Native.Nat.{ℕ, _+_, _*_, _-_, _<_}
+use Prim.Native.Nat.{ℕ, _+_, _*_, _-_, _<_, _≤_}
 use native.Mathlib.Omega.{arith}
 use native.Mathlib.Decide.{decLt}
 use lib.IntN.{ℤ, pos}
-use lib.ListN.{getD, drop}
+use lib.ListN.{length, getD, drop}
 use Rattle.integers.specs.Integer.{_≈_, nat}
 use Rattle.integers.specs.IntegerLaws.{⊗-cong}
 use Rattle.network.specs.Flow.{Plan, Tight}
 use Rattle.network.specs.FlowLaws.{flow-cong, flow-on, plan-on}
 use Rattle.network.specs.Settling.{DecidedTo, decided-start, decided-on, decided-other}
-use Rattle.transport.specs.Lists.{table}
-use Rattle.transport.specs.Laws.ListLaws.{length-table}
-use Rattle.transport.specs.Problem.{Problem, sources, sinks}
+use Rattle.transport.specs.Lists.{at, table, grid}
+use Rattle.transport.specs.Laws.ListLaws.{length-table, getD-table}
+use Rattle.transport.specs.Problem.{Problem, sources, sinks, place}
+use Rattle.transport.specs.Laws.ProblemLaws.{place-below, grid-is}
 use Rattle.transport.specs.Laws.Sound.{Sound, supply-most}
-use Rattle.transport.specs.Sheet.{Sheet, problemOf}
+use Rattle.transport.specs.Sheet.{Sheet, roasteries, cafes}
+use Rattle.transport.specs.Extended.{wanted, extended}
+use Rattle.transport.specs.Laws.ExtendedLaws.{width-low}
 use Rattle.transport.specs.Amount.{nothing}
 use Rattle.transport.specs.Belonging.{cellsBelong}
 use Rattle.transport.specs.Potential.{potential, isFinished}
@@ -31,7 +34,7 @@ use Rattle.tableaux.specs.PlanView.{carried, supplies, demands, costs}
 use Rattle.tableaux.specs.ProblemPlans.{flowCost, Optimal}
 use Rattle.tableaux.specs.Least.{rowPotential, columnPotential, finished-feasible}
 use Rattle.optimality.specs.Settling.{tight-lanes, settling-start, basics-single, decided-optimal}
-use Rattle.reduction.specs.Reduction.{optimal-settled}
+use Rattle.reduction.specs.Reduction.{sheetPlan, optimal-settled}
 use Rattle.board.specs.Held.{Held, row-basic, basic-row}
 use Rattle.board.specs.Arrays.{Board}
 use Rattle.board.specs.Drawing.{Redrawn, board-held}
@@ -39,7 +42,7 @@ use Rattle.pricing.specs.Costs.{Costed}
 use Rattle.augment.specs.Bags.{laneBags, InMask, OnBasics}
 use Rattle.settle.specs.Rows.{Settleable}
 use Rattle.settle.specs.Tight.{Ranged, TightLanes, tight-same, tight-ranged}
-use Rattle.settle.specs.Plan.{bagsIn, NoDebt, Written, debtless, plan-carries}
+use Rattle.settle.specs.Plan.{bagsIn, bagsIn-place, NoDebt, Written, debtless, plan-carries}
 
 -- The tableau T of the problem P is finished. The arrays hold it, with the masks of its basic lanes, the costs lie by column, and the prices are its own.
 pub record Finished (P : Problem) (T : List Cell) (adj : List ℕ) (q e cost price : List ℤ) (m n : ℕ) : Type 0 where
@@ -128,8 +131,8 @@ module _ {P : Problem} {T : List Cell} {adj : List ℕ} {q e cost price : List �
     -- ---- where it ends
 
     module _ (q′ : List ℤ) (d : DecidedTo m n (supplies P) (demands P) (InMask masks) (m * n) (laneBags q′)) where
-      pub settled-debtless : NoDebt m n q′
-      settled-debtless = debtless q′ (d .nonneg)
+      pub settled-debtless : {k : ℕ} → k ≤ n → NoDebt m k q′
+      settled-debtless low i j hi hj = debtless q′ (d .nonneg) i j hi (omega arith)
 
       abbrev plan : List ℕ
       plan = table (m * n) (bagsIn n q′)
@@ -147,9 +150,26 @@ module _ {P : Problem} {T : List Cell} {adj : List ℕ} {q e cost price : List �
           (decided-optimal P (rowPotential P T) (columnPotential P T) (finished-feasible P T (f .done)) _
           (length-table (bagsIn (sinks P) q′) (sources P * sinks P)) d)
 
--- The bags are the settled plan of the sheet behind which the problem stands.
-module _ (S : Sheet) {T : List Cell} {adj : List ℕ} {q e cost price : List ℤ} {m n : ℕ} (f : Finished (problemOf S) T adj q e cost price m n)
+-- ---- what it ends with, for a sheet
+
+-- Of the plan that the bags of n columns make, what the first k columns carry.
+bags-front : (m n k : ℕ) (q : List ℤ) → k ≤ n → grid m k (λ i j. at (table (m * n) (bagsIn n q)) (place n i j)) ≡ table (m * k) (bagsIn k q)
+unfolding at place
+bags-front m n k q low = grid-is k _ m (table (m * k) (bagsIn k q)) 0 (length-table (bagsIn k q) (m * k)) (λ i j l h.
+    let wide : j < n = omega arith in
+    getD-table (bagsIn n q) (m * n) (place n i j) 0 (place-below m n i j l wide)
+    ∙ bagsIn-place n i j q wide
+    ∙ sym (getD-table (bagsIn k q) (m * k) (place k i j) 0 (place-below m k i j l h) ∙ bagsIn-place k i j q h))
+
+-- The bags on the sheet's lanes are its settled plan.
+module _ (S : Sheet) {T : List Cell} {adj : List ℕ} {q e cost price : List ℤ} {m n : ℕ} (f : Finished (extended S) T adj q e cost price m n)
     {masks : List ℕ} (t : TightLanes cost price m n m masks) (q′ : List ℤ)
-    (d : DecidedTo m n (supplies (problemOf S)) (demands (problemOf S)) (InMask masks) (m * n) (laneBags q′)) where
-  pub settled-written : {old new : List ℕ} → Written n q′ (m * n) old new → new ≡ settled S ++ drop (m * n) old
-  settled-written w = w .is ∙ rw (optimal-settled S (table (m * n) (bagsIn n q′)) _ (settled-optimal f t q′ d))
+    (d : DecidedTo m n (supplies (extended S)) (demands (extended S)) (InMask masks) (m * n) (laneBags q′)) where
+  settled-bags : settled S ≡ table (m * cafes S) (bagsIn (cafes S) q′)
+  unfolding sheetPlan extended sources sinks roasteries
+  settled-bags =
+      optimal-settled S (table (m * n) (bagsIn n q′)) _ (f .sound) (settled-optimal f t q′ d)
+      ∙ rw (f .rows, f .columns) (bags-front (roasteries S) (length (wanted S)) (cafes S) q′ (width-low S))
+
+  pub settled-written : {k : ℕ} {old new : List ℕ} → cafes S ≡ k → Written k q′ (m * k) old new → new ≡ settled S ++ drop (m * k) old
+  settled-written e w = w .is ∙ rw (settled-bags, e)

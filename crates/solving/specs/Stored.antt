@@ -7,11 +7,12 @@ use lib.IntN.{ℤ, pos}
 use lib.ListN.{length, drop, getD}
 use Rattle.transport.specs.Lists.{table}
 use Rattle.transport.specs.Laws.ListLaws.{length-table}
-use Rattle.transport.specs.Problem.{sources, sinks}
-use Rattle.transport.specs.Sheet.{Sheet, roasteries, cafes, problemOf}
-use Rattle.transport.specs.Calls.{solutionFrom, given, lentAfter, solution}
+use Rattle.transport.specs.Problem.{sources}
+use Rattle.transport.specs.Sheet.{Sheet, roasteries, cafes}
+use Rattle.transport.specs.Extended.{extended}
+use Rattle.transport.specs.Calls.{cafePrices, solutionFrom, given, lentAfter, solution}
 use Rattle.transport.specs.Tableau.{start}
-use Rattle.transport.specs.Potential.{sourcePrices, sinkPrices}
+use Rattle.transport.specs.Potential.{sourcePrices}
 use Rattle.transport.specs.Round.{run, roundBound}
 use Rattle.transport.specs.Plan.{settled}
 use Rattle.tableaux.specs.Ending.{start-finished}
@@ -19,7 +20,7 @@ use Rattle.demands.specs.Demand3.{settled-length}
 use Rattle.board.specs.Drawing.{Redrawn}
 use Rattle.pricing.specs.Costs.{Costed}
 use Rattle.runs.specs.Runs.{Ran}
-use Rattle.rounds.specs.Dealt.{source-prices, sink-prices}
+use Rattle.rounds.specs.PricesShown.{source-prices, cafe-prices}
 use Rattle.solving.specs.Finished.{Finished, board-finished}
 
 -- The rounds are those of the solution, and each lent list, as it was and as it is, holds its part of it.
@@ -31,24 +32,24 @@ pub record SolveStored (S : Sheet) (made : ℕ) (u u′ v v′ : List ℤ) (plan
 
 -- The rounds have come from the start to the finished tableau.
 module _ (S : Sheet) {q e price : List ℤ} {lanes : List ℕ} {m n made : ℕ}
-    (r : Ran (problemOf S) (start (problemOf S)) (roundBound (problemOf S)) q e price lanes m n true made) where
-  pub ran-finished : {cost : List ℤ} {adj : List ℕ} → Costed (problemOf S) cost → Redrawn m lanes (m + n - 1) adj
-      → Finished (problemOf S) (run (problemOf S) (roundBound (problemOf S)) (start (problemOf S)) .tableau) adj q e cost price m n
+    (r : Ran (extended S) (start (extended S)) (roundBound (extended S)) q e price lanes m n true made) where
+  pub ran-finished : {cost : List ℤ} {adj : List ℕ} → Costed (extended S) cost → Redrawn m lanes (m + n - 1) adj
+      → Finished (extended S) (run (extended S) (roundBound (extended S)) (start (extended S)) .tableau) adj q e cost price m n
   ran-finished costs w = board-finished price (r .ended .board) costs w (start-finished (r .ended .board .sound)) (r .prices)
 
   module _ {u u′ v v′ : List ℤ} {plan plan′ : List ℕ}
       (uIs : u′ ≡ table m (λ k. getD price (0 + k) (pos 0)) ++ drop m u)
-      (vIs : v′ ≡ table n (λ k. getD price (m + k) (pos 0)) ++ drop n v)
-      (planIs : plan′ ≡ settled S ++ drop (m * n) plan) where
+      (vIs : v′ ≡ table (cafes S) (λ k. getD price (m + k) (pos 0)) ++ drop (cafes S) v)
+      (planIs : plan′ ≡ settled S ++ drop (m * cafes S) plan) where
     pub solve-stored : SolveStored S made u u′ v v′ plan plan′
-    unfolding lentAfter solution solutionFrom problemOf sources sinks roasteries cafes
+    unfolding lentAfter solution solutionFrom extended sources roasteries
     solve-stored =
-        let P = problemOf S in
+        let P = extended S in
         let rows = source-prices (r .ended .board) price (r .prices) in
-        let columns = sink-prices (r .ended .board) price (r .prices) in
+        let columns = cafe-prices S (r .ended .board) price (r .prices) in
         let uLong : length (sourcePrices P (run P (roundBound P) (start P) .tableau)) ≡ m = ap length (sym rows) ∙ length-table _ m in
-        let vLong : length (sinkPrices P (run P (roundBound P) (start P) .tableau)) ≡ n = ap length (sym columns) ∙ length-table _ n in
-        let planLong : length (settled S) ≡ m * n = settled-length S (r .ended .board .sound) ∙ rw (r .ended .board .rows, r .ended .board .columns) in
+        let vLong : length (cafePrices S (run P (roundBound P) (start P) .tableau)) ≡ cafes S = ap length (sym columns) ∙ length-table _ (cafes S) in
+        let planLong : length (settled S) ≡ m * cafes S = settled-length S (r .ended .board .sound) ∙ rw (r .ended .board .rows) in
         record {
           rounds = sym (r .ended .rounds);
           uHeld = uIs ∙ rw (rows, uLong);

@@ -12,13 +12,14 @@ ghost use Prim.Native.Nat.{_*_, _≤_};
 ghost use lib.IntN.{ℤ};
 ghost use lib.ListN.{length, drop};
 ghost use Rattle.transport.specs.Problem.{Problem};
-ghost use Rattle.transport.specs.Sheet.{Sheet, problemOf};
+ghost use Rattle.transport.specs.Sheet.{Sheet};
+ghost use Rattle.transport.specs.Extended.{extended};
 ghost use Rattle.transport.specs.Plan.{settled};
 ghost use Rattle.transport.specs.declared.Cell.{Cell};
 ghost use Rattle.solving.specs.Finished.{Finished};
 
-// Settles the board of a finished tableau: the settled plan stands in the first m × n places of the list, and the rest of it is as it was.
-// The bags become the plan's.
+// Settles the board of a finished tableau of m sources and n sinks, of which the first `cafes` are the cafés of a sheet: the sheet's settled plan stands in the
+// first m × cafes places of the list, and the rest of it is as it was. The bags become the plan's.
 pub fn settle_board(
     adj: &[u64; NODES],
     q: &mut [i64; LANES],
@@ -27,17 +28,18 @@ pub fn settle_board(
     plan: &mut [u64],
     m: usize,
     n: usize,
+    cafes: usize,
 )
     requires { ⌜ ((P : Problem) × (T : List Cell) × (e : List ℤ) × Finished P T (now adj) (now q) e (now cost) (now price) m n) ⌝ }
-    requires { ⌜ m * n ≤ length (now plan) ⌝ }
+    requires { ⌜ (cafes ≤ n) × (m * cafes ≤ length (now plan)) ⌝ }
     ensures { λ _. ⌜
         ((S : Sheet) (T : List Cell) (e : List ℤ)
-        → Finished (problemOf S) T (now (adj .entry)) (now (q .entry)) e (now (cost .entry)) (now (price .entry)) m n
-        → now (plan .exit) ≡ settled S ++ drop (m * n) (now (plan .entry)))
+        → Finished (extended S) T (now (adj .entry)) (now (q .entry)) e (now (cost .entry)) (now (price .entry)) m n
+        → length (S .demand) ≡ cafes → now (plan .exit) ≡ settled S ++ drop (m * cafes) (now (plan .entry)))
         ⌝ }
 {
     let mut tight = [0u64; MAX_SIDE];
     tight_lanes(cost, price, &mut tight, m, n);
     settle_lanes(q, &tight, adj, m, n);
-    store_plan(q, plan, m, n);
+    store_plan(q, plan, m, cafes);
 }

@@ -6,6 +6,8 @@ ghost use Rattle.transport.specs.Answers.{startAnswer};
 use dealing::corner::first_tableau;
 use dealing::tableau::empty_tableau;
 use sheet::SheetCheck;
+use sheet::extended::extend_demands;
+use transport::MAX_SIDE;
 use transport::StartAnswer;
 use transport::StartOutcome;
 
@@ -22,8 +24,10 @@ pub fn start(supply: &[u64], demand: &[u64], cost: &[u64]) -> StartAnswer
             tableau: empty_tableau(),
         };
     }
+    let mut columns = [0u64; MAX_SIDE];
+    let n = extend_demands(supply, demand, &mut columns);
     StartAnswer {
         outcome: StartOutcome::Started,
-        tableau: first_tableau(supply, demand),
+        tableau: first_tableau(supply, &columns[..n]),
     }
 }

@@ -27,8 +27,8 @@ use Rattle.transport.specs.Lists.{padded}
 use Rattle.transport.specs.Limits.{maxSide}
 use Rattle.transport.specs.Sheet.{Sheet, roasteries, cafes}
 use Rattle.transport.specs.Tableau.{Cell, tableauOf, cellsOf, noTableau}
-use Rattle.transport.specs.Round.{Round, finished, moved, Run}
-use Rattle.transport.specs.Calls.{Answer, refused, given, refusedBy, Solution}
+use Rattle.transport.specs.Round.{Run}
+use Rattle.transport.specs.Calls.{Answer, refused, given, refusedBy, Round, finished, moved, Solution}
 
 -- ---- start
 

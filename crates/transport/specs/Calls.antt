@@ -1,16 +1,19 @@
--- What each call on tableaux and plans gives, or why it refuses (paper 01, "Calls and their refusals"). The calls on texts stand in SheetText and PlanText.
-use mathlib.Core.Bool.{Bool, not, _||_}
+-- What each call on tableaux and plans gives, or why it refuses (paper 01, "Calls and their refusals"; paper 02, One: a tableau is of the extended
+-- problem, with the extra café as its last column; prices and plans are of the sheet alone). The calls on texts stand in SheetText and PlanText.
+use mathlib.Core.Bool.{Bool, true, false, not, _||_}
 use mathlib.Core.List.{List, [], _∷_, _++_}
 use mathlib.Core.Option.{Option, none, some}
-use Prim.Native.Nat.{ℕ, _*_}
+use Prim.Native.Nat.{ℕ, _+_, _*_}
 use lib.Dec.{ltb}
 use lib.IntN.{ℤ}
 use lib.ListN.{length, drop}
-use Rattle.transport.specs.Sheet.{Sheet, roasteries, cafes, problemOf, sheetTests, refusal}
+use Rattle.transport.specs.Lists.{table}
+use Rattle.transport.specs.Sheet.{Sheet, roasteries, cafes, sheetTests, refusal}
+use Rattle.transport.specs.Extended.{extended}
 use Rattle.transport.specs.Tableau.{Cell, Tableau, cellsOf, start}
 use Rattle.transport.specs.Belonging.{belongs}
-use Rattle.transport.specs.Potential.{sourcePrices, sinkPrices, isFinished}
-use Rattle.transport.specs.Round.{Round, round, Run, run, roundBound}
+use Rattle.transport.specs.Potential.{potential, sourcePrices, isFinished}
+use Rattle.transport.specs.Round.{next, Run, run, roundBound}
 use Rattle.transport.specs.Plan.{planCost, settled}
 
 -- A refusal gives its number, and 9 also a place.
@@ -38,29 +41,44 @@ unfoldable pub lentAfter : {A B : Type 0} → (A → List B) → Answer A → Li
 lentAfter part (refused r) old = old
 lentAfter part (given x) old = part x ++ drop (length (part x)) old
 
--- 6: the tableau doesn't belong to the sheet, that is, to its problem.
+-- 6: the tableau doesn't belong to the sheet, that is, to its extended problem.
 unfoldable pub tableauTests : Sheet → Tableau → List (Bool × ℕ)
-tableauTests S t = sheetTests S ++ ((not (belongs (problemOf S) t), 6) ∷ [])
+tableauTests S t = sheetTests S ++ ((not (belongs (extended S) t), 6) ∷ [])
 
 -- 8: a lent list, or the output, is too short.
 unfoldable pub tooShort : ℕ → ℕ → Bool
 tooShort room needed = ltb room needed
 
 unfoldable pub startCall : Sheet → Answer (List Cell)
-startCall S = unless (sheetTests S) (start (problemOf S))
+startCall S = unless (sheetTests S) (start (extended S))
+
+-- The prices v that are given: those of the cafés of the sheet, without the extra one.
+unfoldable pub cafePrices : Sheet → List Cell → List ℤ
+cafePrices S T = table (cafes S) (λ j. potential (extended S) T (roasteries S + j))
+
+-- A round gives the next tableau, or `finished` with the prices u and v.
+pub data Round : Type 0 where
+  finished : List ℤ → List ℤ → Round
+  moved : List Cell → Round
+
+unfoldable pub round : Sheet → List Cell → Round
+round S T = elim (isFinished (extended S) T) [
+  | true ↦ finished (sourcePrices (extended S) T) (cafePrices S T)
+  | false ↦ moved (next (extended S) T)
+]
 
 unfoldable pub roundCall : Sheet → Tableau → Answer Round
-roundCall S t = unless (tableauTests S t) (round (problemOf S) (cellsOf t))
+roundCall S t = unless (tableauTests S t) (round S (cellsOf t))
 
 unfoldable pub runCall : Sheet → Tableau → ℕ → Answer Run
-runCall S t allowance = unless (tableauTests S t) (run (problemOf S) allowance (cellsOf t))
+runCall S t allowance = unless (tableauTests S t) (run (extended S) allowance (cellsOf t))
 
 -- 7: the tableau is not finished. `room` is the length of the lent list.
 unfoldable pub settleCall : Sheet → Tableau → ℕ → Answer (List ℕ)
 settleCall S t room =
     unless
     (tableauTests S t
-    ++ ((not (isFinished (problemOf S) (cellsOf t)), 7)
+    ++ ((not (isFinished (extended S) (cellsOf t)), 7)
     ∷ (tooShort room (roasteries S * cafes S), 8)
     ∷ []))
     (settled S)
@@ -76,19 +94,19 @@ pub record Solution : Type 0 where
 -- From a tableau on ..
 unfoldable pub solutionFrom : Sheet → List Cell → Solution
 solutionFrom S T =
-    let r = run (problemOf S) (roundBound (problemOf S)) T in
+    let r = run (extended S) (roundBound (extended S)) T in
     let x = settled S in
     record {
       cost = planCost S x;
       rounds = r .rounds;
-      u = sourcePrices (problemOf S) (r .tableau);
-      v = sinkPrices (problemOf S) (r .tableau);
+      u = sourcePrices (extended S) (r .tableau);
+      v = cafePrices S (r .tableau);
       plan = x;
     }
 
 -- .. and from the start.
 unfoldable pub solution : Sheet → Solution
-solution S = solutionFrom S (start (problemOf S))
+solution S = solutionFrom S (start (extended S))
 
 -- The rooms are the lengths of the lent lists for u, v and the plan.
 unfoldable pub solveCall : Sheet → ℕ → ℕ → ℕ → Answer Solution

@@ -5,6 +5,7 @@ pub mod RangeLaws
 pub mod ProblemLaws
 pub mod RoundLaws
 pub mod SheetLaws
+pub mod ExtendedLaws
 pub mod Sound
 pub mod CallLaws
 pub mod PlanLaws

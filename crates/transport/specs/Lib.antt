@@ -2,6 +2,7 @@ pub mod Lists
 pub mod Limits
 pub mod Problem
 pub mod Sheet
+pub mod Extended
 pub mod Amount
 pub mod Tableau
 pub mod Leaf

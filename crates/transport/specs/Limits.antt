@@ -9,7 +9,7 @@ maxSources = 32
 unfoldable pub maxSinks : ℕ
 maxSinks = 32
 
--- Not a limit of the paper but the room for a side of a problem, in answers and in the arrays of the code: neither limit is above it.
+-- The room for a side of a tableau, in answers and in the arrays of the code: neither limit is above it, and 32 cafés leave none for an extra one (02, One).
 unfoldable pub maxSide : ℕ
 maxSide = 32
 

@@ -1,6 +1,6 @@
 -- Small functions on lists and numbers, in which the paper's sentences are put.
 use mathlib.Core.Bool.{Bool, true, _&&_, cond}
-use mathlib.Core.List.{List, [], _∷_, _++_}
+use mathlib.Core.List.{List, [], _∷_, _++_, flatMap}
 use Prim.Native.Nat.{ℕ, zero, suc, _+_, _-_}
 use lib.Dec.{leb}
 use lib.IntN.{ℤ, pos, _+ℤ_}
@@ -39,6 +39,10 @@ module _ {A : Type 0} where
 -- 0, 1, .., n − 1.
 unfoldable pub below : ℕ → List ℕ
 below n = table n (λ k. k)
+
+-- m rows of n, one after the other: f 0 0, f 0 1, .., f 0 (n − 1), then f 1 0, and so on.
+unfoldable pub grid : {A : Type 0} → ℕ → ℕ → (ℕ → ℕ → A) → List A
+grid m n f = flatMap (λ i. table n (f i)) (below m)
 
 -- high, high − 1, .., low; nothing if high is below low.
 unfoldable pub downTo : ℕ → ℕ → List ℕ

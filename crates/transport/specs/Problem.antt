@@ -1,10 +1,10 @@
 -- The balanced problem (001 to 003) that tableaux are about: amounts in bags with equal totals, and what each lane counts. Behind every sheet stands one
--- (Sheet.problemOf).
-use mathlib.Core.List.{List, flatMap}
+-- (Extended.extended).
+use mathlib.Core.List.{List}
 use Prim.Native.Nat.{ℕ, _+_, _*_}
 use lib.IntN.{ℤ}
 use lib.ListN.{length}
-use Rattle.transport.specs.Lists.{atZ, table, below}
+use Rattle.transport.specs.Lists.{atZ, grid}
 
 -- A supply for each source, a demand for each sink, both in bags, and a cost for each lane, in cents a bag and in sheet order.
 pub record Problem : Type 0 where
@@ -27,7 +27,7 @@ pub record Lane : Type 0 where
 
 -- Sheet order: the lanes of source 1 to sinks 1, 2, .., n, then those of source 2, and so on.
 unfoldable pub lanes : ℕ → ℕ → List Lane
-lanes m n = flatMap (λ i. table n (λ j. record { row = i; col = j })) (below m)
+lanes m n = grid m n (λ i j. record { row = i; col = j })
 
 -- The place of row i and column j in sheet order, among n columns.
 unfoldable pub place : ℕ → ℕ → ℕ → ℕ

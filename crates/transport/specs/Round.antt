@@ -11,7 +11,7 @@ use Rattle.transport.specs.Problem.{Problem, sources, sinks, Lane, lanes
 use Rattle.transport.specs.Amount.{Pair, add, subtract, less}
 use Rattle.transport.specs.Tableau.{Cell, laneOf, withAmount, basisOf, sameLane, noCell}
 use Rattle.transport.specs.Leaf.{Strike, strikes}
-use Rattle.transport.specs.Potential.{sourcePrices, sinkPrices, reducedCost, isFinished}
+use Rattle.transport.specs.Potential.{reducedCost, isFinished}
 
 -- The entering lane: of least reduced cost, and of several the first in sheet order.
 unfoldable pub entering : Problem → List Cell → Lane
@@ -76,17 +76,6 @@ pivot m n T enter =
 
 unfoldable pub next : Problem → List Cell → List Cell
 next P T = pivot (sources P) (sinks P) T (entering P T)
-
--- A round gives the next tableau, or `finished` with the prices u and v.
-pub data Round : Type 0 where
-  finished : List ℤ → List ℤ → Round
-  moved : List Cell → Round
-
-unfoldable pub round : Problem → List Cell → Round
-round P T = elim (isFinished P T) [
-  | true ↦ finished (sourcePrices P T) (sinkPrices P T)
-  | false ↦ moved (next P T)
-]
 
 -- A run of rounds: whether it finished within its allowance (else it is spent), the last tableau and the rounds made.
 pub record Run : Type 0 where

@@ -1,4 +1,5 @@
--- The paper's samples P1 to P9, its text samples and its worked text, as one theorem over the definitions; and a sample for each trap that these leave open.
+-- The samples of paper 01, P1 to P9, its text samples and its worked text, those of paper 02, One, and a sample for each trap that these leave open, as one
+-- theorem over the definitions.
 mod Open
 use mathlib.Core.Path.{_≡_, refl}
 use mathlib.Core.Bool.{true, false}
@@ -6,12 +7,14 @@ use mathlib.Core.List.{List, [], _∷_}
 use mathlib.Core.Option.{some}
 use Prim.Native.Nat.{ℕ, _-_}
 use lib.IntN.{ℤ, pos, negsuc}
-use Rattle.transport.specs.Problem.{Problem, Lane}
-use Rattle.transport.specs.Sheet.{Sheet, problemOf}
+use lib.ListN.{replicate}
+use Rattle.transport.specs.Problem.{Problem, Lane, laneCost}
+use Rattle.transport.specs.Sheet.{Sheet}
+use Rattle.transport.specs.Extended.{extended}
 use Rattle.transport.specs.Tableau.{Cell, tableauOf, start}
 use Rattle.transport.specs.Potential.{reducedCost}
-use Rattle.transport.specs.Round.{finished, moved, entering, next}
-use Rattle.transport.specs.Calls.{refused, given, refusedBy, startCall, roundCall, runCall, settleCall, solveCall}
+use Rattle.transport.specs.Round.{entering, next}
+use Rattle.transport.specs.Calls.{refused, given, refusedBy, startCall, finished, moved, roundCall, runCall, settleCall, solveCall}
 use Rattle.transport.specs.Text.{bytes}
 use Rattle.transport.specs.SheetText.{readSheetCall, writeSheetCall}
 use Rattle.transport.specs.PlanText.{writePlanCall, printed}
@@ -54,7 +57,7 @@ abbrev sheet4 : Sheet
 sheet4 = record { supply = 1 ∷ 3 ∷ []; demand = 2 ∷ 1 ∷ 1 ∷ []; cost = 9 ∷ 0 ∷ 0 ∷ 0 ∷ 0 ∷ 0 ∷ [] }
 
 abbrev problem4 : Problem
-problem4 = problemOf sheet4
+problem4 = extended sheet4
 
 abbrev tableau5 : List Cell
 tableau5 = cell 1 3 (pos 1) (pos 1) ∷ cell 2 1 (pos 2) (pos 0) ∷ cell 2 2 (pos 1) (pos 0) ∷ cell 2 3 (pos 0) (pos 1) ∷ []
@@ -66,12 +69,42 @@ text1 = bytes "supply 2\n3\n4\ndemand 2\n5\n2\ncost 2\n4 1\n2 6\n"
 abbrev sheet10 : Sheet
 sheet10 = record { supply = 1 ∷ 3 ∷ []; demand = 2 ∷ 1 ∷ 1 ∷ []; cost = 9 ∷ 8 ∷ 4 ∷ 0 ∷ 0 ∷ 0 ∷ [] }
 
+-- One: the dear first roastery keeps what is not wanted ..
+abbrev sheetDear : Sheet
+sheetDear = record { supply = 3 ∷ 3 ∷ []; demand = 4 ∷ []; cost = 5 ∷ 1 ∷ [] }
+
+abbrev startDear : List Cell
+startDear = cell 1 1 (pos 3) (pos 1) ∷ cell 2 1 (pos 1) (negsuc 0) ∷ cell 2 2 (pos 2) (pos 2) ∷ []
+
+abbrev lastDear : List Cell
+lastDear = cell 1 1 (pos 1) (negsuc 0) ∷ cell 1 2 (pos 2) (pos 2) ∷ cell 2 1 (pos 3) (pos 1) ∷ []
+
+-- .. each keeps a bag ..
+abbrev sheetSplit : Sheet
+sheetSplit = record { supply = 3 ∷ 3 ∷ []; demand = 2 ∷ 2 ∷ []; cost = 1 ∷ 9 ∷ 9 ∷ 1 ∷ [] }
+
+-- .. both are as dear ..
+abbrev sheetEven : Sheet
+sheetEven = record { supply = 3 ∷ 3 ∷ []; demand = 4 ∷ []; cost = 1 ∷ 1 ∷ [] }
+
+-- .. at the start the extra café's lane in row 1 and (2,1) could enter, both at −2 ..
+abbrev sheetExtraFirst : Sheet
+sheetExtraFirst = record { supply = 1 ∷ 2 ∷ []; demand = 1 ∷ 1 ∷ []; cost = 2 ∷ 2 ∷ 0 ∷ 1 ∷ [] }
+
+-- .. at the start (1,2) and the extra café's lane in row 1 could, both at −1 ..
+abbrev sheetExtraLater : Sheet
+sheetExtraLater = record { supply = 1 ∷ 3 ∷ []; demand = 2 ∷ 1 ∷ []; cost = 3 ∷ 0 ∷ 2 ∷ 0 ∷ [] }
+
+-- .. and one roastery with so many bags serves n cafés with one bag each, at 1 cent.
+abbrev sheetWide : ℕ → ℕ → Sheet
+sheetWide s n = record { supply = s ∷ []; demand = replicate n 1; cost = replicate n 1 }
+
 abbrev samples : List Sample
 samples =
     -- P1
     (startCall sheet1 is given start1)
-    ∷ (entering (problemOf sheet1) start1 is lane 1 2)
-    ∷ (reducedCost (problemOf sheet1) start1 (lane 1 2) is negsuc 6)
+    ∷ (entering (extended sheet1) start1 is lane 1 2)
+    ∷ (reducedCost (extended sheet1) start1 (lane 1 2) is negsuc 6)
     ∷ (roundCall sheet1 (tableauOf start1) is given (moved next1))
     ∷ (solveCall sheet1 2 2 4 is given (record { cost = pos 14; rounds = 1; u = pos 0 ∷ negsuc 1 ∷ []; v = pos 4 ∷ pos 1 ∷ []; plan = 1 ∷ 2 ∷ 4 ∷ 0 ∷ [] }))
     -- P2
@@ -91,8 +124,8 @@ samples =
     -- P7
     ∷ (solveCall (oneLane 1_000_000 1_000_000 1_000_000) 1 1 1 is given (record { cost = pos 1_000_000_000_000; rounds = 0; u = pos 0 ∷ []; v = pos 1_000_000 ∷ []; plan = 1_000_000 ∷ [] }))
     ∷ (solveCall (oneLane 1_000_000 1_000_000 1_000_001) 1 1 1 is refusedBy 4)
-    -- P8
-    ∷ (solveCall (oneLane 3 2 0) 1 1 1 is refusedBy 5)
+    -- P8: the first sheet is accepted since One
+    ∷ (solveCall (oneLane 3 2 0) 1 1 1 is given (record { cost = pos 0; rounds = 0; u = pos 0 ∷ []; v = pos 0 ∷ []; plan = 2 ∷ [] }))
     ∷ (solveCall (oneLane 0 2 0) 1 1 1 is refusedBy 3)
     -- P9
     ∷ (roundCall sheet3 (tableauOf (cell 1 1 (pos 5) (pos 0) ∷ cell 1 2 (pos 0) (pos 0) ∷ cell 2 2 (pos 5) (pos 1) ∷ [])) is refusedBy 6)
@@ -105,15 +138,37 @@ samples =
     ∷ (writeSheetCall sheet1 42 is given text1)
     ∷ (printed text1 is bytes "total 1\n14\nrounds 1\n1\nroasteries 2\n0\n-2\ncafes 2\n4\n1\nlanes 3\n1 1 1\n1 2 2\n2 1 4\n")
     ∷ (printed (bytes "supply 33") is bytes "refused 9 8\n")
-    ∷ (printed (bytes "supply 1\n3\ndemand 1\n2\ncost 1\n0\n") is bytes "refused 5\n")
+    ∷ (printed (bytes "supply 1\n3\ndemand 1\n2\ncost 1\n0\n") is bytes "total 1\n0\nrounds 1\n0\nroasteries 1\n0\ncafes 1\n0\nlanes 1\n1 1 2\n")
+    ∷ (printed (bytes "supply 1\n2\ndemand 1\n3\ncost 1\n0\n") is bytes "refused 5\n")
     -- too short a list or output: 8
     ∷ (solveCall sheet1 2 2 3 is refusedBy 8)
     ∷ (writePlanCall sheet1 70 is refusedBy 8)
+    -- One: the tableau has the extra café as its last column, and prices and plan do not
+    ∷ (laneCost (extended sheetDear) (lane 1 1) is pos 5)
+    ∷ (laneCost (extended sheetDear) (lane 1 2) is pos 0)
+    ∷ (startCall sheetDear is given startDear)
+    ∷ (roundCall sheetDear (tableauOf startDear) is given (moved lastDear))
+    ∷ (roundCall sheetDear (tableauOf lastDear) is given (finished (pos 0 ∷ negsuc 3 ∷ []) (pos 5 ∷ [])))
+    ∷ (runCall sheetDear (tableauOf startDear) 9 is given (record { finished = true; tableau = lastDear; rounds = 1 }))
+    ∷ (settleCall sheetDear (tableauOf lastDear) 2 is given (1 ∷ 3 ∷ []))
+    ∷ (solveCall sheetDear 2 1 2 is given (record { cost = pos 8; rounds = 1; u = pos 0 ∷ negsuc 3 ∷ []; v = pos 5 ∷ []; plan = 1 ∷ 3 ∷ [] }))
+    ∷ (solveCall sheetSplit 2 2 4 is given (record { cost = pos 4; rounds = 1; u = pos 0 ∷ pos 0 ∷ []; v = pos 1 ∷ pos 1 ∷ []; plan = 2 ∷ 0 ∷ 0 ∷ 2 ∷ [] }))
+    -- ties: the first lane gets all it can; of the lanes that could enter the first in sheet order does, be it the extra café's or not
+    ∷ (solveCall sheetEven 2 1 2 is given (record { cost = pos 4; rounds = 0; u = pos 0 ∷ pos 0 ∷ []; v = pos 1 ∷ []; plan = 3 ∷ 1 ∷ [] }))
+    ∷ (entering (extended sheetExtraFirst) (start (extended sheetExtraFirst)) is lane 1 3)
+    ∷ (solveCall sheetExtraFirst 2 2 4 is given (record { cost = pos 1; rounds = 2; u = pos 0 ∷ pos 0 ∷ []; v = pos 0 ∷ pos 1 ∷ []; plan = 0 ∷ 0 ∷ 1 ∷ 1 ∷ [] }))
+    ∷ (entering (extended sheetExtraLater) (start (extended sheetExtraLater)) is lane 1 2)
+    ∷ (solveCall sheetExtraLater 2 2 4 is given (record { cost = pos 4; rounds = 2; u = pos 0 ∷ pos 0 ∷ []; v = pos 2 ∷ pos 0 ∷ []; plan = 0 ∷ 1 ∷ 2 ∷ 0 ∷ [] }))
+    -- 31 cafés leave room for the extra one, 32 do not; more wanted than there is: 5, with 32 cafés too
+    ∷ (solveCall (sheetWide 40 31) 1 31 31 is given (record { cost = pos 31; rounds = 0; u = pos 0 ∷ []; v = replicate 31 (pos 1); plan = replicate 31 1 }))
+    ∷ (solveCall (sheetWide 40 32) 1 32 32 is refusedBy 10)
+    ∷ (writeSheetCall (sheetWide 40 32) 1000 is refusedBy 10)
+    ∷ (solveCall (sheetWide 31 32) 1 32 32 is refusedBy 5)
     -- traps: the least reduced cost enters, and not the first negative one; a count beyond the array does not belong
-    ∷ (entering (problemOf sheet10) (start (problemOf sheet10)) is lane 1 3)
+    ∷ (entering (extended sheet10) (start (extended sheet10)) is lane 1 3)
     ∷ (roundCall sheet1 (record { cells = tableauOf start1 .cells; count = 64 }) is refusedBy 6)
     ∷ []
 
 pub samples-hold : Hold samples
 unfolding opened
-samples-hold = (refl, (refl, (refl, (refl, (refl, (refl, (refl, (refl, (refl, (refl, (refl, (refl, (refl, (refl, (refl, (refl, (refl, (refl, (refl, (refl, (refl, (refl, (refl, (refl, (refl, (refl, (refl, (refl, (refl, (refl, (refl, (refl, tt))))))))))))))))))))))))))))))))
+samples-hold = (refl, (refl, (refl, (refl, (refl, (refl, (refl, (refl, (refl, (refl, (refl, (refl, (refl, (refl, (refl, (refl, (refl, (refl, (refl, (refl, (refl, (refl, (refl, (refl, (refl, (refl, (refl, (refl, (refl, (refl, (refl, (refl, (refl, (refl, (refl, (refl, (refl, (refl, (refl, (refl, (refl, (refl, (refl, (refl, (refl, (refl, (refl, (refl, (refl, (refl, (refl, tt)))))))))))))))))))))))))))))))))))))))))))))))))))

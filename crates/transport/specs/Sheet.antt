@@ -1,14 +1,12 @@
--- The sheet and the sheet check (paper 01, "The sheet", and the second paragraph of "Calls and their refusals").
+-- The sheet and the sheet check (paper 01, "The sheet", and the second paragraph of "Calls and their refusals"; paper 02, One).
 use mathlib.Core.Bool.{Bool, true, false, not, _&&_}
-use mathlib.Core.List.{List, [], _∷_, map}
+use mathlib.Core.List.{List, [], _∷_}
 use mathlib.Core.Option.{Option, none, some}
 use Prim.Native.Nat.{ℕ, _*_}
-use lib.Dec.{eqb}
-use lib.IntN.{pos}
+use lib.Dec.{eqb, ltb}
 use lib.ListN.{length}
 use Rattle.transport.specs.Lists.{all, total, within}
-use Rattle.transport.specs.Limits.{maxSources, maxSinks, maxAmount, maxCost}
-use Rattle.transport.specs.Problem.{Problem}
+use Rattle.transport.specs.Limits.{maxSources, maxSinks, maxSide, maxAmount, maxCost}
 
 -- What a customer hands in: a supply for each roastery, a demand for each café, both in bags, and a cost for each lane, in cents a bag and in sheet order.
 pub record Sheet : Type 0 where
@@ -28,10 +26,6 @@ roasteries S = length (S .supply)
 unfoldable pub cafes : Sheet → ℕ
 cafes S = length (S .demand)
 
--- The balanced problem of a sheet: roasteries are its sources, cafés its sinks.
-unfoldable pub problemOf : Sheet → Problem
-problemOf S = record { supply = S .supply; demand = S .demand; cost = map pos (S .cost) }
-
 -- ---- the sheet check: each test that refuses, with its number
 
 -- 1: m or n is outside 1 to 32.
@@ -50,13 +44,17 @@ badAmount S = (not (all (within 1 maxAmount) (S .supply) && all (within 1 maxAmo
 unfoldable pub badCost : Sheet → Bool × ℕ
 badCost S = (not (all (within 0 maxCost) (S .cost)), 4)
 
--- 5: total supply differs from total demand.
-unfoldable pub unbalanced : Sheet → Bool × ℕ
-unbalanced S = (not (eqb (total (S .supply)) (total (S .demand))), 5)
+-- 5 (02, One): total demand is greater than total supply.
+unfoldable pub lacking : Sheet → Bool × ℕ
+lacking S = (ltb (total (S .supply)) (total (S .demand)), 5)
 
--- 3, 4 and 5, which a sheet read from a text is still tested for.
+-- 10 (02, One): total supply is greater than total demand, and there are 32 cafés, so that a tableau has no room for the extra one.
+unfoldable pub crowded : Sheet → Bool × ℕ
+crowded S = (ltb (total (S .demand)) (total (S .supply)) && eqb (cafes S) maxSide, 10)
+
+-- 3, 4, 5 and 10, which a sheet read from a text is still tested for.
 unfoldable pub numberTests : Sheet → List (Bool × ℕ)
-numberTests S = badAmount S ∷ badCost S ∷ unbalanced S ∷ []
+numberTests S = badAmount S ∷ badCost S ∷ lacking S ∷ crowded S ∷ []
 
 unfoldable pub sheetTests : Sheet → List (Bool × ℕ)
 sheetTests S = badSides S ∷ badLength S ∷ numberTests S

@@ -3,8 +3,9 @@
 --
 -- In the paper's order, with the theorem that proves each (CRATE/MODULE.NAME, all in specs/). Problems are those of accepted sheets (Laws.Sound), tableaux are
 -- any that belong, and an entering lane is any that is not basic, as the definition's is (tableaux/Entering.entering-inside, entering-new).
---   WithinLimits, Balanced   exactly the sheets that pass the sheet check: transport/Laws.SheetLaws.accepted, passes
+--   Accepted                 exactly the sheets that pass the sheet check: transport/Laws.SheetLaws.accepted, passes
 --   Meets                    exactly the plans that the definition lists: plans/Plans.plans-sound, plans-complete
+--   MeetsExactly             on a balanced sheet exactly the plans that meet it: reduction/Balanced.meets-exactly
 --   Belongs                  exactly the cells that the test lets pass: tableaux/Belonging.belongs-iff
 --                            the start, and the next tableau: tableaux/Starting.start-belongs, tableaux/Ending.next-belongs
 --   OnlyPrices               the definition's potentials, and the prices that calls give: tableaux/Prices.only-prices, listed-prices
@@ -12,14 +13,16 @@
 --   OneStep                  the definition's leaving cell: tableaux/Pivoting.one-step
 --   FirstFinished            there is one, from the start on: tableaux/Ending.start-ends
 --   Best                     the definition's solution: demands/Demand3.solution-best
+--   Certified                the definition's solution, by the prices that calls give: demands/Certificate.solution-certified
 --   RunOf                    the definition's run: tableaux/Running.run-of
 --   FromFirstFinished        the definition's solution: demands/Demand3.solution-finished
 --   Bought                   stands in the contract of solve; by demands/Bought.bought
+--   BestExactly              the plan bought for a balanced sheet: demands/Bought.bought-balanced
 --   SheetTextOf              exactly the texts that the definition reads: grammar/Place.reader-iff
 --   Place                    the place that read sheet gives with 9: grammar/Place.place
 --   Undo                     write sheet and read sheet: grammar/SheetCalls.undo
 use mathlib.Core.Path.{_≡_}
-use mathlib.Core.Logic.{_↔_}
+use mathlib.Core.Logic.{_↔_, _⊎_}
 use mathlib.Core.Bool.{Bool, true, false, cond}
 use mathlib.Core.List.{List, [], _∷_, map, List·Memᴰ}
 use Prim.Native.Nat.{ℕ, zero, suc, _*_, _^_, _≤_, _<_}
@@ -29,17 +32,18 @@ use lib.ListN.{length, take, drop, getD}
 use Rattle.transport.specs.declared.SolveAnswer.{SolveAnswer}
 use Rattle.transport.specs.declared.SolveAnswer.the-variants as SolveAnswer
 use Rattle.transport.specs.Lists.{sumTo, at, total, within}
-use Rattle.transport.specs.Limits.{maxSources, maxSinks, maxAmount, maxCost, maxDigits}
+use Rattle.transport.specs.Limits.{maxSources, maxSinks, maxSide, maxAmount, maxCost, maxDigits}
 use Rattle.transport.specs.Problem.{Problem, sources, sinks, Lane, place, laneCost}
 use Rattle.transport.specs.Sheet.{Sheet, roasteries, cafes}
+use Rattle.transport.specs.Extended.{extended}
 use Rattle.transport.specs.Amount.{less, nothing, pairedSupply, pairedDemand}
 use Rattle.transport.specs.Tableau.{Cell, noCell, basisSize, laneOf, basisOf, sameLane, start}
 use Rattle.transport.specs.Leaf.{strikes}
 use Rattle.transport.specs.Belonging.{rowTotal, columnTotal}
-use Rattle.transport.specs.Potential.{sourcePrices, sinkPrices, isFinished}
+use Rattle.transport.specs.Potential.{sourcePrices, isFinished}
 use Rattle.transport.specs.Round.{sign, leaving, next, Run}
 use Rattle.transport.specs.Plan.{planCost}
-use Rattle.transport.specs.Calls.{Answer, given, Solution}
+use Rattle.transport.specs.Calls.{Answer, given, cafePrices, Solution}
 use Rattle.transport.specs.SheetText.{sheetText}
 
 -- ---- sheets
@@ -61,15 +65,31 @@ pub record WithinLimits (S : Sheet) : Type 0 where
 abbrev pub Balanced : Sheet → Type 0
 Balanced S = total (S .supply) ≡ total (S .demand)
 
+-- More is wanted than there is (the sheets of 5) ..
+abbrev pub Lacking : Sheet → Type 0
+Lacking S = total (S .supply) < total (S .demand)
+
+-- .. and there is more than is wanted, with 32 cafés (the sheets of 10).
+abbrev pub Crowded : Sheet → Type 0
+Crowded S = (total (S .demand) < total (S .supply)) × (cafes S ≡ maxSide)
+
 -- The sheet passes the sheet check.
 pub record Accepted (S : Sheet) : Type 0 where
   pub limits : WithinLimits S
-  pub balance : Balanced S
+  pub enough : ¬ Lacking S
+  pub room : ¬ Crowded S
 
--- ---- plans (01, "The sheet")
+-- ---- plans (01, "The sheet"; 02, One)
 
--- A plan in k-ths of a bag meets the sheet: each lane has a whole number of them, and each source's and each sink's add up to k times its supply or demand.
+-- A plan in k-ths of a bag meets the sheet: each lane has a whole number of them, each roastery's add up to at most k times its supply, and each café's to k
+-- times its demand.
 pub record Meets (S : Sheet) (k : ℕ) (Q : List ℕ) : Type 0 where
+  pub quantities : length Q ≡ roasteries S * cafes S
+  pub rows : (i : ℕ) → i < roasteries S → sumTo (cafes S) (λ j. at Q (place (cafes S) i j)) ≤ k * at (S .supply) i
+  pub columns : (j : ℕ) → j < cafes S → sumTo (roasteries S) (λ i. at Q (place (cafes S) i j)) ≡ k * at (S .demand) j
+
+-- 01's own words, of balanced sheets: each roastery's add up to k times its supply.
+pub record MeetsExactly (S : Sheet) (k : ℕ) (Q : List ℕ) : Type 0 where
   pub quantities : length Q ≡ roasteries S * cafes S
   pub rows : (i : ℕ) → i < roasteries S → sumTo (cafes S) (λ j. at Q (place (cafes S) i j)) ≡ k * at (S .supply) i
   pub columns : (j : ℕ) → j < cafes S → sumTo (roasteries S) (λ i. at Q (place (cafes S) i j)) ≡ k * at (S .demand) j
@@ -198,7 +218,7 @@ pub record FirstFinished (P : Problem) (cells : List Cell) (k : ℕ) : Type 0 wh
   pub finished : isFinished P (after P k cells) ≡ true
   pub before : (h : ℕ) → h < k → isFinished P (after P h cells) ≡ false
 
--- ---- the best plan (01, "Settling"; demand 3)
+-- ---- the best plan (01, "Settling"; demand 3; 02, One)
 
 -- Demand 3: the plan, in whole bags, meets the sheet; the cost shown is its cost; any plan Q in k-ths costs no less; and at equal cost this plan carries more
 -- on the first lane where they differ.
@@ -208,6 +228,24 @@ pub record Best (S : Sheet) (plan : List ℕ) (cost : ℤ) : Type 0 where
   pub least : (k : ℕ) (Q : List ℕ) → 1 ≤ k → Meets S k Q → (pos k *ℤ cost) ≤ℤ planCost S Q
   pub first : (k : ℕ) (Q : List ℕ) → 1 ≤ k → Meets S k Q → planCost S Q ≡ (pos k *ℤ cost)
       → (l : ℕ) → FirstDifference (scaled k plan) Q l → at Q l < at (scaled k plan) l
+
+-- The same in 01's own words, of balanced sheets: ours and Q meet every supply exactly.
+pub record BestExactly (S : Sheet) (plan : List ℕ) (cost : ℤ) : Type 0 where
+  pub meets : MeetsExactly S 1 plan
+  pub shown : cost ≡ planCost S plan
+  pub least : (k : ℕ) (Q : List ℕ) → 1 ≤ k → MeetsExactly S k Q → (pos k *ℤ cost) ≤ℤ planCost S Q
+  pub first : (k : ℕ) (Q : List ℕ) → 1 ≤ k → MeetsExactly S k Q → planCost S Q ≡ (pos k *ℤ cost)
+      → (l : ℕ) → FirstDifference (scaled k plan) Q l → at Q l < at (scaled k plan) l
+
+-- ---- prices that prove a plan (02, One)
+
+-- Prices by roastery and by café from which anyone can tell that no plan costs less: no lane costs less than the two of its ends, a lane that carries bags
+-- costs just them, and where a roastery keeps bags no other has a greater price.
+pub record Certified (S : Sheet) (u v : ℕ → ℤ) (plan : List ℕ) : Type 0 where
+  pub lanes : (i j : ℕ) → i < roasteries S → j < cafes S → (u i +ℤ v j) ≤ℤ pos (at (S .cost) (place (cafes S) i j))
+  pub used : (i j : ℕ) → i < roasteries S → j < cafes S → 1 ≤ at plan (place (cafes S) i j) → u i +ℤ v j ≡ pos (at (S .cost) (place (cafes S) i j))
+  pub kept : (i : ℕ) → i < roasteries S → sumTo (cafes S) (λ j. at plan (place (cafes S) i j)) < at (S .supply) i
+      → (h : ℕ) → h < roasteries S → u h ≤ℤ u i
 
 -- ---- run and solve (01, "Calls and their refusals")
 
@@ -221,12 +259,13 @@ pub record RunOf (P : Problem) (allowance : ℕ) (cells : List Cell) (r : Run) :
   pub done : (k : ℕ) → k ≤ allowance → FirstFinished P cells k → r ≡ record { finished = true; tableau = after P k cells; rounds = k }
   pub spent : Unfinished P cells allowance → r ≡ record { finished = false; tableau = after P allowance cells; rounds = allowance }
 
--- Solve counts its rounds from the start, and shows the prices of the first finished tableau. That tableau belongs to the problem.
-pub record FromFirstFinished (P : Problem) (s : Solution) : Type 1 where
-  pub reached : FirstFinished P (start P) (s .rounds)
-  pub belongs : Belongs P (after P (s .rounds) (start P))
-  pub u : s .u ≡ sourcePrices P (after P (s .rounds) (start P))
-  pub v : s .v ≡ sinkPrices P (after P (s .rounds) (start P))
+-- Solve counts its rounds from the start, and shows the prices of the first finished tableau, but for the extra café's. That tableau belongs to the extended
+-- problem.
+pub record FromFirstFinished (S : Sheet) (s : Solution) : Type 1 where
+  pub reached : FirstFinished (extended S) (start (extended S)) (s .rounds)
+  pub belongs : Belongs (extended S) (after (extended S) (s .rounds) (start (extended S)))
+  pub u : s .u ≡ sourcePrices (extended S) (after (extended S) (s .rounds) (start (extended S)))
+  pub v : s .v ≡ cafePrices S (after (extended S) (s .rounds) (start (extended S)))
 
 -- The lists lent to solve are long enough for m and n prices and m × n quantities.
 pub record LongEnough (S : Sheet) (uRoom vRoom planRoom : ℕ) : Type 0 where
@@ -236,12 +275,13 @@ pub record LongEnough (S : Sheet) (uRoom vRoom planRoom : ℕ) : Type 0 where
 
 -- What is bought of each call of solve: r is its answer; the lent lists hold u, v and plan before it, and uAfter, vAfter and planAfter after it.
 pub record Bought (S : Sheet) (r : SolveAnswer) (u v : List ℤ) (plan : List ℕ) (uAfter vAfter : List ℤ) (planAfter : List ℕ) : Type 0 where
-  -- Demand 3: for every balanced sheet within the limits, with lists long enough, solve gives a plan, and it is best at the cost shown.
-  pub solved : WithinLimits S → LongEnough S (length u) (length v) (length plan) → Balanced S
+  -- Demand 3 (02, One): for every sheet within the limits that is neither lacking nor crowded, with lists long enough, solve gives a plan, and it is best at
+  -- the cost shown.
+  pub solved : WithinLimits S → LongEnough S (length u) (length v) (length plan) → ¬ Lacking S → ¬ Crowded S
       → (cost : ℕ) × (rounds : ℕ) × (r ≡ SolveAnswer.Solved cost rounds) × Best S (take (roasteries S * cafes S) planAfter) (pos cost)
-  -- Demand 3: of sheets within the limits, with lists long enough, solve refuses exactly the unbalanced ones, each by 5.
+  -- Demand 3 (02, One): of sheets within the limits, with lists long enough, solve refuses exactly the lacking and the crowded ones, by 5 and by 10.
   pub refuses : WithinLimits S → LongEnough S (length u) (length v) (length plan)
-      → (k : ℕ) → (r ≡ SolveAnswer.Refused k) ↔ (k ≡ 5) × ¬ Balanced S
+      → (k : ℕ) → (r ≡ SolveAnswer.Refused k) ↔ ((k ≡ 5) × Lacking S) ⊎ ((k ≡ 10) × Crowded S)
   -- Demand 1: a refusal alters no byte of lent memory.
   pub unchanged : (k : ℕ) → r ≡ SolveAnswer.Refused k → (uAfter ≡ u) × (vAfter ≡ v) × (planAfter ≡ plan)
   -- Paper 01: on success a lent list changes only in the places that the result fills.

@@ -1,4 +1,4 @@
-//! Sheets and cells of the paper's samples, for the tests that want them.
+//! Sheets and cells of the papers' samples, for the tests that want them.
 #![allow(dead_code)] // no test wants all
 use panel::{Cell, Pair, Refusal, Round, Sheet, MAX_LANES, MAX_SIDE};
 
@@ -44,6 +44,11 @@ pub fn p7() -> Sheet {
     sheet(&[1_000_000], &[1_000_000], &[1_000_000])
 }
 
+/// P8's first sheet: a bag stays at home.
+pub fn p8() -> Sheet {
+    sheet(&[3], &[2], &[0])
+}
+
 /// P9's first tableau, of P3's sheet: no pair above (0, 0) at (1,2).
 pub fn p9() -> [Cell; 3] {
     [cell(1, 1, 5, 0), cell(1, 2, 0, 0), cell(2, 2, 5, 1)]
@@ -51,6 +56,33 @@ pub fn p9() -> [Cell; 3] {
 
 pub fn largest() -> Sheet {
     sheet(&[1_000_000; MAX_SIDE], &[1_000_000; MAX_SIDE], &[1_000_000; MAX_LANES])
+}
+
+/// The first roastery is dear, and keeps the surplus of two bags.
+pub fn dear() -> Sheet {
+    sheet(&[3, 3], &[4], &[5, 1])
+}
+
+/// The tableau that a round on its start gives: it is finished. The second column is the extra café's.
+pub fn dear_last() -> [Cell; 3] {
+    [cell(1, 1, 1, -1), cell(1, 2, 2, 2), cell(2, 1, 3, 1)]
+}
+
+/// One roastery with so many bags, and so many cafés that want a bag each, at 1 cent.
+pub fn wide(supply: u64, cafes: usize) -> Sheet {
+    sheet(&[supply], &vec![1; cafes], &vec![1; cafes])
+}
+
+/// The largest sheet that may have a surplus: 32 roasteries and 31 cafés.
+pub fn largest_with_surplus() -> Sheet {
+    let cafes = MAX_SIDE - 1;
+    sheet(&[1_000_000; MAX_SIDE], &vec![1_000_000; cafes], &vec![1_000_000; MAX_SIDE * cafes])
+}
+
+/// How many columns a tableau of the sheet has: with a surplus, one for the extra café.
+pub fn columns(sheet: &Sheet) -> usize {
+    let surplus = sheet.supply.iter().sum::<u64>() > sheet.demand.iter().sum();
+    sheet.demand.len() + usize::from(surplus)
 }
 
 /// What a round on a finished tableau gives, with these prices.

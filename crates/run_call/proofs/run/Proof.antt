@@ -1,144 +1,161 @@
 -- `run_call::run` meets its contract: each way out is a case of the call.
+use native.Mathlib.Omega.{arith}
 use mathlib.Core.Path.{_≡_, refl, sym, ap, _∙_}
 use mathlib.Core.Bool.{true}
-use mathlib.Core.List.{map}
 use mathlib.Core.Option.{none}
 use borrow.Author.Needs.{needs}
 use borrow.Author.Tests.{not-true, not-false}
-use lib.IntN.{pos}
 use lib.ListN.{length}
-use Rattle.transport.specs.Laws.Sound.{accepted-sound}
-use Rattle.transport.specs.Sheet.{Sheet, problemOf, refusal, sheetTests, sheetOf}
+use Rattle.transport.specs.Limits.{maxSide}
+use Rattle.transport.specs.Laws.Sound.{sound}
+use Rattle.transport.specs.Sheet.{Sheet, refusal, sheetTests, sheetOf}
+use Rattle.transport.specs.Extended.{extended}
+use Rattle.transport.specs.Statements.{Accepted}
 use Rattle.transport.specs.Laws.SheetLaws.{accepted}
 use Rattle.transport.specs.Tableau.{cellsOf}
 use Rattle.transport.specs.Belonging.{belongs}
 use Rattle.transport.specs.Round.{run}
+use Rattle.transport.specs.Calls.{given}
 use Rattle.transport.specs.Answers.{runAnswer}
 use Rattle.sheet.specs.Check.{accepted-none, refused-some}
-use Rattle.rounds.specs.Dealt.{Dealt, dealt-loaded}
-use Rattle.run_call.specs.Run.{run-early, run-astray, run-given, answer-finished, answer-spent}
+use Rattle.sheet.specs.Columns.{Columns, columns-lent, columns-problem}
+use Rattle.pricing.specs.Costs.{spreadable}
+use Rattle.rounds.specs.Begun.{Begun, begun-loaded}
+use Rattle.run_call.specs.Run.{run-early, run-astray, run-given, run-is}
 use Rattle.run_call.proofs.run.Statement.{statement}
 use Rattle.run_call.proofs.run.Tie as tie
 
 abbrev sheetAt : (c : tie.Start) → Sheet
 sheetAt c = sheetOf (c .args .supply .now) (c .args .demand .now) (c .args .cost .now)
 
-check-sheet-requires : tie.Need-check-sheet-requires
-check-sheet-requires c κs = tt
-
-enum-known-check : tie.Need-enum-known-check
-enum-known-check c = search needs
-
-refused-run-requires : tie.Need-refused-run-requires
-refused-run-requires c κs = tt
+abbrev checkedFrom : tie.After-check-sheet → tie.Start
+checkedFrom c = c .before .before .before .before
 
 returns : tie.Need-returns
 returns c =
-    let s = c .before .before .before .before .before .before .before .before in
+    let k = c .before .before .before .before in
+    let s = checkedFrom k in
     c .refused-run .ensures
     ∙ ap runAnswer (sym (run-early (sheetAt s) (s .args .t) (s .args .allowance) _
-    (refused-some _ _ (sym (c .before .before .before .before .check-sheet .ensures) ∙ c .before .before .check .given .1))))
+    (refused-some _ _ (sym (k .check-sheet .ensures) ∙ c .before .before .check .given .1))))
 
-enum-told : tie.Need-enum-told
-enum-told c = search needs
+abbrev startOf : tie.After-enum-told → tie.Start
+startOf c = checkedFrom (c .before .before)
 
-passed : (c : tie.After-enum-told) → refusal (sheetTests (sheetAt (c .before .before .before .before .before .before))) ≡ none
+passed : (c : tie.After-enum-told) → refusal (sheetTests (sheetAt (startOf c))) ≡ none
 passed c = accepted-none _ (sym (c .before .before .check-sheet .ensures) ∙ c .enum-told .given .1)
 
-load-requires : tie.Need-load-requires
-unfolding problemOf
-load-requires c κs =
-    let told = c .before .before .before .before .before in
-    let s = told .before .before .before .before .before .before in
-    ((map pos (s .args .cost .now), accepted-sound (sheetAt s) (passed told)), (refl, refl, refl))
+okAt : (c : tie.After-enum-told) → Accepted (sheetAt (startOf c))
+okAt c = accepted (sheetAt (startOf c)) (passed c)
 
-refused-run-requires-2 : tie.Need-refused-run-requires-2
-refused-run-requires-2 c κs = tt
+-- ---- the columns of the tableau
+
+extend-demands-requires : tie.Need-extend-demands-requires
+unfolding maxSide
+extend-demands-requires c κs = ((_, okAt (c .before)), omega arith)
+
+abbrev told : tie.After-extend-demands → tie.After-enum-told
+told x = x .before .before
+
+columns : (x : tie.After-extend-demands) → Columns (sheetAt (startOf (told x))) (x .extend-demands .result) (x .extend-demands .last .1 .1 .0)
+columns x = x .extend-demands .ensures (startOf (told x) .args .cost .now)
+
+-- ---- whether the tableau belongs to the sheet
+
+load-requires : tie.Need-load-requires
+load-requires c κs =
+    let x = c .before .before .before .before .before .before .before in
+    ((extended (sheetAt (startOf (told x))) .cost, rw (columns-problem (columns x)) (sound (okAt (told x)))), (refl, refl, refl))
+
+abbrev extendedAt : tie.After-load → tie.After-extend-demands
+extendedAt a = a .before .before .before .before .before .before .before .before
+
+abbrev startAt : tie.After-load → tie.Start
+startAt a = startOf (told (extendedAt a))
+
+belongs-is : (a : tie.After-load) → a .load .result ≡ belongs (extended (sheetAt (startAt a))) (startAt a .args .t)
+belongs-is a = rw (columns-problem (columns (extendedAt a))) at (a .load .ensures .0 (extended (sheetAt (startAt a)) .cost))
 
 returns-2 : tie.Need-returns-2
-unfolding problemOf
 returns-2 c =
     let a = c .before .before in
-    let told = a .before .before .before .before .before .before in
-    let s = told .before .before .before .before .before .before in
+    let s = startAt a in
     c .refused-run2 .ensures
-    ∙ ap runAnswer (sym (run-astray (sheetAt s) (s .args .t) (s .args .allowance) (passed told)
-    (sym (a .load .ensures .0 (map pos (s .args .cost .now))) ∙ not-true _ (c .before .if1 .taken))))
+    ∙ ap runAnswer (sym (run-astray (sheetAt s) (s .args .t) (s .args .allowance) (passed (told (extendedAt a)))
+    (sym (belongs-is a) ∙ not-true _ (c .before .if1 .taken))))
 
 -- ---- the tableau belongs to the sheet
 
-abbrev toldBefore : tie.Else1 → tie.After-enum-told
-toldBefore c = c .before .before .before .before .before .before .before
-
 abbrev startBefore : tie.Else1 → tie.Start
-startBefore c = toldBefore c .before .before .before .before .before .before
+startBefore c = startAt (c .before)
 
-within : (c : tie.Else1) → belongs (problemOf (sheetAt (startBefore c))) (startBefore c .args .t) ≡ true
-unfolding problemOf
-within c = sym (c .before .load .ensures .0 (map pos (startBefore c .args .cost .now))) ∙ not-false _ (c .if1 .left)
+within : (c : tie.Else1) → belongs (extended (sheetAt (startBefore c))) (startBefore c .args .t) ≡ true
+within c = sym (belongs-is (c .before)) ∙ not-false _ (c .if1 .left)
 
-dealt : (c : tie.Else1)
-    → let s = startBefore c in
-    let l = c .before .load .last .1 .1 .1 in
-    Dealt (problemOf (sheetAt s)) (cellsOf (s .args .t)) (s .args .cost .now) (l .0) (l .1 .0) (l .1 .1 .0) (l .1 .1 .1 .0) (l .1 .1 .1 .1 .0)
-    (length (s .args .supply .now)) (length (s .args .demand .now))
-unfolding problemOf
-dealt c =
+spread-costs-requires : tie.Need-spread-costs-requires
+spread-costs-requires c κs = spreadable (okAt (told (extendedAt (c .before .before))))
+
+abbrev elseAt : tie.After-spread-costs → tie.Else1
+elseAt p = p .before .before
+
+begun : (p : tie.After-spread-costs)
+    → let c = elseAt p in
     let s = startBefore c in
-    dealt-loaded (sheetAt s) (s .args .t) (accepted (sheetAt s) (passed (toldBefore c))) (within c) (c .before .load .ensures .1 (not-false _ (c .if1 .left)))
+    let l = c .before .load .last .1 .1 .1 in
+    Begun (extended (sheetAt s)) (cellsOf (s .args .t)) (l .0) (l .1 .0) (p .spread-costs .last .1 .1 .1 .0) (l .1 .1 .0) (l .1 .1 .1 .0) (l .1 .1 .1 .1 .0)
+    (length (s .args .supply .now)) (extendedAt (c .before) .extend-demands .result)
+begun p =
+    let c = elseAt p in
+    let S = sheetAt (startBefore c) in
+    let x = extendedAt (c .before) in
+    begun-loaded S (startBefore c .args .t) (okAt (told x)) (columns x) (p .spread-costs .ensures) (within c)
+    (c .before .load .ensures .1 (not-false _ (c .if1 .left)))
+
+abbrev spreadAt : tie.After-make-run → tie.After-spread-costs
+spreadAt c = c .before .before .before .before .before .before .before
 
 make-run-requires : tie.Need-make-run-requires
-make-run-requires c κs =
-    let d = c .before .before .before .before .before in
-    let s = startBefore d in
-    (problemOf (sheetAt s), cellsOf (s .args .t), dealt d)
+make-run-requires c κs = (_, _, begun (c .before .before .before .before .before .before))
 
 -- ---- the answer is made of what the run gives, whatever its allowance
-
-abbrev elseBefore : tie.After-make-run → tie.Else1
-elseBefore c = c .before .before .before .before .before .before
 
 gather-requires : tie.Need-gather-requires
 gather-requires c κs =
     let a = c .before .before .before in
-    let r = a .make-run .ensures _ _ (dealt (elseBefore a)) in
+    let r = a .make-run .ensures _ _ (begun (spreadAt a)) in
     (_, _, r .sub, r .path, r .board)
 
 returns-3 : tie.Need-returns-3
 returns-3 c =
-    let a = c .before .before .before .before .before in
-    let d = elseBefore a in
+    let g = c .before in
+    let a = g .before .before .before .before in
+    let d = elseAt (spreadAt a) in
     let s = startBefore d in
     let S = sheetAt s in
     let t = s .args .t in
-    let r = a .make-run .ensures _ _ (dealt d) in
-    answer-finished (run (problemOf S) (s .args .allowance) (cellsOf t)) (r .rounds) (c .before .gather .ensures _ _ _ _ (r .board)) (r .done ∙ c .if2 .taken)
-    ∙ ap runAnswer (sym (run-given S t (s .args .allowance) (passed (toldBefore d)) (within d)))
-
-returns-4 : tie.Need-returns-4
-returns-4 c =
-    let a = c .before .before .before .before .before in
-    let d = elseBefore a in
-    let s = startBefore d in
-    let S = sheetAt s in
-    let t = s .args .t in
-    let r = a .make-run .ensures _ _ (dealt d) in
-    answer-spent (run (problemOf S) (s .args .allowance) (cellsOf t)) (r .rounds) (c .before .gather .ensures _ _ _ _ (r .board)) (r .done ∙ c .if2 .left)
-    ∙ ap runAnswer (sym (run-given S t (s .args .allowance) (passed (toldBefore d)) (within d)))
+    let r = a .make-run .ensures _ _ (begun (spreadAt a)) in
+    c .ended-run .ensures _ (g .gather .ensures _ _ _ _ (r .board))
+    ∙ ap runAnswer (ap given (run-is (run (extended S) (s .args .allowance) (cellsOf t)) (r .done) (r .rounds))
+    ∙ sym (run-given S t (s .args .allowance) (passed (told (extendedAt (d .before)))) (within d)))
 
 pub run-spec : {M : Type 1} → statement M
 run-spec =
     tie.close
     (tie.spec
-    check-sheet-requires
-    enum-known-check
-    refused-run-requires
+    (λ c κs. tt)
+    (λ c. search needs)
+    (λ c κs. tt)
     returns
-    enum-told
+    (λ c. search needs)
+    (λ c. search needs)
+    extend-demands-requires
+    (λ c. columns (c .before) .room)
+    (λ c. columns-lent (columns (c .before .before)))
     load-requires
-    refused-run-requires-2
+    (λ c κs. tt)
     returns-2
+    spread-costs-requires
     make-run-requires
     gather-requires
-    returns-3
-    returns-4)
+    (λ c κs. tt)
+    returns-3)

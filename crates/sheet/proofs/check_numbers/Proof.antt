@@ -1,12 +1,18 @@
 -- Each way out is a case of `refusal`; the totals are taken where both lists are known to be within their limits.
-use mathlib.Core.Path.{_≡_, sym, _∙_}
-use mathlib.Core.Bool.{true}
-use borrow.Author.Tests.{not-true, not-false, eq-eqb, ne-eqb}
-use Rattle.transport.specs.Lists.{all, within}
-use Rattle.transport.specs.Limits.{maxAmount, maxCost}
-use Rattle.transport.specs.Sheet.{sheetOf}
+use mathlib.Core.Path.{_≡_, sym, ap, _∙_}
+use mathlib.Core.Logic.{_↔_, ⊎-elim}
+use mathlib.Core.Bool.{true, false, not, true≢false}
+use mathlib.Core.Option.{none, some}
+use Prim.Native.Nat.{_≤_}
+use native.Mathlib.Omega.{arith}
+use lib.Dec.{ltb}
+use borrow.Author.Tests.{not-true, not-false, eqb-true, eq-eqb, ltb-true, ltb-false}
+use Rattle.transport.specs.Lists.{all, within, total}
+use Rattle.transport.specs.Limits.{maxSide, maxAmount, maxCost}
+use Rattle.transport.specs.Sheet.{Sheet, cafes, sheetOf, refusal, numberTests}
+use Rattle.transport.specs.Statements.{Lacking, Crowded}
 use Rattle.sheet.specs.Check.{check-none, check-some}
-use Rattle.sheet.specs.Refusals.{refused-supply, refused-demand, refused-cost, refused-totals, numbers-accepted}
+use Rattle.sheet.specs.Refusals.{refused-supply, refused-demand, refused-cost, refused-lacking, refused-crowded, numbers-accepted}
 use borrow.Author.Needs.{needs}
 use Rattle.sheet.proofs.check_numbers.Statement.{statement}
 use Rattle.sheet.proofs.check_numbers.Tie as tie
@@ -63,25 +69,75 @@ total-of-requires c κs = (c .before .before .before .before .before .before .be
 total-of-requires-2 : tie.Need-total-of-requires-2
 total-of-requires-2 c κs = (c .before .before .before .before .before .before .before .before .before .before .pre .1, demands-fit (c .before .before .before))
 
+-- ---- the totals
+
+abbrev costsBefore : tie.After-total-of2 → tie.Else3
+costsBefore c = c .before .before
+
+abbrev startOf : tie.After-total-of2 → tie.Start
+startOf c = costsBefore c .before .before .before .before .before .before .before .before .before
+
+abbrev sheetAt : tie.After-total-of2 → Sheet
+sheetAt c = let a = startOf c .args in sheetOf (a .supply .now) (a .demand .now) (a .cost .now)
+
+supply-sum : (c : tie.After-total-of2) → c .before .total-of .result ≡ total (sheetAt c .supply)
+supply-sum c = c .before .total-of .ensures
+
+demand-sum : (c : tie.After-total-of2) → c .total-of2 .result ≡ total (sheetAt c .demand)
+demand-sum c = c .total-of2 .ensures
+
+-- What the code takes for lacking.
+short : (c : tie.After-total-of2) → ltb (c .before .total-of .result) (c .total-of2 .result) ≡ true → Lacking (sheetAt c)
+short c e = omega (arith, ltb-true (c .before .total-of .result) (c .total-of2 .result) e, supply-sum c, demand-sum c)
+
+long : (c : tie.After-total-of2) → ltb (c .before .total-of .result) (c .total-of2 .result) ≡ false → total (sheetAt c .demand) ≤ total (sheetAt c .supply)
+long c e = omega (arith, ltb-false (c .before .total-of .result) (c .total-of2 .result) e, supply-sum c, demand-sum c)
+
+-- What the totals say is all that is left to say.
+module _ (c : tie.After-total-of2) where
+  abbrev numbers : tie.Else3
+  numbers = costsBefore c
+
+  lacks : Lacking (sheetAt c) → refusal (numberTests (sheetAt c)) ≡ some 5
+  lacks = refused-lacking (sheetAt c) (supplies-fit (numbers .before .before .before .before)) (demands-fit (numbers .before .before)) (costs-fit numbers)
+
+  crowds : Crowded (sheetAt c) → refusal (numberTests (sheetAt c)) ≡ some 10
+  crowds = refused-crowded (sheetAt c) (supplies-fit (numbers .before .before .before .before)) (demands-fit (numbers .before .before)) (costs-fit numbers)
+
+  fits : ¬ Lacking (sheetAt c) → ¬ Crowded (sheetAt c) → refusal (numberTests (sheetAt c)) ≡ none
+  fits = numbers-accepted (sheetAt c) (supplies-fit (numbers .before .before .before .before)) (demands-fit (numbers .before .before)) (costs-fit numbers)
+
 returns-4 : tie.Need-returns-4
 returns-4 c =
-    let a = c .before .before .before .before .before .before .before .before .before .before .before .before .args in
-    let S = sheetOf (a .supply .now) (a .demand .now) (a .cost .now) in
-    rw (
-      refused-totals S (supplies-fit (c .before .before .before .before .before .before .before)) (demands-fit (c .before .before .before .before .before))
-          (costs-fit (c .before .before .before))
-          (ne-eqb _ _ (λ e. c .if4 .taken (c .before .before .total-of .ensures ∙ e ∙ sym (c .before .total-of2 .ensures)))),
-      check-some,
+    let t = c .before .before in
+    rw (lacks t (short t (c .if5 .taken)), check-some)
+
+-- What the code takes for crowded, where the sheet is not lacking.
+crowded-is : (c : tie.Else5) → (c .before .if4 .crowded ≡ true) ↔ Crowded (sheetAt (c .before .before))
+unfolding cafes maxSide
+crowded-is c =
+    let t = c .before .before in
+    let enough = long t (c .if5 .left) in (
+      λ y. ⊎-elim
+          (λ (d, e). (omega (arith, enough, d .taken, supply-sum t, demand-sum t), eqb-true _ _ (sym e ∙ y)))
+          (λ (d, e). absurd (true≢false (sym y ∙ e ∙ ap not (eq-eqb _ _ (d .left)))))
+          (c .before .if4 .came),
+      λ (l, n). ⊎-elim
+          (λ (d, e). e ∙ eq-eqb _ _ n)
+          (λ (d, e). absurd (omega (arith, d .left, supply-sum t, demand-sum t)))
+          (c .before .if4 .came),
     )
 
 returns-5 : tie.Need-returns-5
-returns-5 c =
-    let a = c .before .before .before .before .before .before .before .before .before .before .before .before .args in
-    let S = sheetOf (a .supply .now) (a .demand .now) (a .cost .now) in
+returns-5 c = let e = c .before in rw (crowds (e .before .before) (crowded-is e .0 (c .if6 .taken)), check-some)
+
+returns-6 : tie.Need-returns-6
+returns-6 c =
+    let e = c .before in
+    let t = e .before .before in
     rw (
-      numbers-accepted S (supplies-fit (c .before .before .before .before .before .before .before))
-          (demands-fit (c .before .before .before .before .before)) (costs-fit (c .before .before .before))
-          (eq-eqb _ _ (sym (c .before .before .total-of .ensures) ∙ c .if4 .left ∙ c .before .total-of2 .ensures)),
+      fits t (λ l. absurd (omega (arith, long t (e .if5 .left))))
+          (λ n. true≢false (sym (crowded-is e .1 n) ∙ c .if6 .left)),
       check-none,
     )
 
@@ -98,4 +154,5 @@ check-numbers-spec =
     total-of-requires
     total-of-requires-2
     returns-4
-    returns-5)
+    returns-5
+    returns-6)

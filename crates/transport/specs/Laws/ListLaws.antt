@@ -352,6 +352,12 @@ unfolding sumTo
 sumTo-runs zero n f = rw zero-mul
 sumTo-runs (suc m) n f = rw (suc-mul, sumTo-split (m * n) n f, sumTo-runs m n f)
 
+-- Sums in both orders.
+pub sumTo-swap : (m n : ℕ) (f : ℕ → ℕ → ℕ) → sumTo m (λ i. sumTo n (λ j. f i j)) ≡ sumTo n (λ j. sumTo m (λ i. f i j))
+unfolding sumTo
+sumTo-swap zero n f = sym (sumTo-none n)
+sumTo-swap (suc m) n f = omega (arith, sumTo-swap m n f, sumTo-add n (λ j. sumTo m (λ i. f i j)) (f m))
+
 -- ---- at and total
 
 -- Past the end a number counts as 0.
@@ -366,6 +372,10 @@ total-nil = refl
 pub total-cons : (x : ℕ) (xs : List ℕ) → total (x ∷ xs) ≡ x + total xs
 unfolding total at
 total-cons x xs = sumTo-first (length xs) (λ k. getD (x ∷ xs) k 0)
+
+pub total-append : (xs ys : List ℕ) → total (xs ++ ys) ≡ total xs + total ys
+total-append [] ys = omega (arith, total-nil)
+total-append (x ∷ xs) ys = omega (arith, total-cons x (xs ++ ys), total-cons x xs, total-append xs ys)
 
 -- ---- firstLeast
 

@@ -9,7 +9,8 @@ use mathlib.Core.Bool.{Bool, true}
 use mathlib.Core.List.{List, [], _∷_, _++_, flatMap, append-nil}
 use lib.IntN.{ℤ}
 use lib.ListN.{length, getD, length-append, List·getD-append}
-use Rattle.transport.specs.Lists.{all, table, below}
+use lib.Seq.{ext-getD}
+use Rattle.transport.specs.Lists.{all, table, below, grid}
 use Rattle.transport.specs.Problem.{Problem, Lane, lanes, place}
 use Rattle.transport.specs.Laws.ListLaws.{flatMap-append, getD-append-at, length-table, getD-table, all-at, all-of}
 
@@ -48,32 +49,48 @@ place-of m n l p = go (eq-zero-or-pos n)
     go (inl e) = absurd (omega (arith, ap (λ (t : ℕ). m * t) e, mul-zero m))
     go (inr q) = record { row = l / n; col = l % n; rowBelow = div-lt-iff-lt-mul q .1 p; colBelow = mod-lt l q; placed = div-add-mod' l n }
 
+-- ---- rows one after the other
+
+module _ {A : Type 0} (n : ℕ) (f : ℕ → ℕ → A) where
+  grid-suc : (m : ℕ) → grid (suc m) n f ≡ grid m n f ++ table n (f m)
+  unfolding grid below table flatMap
+  grid-suc m = rw (flatMap-append (λ i. table n (f i)) (below m) (m ∷ []), append-nil)
+
+  pub length-grid : (m : ℕ) → length (grid m n f) ≡ m * n
+  unfolding grid below table flatMap
+  length-grid zero = sym (zero-mul n)
+  length-grid (suc m) = rw (grid-suc m) (omega (arith, length-append (grid m n f) (table n (f m)), length-grid m, length-table (f m) n, suc-mul m n))
+
+  pub getD-grid : (m i j : ℕ) (d : A) → i < m → j < n → getD (grid m n f) (place n i j) d ≡ f i j
+  unfolding place
+  getD-grid zero i j d p q = absurd (omega arith)
+  getD-grid (suc m) i j d p q =
+      rw (grid-suc m)
+      (⊎-elim
+      (λ e. rw e (getD-append-at (grid m n f) (table n (f m)) (m * n) j d (length-grid m) ∙ getD-table (f m) n j d q))
+      (λ l.
+      List·getD-append (grid m n f) (table n (f m)) d (i * n + j) (omega (arith, length-grid m, mul-le-mul-right n l)) ∙ getD-grid m i j d l q)
+      (eq-or-lt-of-le {n = i} {m = m} (omega arith)))
+
+  -- A list that has the elements of a grid is that grid.
+  pub grid-is : (m : ℕ) (xs : List A) (d : A) → length xs ≡ m * n → ((i j : ℕ) → i < m → j < n → f i j ≡ getD xs (place n i j) d) → grid m n f ≡ xs
+  grid-is m xs d e h = ext-getD d (grid m n f) xs (length-grid m ∙ sym e) (λ l b.
+      let w = place-of m n l (omega (arith, length-grid m)) in
+      rw (← w .placed) (getD-grid m (w .row) (w .col) d (w .rowBelow) (w .colBelow) ∙ h (w .row) (w .col) (w .rowBelow) (w .colBelow)))
+
 -- ---- lanes
 
 -- The lane from row i to column j.
 abbrev pub lane : ℕ → ℕ → Lane
 lane i j = record { row = i; col = j }
 
-lanes-suc : (m n : ℕ) → lanes (suc m) n ≡ lanes m n ++ table n (λ j. lane m j)
-unfolding lanes below table flatMap
-lanes-suc m n = rw (flatMap-append (λ i. table n (λ j. lane i j)) (below m) (m ∷ []), append-nil)
-
 pub length-lanes : (m n : ℕ) → length (lanes m n) ≡ m * n
-unfolding lanes below table flatMap
-length-lanes zero n = sym (zero-mul n)
-length-lanes (suc m) n =
-    rw (lanes-suc m n) (omega (arith, length-append (lanes m n) (table n (lane m)), length-lanes m n, length-table (lane m) n, suc-mul m n))
+unfolding lanes
+length-lanes m n = length-grid n lane m
 
 pub getD-lanes : (m n i j : ℕ) (d : Lane) → i < m → j < n → getD (lanes m n) (place n i j) d ≡ lane i j
-unfolding place
-getD-lanes zero n i j d p q = absurd (omega arith)
-getD-lanes (suc m) n i j d p q =
-    rw (lanes-suc m n)
-    (⊎-elim
-    (λ e. rw e (getD-append-at (lanes m n) (table n (lane m)) (m * n) j d (length-lanes m n) ∙ getD-table (lane m) n j d q))
-    (λ l.
-    List·getD-append (lanes m n) (table n (lane m)) d (i * n + j) (omega (arith, length-lanes m n, mul-le-mul-right n l)) ∙ getD-lanes m n i j d l q)
-    (eq-or-lt-of-le {n = i} {m = m} (omega arith)))
+unfolding lanes
+getD-lanes m n i j d p q = getD-grid n lane m i j d p q
 
 pub all-lanes : (p : Lane → Bool) (m n : ℕ) → ((i j : ℕ) → i < m → j < n → p (lane i j) ≡ true) → all p (lanes m n) ≡ true
 all-lanes p m n h = all-of p (lanes m n) (lane 0 0) each

@@ -2,17 +2,17 @@
 use Prim.Native.Nat.{ℕ, _*_, _≤_, _<_}
 use native.Mathlib.Omega.{arith}
 use native.Mathlib.Decide.{decLt}
-use mathlib.Core.Path.{_≡_, refl, sym, _∙_}
-use mathlib.Core.Bool.{Bool, true, false, _&&_, and-false}
-use mathlib.Core.List.{List, [], _∷_, _++_}
+use mathlib.Core.Path.{_≡_, refl, sym, ap, _∙_}
+use mathlib.Core.Bool.{Bool, true, false, _&&_, and-false, true≢false}
+use mathlib.Core.List.{List, [], _∷_, _++_, append-nil}
 use mathlib.Core.Option.{Option, none, some}
-use lib.Dec.{leb}
+use lib.Dec.{leb, eqb, ltb}
 use lib.ListN.{length, getD}
-use borrow.Author.Tests.{leb-true, le-leb, lt-leb, eqb-true, eq-eqb, not-false}
+use borrow.Author.Tests.{leb-true, le-leb, lt-leb, eqb-true, eq-eqb, ne-eqb, le-ltb, lt-ltb, not-false}
 use Rattle.transport.specs.Lists.{all, at, total, within}
-use Rattle.transport.specs.Limits.{maxSources, maxSinks, maxAmount, maxCost}
-use Rattle.transport.specs.Sheet.{Sheet, roasteries, cafes, badSides, badLength, badAmount, badCost, unbalanced, numberTests, sheetTests, refusal}
-use Rattle.transport.specs.Statements.{WithinLimits, Balanced, Accepted}
+use Rattle.transport.specs.Limits.{maxSources, maxSinks, maxSide, maxAmount, maxCost}
+use Rattle.transport.specs.Sheet.{Sheet, roasteries, cafes, badSides, badLength, badAmount, badCost, lacking, crowded, numberTests, sheetTests, refusal}
+use Rattle.transport.specs.Statements.{WithinLimits, Lacking, Crowded, Accepted}
 use Rattle.transport.specs.Laws.ListLaws.{and-left, and-right, all-at, all-of, at-past}
 
 -- ---- refusal
@@ -110,28 +110,61 @@ within-limits S sides lengths amounts costs =
     }
 
 -- The tests that a sheet within the limits passes.
-pub record Passes (S : Sheet) : Type 0 where
-  pub sides : badSides S .0 ≡ false
-  pub lengths : badLength S .0 ≡ false
-  pub amounts : badAmount S .0 ≡ false
-  pub costs : badCost S .0 ≡ false
+record Passes (S : Sheet) : Type 0 where
+  sides : badSides S .0 ≡ false
+  lengths : badLength S .0 ≡ false
+  amounts : badAmount S .0 ≡ false
+  costs : badCost S .0 ≡ false
 
 all-within : (low high : ℕ) (xs : List ℕ) → ((k : ℕ) → k < length xs → low ≤ at xs k) → ((k : ℕ) → at xs k ≤ high) → all (within low high) xs ≡ true
 unfolding at
 all-within low high xs p q = all-of (within low high) xs 0 (λ k l. true-within low high _ (p k l) (q k))
 
-pub limits-pass : {S : Sheet} → WithinLimits S → Passes S
-unfolding badSides badLength badAmount badCost roasteries cafes
+module _ {S : Sheet} (h : WithinLimits S) where
+  pub supplies-within : all (within 1 maxAmount) (S .supply) ≡ true
+  unfolding roasteries
+  supplies-within = all-within 1 maxAmount (S .supply) (h .supplyLow) (h .supplyHigh)
+
+  pub demands-within : all (within 1 maxAmount) (S .demand) ≡ true
+  unfolding cafes
+  demands-within = all-within 1 maxAmount (S .demand) (h .demandLow) (h .demandHigh)
+
+limits-pass : {S : Sheet} → WithinLimits S → Passes S
+unfolding badSides badLength badAmount badCost
 limits-pass {S} h = record {
   sides = rw (true-within 1 maxSources (roasteries S) (h .roasteriesLow) (h .roasteriesHigh), true-within 1 maxSinks (cafes S) (h .cafesLow) (h .cafesHigh));
   lengths = rw (eq-eqb (length (S .cost)) (roasteries S * cafes S) (h .costLength));
-  amounts = rw (all-within 1 maxAmount (S .supply) (h .supplyLow) (h .supplyHigh), all-within 1 maxAmount (S .demand) (h .demandLow) (h .demandHigh));
+  amounts = rw (supplies-within h, demands-within h);
   costs = rw (all-within 0 maxCost (S .cost) (λ k l. omega arith) (h .costHigh));
 }
 
-balance-of : (S : Sheet) → unbalanced S .0 ≡ false → Balanced S
-unfolding unbalanced
-balance-of S totals = eqb-true _ _ (not-false _ totals)
+-- 5 and 10, each exactly on its condition.
+module _ (S : Sheet) where
+  pub lacking-yes : Lacking S → lacking S .0 ≡ true
+  unfolding lacking
+  lacking-yes l = lt-ltb (total (S .supply)) (total (S .demand)) l
+
+  pub lacking-no : ¬ Lacking S → lacking S .0 ≡ false
+  unfolding lacking
+  lacking-no l = le-ltb (total (S .supply)) (total (S .demand)) (omega arith)
+
+  pub crowded-yes : Crowded S → crowded S .0 ≡ true
+  unfolding crowded
+  crowded-yes (l, e) = rw (lt-ltb (total (S .demand)) (total (S .supply)) l, eq-eqb (cafes S) maxSide e)
+
+  pub crowded-no : ¬ Crowded S → crowded S .0 ≡ false
+  unfolding crowded
+  crowded-no c = go (decLt (total (S .demand)) (total (S .supply)))
+    where
+      go : Dec (total (S .demand) < total (S .supply)) → ltb (total (S .demand)) (total (S .supply)) && eqb (cafes S) maxSide ≡ false
+      go (no l) = rw (le-ltb (total (S .demand)) (total (S .supply)) (omega arith))
+      go (yes l) = rw (ne-eqb (cafes S) maxSide (λ e. c (l, e)), and-false)
+
+  no-lacking : lacking S .0 ≡ false → ¬ Lacking S
+  no-lacking e l = true≢false (sym (lacking-yes l) ∙ e)
+
+  no-crowded : crowded S .0 ≡ false → ¬ Crowded S
+  no-crowded e c = true≢false (sym (crowded-yes c) ∙ e)
 
 -- A sheet that nothing is refused of is accepted.
 pub accepted : (S : Sheet) → refusal (sheetTests S) ≡ none → Accepted S
@@ -139,18 +172,31 @@ unfolding sheetTests numberTests
 accepted S e =
     let (sides, e) = refusal-clear (badSides S) (badLength S ∷ numberTests S) e in
     let (lengths, e) = refusal-clear (badLength S) (numberTests S) e in
-    let (amounts, e) = refusal-clear (badAmount S) (badCost S ∷ unbalanced S ∷ []) e in
-    let (costs, e) = refusal-clear (badCost S) (unbalanced S ∷ []) e in
-    let (totals, e) = refusal-clear (unbalanced S) [] e in
-    record { limits = within-limits S sides lengths amounts costs; balance = balance-of S totals }
+    let (amounts, e) = refusal-clear (badAmount S) (badCost S ∷ lacking S ∷ crowded S ∷ []) e in
+    let (costs, e) = refusal-clear (badCost S) (lacking S ∷ crowded S ∷ []) e in
+    let (short, e) = refusal-clear (lacking S) (crowded S ∷ []) e in
+    let (full, e) = refusal-clear (crowded S) [] e in
+    record { limits = within-limits S sides lengths amounts costs; enough = no-lacking S short; room = no-crowded S full }
+
+-- The tests that a sheet within the limits passes leave it to 5, 10 and those after them.
+pub limits-left : {S : Sheet} → WithinLimits S → (ts : List (Bool × ℕ)) → refusal (sheetTests S ++ ts) ≡ refusal (lacking S ∷ crowded S ∷ ts)
+unfolding sheetTests numberTests
+limits-left {S} w ts =
+    let p = limits-pass w in
+    let later = lacking S ∷ crowded S ∷ ts in
+    refusal-no (badSides S) (badLength S ∷ badAmount S ∷ badCost S ∷ later) (p .sides)
+    ∙ refusal-no (badLength S) (badAmount S ∷ badCost S ∷ later) (p .lengths)
+    ∙ refusal-no (badAmount S) (badCost S ∷ later) (p .amounts)
+    ∙ refusal-no (badCost S) later (p .costs)
+
+-- .. and an accepted sheet to those after them.
+pub accepted-left : {S : Sheet} → Accepted S → (ts : List (Bool × ℕ)) → refusal (sheetTests S ++ ts) ≡ refusal ts
+accepted-left {S} ok ts =
+    limits-left (ok .limits) ts
+    ∙ refusal-no (lacking S) (crowded S ∷ ts) (lacking-no S (ok .enough))
+    ∙ refusal-no (crowded S) ts (crowded-no S (ok .room))
 
 -- Of an accepted sheet nothing is refused.
 pub passes : {S : Sheet} → Accepted S → refusal (sheetTests S) ≡ none
-unfolding sheetTests numberTests unbalanced refusal
-passes {S} ok =
-    let p = limits-pass (ok .limits) in
-    refusal-no (badSides S) (badLength S ∷ numberTests S) (p .sides)
-    ∙ refusal-no (badLength S) (numberTests S) (p .lengths)
-    ∙ refusal-no (badAmount S) (badCost S ∷ unbalanced S ∷ []) (p .amounts)
-    ∙ refusal-no (badCost S) (unbalanced S ∷ []) (p .costs)
-    ∙ refusal-no (unbalanced S) [] (rw (eq-eqb (total (S .supply)) (total (S .demand)) (ok .balance)))
+unfolding refusal
+passes {S} ok = ap refusal (sym (append-nil (sheetTests S))) ∙ accepted-left ok []

@@ -1,24 +1,27 @@
--- What the theory of rounds asks of a balanced problem; and the problem of an accepted sheet has it. The bound on amounts is one on the total, and costs are
--- bounded from both sides, so that the theory serves problems that are more than a sheet's.
+-- What the theory of rounds asks of a balanced problem; and the extended problem of an accepted sheet has it. The bound on amounts is one on the total, and
+-- costs are bounded from both sides, so that the theory serves problems that are more than a sheet's.
 use Prim.Native.Nat.{ℕ, _*_, _≤_, _<_}
 use native.Mathlib.Omega.{arith}
 use native.Mathlib.Nat.{mul-le-mul-right}
-use mathlib.Core.Path.{_≡_, _∙_}
+use mathlib.Core.Path.{_≡_, sym}
 use mathlib.Core.Logic.{by-cases}
 use mathlib.Core.List.{List}
-use native.Mathlib.Decide.{decLt}
-use lib.IntN.{ℤ, pos, negℤ}
+use native.Mathlib.Decide.{decLt, ℕ-discrete}
+use lib.IntN.{pos, negℤ}
 use lib.Signed.{_≤ℤ_, leZ-yes}
 use lib.Dec.{le→leb}
 use mathlib.Core.Option.{none}
-use lib.ListN.{length, length-map, List·getD-map}
+use lib.ListN.{length, length-append}
 use Rattle.transport.specs.Lists.{at, atZ, total}
-use Rattle.transport.specs.Limits.{maxSources, maxSinks, maxSide, maxAmount, maxBags, costBelow, costAbove}
+use Rattle.transport.specs.Limits.{maxSources, maxSinks, maxSide, maxAmount, maxBags, maxCost, costBelow, costAbove}
 use Rattle.transport.specs.Problem.{Problem, sources, sinks}
-use Rattle.transport.specs.Sheet.{Sheet, roasteries, cafes, problemOf, sheetTests, refusal}
+use Rattle.transport.specs.Sheet.{Sheet, roasteries, cafes, sheetTests, refusal}
+use Rattle.transport.specs.Extended.{surplus, wanted, costAt, extended}
 use Rattle.transport.specs.Statements.{Accepted}
 use Rattle.transport.specs.Laws.ListLaws.{sumTo-each, sumTo-bound, at-past}
 use Rattle.transport.specs.Laws.SheetLaws.{accepted}
+use Rattle.transport.specs.Laws.ProblemLaws.{length-grid}
+use Rattle.transport.specs.Laws.ExtendedLaws.{Extra, without, with, extra, wanted-total, width-low, wanted-at, beyond, cost-of}
 
 pub record Sound (P : Problem) : Type 0 where
   pub sourcesLow : 1 ≤ sources P
@@ -56,40 +59,63 @@ module _ {P : Problem} (ok : Sound P) where
   pub demand-most : (j : ℕ) → at (P .demand) j ≤ maxBags
   demand-most j = omega (arith, at-most (P .demand) j, ok .bags, ok .balance)
 
--- ---- the problem of a sheet
-
-module _ (S : Sheet) where
-  pub cost-of : (l : ℕ) → atZ (problemOf S .cost) l ≡ pos (at (S .cost) l)
-  unfolding problemOf atZ at
-  cost-of l = List·getD-map pos (S .cost) l 0
+-- ---- the extended problem of a sheet
 
 pos-≤ : {a b : ℕ} → a ≤ b → pos a ≤ℤ pos b
 pos-≤ {a} {b} l = leZ-yes (le→leb a b l)
 
-pub sound : {S : Sheet} → Accepted S → Sound (problemOf S)
-unfolding problemOf sources sinks roasteries cafes maxBags costBelow costAbove total
-sound {S} ok =
-    let h = ok .limits in
-    record {
-      sourcesLow = h .roasteriesLow;
-      sourcesHigh = omega (arith, h .roasteriesHigh, sources-room);
-      sinksLow = h .cafesLow;
-      sinksHigh = omega (arith, h .cafesHigh, sinks-room);
-      costLength = length-map (S .cost) pos ∙ h .costLength;
-      supplyLow = h .supplyLow;
-      demandLow = h .demandLow;
-      bags = bags-of;
-      balance = ok .balance;
-      costLow = λ l. rw (cost-of S l) (pos-≤ (omega arith));
-      costHigh = λ l. rw (cost-of S l) (pos-≤ (h .costHigh l));
-    }
-  where
-    bags-of : total (S .supply) ≤ maxBags
-    bags-of = omega (
-      arith,
-      sumTo-bound (roasteries S) maxAmount (at (S .supply)) (λ k l. ok .limits .supplyHigh k),
-      mul-le-mul-right {m = roasteries S} {n = maxSide} maxAmount (omega (arith, ok .limits .roasteriesHigh, sources-room)),
-    )
+module _ {S : Sheet} (ok : Accepted S) where
+  -- Room for all columns, since a surplus and 32 cafés are refused.
+  pub wanted-room : length (wanted S) ≤ maxSide
+  unfolding cafes surplus
+  wanted-room = go (extra S)
+    where
+      go : Extra S → length (wanted S) ≤ maxSide
+      go (without z e) = rw e (omega (arith, ok .limits .cafesHigh, sinks-room))
+      go (with z e) = by-cases (ℕ-discrete (cafes S) maxSide)
+          (λ f. absurd (ok .room (omega arith, f)))
+          (λ f. rw (e, length-append) (omega (arith, ok .limits .cafesHigh, sinks-room)))
 
-pub accepted-sound : (S : Sheet) → refusal (sheetTests S) ≡ none → Sound (problemOf S)
+  -- Each column wants something.
+  wanted-low : (j : ℕ) → j < length (wanted S) → 1 ≤ at (wanted S) j
+  unfolding cafes
+  wanted-low j l = by-cases (decLt j (cafes S))
+      (λ h. rw (wanted-at S j h) (ok .limits .demandLow j h))
+      (λ h. let (z, last, takes) = beyond S j (omega arith) l in rw takes z)
+
+  cost-low : (l : ℕ) → negℤ (pos costBelow) ≤ℤ atZ (extended S .cost) l
+  unfolding costBelow
+  cost-low l = rw (cost-of S l .1) (pos-≤ (omega arith))
+
+  cost-high : (l : ℕ) → atZ (extended S .cost) l ≤ℤ pos costAbove
+  unfolding costAbove
+  cost-high l = let (c, e, h) = cost-of S l in rw e (pos-≤ (h maxCost (ok .limits .costHigh)))
+
+  bags-of : total (S .supply) ≤ maxBags
+  unfolding maxBags total roasteries
+  bags-of = omega (
+    arith,
+    sumTo-bound (roasteries S) maxAmount (at (S .supply)) (λ k l. ok .limits .supplyHigh k),
+    mul-le-mul-right {m = roasteries S} {n = maxSide} maxAmount (omega (arith, ok .limits .roasteriesHigh, sources-room)),
+  )
+
+  pub sound : Sound (extended S)
+  unfolding extended sources sinks roasteries
+  sound =
+      let h = ok .limits in
+      record {
+        sourcesLow = h .roasteriesLow;
+        sourcesHigh = omega (arith, h .roasteriesHigh, sources-room);
+        sinksLow = omega (arith, h .cafesLow, width-low S);
+        sinksHigh = wanted-room;
+        costLength = length-grid (length (wanted S)) (costAt S) (roasteries S);
+        supplyLow = h .supplyLow;
+        demandLow = wanted-low;
+        bags = bags-of;
+        balance = sym (wanted-total S (omega (arith, ok .enough)));
+        costLow = cost-low;
+        costHigh = cost-high;
+      }
+
+pub accepted-sound : (S : Sheet) → refusal (sheetTests S) ≡ none → Sound (extended S)
 accepted-sound S e = sound (accepted S e)

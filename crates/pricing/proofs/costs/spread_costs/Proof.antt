@@ -4,6 +4,8 @@ use native.Mathlib.Omega.{arith}
 use borrow.Author.Needs.{needs}
 use native.Mathlib.Nat.{mul-le-mul-right}
 use mathlib.Core.Path.{_≡_, refl}
+use mathlib.Core.List.{List}
+use lib.IntN.{ℤ}
 use lib.ListN.{length}
 use mir.Syntax.{w32}
 use mir.Facts.{toZ-pos}
@@ -17,22 +19,22 @@ use Rattle.pricing.proofs.costs.spread_costs.Statement.{statement}
 use Rattle.pricing.proofs.costs.spread_costs.Tie as tie
 
 abbrev Inv-loop2 : tie.InvT-loop2
-Inv-loop2 cost m n out₀ i j₀ out j = (j ≤ n) × Part cost n i j out
+Inv-loop2 cost m n out₀ i j₀ out j = (j ≤ n) × ((before : List ℤ) → Part cost n before i 0 out₀ → Part cost n before i j out)
 
 abbrev μ-loop2 : tie.MeasureT-loop2
 μ-loop2 cost m n out₀ i j₀ out j = n - j
 
 abbrev Inv-loop : tie.InvT-loop
-Inv-loop cost m n out₀ i₀ out i = (i ≤ m) × Part cost n i 0 out
+Inv-loop cost m n out₀ i₀ out i = (i ≤ m) × Part cost n out₀ i 0 out
 
 abbrev μ-loop : tie.MeasureT-loop
 μ-loop cost m n out₀ i₀ out i = m - i
 
 loop-holds : tie.Need-loop-holds Inv-loop2 μ-loop2 Inv-loop μ-loop
-loop-holds c = (omega arith, part-none (c .before .args .cost .now) (c .before .args .n))
+loop-holds c = (omega arith, part-none (c .before .args .cost .now) (c .before .args .n) _ refl)
 
 loop2-holds : tie.Need-loop2-holds Inv-loop2 μ-loop2 Inv-loop μ-loop
-loop2-holds c = (omega arith, c .before .loop .inv .1)
+loop2-holds c = (omega arith, λ before p. p)
 
 -- The turn of the outer loop, in which a row is filled in.
 abbrev turn : tie.At-loop2 Inv-loop2 μ-loop2 Inv-loop μ-loop → tie.At-loop Inv-loop2 μ-loop2 Inv-loop μ-loop
@@ -65,22 +67,23 @@ loop2-again c =
     let s = turn (c .before .before) .before .before in
     let small = s .pre .3 (i * s .args .n + l .j) in (
       omega arith,
-      rw (toZ-pos w32 (cast-out c .sfits))
-          (part-one (s .args .cost .now) (s .args .n) i (l .j) (l .out) (l .inv .1) (s .pre .1) (omega arith) (omega arith) small),
+      λ before p. rw (toZ-pos w32 (cast-out c .sfits))
+          (part-one (s .args .cost .now) (s .args .n) before i (l .j) (l .out) (l .inv .1 before p) (s .pre .1) (omega arith) (omega arith) small),
     )
 
 loop-again : tie.Need-loop-again Inv-loop2 μ-loop2 Inv-loop μ-loop
 loop-again c =
     let l = c .before .loop2 in
     let s = turn (c .before) .before .before in
-    (omega arith, part-row (s .args .cost .now) (s .args .n) (turn (c .before) .loop .i) (l .j) (l .out) (l .inv .1) (s .pre .1) (omega arith))
+    let o = turn (c .before) .loop in
+    (omega arith, part-row (s .args .cost .now) (s .args .n) _ (o .i) (l .j) (l .out) (l .inv .1 _ (o .inv .1)) (s .pre .1) (omega arith))
 
 returns : tie.Need-returns Inv-loop2 μ-loop2 Inv-loop μ-loop
 returns c =
     let l = c .before .loop in
     let s = c .before .before .before in
     let e : l .i ≡ s .args .m = omega arith in
-    rw e at (part-all (s .args .cost .now) (s .args .n) (l .i) 0 (l .out) (l .inv .1) (s .pre .1) refl)
+    rw e at (part-all (s .args .cost .now) (s .args .n) (l .i) (l .out) (s .pre .1) (l .inv .1))
 
 pub spread-costs-spec : {M : Type 1} → statement M
 spread-costs-spec =

@@ -2,6 +2,7 @@
 use mathlib.Core.Path.{refl, sym, _∙_}
 use mathlib.Core.Bool.{true≢false}
 use borrow.Author.Needs.{needs}
+use Rattle.sections.specs.Front.{front}
 use Rattle.sheet_reader.proofs.storing.store_list.Statement.{statement}
 use Rattle.sheet_reader.proofs.storing.store_list.Tie as tie
 
@@ -12,6 +13,7 @@ same-length : tie.Need-same-length
 same-length c = search needs
 
 returns : tie.Need-returns
+unfolding front
 returns c = (λ e. c .before .before .copy-list .ensures, λ e. absurd (true≢false (sym (c .before .before .before .before .if1 .taken) ∙ e)))
 
 returns-2 : tie.Need-returns-2

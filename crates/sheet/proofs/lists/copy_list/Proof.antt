@@ -1,23 +1,23 @@
 -- The loop's invariant: the list holds the first i numbers.
 use borrow.Author.Needs.{needs}
-use mathlib.Core.Path.{_≡_, refl, sym, _∙_}
+use mathlib.Core.Path.{_≡_, refl, _∙_}
+use mathlib.Core.List.{_++_}
 use Prim.Native.Nat.{_≤_, _-_}
 use native.Mathlib.Omega.{arith}
-use native.Mathlib.Numerals.{add-one}
-use lib.ListN.{length, take, getD, length-set}
-use lib.Seq.{take-all, take-suc, length-take-le}
-use Rattle.sections.specs.Front.{front, front-nil, front-byte}
-use Rattle.sheet_reader.proofs.storing.copy_list.Statement.{statement}
-use Rattle.sheet_reader.proofs.storing.copy_list.Tie as tie
+use lib.ListN.{length, drop, getD, length-set}
+use Rattle.transport.specs.Lists.{table}
+use Rattle.transport.specs.Laws.ListLaws.{table-zero, table-getD, fill-one}
+use Rattle.sheet.proofs.lists.copy_list.Statement.{statement}
+use Rattle.sheet.proofs.lists.copy_list.Tie as tie
 
 abbrev Inv-loop : tie.InvT-loop
-Inv-loop from list₀ i₀ list i = (i ≤ length from) × (length list ≡ length list₀) × (list ≡ front (take i from) list₀)
+Inv-loop from list₀ i₀ list i = (i ≤ length from) × (length list ≡ length list₀) × (list ≡ table i (λ k. getD from k 0) ++ drop i list₀)
 
 abbrev μ-loop : tie.MeasureT-loop
 μ-loop from list₀ i₀ list i = length from - i
 
 loop-holds : tie.Need-loop-holds Inv-loop μ-loop
-loop-holds c = (omega arith, refl, sym (front-nil (c .args .list .now)))
+loop-holds c = (omega arith, refl, rw table-zero)
 
 mul-list : tie.Need-mul-list Inv-loop μ-loop
 mul-list c = search needs
@@ -40,16 +40,10 @@ loop-less c = search needs
 loop-again : tie.Need-loop-again Inv-loop μ-loop
 loop-again c =
     let l = c .before .before .loop in
-    let a = c .before .before .before .args in
-    let n : length (take (l .i) (a .from .now)) ≡ l .i = length-take-le (l .i) (a .from .now) (omega arith) in (
+    let a = c .before .before .before .args in (
       omega arith,
       simp length-set (l .inv .1),
-      rw (
-        l .inv .2,
-        front-byte (take (l .i) (a .from .now)) (a .list .now) (l .i) (getD (a .from .now) (l .i) 0) (sym n) (omega arith),
-        add-one,
-        take-suc (a .from .now) (l .i) 0 (omega arith),
-      ),
+      rw (l .inv .2) (fill-one (λ k. getD (a .from .now) k 0) (a .list .now) (l .i) 0 (omega arith)),
     )
 
 same-length : tie.Need-same-length Inv-loop μ-loop
@@ -59,7 +53,8 @@ returns : tie.Need-returns Inv-loop μ-loop
 returns c =
     let l = c .before .loop in
     let a = c .before .before .args in
-    l .inv .2 ∙ (rw (take-all (l .i) (a .from .now) (omega arith)))
+    let all : l .i ≡ length (a .from .now) = omega arith in
+    l .inv .2 ∙ rw (all, table-getD (a .from .now) 0)
 
 pub copy-list-spec : {M : Type 1} → statement M
 copy-list-spec =

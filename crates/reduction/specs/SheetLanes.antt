@@ -1,0 +1,169 @@
+-- A plan of the sheet and one of the extended problem that carry the same on the sheet's lanes: they cost the same, and two of each differ first on the same
+-- lane.
+use mathlib.Core.Path.{_≡_, refl, sym, ap, _∙_}
+use mathlib.Core.Logic.{_⊎_, inl, inr, ⊎-elim, by-cases}
+use mathlib.Core.List.{List, [], _∷_}
+use Prim.Native.Nat.{ℕ, zero, suc, _+_, _*_, _<_}
+use native.Mathlib.Omega.{arith}
+use native.Mathlib.Nat.{mul-zero, mul-le-mul-right}
+use native.Mathlib.Decide.{decLt}
+use lib.IntN.{ℤ, pos, natAbs, _*ℤ_}
+use lib.ListN.{length, length-append}
+use Rattle.transport.specs.Lists.{at, atZ, sumTo, sumZ}
+use Rattle.transport.specs.Problem.{sources, sinks, place, laneCost}
+use Rattle.transport.specs.Sheet.{Sheet, roasteries, cafes}
+use Rattle.transport.specs.Extended.{surplus, wanted, extended}
+use Rattle.transport.specs.Plan.{planCost}
+use Rattle.transport.specs.Statements.{FirstDifference, scaled}
+use Rattle.transport.specs.Laws.ListLaws.{sumTo-one, sumTo-cong, sumTo-runs}
+use Rattle.transport.specs.Laws.ProblemLaws.{place-below, place-of}
+use Rattle.transport.specs.Laws.ExtendedLaws.{Extra, without, with, extra, width-low, cost-cafe, cost-extra, laneCost-at, cost-of}
+use Rattle.transport.specs.Laws.PlanLaws.{planCost-natural, scaled-at}
+use Rattle.tableaux.specs.ProblemPlans.{flowCost}
+
+-- The columns of the extended problem: without a surplus the cafés, and with one there is one more.
+abbrev pub widthOf : Sheet → ℕ
+widthOf S = length (wanted S)
+
+pub width-is : (S : Sheet) → ((surplus S ≡ 0) × (widthOf S ≡ cafes S)) ⊎ (widthOf S ≡ cafes S + 1)
+unfolding cafes
+width-is S = go (extra S)
+  where
+    go : Extra S → ((surplus S ≡ 0) × (widthOf S ≡ cafes S)) ⊎ (widthOf S ≡ cafes S + 1)
+    go (without z e) = inl (z, ap length e)
+    go (with z e) = inr (ap length e ∙ length-append (S .demand) (surplus S ∷ []))
+
+-- On each lane of the sheet p carries what x, of the extended problem, does.
+abbrev pub SameOnSheet : Sheet → List ℕ → List ℕ → Type 0
+SameOnSheet S p x = (i j : ℕ) → i < roasteries S → j < cafes S → at p (place (cafes S) i j) ≡ at x (place (widthOf S) i j)
+
+-- So it is when both are taken k times.
+pub same-scaled : (S : Sheet) (k : ℕ) (p x : List ℕ) → SameOnSheet S p x → SameOnSheet S (scaled k p) (scaled k x)
+same-scaled S k p x same i j l h =
+    scaled-at k p (place (cafes S) i j) ∙ ap (λ (t : ℕ). k * t) (same i j l h) ∙ sym (scaled-at k x (place (widthOf S) i j))
+
+-- ---- cost: the extra café's lanes add nothing
+
+sumZ-naturals : (n : ℕ) (f : ℕ → ℤ) (g : ℕ → ℕ) → ((l : ℕ) → f l ≡ pos (g l)) → sumZ n f ≡ pos (sumTo n g)
+unfolding sumZ sumTo
+sumZ-naturals zero f g e = refl
+sumZ-naturals (suc n) f g e = rw (sumZ-naturals n f g e, e n)
+
+module _ (S : Sheet) where
+  -- The cost of lane l of the extended problem, a natural.
+  naturalCost : ℕ → ℕ
+  naturalCost l = natAbs (atZ (extended S .cost) l)
+
+  natural-cafe : (i j : ℕ) → i < roasteries S → j < cafes S → naturalCost (place (widthOf S) i j) ≡ at (S .cost) (place (cafes S) i j)
+  unfolding naturalCost laneCost extended sinks
+  natural-cafe i j l h = ap natAbs (laneCost-at S i j l (omega (arith, width-low S)) ∙ cost-cafe S i j h)
+
+  natural-extra : (i : ℕ) → i < roasteries S → cafes S < widthOf S → naturalCost (place (widthOf S) i (cafes S)) ≡ 0
+  unfolding naturalCost laneCost extended sinks
+  natural-extra i l h = ap natAbs (laneCost-at S i (cafes S) l h ∙ cost-extra S i (cafes S) (omega arith))
+
+  flowCost-natural : (x : List ℕ) → flowCost (extended S) x ≡ pos (sumTo (roasteries S * widthOf S) (λ l. at x l * naturalCost l))
+  unfolding flowCost extended sources sinks roasteries naturalCost
+  flowCost-natural x = sumZ-naturals (roasteries S * widthOf S) (λ l. pos (at x l) *ℤ atZ (extended S .cost) l) (λ l. at x l * naturalCost l)
+      (λ l. let (c, e, h) = cost-of S l in rw e)
+
+  module _ (p x : List ℕ) (same : SameOnSheet S p x) where
+    row-cost : (i : ℕ) → i < roasteries S
+        → sumTo (cafes S) (λ j. at p (place (cafes S) i j) * at (S .cost) (place (cafes S) i j))
+        ≡ sumTo (widthOf S) (λ j. at x (place (widthOf S) i j) * naturalCost (place (widthOf S) i j))
+    row-cost i l = on-cafes ∙ sym columns
+      where
+        term : ℕ → ℕ
+        term j = at x (place (widthOf S) i j) * naturalCost (place (widthOf S) i j)
+
+        on-cafes : sumTo (cafes S) (λ j. at p (place (cafes S) i j) * at (S .cost) (place (cafes S) i j)) ≡ sumTo (cafes S) term
+        on-cafes = sumTo-cong (cafes S) _ term (λ j h. rw (same i j l h, natural-cafe i j l h))
+
+        last : cafes S < widthOf S → term (cafes S) ≡ 0
+        last h = ap (λ (t : ℕ). at x (place (widthOf S) i (cafes S)) * t) (natural-extra i l h) ∙ mul-zero _
+
+        columns : sumTo (widthOf S) term ≡ sumTo (cafes S) term
+        columns = ⊎-elim
+            (λ (z, e). ap (λ (t : ℕ). sumTo t term) e)
+            (λ e. ap (λ (t : ℕ). sumTo t term) e ∙ omega (arith, sumTo-one (cafes S) term, last (omega arith)))
+            (width-is S)
+
+    pub cost-same : planCost S p ≡ flowCost (extended S) x
+    unfolding place
+    cost-same =
+        planCost-natural S p
+        ∙ ap pos
+        (sumTo-runs (roasteries S) (cafes S) (λ l. at p l * at (S .cost) l)
+        ∙ sumTo-cong (roasteries S) _ _ row-cost
+        ∙ sym (sumTo-runs (roasteries S) (widthOf S) (λ l. at x l * naturalCost l)))
+        ∙ sym (flowCost-natural x)
+
+-- ---- the first lane where two plans differ
+
+-- Among however many columns, a place is earlier exactly if its row is, or if its row is the same and its column is earlier.
+abbrev Earlier : ℕ → ℕ → ℕ → ℕ → Type 0
+Earlier h k i j = (h < i) ⊎ ((h ≡ i) × (k < j))
+
+module _ (n h k i j : ℕ) where
+  place-earlier : j < n → place n h k < place n i j → Earlier h k i j
+  unfolding place
+  place-earlier p l = by-cases (decLt h i) inl (λ c. inr (by-cases (decLt i h)
+      (λ d. absurd (omega (arith, mul-le-mul-right n d)))
+      (λ d. let e : h ≡ i = omega arith in (e, omega (arith, ap (λ (t : ℕ). t * n) e)))))
+
+  earlier-place : k < n → Earlier h k i j → place n h k < place n i j
+  unfolding place
+  earlier-place p r = ⊎-elim (λ l. omega (arith, mul-le-mul-right n l)) (λ (e, l). omega (arith, ap (λ (t : ℕ). t * n) e)) r
+
+-- Two plans of the extended problem that send as much from each row.
+module _ (S : Sheet) (x y : List ℕ)
+    (rows : (i : ℕ) → i < roasteries S → sumTo (widthOf S) (λ j. at x (place (widthOf S) i j)) ≡ sumTo (widthOf S) (λ j. at y (place (widthOf S) i j))) where
+  -- What goes to the extra café is decided by the rest of its row: where they agree on all lanes of the sheet in a row, they agree on the whole row.
+  row-agrees : (i : ℕ) → i < roasteries S → ((j : ℕ) → j < cafes S → at x (place (widthOf S) i j) ≡ at y (place (widthOf S) i j))
+      → (j : ℕ) → j < widthOf S → at x (place (widthOf S) i j) ≡ at y (place (widthOf S) i j)
+  row-agrees i l same j h = by-cases (decLt j (cafes S)) (same j) (λ b. ⊎-elim
+      (λ (z, e). absurd (omega arith))
+      (λ e. let last : j ≡ cafes S = omega arith in rw last (extra-lane e))
+      (width-is S))
+    where
+      f : ℕ → ℕ
+      f j = at x (place (widthOf S) i j)
+
+      g : ℕ → ℕ
+      g j = at y (place (widthOf S) i j)
+
+      extra-lane : widthOf S ≡ cafes S + 1 → f (cafes S) ≡ g (cafes S)
+      extra-lane e = omega (
+        arith,
+        rows i l,
+        ap (λ (t : ℕ). sumTo t f) e,
+        ap (λ (t : ℕ). sumTo t g) e,
+        sumTo-one (cafes S) f,
+        sumTo-one (cafes S) g,
+        sumTo-cong (cafes S) f g same,
+      )
+
+  -- The first lane where the plans p and q of the sheet differ is the first where x and y do. Of the lanes before it in the extended problem, those in earlier
+  -- rows are whole rows, and agree as the sheet's lanes in them do; those in its own row are lanes of the sheet.
+  pub first-same : (p q : List ℕ) → SameOnSheet S p x → SameOnSheet S q y → length x ≡ roasteries S * widthOf S → (i j : ℕ) → i < roasteries S → j < cafes S
+      → FirstDifference p q (place (cafes S) i j) → FirstDifference x y (place (widthOf S) i j)
+  first-same p q px qy long i j l h d = record {
+    lane = omega (arith, inside);
+    differ = λ e. d .differ (px i j l h ∙ e ∙ sym (qy i j l h));
+    before = λ t b.
+        let w = place-of (roasteries S) (widthOf S) t (omega (arith, inside)) in
+        rw (← w .placed) (before (w .row) (w .col) (w .rowBelow) (w .colBelow) (rw (w .placed) b));
+  }
+    where
+      inside : place (widthOf S) i j < roasteries S * widthOf S
+      inside = place-below (roasteries S) (widthOf S) i j l (omega (arith, width-low S))
+
+      on-sheet : (a b : ℕ) → a < roasteries S → b < cafes S → Earlier a b i j → at x (place (widthOf S) a b) ≡ at y (place (widthOf S) a b)
+      on-sheet a b r s e = sym (px a b r s) ∙ d .before (place (cafes S) a b) (earlier-place (cafes S) a b i j s e) ∙ qy a b r s
+
+      before : (a b : ℕ) → a < roasteries S → b < widthOf S → place (widthOf S) a b < place (widthOf S) i j
+          → at x (place (widthOf S) a b) ≡ at y (place (widthOf S) a b)
+      before a b r s e = ⊎-elim
+          (λ up. row-agrees a r (λ t c. on-sheet a t r c (inl up)) b s)
+          (λ (here, up). on-sheet a b r (omega arith) (inr (here, up)))
+          (place-earlier (widthOf S) a b i j (omega (arith, width-low S)) e)

@@ -1,0 +1,95 @@
+-- The laws of Extended: whether there is an extra café, what each column wants, and what each lane costs.
+use mathlib.Core.Path.{_≡_, refl, sym, ap, _∙_}
+use mathlib.Core.Logic.{by-cases}
+use mathlib.Core.Bool.{Bool, true, false, cond}
+use mathlib.Core.List.{[], _∷_, _++_, append-nil}
+use Prim.Native.Nat.{ℕ, _+_, _*_, _-_, _≤_, _<_}
+use native.Mathlib.Omega.{arith}
+use native.Mathlib.Decide.{decLt}
+use lib.Dec.{eqb}
+use lib.IntN.{pos}
+use lib.ListN.{length, getD, length-append, List·getD-append, List·getD-eq-default}
+use borrow.Author.Tests.{eqb-true, eqb-false, lt-ltb, le-ltb}
+use Rattle.transport.specs.Lists.{at, atZ, total}
+use Rattle.transport.specs.Problem.{sinks, place, laneCost}
+use Rattle.transport.specs.Sheet.{Sheet, roasteries, cafes}
+use Rattle.transport.specs.Extended.{surplus, wanted, costAt, extended}
+use Rattle.transport.specs.Laws.ListLaws.{getD-append-at, total-append, total-cons, total-nil}
+use Rattle.transport.specs.Laws.ProblemLaws.{lane, place-of, length-grid, getD-grid}
+
+-- ---- columns
+
+-- Without a surplus the cafés are all columns, and with one the extra café stands after them.
+pub data Extra (S : Sheet) : Type 0 where
+  without : surplus S ≡ 0 → wanted S ≡ S .demand → Extra S
+  with : 1 ≤ surplus S → wanted S ≡ S .demand ++ (surplus S ∷ []) → Extra S
+
+module _ (S : Sheet) where
+  pub extra : Extra S
+  unfolding wanted
+  extra = go (eqb (surplus S) 0) refl
+    where
+      go : (b : Bool) → eqb (surplus S) 0 ≡ b → Extra S
+      go true e = without (eqb-true (surplus S) 0 e) (rw (e, append-nil (S .demand)))
+      go false e = with (omega (arith, eqb-false (surplus S) 0 e)) (rw e)
+
+  pub wanted-total : total (S .demand) ≤ total (S .supply) → total (wanted S) ≡ total (S .supply)
+  unfolding surplus
+  wanted-total enough = go extra
+    where
+      go : Extra S → total (wanted S) ≡ total (S .supply)
+      go (without z e) = rw e (omega arith)
+      go (with z e) = rw e (omega (arith, total-append (S .demand) (surplus S ∷ []), total-cons (surplus S) [], total-nil))
+
+  -- Every café is a column, and there is at most one more.
+  pub width-low : cafes S ≤ length (wanted S)
+  unfolding wanted cafes
+  width-low = omega (arith, length-append (S .demand) (cond (eqb (surplus S) 0) [] (surplus S ∷ [])))
+
+  pub wanted-at : (j : ℕ) → j < cafes S → at (wanted S) j ≡ at (S .demand) j
+  unfolding wanted cafes at
+  wanted-at j l = List·getD-append (S .demand) (cond (eqb (surplus S) 0) [] (surplus S ∷ [])) 0 j l
+
+  -- A column after the cafés is the extra one, and takes the surplus.
+  pub beyond : (j : ℕ) → cafes S ≤ j → j < length (wanted S) → (1 ≤ surplus S) × (j ≡ cafes S) × (at (wanted S) j ≡ surplus S)
+  unfolding cafes at
+  beyond j l h = go extra
+    where
+      go : Extra S → (1 ≤ surplus S) × (j ≡ cafes S) × (at (wanted S) j ≡ surplus S)
+      go (without z e) = absurd (omega (arith, ap length e))
+      go (with z e) =
+          let last : j ≡ length (S .demand) + 0 = omega (arith, ap length e, length-append (S .demand) (surplus S ∷ [])) in
+          (z, omega arith, rw (e, last) (getD-append-at (S .demand) (surplus S ∷ []) (length (S .demand)) 0 0 refl))
+
+  -- ---- lanes
+
+  pub cost-cafe : (i j : ℕ) → j < cafes S → costAt S i j ≡ pos (at (S .cost) (place (cafes S) i j))
+  unfolding costAt
+  cost-cafe i j l = rw (lt-ltb j (cafes S) l)
+
+  pub cost-extra : (i j : ℕ) → cafes S ≤ j → costAt S i j ≡ pos 0
+  unfolding costAt
+  cost-extra i j l = rw (le-ltb j (cafes S) l)
+
+  pub laneCost-at : (i j : ℕ) → i < roasteries S → j < length (wanted S) → laneCost (extended S) (lane i j) ≡ costAt S i j
+  unfolding laneCost extended sinks atZ
+  laneCost-at i j l h = getD-grid (length (wanted S)) (costAt S) (roasteries S) i j (pos 0) l h
+
+  -- Every number of the cost list is 0 or a cost of the sheet.
+  pub cost-of : (l : ℕ) → (c : ℕ) × (atZ (extended S .cost) l ≡ pos c) × ((most : ℕ) → ((k : ℕ) → at (S .cost) k ≤ most) → c ≤ most)
+  unfolding extended atZ
+  cost-of l = by-cases (decLt l (roasteries S * length (wanted S))) inside (λ h. (0, outside h, λ most f. omega arith))
+    where
+      outside : ¬ (l < roasteries S * length (wanted S)) → getD (extended S .cost) l (pos 0) ≡ pos 0
+      outside h = List·getD-eq-default (extended S .cost) (pos 0) {n = l} (omega (arith, length-grid (length (wanted S)) (costAt S) (roasteries S)))
+
+      inside : l < roasteries S * length (wanted S)
+          → (c : ℕ) × (getD (extended S .cost) l (pos 0) ≡ pos c) × ((most : ℕ) → ((k : ℕ) → at (S .cost) k ≤ most) → c ≤ most)
+      inside h =
+          let w = place-of (roasteries S) (length (wanted S)) l h in
+          let here : getD (extended S .cost) l (pos 0) ≡ costAt S (w .row) (w .col) =
+          ap (λ (k : ℕ). getD (extended S .cost) k (pos 0)) (sym (w .placed))
+          ∙ getD-grid (length (wanted S)) (costAt S) (roasteries S) (w .row) (w .col) (pos 0) (w .rowBelow) (w .colBelow) in
+          by-cases (decLt (w .col) (cafes S))
+          (λ b. (at (S .cost) (place (cafes S) (w .row) (w .col)), here ∙ cost-cafe (w .row) (w .col) b, λ most f. f (place (cafes S) (w .row) (w .col))))
+          (λ b. (0, here ∙ cost-extra (w .row) (w .col) (omega arith), λ most f. omega arith))
