@@ -60,7 +60,7 @@ pub record Solved (S : Sheet) (answer : Answer Solution) : Type 1 where
 
 module _ (S : Sheet) (a b c : ℕ) (w : WithinLimits S) (r : LongEnough S a b c) where
   -- neither lacking nor crowded: solved
-  pub solve-solves : ¬ Lacking S → ¬ Crowded S → Solved S (solveCall S a b c)
+  solve-solves : ¬ Lacking S → ¬ Crowded S → Solved S (solveCall S a b c)
   solve-solves enough room =
       let ok = sound (record { limits = w; enough = enough; room = room }) in
       record {

@@ -1,11 +1,10 @@
 -- What the columns of a sheet's tableaux want, at the front of a list.
 use mathlib.Core.Path.{_≡_, refl, sym, ap, _∙_}
 use mathlib.Core.List.{[], _∷_, _++_, List, append-assoc}
-use Prim.Native.Nat.{ℕ, suc, _+_, _-_, _≤_, _<_}
+use Prim.Native.Nat.{ℕ, suc, _+_, _≤_, _<_}
 use native.Mathlib.Omega.{arith}
 use lib.ListN.{length, take, drop, getD, set, length-append}
 use lib.Seq.{drop-cons, set-at, take-at}
-use Rattle.transport.specs.Lists.{total}
 use Rattle.transport.specs.Sheet.{Sheet}
 use Rattle.transport.specs.Extended.{surplus, wanted, extended}
 use Rattle.transport.specs.Laws.ProblemLaws.{problem}
@@ -27,12 +26,8 @@ unfolding extended
 columns-problem c = rw (c .front)
 
 module _ (S : Sheet) where
-  abbrev home : ℕ
-  home = total (S .supply) - total (S .demand)
-
   -- Nothing stays at home: the cafés are all columns ..
-  pub columns-even : (old : List ℕ) → home ≡ 0 → Columns S (length (S .demand)) (S .demand ++ drop (length (S .demand)) old)
-  unfolding surplus
+  pub columns-even : (old : List ℕ) → surplus S ≡ 0 → Columns S (length (S .demand)) (S .demand ++ drop (length (S .demand)) old)
   columns-even old z = go (extra S)
     where
       go : Extra S → Columns S (length (S .demand)) (S .demand ++ drop (length (S .demand)) old)
@@ -44,27 +39,27 @@ module _ (S : Sheet) where
       }
 
   -- .. or the extra café stands after them.
-  pub wanted-extra : 1 ≤ home → wanted S ≡ S .demand ++ (home ∷ [])
-  unfolding surplus
+  pub wanted-extra : 1 ≤ surplus S → wanted S ≡ S .demand ++ (surplus S ∷ [])
   wanted-extra z = go (extra S)
     where
-      go : Extra S → wanted S ≡ S .demand ++ (home ∷ [])
+      go : Extra S → wanted S ≡ S .demand ++ (surplus S ∷ [])
       go (without y e) = absurd (omega arith)
       go (with y e) = e
 
-  pub columns-extra : (old : List ℕ) → 1 ≤ home → length (S .demand) < length old
-      → Columns S (length (S .demand) + 1) (set (S .demand ++ drop (length (S .demand)) old) (length (S .demand)) home)
+  pub columns-extra : (old : List ℕ) → 1 ≤ surplus S → length (S .demand) < length old
+      → Columns S (length (S .demand) + 1) (set (S .demand ++ drop (length (S .demand)) old) (length (S .demand)) (surplus S))
   columns-extra old z l =
       let n : ℕ = length (S .demand) in
-      let all : List ℕ = S .demand ++ (home ∷ []) in
-      let many : length all ≡ n + 1 = length-append (S .demand) (home ∷ []) in
+      let all : List ℕ = S .demand ++ (surplus S ∷ []) in
+      let many : length all ≡ n + 1 = length-append (S .demand) (surplus S ∷ []) in
       rw put (record {
         count = sym (ap length (wanted-extra z) ∙ many);
         room = omega (arith, length-append all (drop (suc n) old));
         front = take-at all (drop (suc n) old) (n + 1) many ∙ sym (wanted-extra z);
       })
     where
-      put : set (S .demand ++ drop (length (S .demand)) old) (length (S .demand)) home ≡ (S .demand ++ (home ∷ [])) ++ drop (suc (length (S .demand))) old
+      put : set (S .demand ++ drop (length (S .demand)) old) (length (S .demand)) (surplus S)
+          ≡ (S .demand ++ (surplus S ∷ [])) ++ drop (suc (length (S .demand))) old
       put =
           let n : ℕ = length (S .demand) in
-          rw (drop-cons old n 0 l, set-at (S .demand) (getD old n 0) (drop (suc n) old) home n refl, append-assoc)
+          rw (drop-cons old n 0 l, set-at (S .demand) (getD old n 0) (drop (suc n) old) (surplus S) n refl, append-assoc)

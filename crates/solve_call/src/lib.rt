@@ -13,7 +13,7 @@ ghost use Rattle.transport.specs.Statements.{Bought};
 ghost use Rattle.tree.specs.Layout.{stride};
 
 // How many places a list of this length lacks for so many numbers.
-fn lacking(len: usize, count: usize) -> usize
+fn missing(len: usize, count: usize) -> usize
     ensures { λ r. ⌜ r ≡ count - len ⌝ }
 {
     if len < count { count - len } else { 0 }
@@ -21,11 +21,11 @@ fn lacking(len: usize, count: usize) -> usize
 
 // How many places lists of these lengths lack for m prices, for n prices, and for m × n quantities. They are counted where a test would do, so that a program
 // that refuses every sheet is one comparison away in `solve`, and the contract of `solve` is what shuts it out.
-fn lacking_room(u: usize, v: usize, plan: usize, m: usize, n: usize) -> usize
+fn missing_room(u: usize, v: usize, plan: usize, m: usize, n: usize) -> usize
     requires { ⌜ (m ≤ stride) × (n ≤ stride) ⌝ }
     ensures { λ r. ⌜ r ≡ (m - u) + (n - v) + (m * n - plan) ⌝ }
 {
-    lacking(u, m) + lacking(v, n) + lacking(plan, m * n)
+    missing(u, m) + missing(v, n) + missing(plan, m * n)
 }
 
 // Solve: cost and rounds in its answer; the prices of the first finished tableau, and the settled plan, in the lent lists. It refuses what the sheet check
@@ -57,7 +57,7 @@ pub fn solve(
     let n = demand.len();
     // Both answers have names, so that a program that gives the wrong one is an operand away.
     let too_short = SolveAnswer::Refused(8);
-    if lacking_room(u.len(), v.len(), plan.len(), m, n) > 0 {
+    if missing_room(u.len(), v.len(), plan.len(), m, n) > 0 {
         return too_short;
     }
     let rounds = solve_checked(supply, demand, cost, u, v, plan);

@@ -42,9 +42,9 @@ startOf c = startBefore (c .before .before)
 passed : (c : tie.After-enum-told) → refusal (sheetTests (sheetAt (startOf c))) ≡ none
 passed c = accepted-none _ (sym (c .before .before .check-sheet .ensures) ∙ c .enum-told .given .1)
 
-lacking-room-requires : tie.Need-lacking-room-requires
+missing-room-requires : tie.Need-missing-room-requires
 unfolding roasteries cafes
-lacking-room-requires c κs =
+missing-room-requires c κs =
     let ok = accepted (sheetAt (startOf c)) (passed c) in
     (omega (arith, stride-is, ok .limits .roasteriesHigh, sources-room), omega (arith, stride-is, ok .limits .cafesHigh, sinks-room))
 
@@ -105,7 +105,7 @@ solve-spec =
     enum-known-check
     returns
     enum-told
-    lacking-room-requires
+    missing-room-requires
     returns-2
     solve-checked-requires
     plan-cost-requires

@@ -7,6 +7,7 @@ use native.Mathlib.Omega.{arith}
 use lib.ListN.{length, drop, set, length-append}
 use Rattle.transport.specs.Lists.{total}
 use Rattle.transport.specs.Sheet.{Sheet, roasteries, cafes, sheetOf}
+use Rattle.transport.specs.Extended.{surplus}
 use Rattle.transport.specs.Statements.{Accepted}
 use Rattle.transport.specs.Laws.SheetLaws.{supplies-within, demands-within}
 use Rattle.transport.specs.Laws.Sound.{sources-room, sinks-room, wanted-room}
@@ -54,6 +55,7 @@ home-is : (p : tie.After-copy-list)
 home-is p = let t = totalsAt p in omega (arith, t .before .total-of .ensures, t .total-of2 .ensures)
 
 returns : tie.Need-returns
+unfolding surplus
 returns c = λ cost.
     let p = c .before .before .before in
     let s = startOf p in
@@ -65,6 +67,7 @@ some-home c = omega (arith, home-is (c .before .before .before), c .if1 .left)
 
 -- The extra café has a column.
 room : (c : tie.Else1) → let s = startOf (c .before .before .before) in length (s .args .demand .now) < length (s .args .columns .now)
+unfolding surplus
 room c =
     let s = startOf (c .before .before .before) in
     let S = sheetAt s (s .pre .0 .0) in
@@ -84,6 +87,7 @@ put : (p : tie.After-copy-list)
 put p = λ t. set (p .copy-list .ensures t) (length (startOf p .args .demand .now)) (home-is p t)
 
 returns-2 : tie.Need-returns-2
+unfolding surplus
 returns-2 c = λ cost.
     let p = c .before .before .before in
     let s = startOf p in

@@ -1,4 +1,4 @@
--- `solving::checked::begin_sheet` meets its contract: what the columns want is dealt, and the first tableau and the costs are laid out.
+-- `solving::checked::begin_sheet` meets its contract: the columns are written, and the first tableau and the costs are laid out.
 use native.Mathlib.Omega.{arith}
 use borrow.Author.Needs.{needs}
 use Rattle.transport.specs.Limits.{maxSide}
