@@ -2,7 +2,7 @@
 //
 //   bench                          times start and run, and solve, beside LEMON, and prints the ratios, a line a kind
 //   bench kinds                    prints the names of the kinds, a line each
-//   bench count KIND WHO SHEETS    makes one pass of WHO (lemon, run or solve) over so many sheets of the kind (0 to 3), for bench/run to count its instructions
+//   bench count KIND WHO SHEETS    makes one pass of WHO (lemon, run or solve) over so many sheets of the kind (0 to 3), for bench/run to count instructions
 //
 // Times are taken in one process; passes are interleaved and the least time of each side is taken, since other work on the machine only ever adds to a time.
 #include "../crates/exports/panel.h"
@@ -23,7 +23,8 @@ using Simplex = lemon::NetworkSimplex<Graph, int64_t, int64_t>;
 struct Kind {
     const char* name;
     size_t side;
-    uint64_t bags, top;
+    uint64_t bags;
+    int64_t top;
 };
 
 static const Kind kinds[] = {
@@ -46,7 +47,7 @@ struct Bench {
 
     Bench(const Kind& kind, size_t sheets) : side(kind.side), u(side), v(side), plan(side * side) {
         std::mt19937_64 rng(7);
-        for (size_t k = 0; k < sheets; k++) all.push_back(random_sheet(rng, side, side, kind.bags, kind.top));
+        for (size_t k = 0; k < sheets; k++) all.push_back(random_sheet(rng, side, side, kind.bags, 0, kind.top));
         for (size_t k = 0; k < 2 * side; k++) nodes.push_back(g.addNode());
         for (size_t i = 0; i < side; i++)
             for (size_t j = 0; j < side; j++) arcs.push_back(g.addArc(nodes[i], nodes[side + j]));
@@ -57,7 +58,7 @@ struct Bench {
         Graph::ArcMap<int64_t> price(g);
         for (size_t i = 0; i < side; i++) amount[nodes[i]] = (int64_t)s.supply[i];
         for (size_t j = 0; j < side; j++) amount[nodes[side + j]] = -(int64_t)s.demand[j];
-        for (size_t k = 0; k < side * side; k++) price[arcs[k]] = (int64_t)s.cost[k];
+        for (size_t k = 0; k < side * side; k++) price[arcs[k]] = s.cost[k];
         Simplex simplex(g);
         simplex.supplyMap(amount).costMap(price).run();
         return simplex.totalCost();
@@ -80,10 +81,13 @@ struct Bench {
     }
 
     int64_t solve() {
-        uint64_t cost = 0;
-        for (auto& s : all)
-            cost += panel_solve(s.supply.data(), side, s.demand.data(), side, s.cost.data(), s.cost.size(), u.data(), side, v.data(), side, plan.data(), side * side).cost;
-        return (int64_t)cost;
+        int64_t cost = 0;
+        for (auto& s : all) {
+            panel_solve_result solved = panel_solve(s.supply.data(), side, s.demand.data(), side, s.cost.data(), s.cost.size(), u.data(), side, v.data(), side,
+                                                    plan.data(), plan.size());
+            cost += solved.cost;
+        }
+        return cost;
     }
 };
 

@@ -10,6 +10,7 @@ import re
 import sys
 
 NATURAL, WHOLE = "(0|[1-9][0-9]*)", "(0|-?[1-9][0-9]*)"
+MOST = 1_000_000
 
 
 def require(good, what):
@@ -32,16 +33,17 @@ def read_sheet(text):
     lines = iter(text.split("\n"))
     supply = sum(section(lines, "supply", range(1, 33)), [])
     demand = sum(section(lines, "demand", range(1, 33)), [])
-    cost = section(lines, "cost", [len(supply)], width=len(demand))
+    cost = section(lines, "cost", [len(supply)], WHOLE, width=len(demand))
     require(list(lines) == [""], "the sheet does not end with the line end after its costs")
-    require(1 <= min(supply + demand) and max(supply + demand + sum(cost, [])) <= 1_000_000, "a number of the sheet is outside the limits")
+    require(all(1 <= amount <= MOST for amount in supply + demand), "a supply or demand is outside the limits")
+    require(all(-MOST <= price <= MOST for row in cost for price in row), "a cost is outside the limits")
     return supply, demand, cost
 
 
 def read_plan(text, m, n):
     """The total, the prices of roasteries and of cafés, and the bags on each lane that carries any, both numbers from 0."""
     lines = iter(text.split("\n"))
-    [[total]] = section(lines, "total", [1])
+    [[total]] = section(lines, "total", [1], WHOLE)
     section(lines, "rounds", [1])
     u = sum(section(lines, "roasteries", [m], WHOLE), [])
     v = sum(section(lines, "cafes", [n], WHOLE), [])
@@ -70,7 +72,7 @@ def check(sheet_text, plan_text):
     # Why the prices prove the plan least: no lane costs less than u + v, so any plan that meets the sheet, also in fractions, costs at least
     # the sum of bags times (u + v). By roastery and by café that is supply times u and demand times v, less the bags kept times u, which are
     # at most the surplus times the greatest u. So there is one number that no plan goes below. Ours pays just u + v wherever it carries a
-    # bag, and keeps bags only where u is greatest, so it costs just that number.
+    # bag, and keeps bags only where u is greatest, so it costs just that number. Costs, prices and that number may be below 0.
     for i, j in ((i, j) for i in range(len(supply)) for j in range(len(demand))):
         over = cost[i][j] - u[i] - v[j]
         require(over >= 0, f"lane {i + 1} {j + 1} costs {-over} less than its prices")

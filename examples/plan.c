@@ -9,13 +9,13 @@
 #include <inttypes.h>
 #include <stdio.h>
 
-enum { LONGEST_TEXT = 8732, MAX_LANES = PANEL_MAX_SIDE * PANEL_MAX_SIDE };
+enum { LONGEST_TEXT = 9756, MAX_LANES = PANEL_MAX_SIDE * PANEL_MAX_SIDE };
 
 static const char *const names[] = {
     [PANEL_SIDES] = "no roastery or café, or more than 32",
     [PANEL_COST_COUNT] = "the costs are not as many as the lanes",
     [PANEL_AMOUNT] = "a supply or demand is outside 1 to 1,000,000",
-    [PANEL_COST] = "a cost is above 1,000,000",
+    [PANEL_COST] = "a cost is outside -1,000,000 to 1,000,000",
     [PANEL_LACKING] = "total demand is greater than total supply",
     [PANEL_FOREIGN_TABLEAU] = "the tableau does not belong to the sheet",
     [PANEL_UNFINISHED] = "the tableau is not finished",
@@ -34,7 +34,8 @@ int main(void) {
     }
 
     /* Lists for the largest sheet: with these, no call refuses with PANEL_ROOM. Rooms are counted in places, not in bytes. */
-    uint64_t supply[PANEL_MAX_SIDE], demand[PANEL_MAX_SIDE], cost[MAX_LANES];
+    uint64_t supply[PANEL_MAX_SIDE], demand[PANEL_MAX_SIDE];
+    int64_t cost[MAX_LANES];
     struct panel_read_result sheet = panel_read_sheet(text, length, supply, PANEL_MAX_SIDE, demand, PANEL_MAX_SIDE, cost, MAX_LANES);
     if (sheet.refusal == PANEL_NOT_SHEET_TEXT) {
         printf("refused: %s, after %zu bytes\n", names[sheet.refusal], sheet.place);
@@ -54,7 +55,7 @@ int main(void) {
         return 1;
     }
 
-    printf("cost %" PRIu64 ", rounds %" PRIu64 "\n", solved.cost, solved.rounds);
+    printf("cost %" PRId64 ", rounds %" PRIu64 "\n", solved.cost, solved.rounds);
     for (size_t i = 0; i < m; i++)
         for (size_t j = 0; j < n; j++) {
             uint64_t bags = plan[i * n + j];

@@ -8,15 +8,17 @@
 #include <vector>
 
 using Numbers = std::vector<uint64_t>;
+using Whole = std::vector<int64_t>;
 
 struct Sheet {
-    Numbers supply, demand, cost;
+    Numbers supply, demand;
+    Whole cost;
     size_t m() const { return supply.size(); }
     size_t n() const { return demand.size(); }
 };
 
-// A balanced sheet: bags up to `bags` a party before the totals are made equal, costs up to `top`.
-inline Sheet random_sheet(std::mt19937_64 &rng, size_t m, size_t n, uint64_t bags, uint64_t top) {
+// A balanced sheet: bags up to `bags` a party before the totals are made equal, costs from `low` to `high`.
+inline Sheet random_sheet(std::mt19937_64 &rng, size_t m, size_t n, uint64_t bags, int64_t low, int64_t high) {
     Sheet s;
     int64_t over = 0;
     for (size_t i = 0; i < m; i++) {
@@ -29,7 +31,7 @@ inline Sheet random_sheet(std::mt19937_64 &rng, size_t m, size_t n, uint64_t bag
     }
     for (; over < 0; over++) s.supply[rng() % m]++;
     for (; over > 0; over--) s.demand[rng() % n]++;
-    for (size_t k = 0; k < m * n; k++) s.cost.push_back(rng() % (top + 1));
+    for (size_t k = 0; k < m * n; k++) s.cost.push_back(low + (int64_t)(rng() % (uint64_t)(high - low + 1)));
     return s;
 }
 

@@ -1,7 +1,8 @@
 /* The calls of the bag plan panel for programs in C and C++: link target/staticlib/libexports.a (rt staticlib exports). docs/EMBEDDING.md says how.
  *
  * A list is a pointer and a length. Rows (roasteries) and columns (cafés) count from 0; costs and plans are in sheet order, row by row. Amounts are in bags,
- * costs and prices in cents a bag. What each call gives is proved; that what is lent is as follows, nothing checks:
+ * costs and prices in cents a bag; a lane that earns money has a cost below 0, and so may a whole plan. What each call gives is proved; that what is lent is
+ * as follows, nothing checks:
  * - every list is readable, and every list that is not const writable, over its whole length, and aligned as its type is;
  * - no list that is not const overlaps another list of the same call;
  * - a list of length 0 may have any pointer that is aligned and not null.
@@ -23,7 +24,7 @@ enum panel_refusal {
     PANEL_SIDES = 1,           /* no source or sink, or more than 32 */
     PANEL_COST_COUNT = 2,      /* the costs are not as many as the lanes */
     PANEL_AMOUNT = 3,          /* a supply or demand is outside 1 to 1,000,000 */
-    PANEL_COST = 4,            /* a cost is above 1,000,000 */
+    PANEL_COST = 4,            /* a cost is outside −1,000,000 to 1,000,000 */
     PANEL_LACKING = 5,         /* total demand is greater than total supply */
     PANEL_FOREIGN_TABLEAU = 6, /* the tableau does not belong to the sheet */
     PANEL_UNFINISHED = 7,      /* the tableau is not finished */
@@ -77,7 +78,8 @@ struct panel_run_result {
 
 struct panel_solve_result {
     uint8_t refusal;
-    uint64_t cost, rounds;
+    int64_t cost;
+    uint64_t rounds;
 };
 
 struct panel_read_result {
@@ -91,34 +93,34 @@ struct panel_write_result {
 };
 
 /* The first tableau. */
-struct panel_start_result panel_start(const uint64_t *supply, size_t m, const uint64_t *demand, size_t n, const uint64_t *cost, size_t lanes);
+struct panel_start_result panel_start(const uint64_t *supply, size_t m, const uint64_t *demand, size_t n, const int64_t *cost, size_t lanes);
 
 /* One round. */
-struct panel_round_result panel_round(const uint64_t *supply, size_t m, const uint64_t *demand, size_t n, const uint64_t *cost, size_t lanes,
+struct panel_round_result panel_round(const uint64_t *supply, size_t m, const uint64_t *demand, size_t n, const int64_t *cost, size_t lanes,
                                       const struct panel_cell *cells, size_t count);
 
 /* At most so many rounds: finished, or spent after just so many. */
-struct panel_run_result panel_run(const uint64_t *supply, size_t m, const uint64_t *demand, size_t n, const uint64_t *cost, size_t lanes,
+struct panel_run_result panel_run(const uint64_t *supply, size_t m, const uint64_t *demand, size_t n, const int64_t *cost, size_t lanes,
                                   const struct panel_cell *cells, size_t count, uint32_t allowance);
 
 /* The settled plan of a finished tableau: m × n quantities at the front of `plan`. What a source does not send stays there. */
-uint8_t panel_settle(const uint64_t *supply, size_t m, const uint64_t *demand, size_t n, const uint64_t *cost, size_t lanes,
+uint8_t panel_settle(const uint64_t *supply, size_t m, const uint64_t *demand, size_t n, const int64_t *cost, size_t lanes,
                      const struct panel_cell *cells, size_t count, uint64_t *plan, size_t plan_room);
 
 /* The cheapest plan: m and n prices and m × n quantities at the fronts of u, v and plan. */
-struct panel_solve_result panel_solve(const uint64_t *supply, size_t m, const uint64_t *demand, size_t n, const uint64_t *cost, size_t lanes, int64_t *u,
+struct panel_solve_result panel_solve(const uint64_t *supply, size_t m, const uint64_t *demand, size_t n, const int64_t *cost, size_t lanes, int64_t *u,
                                       size_t u_room, int64_t *v, size_t v_room, uint64_t *plan, size_t plan_room);
 
 /* The sheet of a sheet text, at the fronts of the three lists; 32, 32 and 1,024 places are always enough. */
 struct panel_read_result panel_read_sheet(const uint8_t *text, size_t length, uint64_t *supply, size_t supply_room, uint64_t *demand, size_t demand_room,
-                                          uint64_t *cost, size_t cost_room);
+                                          int64_t *cost, size_t cost_room);
 
-/* The sheet text of a sheet; 8,732 bytes are always enough. */
-struct panel_write_result panel_write_sheet(const uint64_t *supply, size_t m, const uint64_t *demand, size_t n, const uint64_t *cost, size_t lanes,
+/* The sheet text of a sheet; 9,756 bytes are always enough. */
+struct panel_write_result panel_write_sheet(const uint64_t *supply, size_t m, const uint64_t *demand, size_t n, const int64_t *cost, size_t lanes,
                                             uint8_t *out, size_t room);
 
-/* The plan text of a sheet; 15,059 bytes are always enough. */
-struct panel_write_result panel_write_plan(const uint64_t *supply, size_t m, const uint64_t *demand, size_t n, const uint64_t *cost, size_t lanes,
+/* The plan text of a sheet; 15,060 bytes are always enough. */
+struct panel_write_result panel_write_plan(const uint64_t *supply, size_t m, const uint64_t *demand, size_t n, const int64_t *cost, size_t lanes,
                                            uint8_t *out, size_t room);
 
 #ifdef __cplusplus

@@ -31,7 +31,7 @@ pub struct RunResult {
 #[repr(C)]
 pub struct SolveResult {
     pub refusal: u8,
-    pub cost: u64,
+    pub cost: i64,
     pub rounds: u64,
 }
 
@@ -52,41 +52,41 @@ pub struct WriteResult {
 #[rustfmt::skip] // as in the header, the lists of a sheet on one line
 extern "C" {
     pub fn panel_start(
-        supply: *const u64, m: usize, demand: *const u64, n: usize, cost: *const u64, lanes: usize,
+        supply: *const u64, m: usize, demand: *const u64, n: usize, cost: *const i64, lanes: usize,
     ) -> StartResult;
 
     pub fn panel_round(
-        supply: *const u64, m: usize, demand: *const u64, n: usize, cost: *const u64, lanes: usize,
+        supply: *const u64, m: usize, demand: *const u64, n: usize, cost: *const i64, lanes: usize,
         cells: *const Cell, count: usize,
     ) -> RoundResult;
 
     pub fn panel_run(
-        supply: *const u64, m: usize, demand: *const u64, n: usize, cost: *const u64, lanes: usize,
+        supply: *const u64, m: usize, demand: *const u64, n: usize, cost: *const i64, lanes: usize,
         cells: *const Cell, count: usize, allowance: u32,
     ) -> RunResult;
 
     pub fn panel_settle(
-        supply: *const u64, m: usize, demand: *const u64, n: usize, cost: *const u64, lanes: usize,
+        supply: *const u64, m: usize, demand: *const u64, n: usize, cost: *const i64, lanes: usize,
         cells: *const Cell, count: usize, plan: *mut u64, plan_room: usize,
     ) -> u8;
 
     pub fn panel_solve(
-        supply: *const u64, m: usize, demand: *const u64, n: usize, cost: *const u64, lanes: usize,
+        supply: *const u64, m: usize, demand: *const u64, n: usize, cost: *const i64, lanes: usize,
         u: *mut i64, u_room: usize, v: *mut i64, v_room: usize, plan: *mut u64, plan_room: usize,
     ) -> SolveResult;
 
     pub fn panel_read_sheet(
         text: *const u8, length: usize,
-        supply: *mut u64, supply_room: usize, demand: *mut u64, demand_room: usize, cost: *mut u64, cost_room: usize,
+        supply: *mut u64, supply_room: usize, demand: *mut u64, demand_room: usize, cost: *mut i64, cost_room: usize,
     ) -> ReadResult;
 
     pub fn panel_write_sheet(
-        supply: *const u64, m: usize, demand: *const u64, n: usize, cost: *const u64, lanes: usize,
+        supply: *const u64, m: usize, demand: *const u64, n: usize, cost: *const i64, lanes: usize,
         out: *mut u8, room: usize,
     ) -> WriteResult;
 
     pub fn panel_write_plan(
-        supply: *const u64, m: usize, demand: *const u64, n: usize, cost: *const u64, lanes: usize,
+        supply: *const u64, m: usize, demand: *const u64, n: usize, cost: *const i64, lanes: usize,
         out: *mut u8, room: usize,
     ) -> WriteResult;
 }

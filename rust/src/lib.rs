@@ -26,9 +26,9 @@ pub const MAX_LANES: usize = MAX_SIDE * MAX_SIDE;
 /// The most cells of a tableau.
 pub const MAX_CELLS: usize = 2 * MAX_SIDE - 1;
 /// The longest sheet text, in bytes.
-pub const MAX_SHEET_TEXT: usize = 8_732;
+pub const MAX_SHEET_TEXT: usize = 9_756;
 /// No plan text is longer, in bytes.
-pub const MAX_PLAN_TEXT: usize = 15_059;
+pub const MAX_PLAN_TEXT: usize = 15_060;
 
 /// What a round gives.
 #[derive(Clone, Copy, Debug, PartialEq, Eq)]
@@ -59,14 +59,14 @@ pub struct Run {
 /// What solve gives beside the lists that it fills.
 #[derive(Clone, Copy, Debug, PartialEq, Eq)]
 pub struct Solved {
-    /// The cost of the plan, in cents.
-    pub cost: u64,
+    /// The cost of the plan, in cents; below 0 where the plan earns money.
+    pub cost: i64,
     /// The rounds from the start to the first finished tableau.
     pub rounds: u64,
 }
 
 /// The first tableau.
-pub fn start(supply: &[u64], demand: &[u64], cost: &[u64]) -> Result<Tableau, Refusal> {
+pub fn start(supply: &[u64], demand: &[u64], cost: &[i64]) -> Result<Tableau, Refusal> {
     // SAFETY: slices are what `ffi` asks for.
     let r = unsafe { ffi::panel_start(supply.as_ptr(), supply.len(), demand.as_ptr(), demand.len(), cost.as_ptr(), cost.len()) };
     Refusal::check(r.refusal, 0)?;
@@ -74,7 +74,7 @@ pub fn start(supply: &[u64], demand: &[u64], cost: &[u64]) -> Result<Tableau, Re
 }
 
 /// One round on the tableau of these cells.
-pub fn round(supply: &[u64], demand: &[u64], cost: &[u64], cells: &[Cell]) -> Result<Round, Refusal> {
+pub fn round(supply: &[u64], demand: &[u64], cost: &[i64], cells: &[Cell]) -> Result<Round, Refusal> {
     let (m, n, lanes) = (supply.len(), demand.len(), cost.len());
     // SAFETY: slices are what `ffi` asks for.
     let r = unsafe { ffi::panel_round(supply.as_ptr(), m, demand.as_ptr(), n, cost.as_ptr(), lanes, cells.as_ptr(), cells.len()) };
@@ -83,7 +83,7 @@ pub fn round(supply: &[u64], demand: &[u64], cost: &[u64], cells: &[Cell]) -> Re
 }
 
 /// Rounds until the tableau of these cells is finished, but no more than `allowance`.
-pub fn run(supply: &[u64], demand: &[u64], cost: &[u64], cells: &[Cell], allowance: u32) -> Result<Run, Refusal> {
+pub fn run(supply: &[u64], demand: &[u64], cost: &[i64], cells: &[Cell], allowance: u32) -> Result<Run, Refusal> {
     let (m, n, lanes) = (supply.len(), demand.len(), cost.len());
     // SAFETY: slices are what `ffi` asks for.
     let r = unsafe { ffi::panel_run(supply.as_ptr(), m, demand.as_ptr(), n, cost.as_ptr(), lanes, cells.as_ptr(), cells.len(), allowance) };
@@ -92,7 +92,7 @@ pub fn run(supply: &[u64], demand: &[u64], cost: &[u64], cells: &[Cell], allowan
 }
 
 /// The settled plan of the finished tableau of these cells: m × n quantities at the front of `plan`.
-pub fn settle(supply: &[u64], demand: &[u64], cost: &[u64], cells: &[Cell], plan: &mut [u64]) -> Result<(), Refusal> {
+pub fn settle(supply: &[u64], demand: &[u64], cost: &[i64], cells: &[Cell], plan: &mut [u64]) -> Result<(), Refusal> {
     // SAFETY: slices are what `ffi` asks for.
     let refusal = unsafe {
         ffi::panel_settle(
@@ -112,7 +112,7 @@ pub fn settle(supply: &[u64], demand: &[u64], cost: &[u64], cells: &[Cell], plan
 }
 
 /// The cheapest plan: m and n prices and m × n quantities at the fronts of `u`, `v` and `plan`.
-pub fn solve(supply: &[u64], demand: &[u64], cost: &[u64], u: &mut [i64], v: &mut [i64], plan: &mut [u64]) -> Result<Solved, Refusal> {
+pub fn solve(supply: &[u64], demand: &[u64], cost: &[i64], u: &mut [i64], v: &mut [i64], plan: &mut [u64]) -> Result<Solved, Refusal> {
     // SAFETY: slices are what `ffi` asks for.
     let r = unsafe {
         ffi::panel_solve(
@@ -135,7 +135,7 @@ pub fn solve(supply: &[u64], demand: &[u64], cost: &[u64], u: &mut [i64], v: &mu
 }
 
 /// The sheet of a sheet text, at the fronts of the three lists; gives m and n.
-pub fn read_sheet(text: &[u8], supply: &mut [u64], demand: &mut [u64], cost: &mut [u64]) -> Result<(usize, usize), Refusal> {
+pub fn read_sheet(text: &[u8], supply: &mut [u64], demand: &mut [u64], cost: &mut [i64]) -> Result<(usize, usize), Refusal> {
     // SAFETY: slices are what `ffi` asks for.
     let r = unsafe {
         ffi::panel_read_sheet(
@@ -154,7 +154,7 @@ pub fn read_sheet(text: &[u8], supply: &mut [u64], demand: &mut [u64], cost: &mu
 }
 
 /// The sheet text of a sheet, at the front of `out`; gives its length.
-pub fn write_sheet(supply: &[u64], demand: &[u64], cost: &[u64], out: &mut [u8]) -> Result<usize, Refusal> {
+pub fn write_sheet(supply: &[u64], demand: &[u64], cost: &[i64], out: &mut [u8]) -> Result<usize, Refusal> {
     let (m, n, lanes) = (supply.len(), demand.len(), cost.len());
     // SAFETY: slices are what `ffi` asks for.
     let r = unsafe { ffi::panel_write_sheet(supply.as_ptr(), m, demand.as_ptr(), n, cost.as_ptr(), lanes, out.as_mut_ptr(), out.len()) };
@@ -163,7 +163,7 @@ pub fn write_sheet(supply: &[u64], demand: &[u64], cost: &[u64], out: &mut [u8])
 }
 
 /// The plan text of a sheet, at the front of `out`; gives its length.
-pub fn write_plan(supply: &[u64], demand: &[u64], cost: &[u64], out: &mut [u8]) -> Result<usize, Refusal> {
+pub fn write_plan(supply: &[u64], demand: &[u64], cost: &[i64], out: &mut [u8]) -> Result<usize, Refusal> {
     let (m, n, lanes) = (supply.len(), demand.len(), cost.len());
     // SAFETY: slices are what `ffi` asks for.
     let r = unsafe { ffi::panel_write_plan(supply.as_ptr(), m, demand.as_ptr(), n, cost.as_ptr(), lanes, out.as_mut_ptr(), out.len()) };
@@ -178,15 +178,15 @@ pub struct Sheet {
     pub supply: Vec<u64>,
     /// The bags that each café wants.
     pub demand: Vec<u64>,
-    /// Cents a bag for each lane, in sheet order.
-    pub cost: Vec<u64>,
+    /// Cents a bag for each lane, in sheet order; below 0 where a lane earns money.
+    pub cost: Vec<i64>,
 }
 
 /// What solve gives, owned.
 #[derive(Clone, Debug, PartialEq, Eq)]
 pub struct Solution {
-    /// The cost of the plan, in cents.
-    pub cost: u64,
+    /// The cost of the plan, in cents; below 0 where the plan earns money.
+    pub cost: i64,
     /// The rounds from the start to the first finished tableau.
     pub rounds: u64,
     /// The prices of the roasteries.

@@ -10,7 +10,7 @@ pub enum Refusal {
     CostCount,
     /// 3: a supply or demand is outside 1 to 1,000,000.
     Amount,
-    /// 4: a cost is above 1,000,000.
+    /// 4: a cost is outside −1,000,000 to 1,000,000.
     Cost,
     /// 5: total demand is greater than total supply.
     Lacking,
@@ -71,7 +71,7 @@ impl fmt::Display for Refusal {
             Refusal::Sides => write!(f, "no roastery or café, or more than {MAX_SIDE}"),
             Refusal::CostCount => write!(f, "the costs are not as many as the lanes"),
             Refusal::Amount => write!(f, "a supply or demand is outside 1 to 1,000,000"),
-            Refusal::Cost => write!(f, "a cost is above 1,000,000"),
+            Refusal::Cost => write!(f, "a cost is outside -1,000,000 to 1,000,000"),
             Refusal::Lacking => write!(f, "total demand is greater than total supply"),
             Refusal::ForeignTableau => write!(f, "the tableau does not belong to the sheet"),
             Refusal::Unfinished => write!(f, "the tableau is not finished"),

@@ -1,17 +1,16 @@
 //! Lent lists: what a call fills, what it leaves, and every refusal, by its number. `tableaux.rs` has 6.
 mod common;
-use common::{cell, dear, dear_last, p1, p1_last, p3, p4, p5, p6, p7, p8, p9, sheet, wide, MARK};
+use common::{both_signs, both_signs_last, cell, dear, dear_last, earns, p1, p1_last, p3, p4, p5, p6, p7, p8, p9, sheet, wide, MARK, SIGNED_MARK};
 use panel::*;
 
 const SUPPLY: [u64; 2] = [3, 4];
 const DEMAND: [u64; 2] = [5, 2];
-const COST: [u64; 4] = [4, 1, 2, 6];
-const SIGNED_MARK: i64 = MARK as i64;
+const COST: [i64; 4] = [4, 1, 2, 6];
 const MARK_BYTE: u8 = 0x5a;
 
 /// Makes every call that takes a sheet as lists and lends it rooms that are too short, and others that are long enough; each must refuse alike and change
 /// nothing. The tableau is one of no sheet, then P1's: 6 and 8 come after the sheet check.
-fn all_refuse(supply: &[u64], demand: &[u64], cost: &[u64], refusal: Refusal) {
+fn all_refuse(supply: &[u64], demand: &[u64], cost: &[i64], refusal: Refusal) {
     assert_eq!(start(supply, demand, cost), Err(refusal));
     for (cells, room) in [(&[][..], 0), (&[], 1), (&p1_last(), 1), (&p1_last(), MAX_PLAN_TEXT)] {
         let (mut u, mut v, mut plan, mut out) = (vec![SIGNED_MARK; room], vec![SIGNED_MARK; room], vec![MARK; room], vec![MARK_BYTE; room]);
@@ -49,15 +48,17 @@ fn refused_3() {
     all_refuse(&[3, 0], &[1, 2], &COST, Refusal::Amount);
     all_refuse(&[0, 7], &DEMAND, &COST, Refusal::Amount);
     all_refuse(&SUPPLY, &[5, 1_000_001], &COST, Refusal::Amount);
-    all_refuse(&[u64::MAX, 8], &DEMAND, &[u64::MAX; 4], Refusal::Amount);
+    all_refuse(&[u64::MAX, 8], &DEMAND, &[i64::MAX; 4], Refusal::Amount);
 }
 
 #[test]
 fn refused_4() {
-    all_refuse(&[1_000_000], &[1_000_000], &[1_000_001], Refusal::Cost);
-    all_refuse(&SUPPLY, &DEMAND, &[4, 1, 2, 1_000_001], Refusal::Cost);
-    all_refuse(&[3, 5], &DEMAND, &[u64::MAX, 1, 2, 6], Refusal::Cost);
-    all_refuse(&[3, 3], &DEMAND, &[u64::MAX, 1, 2, 6], Refusal::Cost);
+    for cost in [1_000_001, -1_000_001, 1 << 32, -(1 << 32), i64::MAX, i64::MIN, i64::MIN + 1] {
+        all_refuse(&[1_000_000], &[1_000_000], &[cost], Refusal::Cost);
+        all_refuse(&SUPPLY, &DEMAND, &[4, -1, 2, cost], Refusal::Cost);
+        all_refuse(&[3, 5], &DEMAND, &[cost, 1, 2, 6], Refusal::Cost);
+        all_refuse(&[3, 3], &DEMAND, &[cost, 1, 2, 6], Refusal::Cost);
+    }
 }
 
 #[test]
@@ -87,11 +88,11 @@ fn refused_8() {
     assert_eq!((u, v, plan), ([SIGNED_MARK; 2], [SIGNED_MARK; 2], [MARK; 4]));
 
     let text = include_bytes!("../../examples/worked.sheet");
-    let (mut supply, mut demand, mut cost) = ([MARK; 2], [MARK; 2], [MARK; 4]);
+    let (mut supply, mut demand, mut cost) = ([MARK; 2], [MARK; 2], [SIGNED_MARK; 4]);
     assert_eq!(read_sheet(text, &mut supply[..1], &mut demand, &mut cost), Err(Refusal::Room));
     assert_eq!(read_sheet(text, &mut supply, &mut demand[..1], &mut cost), Err(Refusal::Room));
     assert_eq!(read_sheet(text, &mut supply, &mut demand, &mut cost[..3]), Err(Refusal::Room));
-    assert_eq!((supply, demand, cost), ([MARK; 2], [MARK; 2], [MARK; 4]));
+    assert_eq!((supply, demand, cost), ([MARK; 2], [MARK; 2], [SIGNED_MARK; 4]));
 
     let plan_text = include_bytes!("../../examples/worked.plan");
     let mut out = [MARK_BYTE; MAX_PLAN_TEXT];
@@ -103,7 +104,7 @@ fn refused_8() {
 
 #[test]
 fn refused_9() {
-    let (mut supply, mut demand, mut cost) = ([MARK; 2], [MARK; 2], [MARK; 4]);
+    let (mut supply, mut demand, mut cost) = ([MARK; 2], [MARK; 2], [SIGNED_MARK; 4]);
     let mut read = |text: &[u8]| read_sheet(text, &mut supply, &mut demand, &mut cost);
     assert_eq!(read(b"supply 2\r\n"), Err(Refusal::NotSheetText { place: 8 }));
     assert_eq!(read(b"\xff"), Err(Refusal::NotSheetText { place: 0 }));
@@ -112,12 +113,13 @@ fn refused_9() {
     assert_eq!(read(no_last_line_end), Err(Refusal::NotSheetText { place: no_last_line_end.len() }));
     assert_eq!(read(b"supply 1\n0\ndemand 1\n2\ncost 1\n1000001\n"), Err(Refusal::Amount));
     assert_eq!(read(b"supply 1\n1\ndemand 1\n2\ncost 1\n1000001\n"), Err(Refusal::Cost));
+    assert_eq!(read(b"supply 1\n1\ndemand 1\n2\ncost 1\n-1000001\n"), Err(Refusal::Cost));
     assert_eq!(read(b"supply 1\n1\ndemand 1\n2\ncost 1\n1000000\n"), Err(Refusal::Lacking));
     // 10 before 8.
     let crowded = format!("supply 1\n33\ndemand 32\n{}cost 1\n0{}", "1\n".repeat(32), " 0".repeat(31));
     assert_eq!(read(crowded.as_bytes()), Err(Refusal::NotSheetText { place: crowded.len() }));
     assert_eq!(read((crowded + "\n").as_bytes()), Err(Refusal::Crowded));
-    assert_eq!((supply, demand, cost), ([MARK; 2], [MARK; 2], [MARK; 4]));
+    assert_eq!((supply, demand, cost), ([MARK; 2], [MARK; 2], [SIGNED_MARK; 4]));
 }
 
 #[test]
@@ -126,6 +128,7 @@ fn refused_10() {
     all_refuse(&[33], &[1; 32], &[0; 32], Refusal::Crowded);
     all_refuse(&[1_000_000; 32], &[&[1_000_000; 31][..], &[999_999]].concat(), &[0; 1024], Refusal::Crowded);
     all_refuse(&[40], &[1; 32], &[1_000_001; 32], Refusal::Cost);
+    all_refuse(&[40], &[1; 32], &[-1_000_001; 32], Refusal::Cost);
     all_refuse(&[1_000_001], &[1; 32], &[1_000_001; 32], Refusal::Amount);
     all_refuse(&[40], &[1; 32], &[1; 33], Refusal::CostCount);
     all_refuse(&[40], &[1; 33], &[1; 33], Refusal::Sides);
@@ -143,9 +146,9 @@ fn only_the_front_is_filled() {
     assert_eq!(plan, [MARK, 1, 2, 4, 0, MARK, MARK]);
 
     let text = include_bytes!("../../examples/worked.sheet");
-    let (mut supply, mut demand, mut cost) = ([MARK; 4], [MARK; 4], [MARK; 6]);
+    let (mut supply, mut demand, mut cost) = ([MARK; 4], [MARK; 4], [SIGNED_MARK; 6]);
     assert_eq!(read_sheet(text, &mut supply[1..], &mut demand[1..], &mut cost[1..]), Ok((2, 2)));
-    assert_eq!((supply, demand, cost), ([MARK, 3, 4, MARK], [MARK, 5, 2, MARK], [MARK, 4, 1, 2, 6, MARK]));
+    assert_eq!((supply, demand, cost), ([MARK, 3, 4, MARK], [MARK, 5, 2, MARK], [SIGNED_MARK, 4, 1, 2, 6, SIGNED_MARK]));
 
     let plan_text = include_bytes!("../../examples/worked.plan");
     for spare in [0, 1, 9] {
@@ -171,7 +174,7 @@ fn solve_marked(sheet: &Sheet, less: [usize; 3]) -> (Result<Solved, Refusal>, Ve
 
 #[test]
 fn solve_fills_the_fronts() {
-    let solved = |sheet: Sheet, cost: u64, rounds: u64, u: &[i64], v: &[i64], plan: &[u64]| {
+    let solved = |sheet: Sheet, cost: i64, rounds: u64, u: &[i64], v: &[i64], plan: &[u64]| {
         let lists = ([u, &[SIGNED_MARK]].concat(), [v, &[SIGNED_MARK]].concat(), [plan, &[MARK]].concat());
         assert_eq!(solve_marked(&sheet, [0; 3]), (Ok(Solved { cost, rounds }), lists.0, lists.1, lists.2));
     };
@@ -184,6 +187,9 @@ fn solve_fills_the_fronts() {
     solved(p8(), 0, 0, &[0], &[0], &[2]);
     solved(dear(), 8, 1, &[0, -4], &[5], &[1, 3]);
     solved(wide(40, 31), 31, 0, &[0], &[1; 31], &[1; 31]);
+    // A plan may earn money.
+    solved(earns(), -14, 1, &[0, -6], &[1], &[1, 3]);
+    solved(both_signs(), -3, 2, &[0, 3], &[-4, -3, -1], &[0, 0, 2, 1, 2, 0]);
 }
 
 #[test]
@@ -210,6 +216,7 @@ fn settle_with_marks() {
     assert_eq!(settled(p4(), &p5(), 7), (Ok(()), vec![0, 1, 0, 2, 0, 1, MARK]));
     assert_eq!(settled(p4(), &p5(), 6), (Ok(()), vec![0, 1, 0, 2, 0, 1]));
     assert_eq!(settled(p4(), &p5(), 5), (Err(Refusal::Room), vec![MARK; 5]));
+    assert_eq!(settled(both_signs(), &both_signs_last(), 7), (Ok(()), vec![0, 0, 2, 1, 2, 0, MARK]));
     assert_eq!(settled(dear(), &dear_last(), 3), (Ok(()), vec![1, 3, MARK]));
     assert_eq!(settled(dear(), &dear_last(), 2), (Ok(()), vec![1, 3]));
     assert_eq!(settled(dear(), &dear_last(), 1), (Err(Refusal::Room), vec![MARK; 1]));
@@ -225,6 +232,7 @@ fn refusals_by_number_and_name() {
     use Refusal::*;
     let all = [Sides, CostCount, Amount, Cost, Lacking, ForeignTableau, Unfinished, Room, NotSheetText { place: 38 }, Crowded];
     assert!(all.iter().map(|r| r.number()).eq(1..=10));
+    assert_eq!(Cost.to_string(), "a cost is outside -1,000,000 to 1,000,000");
     assert_eq!(Lacking.to_string(), "total demand is greater than total supply");
     assert_eq!(NotSheetText { place: 38 }.to_string(), "not a sheet text, at place 38");
     assert_eq!(Crowded.to_string(), "total supply is greater than total demand, with 32 cafés");

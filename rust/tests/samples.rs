@@ -1,6 +1,9 @@
-//! The sample sheets of paper 01, and some with a surplus for paper 02, One, through the owned calls.
+//! The sample sheets of paper 01, and for paper 02 some with a surplus (One) and some with costs below 0 (Two), through the owned calls.
 mod common;
-use common::{cell, dear, dear_last, finished, largest, largest_with_surplus, p1, p1_last, p3, p4, p5, p6, p7, p8, p9, sheet, wide};
+use common::{
+    both_signs, both_signs_last, cell, dear, dear_last, earns, finished, full, largest, largest_with_surplus, p1, p1_last, p3, p4, p5, p6, p7, p8,
+    p9, sheet, wide,
+};
 use panel::{Refusal, Round, Run, Sheet, Tableau};
 
 fn next(sheet: &Sheet, t: &Tableau) -> Tableau {
@@ -91,7 +94,7 @@ fn p7_the_greatest_numbers() {
 
 /// What solve gives.
 #[track_caller]
-fn solved(sheet: Sheet, cost: u64, rounds: u64, u: &[i64], v: &[i64], plan: &[u64]) {
+fn solved(sheet: Sheet, cost: i64, rounds: u64, u: &[i64], v: &[i64], plan: &[u64]) {
     let s = sheet.solve().unwrap();
     assert_eq!((s.cost, s.rounds), (cost, rounds));
     assert_eq!((&*s.u, &*s.v, &*s.plan), (u, v, plan));
@@ -153,6 +156,38 @@ fn room_for_the_extra_cafe() {
 }
 
 #[test]
+fn the_lane_that_earns_goes_full() {
+    solved(earns(), -14, 1, &[0, -6], &[1], &[1, 3]);
+    let start = earns().start().unwrap();
+    assert_eq!(*next(&earns(), &start), dear_last());
+    assert_eq!(earns().settle(&dear_last()), Ok(vec![1, 3]));
+}
+
+/// The bags of the start cost 3, those after a round 0, and those after the next -3.
+#[test]
+fn costs_of_both_signs() {
+    let start = both_signs().start().unwrap();
+    assert_eq!(*start, [cell(1, 1, 1, 0), cell(1, 2, 1, 1), cell(2, 2, 1, -1), cell(2, 3, 2, 2)]);
+    let middle = next(&both_signs(), &start);
+    assert_eq!(*middle, [cell(1, 1, 1, 0), cell(1, 3, 1, 1), cell(2, 2, 2, 0), cell(2, 3, 1, 1)]);
+    let last = next(&both_signs(), &middle);
+    assert_eq!(*last, both_signs_last());
+    assert_eq!(both_signs().round(&last), finished(&[0, 3], &[-4, -3, -1]));
+    assert_eq!(both_signs().run(&start, 1), Ok(Run { finished: false, rounds: 1, tableau: middle }));
+    assert_eq!(both_signs().run(&start, 9), Ok(Run { finished: true, rounds: 2, tableau: last }));
+    solved(both_signs(), -3, 2, &[0, 3], &[-4, -3, -1], &[0, 0, 2, 1, 2, 0]);
+}
+
+#[test]
+fn the_least_cost_and_one_less() {
+    let lane = |cost: i64| sheet(&[1_000_000], &[1_000_000], &[cost]);
+    solved(lane(-1_000_000), -1_000_000_000_000, 0, &[0], &[-1_000_000], &[1_000_000]);
+    for cost in [-1_000_001, i64::MIN, i64::MAX] {
+        assert_eq!(lane(cost).solve(), Err(Refusal::Cost));
+    }
+}
+
+#[test]
 fn p9_refused_tableaux() {
     assert_eq!(p3().round(&p9()), Err(Refusal::ForeignTableau));
     assert_eq!(p3().run(&p9(), 1), Err(Refusal::ForeignTableau));
@@ -164,6 +199,7 @@ fn p9_refused_tableaux() {
 fn the_largest_sheet() {
     assert_eq!(largest().start().unwrap().len(), panel::MAX_CELLS);
     assert_eq!(largest().solve().unwrap().cost, 32_000_000_000_000);
+    assert_eq!(full(-1_000_000).solve().unwrap().cost, -32_000_000_000_000);
     assert_eq!(largest_with_surplus().start().unwrap().len(), panel::MAX_CELLS);
     assert_eq!(largest_with_surplus().solve().unwrap().cost, 31_000_000_000_000);
 }
@@ -192,7 +228,7 @@ fn threads_agree() {
 #[test]
 fn small_stack() {
     let calls = |mut large: Sheet| {
-        (0..large.cost.len()).for_each(|k| large.cost[k] = (k as u64 * 7919) % 1_000_001);
+        (0..large.cost.len()).for_each(|k| large.cost[k] = (k as i64 * 7919) % 2_000_001 - 1_000_000);
         let run = large.run(&large.start().unwrap(), u32::MAX).unwrap();
         assert!(matches!(large.round(&run.tableau), Ok(Round::Finished { .. })));
         assert_eq!(large.settle(&run.tableau).unwrap(), large.solve().unwrap().plan);

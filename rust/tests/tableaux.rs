@@ -1,6 +1,9 @@
 //! Tableaux as lent lists of cells: a list that is not a tableau of the sheet is refused with 6, after the sheet's own refusals and before 7 and 8.
 mod common;
-use common::{cell, columns, dear, dear_last, finished, largest, largest_with_surplus, p1, p1_last, p3, p4, p5, p6, p8, p9, sheet, wide, MARK};
+use common::{
+    both_signs, both_signs_last, cell, columns, dear, dear_last, finished, largest, largest_with_surplus, p1, p1_last, p3, p4, p5, p6, p8, p9, sheet,
+    wide, MARK,
+};
 use panel::{round, run, settle, Cell, Pair, Refusal, Sheet, MAX_LANES};
 
 /// Makes every call that takes a tableau, with these cells; each must refuse alike. Settle does so with any room, and changes nothing.
@@ -30,7 +33,7 @@ fn belonging() -> Vec<(Sheet, Vec<Cell>)> {
         (sheet, cells)
     };
     let sides_31_32 = sheet(&[32; 31], &[31; 32], &[1; 31 * 32]);
-    let mut all = vec![(p1(), p1_last().to_vec()), (p4(), p5().to_vec()), (dear(), dear_last().to_vec())];
+    let mut all = vec![(p1(), p1_last().to_vec()), (p4(), p5().to_vec()), (dear(), dear_last().to_vec()), (both_signs(), both_signs_last().to_vec())];
     all.extend([p6(), p1(), p3(), p4(), sides_31_32, largest()].map(started));
     all.extend([p8(), dear(), wide(40, 31), largest_with_surplus()].map(started));
     all
@@ -271,6 +274,7 @@ fn the_sheet_is_refused_first() {
         (sheet(&[0, 4], &[5, 2], &[4, 1, 2]), Refusal::CostCount),
         (sheet(&[0, 4], &[5, 2], &[1_000_001; 4]), Refusal::Amount),
         (sheet(&[3, 4], &[5, 3], &[1_000_001; 4]), Refusal::Cost),
+        (sheet(&[3, 4], &[5, 3], &[-1_000_001; 4]), Refusal::Cost),
         (sheet(&[3, 4], &[5, 3], &[4, 1, 2, 6]), Refusal::Lacking),
         (wide(40, 32), Refusal::Crowded),
     ] {

@@ -1,6 +1,6 @@
 //! Sheet texts: there and back, the places of those that are none, and those of refused sheets.
 mod common;
-use common::{largest, p1, p8, wide, MARK};
+use common::{both_signs, earns, full, p1, p8, sheet, wide, MARK, SIGNED_MARK};
 use panel::{read_sheet, Refusal, Sheet, MAX_SHEET_TEXT};
 
 const WORKED: &str = include_str!("../../examples/worked.sheet");
@@ -30,12 +30,50 @@ fn there_and_back_with_a_surplus() {
     assert_eq!(Sheet::read(wide(40, 31).text().unwrap().as_bytes()), Ok(wide(40, 31)));
 }
 
+/// The total and the prices may have a minus, and so may the costs.
+#[test]
+fn there_and_back_with_costs_below_0() {
+    for (sheet, text, plan) in [
+        (
+            earns(),
+            "supply 2\n3\n3\ndemand 1\n4\ncost 2\n1\n-5\n",
+            "total 1\n-14\nrounds 1\n1\nroasteries 2\n0\n-6\ncafes 1\n1\nlanes 2\n1 1 1\n2 1 3\n",
+        ),
+        (
+            both_signs(),
+            "supply 2\n2\n3\ndemand 3\n1\n2\n2\ncost 2\n-1 0 -1\n-1 0 2\n",
+            "total 1\n-3\nrounds 1\n2\nroasteries 2\n0\n3\ncafes 3\n-4\n-3\n-1\nlanes 3\n1 3 2\n2 1 1\n2 2 2\n",
+        ),
+        (
+            sheet(&[2], &[2], &[-1_000_000]),
+            &text_of_a_cost("-1000000\n"),
+            "total 1\n-2000000\nrounds 1\n0\nroasteries 1\n0\ncafes 1\n-1000000\nlanes 1\n1 1 2\n",
+        ),
+    ] {
+        assert_eq!(Sheet::read(text.as_bytes()), Ok(sheet.clone()));
+        assert_eq!((sheet.text().unwrap(), sheet.plan_text().unwrap()), (text.to_string(), plan.to_string()));
+    }
+}
+
+/// Two bags for one café, at a cost that is written so. It begins after 29 bytes.
+fn text_of_a_cost(cost: &str) -> String {
+    format!("supply 1\n2\ndemand 1\n2\ncost 1\n{cost}")
+}
+
+#[test]
+fn places_of_costs_with_a_minus() {
+    for (cost, place) in [("-0\n", 30), ("-01\n", 30), ("-", 30), ("-\n", 30), ("--1\n", 30), ("1-\n", 30), ("+1\n", 29), ("-10000000\n", 37)] {
+        assert_eq!(Sheet::read(text_of_a_cost(cost).as_bytes()), Err(Refusal::NotSheetText { place }), "{cost:?}");
+    }
+}
+
 #[test]
 fn the_longest_text() {
-    let text = largest().text().unwrap();
-    assert_eq!((text.len(), MAX_SHEET_TEXT), (8_732, 8_732));
-    assert_eq!(Sheet::read(text.as_bytes()), Ok(largest()));
-    assert_eq!(Sheet::read((text + "\n").as_bytes()), Err(Refusal::NotSheetText { place: 8_732 }));
+    let longest = full(-1_000_000);
+    let text = longest.text().unwrap();
+    assert_eq!((text.len(), MAX_SHEET_TEXT), (9_756, 9_756));
+    assert_eq!(Sheet::read(text.as_bytes()), Ok(longest));
+    assert_eq!(Sheet::read((text + "\n").as_bytes()), Err(Refusal::NotSheetText { place: 9_756 }));
 }
 
 #[test]
@@ -50,6 +88,11 @@ fn places_of_texts_that_are_none() {
         ("supply 1\n01", 10),
         ("supply 1\n12345678", 16),
         ("supply 1\n1234567\n", 17),
+        ("supply -1\n", 7),
+        ("supply 1\n-2\n", 9),
+        ("supply 1\n2\ndemand -1\n", 18),
+        ("supply 1\n2\ndemand 1\n-2\n", 20),
+        ("supply 1\n2\ndemand 1\n2\ncost -1\n", 27),
         ("supply 2\n3\n4\ndemand 2\n5\n2\ncost 3", 31),
         ("supply 2\n3\n4\ndemand 2\n5\n2\ncost 2\n4\n", 34),
         ("supply 2\n3\n4\ndemand 2\n5\n2\ncost 2\n4 1\n2 6", 40),
@@ -65,10 +108,15 @@ fn texts_of_refused_sheets() {
         ("supply 1\n0\ndemand 1\n2\ncost 1\n0\n", Refusal::Amount),
         ("supply 1\n1\ndemand 1\n1000001\ncost 1\n0\n", Refusal::Amount),
         ("supply 1\n1\ndemand 1\n1\ncost 1\n1000001\n", Refusal::Cost),
+        (&text_of_a_cost("-1000001\n"), Refusal::Cost),
+        (&text_of_a_cost("-9999999\n"), Refusal::Cost),
+        ("supply 1\n2\ndemand 1\n3\ncost 1\n-1\n", Refusal::Lacking),
         ("supply 1\n2\ndemand 1\n3\ncost 1\n0\n", Refusal::Lacking),
         (&text_of_32_cafes("40", "0"), Refusal::Crowded),
         (&text_of_32_cafes("33", "0"), Refusal::Crowded),
         (&text_of_32_cafes("31", "0"), Refusal::Lacking),
+        (&text_of_32_cafes("40", "-1"), Refusal::Crowded),
+        (&text_of_32_cafes("40", "-1000001"), Refusal::Cost),
         (&text_of_32_cafes("40", "1000001"), Refusal::Cost),
         (&text_of_32_cafes("1000001", "1000001"), Refusal::Amount),
     ] {
@@ -83,11 +131,11 @@ fn text_of_32_cafes(supply: &str, cost: &str) -> String {
 
 #[test]
 fn room_for_one_lane() {
-    let (mut supply, mut demand, mut cost) = ([MARK], [MARK], [MARK]);
+    let (mut supply, mut demand, mut cost) = ([MARK], [MARK], [SIGNED_MARK]);
     let two_cafes = b"supply 1\n3\ndemand 2\n1\n2\ncost 1\n0 0\n";
     assert_eq!(read_sheet(two_cafes, &mut supply, &mut demand, &mut cost), Err(Refusal::Room));
-    assert_eq!((supply, demand, cost), ([MARK], [MARK], [MARK]));
-    let one_lane = b"supply 1\n3\ndemand 1\n3\ncost 1\n0\n";
+    assert_eq!((supply, demand, cost), ([MARK], [MARK], [SIGNED_MARK]));
+    let one_lane = b"supply 1\n3\ndemand 1\n3\ncost 1\n-7\n";
     assert_eq!(read_sheet(one_lane, &mut supply, &mut demand, &mut cost), Ok((1, 1)));
-    assert_eq!((supply, demand, cost), ([3], [3], [0]));
+    assert_eq!((supply, demand, cost), ([3], [3], [-7]));
 }

@@ -8,11 +8,11 @@
 #include <stdlib.h>
 #include <string.h>
 
-enum { STACK = 1 << 20, TOLD = 96 << 10, MARK = 0x5a, SIDE = PANEL_MAX_SIDE, LANES = SIDE * SIDE, SHEET_TEXT = 8732, PLAN_TEXT = 15059 };
+enum { STACK = 1 << 20, TOLD = 96 << 10, MARK = 0x5a, SIDE = PANEL_MAX_SIDE, LANES = SIDE * SIDE, SHEET_TEXT = 9756, PLAN_TEXT = 15060 };
 
-static uint64_t supply[SIDE], demand[SIDE], cost[LANES], plan[LANES];
+static uint64_t supply[SIDE], demand[SIDE], plan[LANES];
 static size_t cafes;
-static int64_t u[SIDE], v[SIDE];
+static int64_t cost[LANES], u[SIDE], v[SIDE];
 static uint8_t sheet_text[SHEET_TEXT], plan_text[PLAN_TEXT];
 static size_t sheet_length;
 static struct panel_tableau first, last;
@@ -82,13 +82,13 @@ static size_t stack_of(void (*make)(void)) {
     return STACK - kept;
 }
 
-/* The largest sheet, with costs up to `top` and bags up to `bags`: balanced, or without its last café and so with a surplus. */
-static void make_sheet(uint64_t top, uint64_t bags, int surplus) {
+/* The largest sheet, with costs from -`top` to `top` and bags up to `bags`: balanced, or without its last café and so with a surplus. */
+static void make_sheet(uint32_t top, uint32_t bags, int surplus) {
     uint32_t seed = 1;
     cafes = surplus ? SIDE - 1 : SIDE;
     for (size_t k = 0; k < LANES; k++) {
         seed = seed * 1664525u + 1013904223u;
-        cost[k] = (seed >> 8) % (top + 1);
+        cost[k] = (int64_t)((seed >> 8) % (2 * top + 1)) - top;
     }
     for (size_t k = 0; k < SIDE; k++) {
         seed = seed * 1664525u + 1013904223u;
@@ -97,7 +97,7 @@ static void make_sheet(uint64_t top, uint64_t bags, int surplus) {
 }
 
 int main(void) {
-    static const uint64_t tops[] = {1000000, 1000, 3, 0}, bags[] = {1000000, 1000, 5, 1};
+    static const uint32_t tops[] = {1000000, 1000, 3, 0}, bags[] = {1000000, 1000, 5, 1};
     size_t most[CALLS] = {0};
     int failed = 0;
     for (size_t s = 0; s < 2 * sizeof tops / sizeof *tops; s++) {

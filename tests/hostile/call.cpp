@@ -17,7 +17,7 @@ size_t width_of(Entry entry) { return entry == Entry::write_sheet || entry == En
 // ---- results
 
 static void add(Fields &fields, const char *name, uint64_t value, size_t index = 0) { fields.push_back({name, index, value, false}); }
-static void add_signed(Fields &fields, const char *name, int64_t value, size_t index) { fields.push_back({name, index, (uint64_t)value, true}); }
+static void add_signed(Fields &fields, const char *name, int64_t value, size_t index = 0) { fields.push_back({name, index, (uint64_t)value, true}); }
 
 // As the byte that it is, since it may be one that no bool has.
 static void add(Fields &fields, const char *name, const bool &value) {
@@ -70,7 +70,7 @@ Fields fields_of(const panel_run_result &result) {
 
 Fields fields_of(const panel_solve_result &result) {
     Fields fields = with_refusal(result.refusal);
-    add(fields, "cost", result.cost);
+    add_signed(fields, "cost", result.cost);
     add(fields, "rounds", result.rounds);
     return fields;
 }
@@ -128,14 +128,17 @@ static Loans lent_to_fill(const Call &call) {
 }
 
 static Fields called_with_text(const Call &call, const Loans &read, const Loans &fill) {
-    auto list = [&](size_t k) { return fill[k].lent.items<uint64_t>(); };
-    return fields_of(panel_read_sheet(read[0].lent.items<uint8_t>(), call.text.size(), list(0), call.rooms[0], list(1), call.rooms[1], list(2), call.rooms[2]));
+    auto amounts = [&](size_t k) { return fill[k].lent.items<uint64_t>(); };
+    const uint8_t *text = read[0].lent.items<uint8_t>();
+    int64_t *cost = fill[2].lent.items<int64_t>();
+    return fields_of(panel_read_sheet(text, call.text.size(), amounts(0), call.rooms[0], amounts(1), call.rooms[1], cost, call.rooms[2]));
 }
 
 static Fields called(const Lists &sheet, const Call &call, const Loans &read, const Loans &fill) {
-    auto list = [&](size_t k) { return read[k].lent.items<uint64_t>(); };
+    auto amounts = [&](size_t k) { return read[k].lent.items<uint64_t>(); };
     auto with_sheet = [&](auto entry, auto... rest) {
-        return fields_of(entry(list(0), sheet.supply.size(), list(1), sheet.demand.size(), list(2), sheet.cost.size(), rest...));
+        const int64_t *cost = read[2].lent.items<int64_t>();
+        return fields_of(entry(amounts(0), sheet.supply.size(), amounts(1), sheet.demand.size(), cost, sheet.cost.size(), rest...));
     };
     auto with_tableau = [&](auto entry, auto... rest) { return with_sheet(entry, read[3].lent.items<panel_cell>(), call.cells.size(), rest...); };
     auto price = [&](size_t k) { return fill[k].lent.items<int64_t>(); };
@@ -174,7 +177,7 @@ Outcome outcome_of(const Lists &sheet, const Call &call) {
 
 static const size_t most_shown = 2'000;
 
-static void show(std::ostream &text, const char *name, const Numbers &numbers) {
+template <class Number> static void show(std::ostream &text, const char *name, const std::vector<Number> &numbers) {
     text << "  " << name << " " << numbers.size() << ":";
     for (size_t k = 0; k < std::min(numbers.size(), most_shown); k++) text << " " << numbers[k];
     text << (numbers.size() > most_shown ? " ..\n" : "\n");

@@ -44,6 +44,7 @@ void Holder::note(const Known &known, const Call &call, const Outcome &outcome) 
     bool has_plan = call.entry == Entry::settle || call.entry == Entry::solve || call.entry == Entry::write_plan;
     if (refusal == no_refusal && has_plan) tally.count("plans searched", has_few_plans(known.sheet));
     if (call.entry == Entry::run || call.entry == Entry::solve) tally.note_most("most rounds", outcome.fields[2].value);
+    if (call.entry == Entry::solve) tally.count("with a total below 0", (Whole)outcome.fields[1].value < 0);
 }
 
 void Holder::hold(Known &known, Call call) {
@@ -195,6 +196,8 @@ static void any_text_case(Holder &holder) {
     hold_text(holder, text);
 }
 
+static void minus_text_case(Holder &holder) { hold_text(holder, text_of_minuses(holder.dice)); }
+
 // ---- lists that are no sheet
 
 using ChangeLists = void (*)(Dice &, Lists &);
@@ -260,6 +263,7 @@ static const std::vector<CallKind> call_kinds = {
     {"write plan in any room", filling_case<Entry::write_plan>},
     {"read sheet in any room", sheet_text_case},
     {"read sheet from any text", any_text_case},
+    {"read sheet from texts with a minus", minus_text_case},
     {"lists of other sizes", changed_lists_case<change_sizes>},
     {"lists of other numbers", changed_lists_case<change_numbers>},
     {"lists of other totals", changed_lists_case<change_totals>},

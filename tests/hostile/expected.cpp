@@ -119,7 +119,7 @@ static Outcome expected_solve(Known &known, const Call &call) {
     if (result.refusal == no_refusal && any_too_short(call.rooms, needs_of(known, call))) result.refusal = 8;
     if (result.refusal != no_refusal) return {fields_of(result), lists_after(call, {}), {}};
     const Solution &solution = known.solution();
-    result.cost = (uint64_t)solution.cost;
+    result.cost = solution.cost;
     result.rounds = solution.rounds;
     return {fields_of(result), lists_after(call, {bytes_of(solution.prices.u), bytes_of(solution.prices.v), bytes_of(joined(solution.plan))}), {}};
 }

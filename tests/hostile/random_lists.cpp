@@ -14,7 +14,7 @@ static size_t odd_size(Dice &dice, size_t had) {
 }
 
 // With the numbers that are there again and again.
-static void resize(Numbers &list, size_t size) {
+template <class Number> static void resize(std::vector<Number> &list, size_t size) {
     size_t had = std::max<size_t>(1, list.size());
     size = std::min(size, longest);
     list.resize(size, 1);
@@ -50,13 +50,19 @@ static uint64_t odd_amount(Dice &dice, uint64_t bags) {
                                   dice.any()});
 }
 
-static uint64_t odd_cost(Dice &dice, uint64_t cost) {
-    return dice.one_of<uint64_t>({0, most, most + 1, bit31, bit32, bit32 + cost, bit63, bit63 + cost, UINT64_MAX, -cost, dice.any()});
+// The number that has these bits.
+static Whole signed_of(uint64_t bits) { return (Whole)bits; }
+
+static Whole odd_cost(Dice &dice, Whole cost) {
+    uint64_t bits = (uint64_t)cost;
+    return dice.one_of({0, -1, most, -most, most + 1, -most - 1, signed_of(-bits), signed_of(bit31), signed_of(-bit31), signed_of(bit31 + bits),
+                        signed_of(bit32), signed_of(bit32 + bits), signed_of(bits - bit32), signed_of(bit63), signed_of(bit63 + bits), INT64_MAX, INT64_MIN + 1,
+                        signed_of(dice.any())});
 }
 
-static void change_some(Dice &dice, Numbers &list, uint64_t (*odd)(Dice &, uint64_t)) {
+template <class Number> static void change_some(Dice &dice, std::vector<Number> &list, Number (*odd)(Dice &, Number)) {
     if (list.empty()) return;
-    uint64_t &number = dice.once_in(3) ? list.back() : dice.one_of(list);
+    Number &number = dice.once_in(3) ? list.back() : dice.one_of(list);
     number = odd(dice, number);
 }
 

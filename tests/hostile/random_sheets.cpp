@@ -83,31 +83,38 @@ static void any_bags(Dice &dice, Sheet &sheet) {
 
 // ---- costs
 
-void random_costs(Dice &dice, Sheet &sheet, Whole top) {
-    for (List &row : sheet.cost)
-        for (Whole &cost : row) cost = dice.between(0, top);
+// The least and the greatest cost: from 0 on, up to 0, or of both signs.
+static std::pair<Whole, Whole> any_range(Dice &dice, Whole top) {
+    return dice.one_of(std::initializer_list<std::pair<Whole, Whole>>{{0, top}, {-top, 0}, {-top, top}, {-top, dice.between(-top, top)}});
 }
 
-// Nothing or the most. The prices of the first tableaux grow large.
-static void far_costs(Dice &dice, Sheet &sheet) {
+void random_costs(Dice &dice, Sheet &sheet, Whole top) {
+    auto [low, high] = any_range(dice, top);
     for (List &row : sheet.cost)
-        for (Whole &cost : row) cost = dice.one_of({0, most});
+        for (Whole &cost : row) cost = dice.between(low, high);
+}
+
+// The least or the greatest. The prices of the first tableaux grow large.
+static void far_costs(Dice &dice, Sheet &sheet) {
+    auto [low, high] = any_range(dice, most);
+    for (List &row : sheet.cost)
+        for (Whole &cost : row) cost = dice.one_of({low, high});
 }
 
 // A part for the roastery and a part for the café, so that every plan costs the same; or nearly so.
 static void summed_costs(Dice &dice, Sheet &sheet) {
-    Whole top = dice.one_of({0, 2, most / 2});
+    auto [low, high] = any_range(dice, dice.one_of({0, 2, most / 2}));
     List columns(sheet.n());
-    for (Whole &part : columns) part = dice.between(0, top);
+    for (Whole &part : columns) part = dice.between(low, high);
     for (List &row : sheet.cost) {
-        Whole part = dice.between(0, top);
+        Whole part = dice.between(low, high);
         for (size_t j = 0; j < row.size(); j++) row[j] = part + columns[j];
     }
-    for (size_t change = dice.below(4); change > 0; change--) dice.one_of(dice.one_of(sheet.cost)) = dice.between(0, 2 * top);
+    for (size_t change = dice.below(4); change > 0; change--) dice.one_of(dice.one_of(sheet.cost)) = dice.between(2 * low, 2 * high);
 }
 
 static void equal_costs(Dice &dice, Sheet &sheet) {
-    Whole cost = dice.one_of({0, 1, dice.between(0, most), most});
+    Whole cost = dice.one_of({0, 1, -1, dice.between(-most, most), most, -most});
     for (List &row : sheet.cost) row.assign(row.size(), cost);
 }
 
@@ -124,11 +131,12 @@ static Whole orderly_cost(int order, Whole i, Whole j) {
     }
 }
 
+// Those of an order, as they are or less some, or as far on the other side of 0.
 static void orderly_costs(Dice &dice, Sheet &sheet) {
     int order = (int)dice.below(8);
-    Whole factor = dice.one_of({1, 1, most / 961});
+    Whole factor = dice.one_of({1, 1, most / 961, -1, -most / 961}), less = dice.one_of({0, 0, 7, 480});
     for (size_t i = 0; i < sheet.m(); i++)
-        for (size_t j = 0; j < sheet.n(); j++) sheet.cost[i][j] = factor * orderly_cost(order, (Whole)i, (Whole)j);
+        for (size_t j = 0; j < sheet.n(); j++) sheet.cost[i][j] = factor * (orderly_cost(order, (Whole)i, (Whole)j) - less);
 }
 
 static void any_costs(Dice &dice, Sheet &sheet) {
@@ -227,13 +235,15 @@ Sheet unequal_sheet(Dice &dice) {
 
 static Whole at_the_limits(Dice &dice) { return dice.one_of({0, 1, most - 1, most, most + 1, seven_nines}); }
 
+static Whole cost_at_the_limits(Dice &dice) { return dice.one_of({1, -1}) * at_the_limits(dice); }
+
 Sheet sheet_at_the_limits(Dice &dice) {
     Sheet sheet = dice.once_in(4) ? sheet_of_many_cafes(dice) : any_sheet(dice);
     for (size_t change = 1 + dice.below(3); change > 0; change--)
         switch (dice.below(4)) {
         case 0: dice.one_of(sheet.supply) = at_the_limits(dice); break;
         case 1: dice.one_of(sheet.demand) = at_the_limits(dice); break;
-        default: dice.one_of(dice.one_of(sheet.cost)) = at_the_limits(dice);
+        default: dice.one_of(dice.one_of(sheet.cost)) = cost_at_the_limits(dice);
         }
     return sheet;
 }

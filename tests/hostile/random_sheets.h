@@ -11,6 +11,7 @@ const size_t full = 32;
 Sheet blank(size_t m, size_t n);
 // A sheet of this size with random bags and costs.
 Sheet filled(Dice &dice, Sheet sheet);
+// Up to `top` in size: none below 0, none above 0, or of both signs.
 void random_costs(Dice &dice, Sheet &sheet, Whole top);
 
 // Balanced or with a surplus, and accepted.

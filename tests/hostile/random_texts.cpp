@@ -78,7 +78,8 @@ static std::string edited_text(Dice &dice) {
 // A number that is odd in some way, also one that is still a number.
 static std::string odd_number(Dice &dice, const std::string &number) {
     static const std::vector<std::string> fixed = {"", "0", "00", "1", "-0", "-1", "+1", "31", "32", "33", "1000000", "1000001", "9999999",
-                                                   "0000001", "10000000", "99999999", "4294967297", "18446744073709551617", "1e3", "0x1"};
+                                                   "0000001", "10000000", "99999999", "4294967297", "18446744073709551617", "1e3", "0x1",
+                                                   "-1000000", "-1000001", "-4294967295", "-9223372036854775808"};
     static const std::vector<std::string> before = {"0", "00", "-", "+", " ", "1", "\t", "."};
     static const std::vector<std::string> after = {"0", "00000", " ", "\r", ".0", ",", "\t", "7"};
     switch (dice.below(4)) {
@@ -86,6 +87,21 @@ static std::string odd_number(Dice &dice, const std::string &number) {
     case 1: return number + dice.one_of(after);
     case 2: return std::to_string(std::strtoll(number.c_str(), nullptr, 10) + dice.between(-1, 1));
     default: return dice.one_of(fixed);
+    }
+}
+
+// The number on the other side of 0; or a minus before a 0 or too many digits, doubled, alone, within the number or after it.
+static std::string number_with_minus(Dice &dice, const std::string &number) {
+    static const std::vector<std::string> fixed = {"-", "-0", "-00", "-1", "-9", "-1000000", "-1000001", "-9999999", "-10000000", "-99999999"};
+    size_t within = dice.below(number.size() + 1);
+    switch (dice.below(8)) {
+    case 0: return dice.one_of(fixed);
+    case 1: return "--" + number;
+    case 2: return "-0" + number;
+    case 3: return number + "-";
+    case 4: return number.substr(0, within) + "-" + number.substr(within);
+    case 5: return dice.one_of({"- ", "-+", "+", "-\n"}) + number;
+    default: return number[0] == '-' ? number.substr(1) : "-" + number;
     }
 }
 
@@ -102,15 +118,34 @@ static std::string text_of_changed_counts(Dice &dice) {
     return joined(lines);
 }
 
-static std::string text_of_odd_numbers(Dice &dice) {
-    std::vector<std::string> lines = lines_of(any_text(dice));
-    std::string &line = dice.one_of(lines);
+using ChangeNumber = std::string (*)(Dice &, const std::string &);
+
+// Changes a number of the line, or its word.
+static void change_number(Dice &dice, std::string &line, ChangeNumber changed) {
     std::vector<size_t> starts = {0};
     for (size_t k = 0; k < line.size(); k++)
         if (line[k] == ' ') starts.push_back(k + 1);
     size_t from = dice.one_of(starts), end = std::min(line.find(' ', from), line.size());
-    line.replace(from, end - from, odd_number(dice, line.substr(from, end - from)));
+    line.replace(from, end - from, changed(dice, line.substr(from, end - from)));
+}
+
+static std::string text_of_odd_numbers(Dice &dice) {
+    std::vector<std::string> lines = lines_of(any_text(dice));
+    change_number(dice, dice.one_of(lines), odd_number);
     return joined(lines);
+}
+
+// Some texts end with the line, or with a minus.
+std::string text_of_minuses(Dice &dice) {
+    std::vector<std::string> lines = lines_of(any_text(dice));
+    size_t costs = (size_t)(std::find_if(lines.rbegin(), lines.rend(), is_first_line) - lines.rbegin());
+    size_t place = lines.size() - 1 - dice.below(dice.once_in(3) ? lines.size() : costs);
+    change_number(dice, lines[place], number_with_minus);
+    if (dice.once_in(4)) lines.resize(place + 1);
+    std::string text = joined(lines);
+    size_t last = text.rfind('-');
+    if (last != std::string::npos && dice.once_in(8)) text.resize(last + 1);
+    return text;
 }
 
 static std::string text_of_odd_lines(Dice &dice) {
@@ -131,15 +166,15 @@ static std::string text_of_odd_lines(Dice &dice) {
     return joined(lines);
 }
 
-// With the longest numbers. Some are as the dice say, so that it may be refused by 3 or 4.
+// With the longest numbers, which for costs have a minus. Some are as the dice say, so that it may be refused by 3 or 4.
 static std::string longest_text(Dice &dice) {
     Sheet sheet = blank(full, full);
     sheet.supply.assign(full, most);
     sheet.demand.assign(full, most);
-    for (List &row : sheet.cost) row.assign(full, most);
+    for (List &row : sheet.cost) row.assign(full, -most);
     if (dice.once_in(8)) dice.one_of(sheet.supply) = dice.between(most, seven_nines);
     if (dice.once_in(8)) dice.one_of(sheet.demand) = dice.between(most, seven_nines);
-    if (dice.once_in(8)) dice.one_of(dice.one_of(sheet.cost)) = dice.between(most, seven_nines);
+    if (dice.once_in(8)) dice.one_of(dice.one_of(sheet.cost)) = -dice.between(most, seven_nines);
     return sheet_text(sheet);
 }
 
@@ -198,6 +233,7 @@ const std::vector<TextKind> text_kinds = {
     {"texts with edited bytes", edited_text},
     {"texts with changed counts", text_of_changed_counts},
     {"texts with odd numbers", text_of_odd_numbers},
+    {"texts with a minus", text_of_minuses},
     {"texts with odd lines", text_of_odd_lines},
     {"long texts", long_text},
     {"noise", noise},

@@ -43,13 +43,13 @@ Sheet sheet_of(const Lists &lists) {
 
 // ---- refusals
 
-static bool any_outside(const Numbers &list, uint64_t low, uint64_t high) {
-    return std::any_of(list.begin(), list.end(), [&](uint64_t number) { return number < low || number > high; });
+template <class Number> static bool any_outside(const std::vector<Number> &list, Number low, Number high) {
+    return std::any_of(list.begin(), list.end(), [&](Number number) { return number < low || number > high; });
 }
 
 static int refusal_of_numbers(const Lists &lists) {
-    if (any_outside(lists.supply, 1, most) || any_outside(lists.demand, 1, most)) return 3;
-    if (any_outside(lists.cost, 0, most)) return 4;
+    if (any_outside<uint64_t>(lists.supply, 1, most) || any_outside<uint64_t>(lists.demand, 1, most)) return 3;
+    if (any_outside(lists.cost, -most, most)) return 4;
     auto sum = [](const Numbers &list) { return std::accumulate(list.begin(), list.end(), uint64_t{0}); };
     if (sum(lists.supply) < sum(lists.demand)) return 5;
     if (sum(lists.supply) > sum(lists.demand) && lists.demand.size() == most_parties) return 10;
@@ -105,10 +105,13 @@ bool Automaton::may_follow_in_first_line(char byte) const {
 bool Automaton::may_follow_in_row(char byte) const {
     size_t numbers = 1 + (size_t)std::count(line.begin(), line.end(), ' ');
     std::string number = line.substr(line.rfind(' ') + 1);
-    if (number.empty()) return '0' <= byte && byte <= '9';
+    bool is_digit = '0' <= byte && byte <= '9', is_cost = begun == 3;
+    if (number.empty()) return is_digit || (is_cost && byte == '-');
+    if (number == "-") return is_digit && byte != '0';
     if (byte == ' ') return numbers < width();
     if (byte == '\n') return numbers == width();
-    return '0' <= byte && byte <= '9' && number != "0" && number.size() < most_digits;
+    size_t digits = number[0] == '-' ? number.size() - 1 : number.size();
+    return is_digit && number != "0" && digits < most_digits;
 }
 
 void Automaton::take(char byte) {

@@ -1,5 +1,5 @@
-// What the program has to print for any input, and what the calls have to give, found in the plainest way from the words of paper 01 and of paper 02, One.
-// Shares nothing with the panel's code.
+// What the program has to print for any input, and what the calls have to give, found in the plainest way from the words of paper 01 and of paper 02, One and
+// Two. Shares nothing with the panel's code.
 #ifndef REFERENCE_H
 #define REFERENCE_H
 
@@ -33,7 +33,8 @@ Sheet extended(const Sheet &sheet);
 // A sheet as it is lent: lists of any length, with any numbers.
 using Numbers = std::vector<uint64_t>;
 struct Lists {
-    Numbers supply, demand, cost;
+    Numbers supply, demand;
+    List cost;
 };
 
 Lists lists_of(const Sheet &sheet);

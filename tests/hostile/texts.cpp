@@ -1,5 +1,5 @@
-// Holds a program to the reference: to the samples of paper 01 and to sheets with a surplus, and then to COUNT texts that are made from a seed, of each kind in
-// turn. A kind of text is one test. A case that differs is told in full; with its number as FIRST and a count of 1 it runs alone.
+// Holds a program to the reference: to the samples of paper 01, to sheets with a surplus and to costs below 0, and then to COUNT texts that are made from a
+// seed, of each kind in turn. A kind of text is one test. A case that differs is told in full; with its number as FIRST and a count of 1 it runs alone.
 #include "program.h"
 #include "random_texts.h"
 #include "report.h"
@@ -30,7 +30,7 @@ static bool agrees(const std::string &program, const std::string &name, const st
     return false;
 }
 
-// ---- the samples of paper 01, and sheets with a surplus for paper 02, One
+// ---- the samples of paper 01, and for paper 02 sheets with a surplus (One) and with costs below 0 (Two)
 
 struct Sample {
     const char *name;
@@ -45,6 +45,8 @@ static const Sheet split = {{3, 3}, {2, 2}, {{1, 9}, {9, 1}}};
 static const Sheet even = {{3, 3}, {4}, {{1}, {1}}};
 static const Sheet extra_first = {{1, 2}, {1, 1}, {{2, 2}, {0, 1}}};
 static const Sheet extra_later = {{1, 3}, {2, 1}, {{3, 0}, {2, 0}}};
+static const Sheet earns = {{3, 3}, {4}, {{1}, {-5}}};
+static const Sheet both_signs = {{2, 3}, {1, 2, 2}, {{-1, 0, -1}, {-1, 0, 2}}};
 
 static std::string single(Whole supply, Whole demand, Whole cost) { return sheet_text({{supply}, {demand}, {{cost}}}); }
 
@@ -59,6 +61,22 @@ static std::string wide_plan(size_t cafes) {
     }
     return "total 1\n" + count + "\nrounds 1\n0\nroasteries 1\n0\ncafes " + count + "\n" + prices + "lanes " + count + "\n" + lanes;
 }
+
+// The fullest sheet, all lanes at one cost, and its plan.
+static std::string full_text(Whole cost) { return sheet_text({List(full, most), List(full, most), Grid(full, List(full, cost))}); }
+
+static std::string full_plan(Whole cost, const std::string &total) {
+    std::string roasteries, cafes, lanes;
+    for (size_t k = 1; k <= full; k++) {
+        roasteries += "0\n";
+        cafes += std::to_string(cost) + "\n";
+        lanes += std::to_string(k) + " " + std::to_string(k) + " 1000000\n";
+    }
+    return "total 1\n" + total + "\nrounds 1\n0\nroasteries 32\n" + roasteries + "cafes 32\n" + cafes + "lanes 32\n" + lanes;
+}
+
+// Two bags, and a cost that is written so. It begins after 29 bytes.
+static std::string with_cost(const std::string &cost) { return "supply 1\n2\ndemand 1\n2\ncost 1\n" + cost; }
 
 static const std::vector<Sample> samples = {
     {"P1", "supply 2\n3\n4\ndemand 2\n5\n2\ncost 2\n4 1\n2 6\n",
@@ -84,6 +102,29 @@ static const std::vector<Sample> samples = {
     {"32 cafés and none", wide(32, 32), wide_plan(32)},
     {"32 cafés and a surplus", wide(40, 32), "refused 10\n"},
     {"32 cafés and too few bags", wide(31, 32), "refused 5\n"},
+    {"the lane that earns goes full", sheet_text(earns), "total 1\n-14\nrounds 1\n1\nroasteries 2\n0\n-6\ncafes 1\n1\nlanes 2\n1 1 1\n2 1 3\n"},
+    {"costs of both signs", sheet_text(both_signs),
+     "total 1\n-3\nrounds 1\n2\nroasteries 2\n0\n3\ncafes 3\n-4\n-3\n-1\nlanes 3\n1 3 2\n2 1 1\n2 2 2\n"},
+    {"the least cost", single(1'000'000, 1'000'000, -1'000'000),
+     "total 1\n-1000000000000\nrounds 1\n0\nroasteries 1\n0\ncafes 1\n-1000000\nlanes 1\n1 1 1000000\n"},
+    {"the greatest total", full_text(most), full_plan(most, "32000000000000")},
+    {"the least total, of the longest text", full_text(-most), full_plan(-most, "-32000000000000")},
+    {"the longest text and a byte", full_text(-most) + "\n", "refused 9 9756\n"},
+    {"-3", with_cost("-3\n"), "total 1\n-6\nrounds 1\n0\nroasteries 1\n0\ncafes 1\n-3\nlanes 1\n1 1 2\n"},
+    {"-1000001", with_cost("-1000001\n"), "refused 4\n"},
+    {"1000001", with_cost("1000001\n"), "refused 4\n"},
+    {"-9999999", with_cost("-9999999\n"), "refused 4\n"},
+    {"-10000000", with_cost("-10000000\n"), "refused 9 37\n"},
+    {"-0", with_cost("-0\n"), "refused 9 30\n"},
+    {"-01", with_cost("-01\n"), "refused 9 30\n"},
+    {"- at the end", with_cost("-"), "refused 9 30\n"},
+    {"- alone", with_cost("-\n"), "refused 9 30\n"},
+    {"--1", with_cost("--1\n"), "refused 9 30\n"},
+    {"1-", with_cost("1-\n"), "refused 9 30\n"},
+    {"+1", with_cost("+1\n"), "refused 9 29\n"},
+    {"a count with a minus", "supply -1\n", "refused 9 7\n"},
+    {"a supply with a minus", "supply 1\n-2\n", "refused 9 9\n"},
+    {"a demand with a minus", "supply 1\n2\ndemand 1\n-2\n", "refused 9 20\n"},
 };
 
 static bool samples_are_met(const std::string &program) {
@@ -145,6 +186,20 @@ static bool meets_extra_cafe() {
     return met && tableau == Tableau{{{0, 0}, {1, -1}}, {{0, 1}, {2, 2}}, {{1, 0}, {3, 1}}};
 }
 
+// The plans of the start and of the round after it cost 3 and 0, that of the next -3.
+static bool meets_falling_costs() {
+    Tableau tableau = start(both_signs);
+    std::vector<Tableau> seen = {tableau};
+    for (int round = 0; round < 2; round++) {
+        make_round(both_signs, tableau, least_lane(both_signs, prices(both_signs, tableau)));
+        seen.push_back(tableau);
+    }
+    return seen[0] == Tableau{{{0, 0}, {1, 0}}, {{0, 1}, {1, 1}}, {{1, 1}, {1, -1}}, {{1, 2}, {2, 2}}} &&
+           seen[1] == Tableau{{{0, 0}, {1, 0}}, {{0, 2}, {1, 1}}, {{1, 1}, {2, 0}}, {{1, 2}, {1, 1}}} &&
+           seen[2] == Tableau{{{0, 2}, {2, 1}}, {{1, 0}, {1, 0}}, {{1, 1}, {2, 0}}, {{1, 2}, {0, 1}}} &&
+           cost_of(both_signs, {{1, 1, 0}, {0, 1, 2}}) == 3 && cost_of(both_signs, {{1, 0, 1}, {0, 2, 1}}) == 0;
+}
+
 // The first lane of the least reduced cost enters, of the extra café or not.
 static bool meets_entering_lane(const Sheet &sheet, Lane lane, Lane other) {
     Sheet extended = ::extended(sheet);
@@ -154,7 +209,8 @@ static bool meets_entering_lane(const Sheet &sheet, Lane lane, Lane other) {
 
 static void test_samples(const std::string &program) {
     test("the papers' samples, by the program and by the reference", samples_are_met(program));
-    bool met = meets_first_round() && meets_allowances() && meets_tied_start() && meets_small_step() && meets_other_end() && meets_extra_cafe();
+    bool met = meets_first_round() && meets_allowances() && meets_tied_start() && meets_small_step() && meets_other_end() && meets_extra_cafe() &&
+               meets_falling_costs();
     met &= meets_entering_lane(extra_first, {0, 2}, {1, 0}) && meets_entering_lane(extra_later, {0, 1}, {0, 2});
     test("the papers' tableaux, by the reference", met);
 }
@@ -172,8 +228,10 @@ static void note(Tally &tally, const std::string &text, const std::string &expec
     tally.count("plans");
     tally.count("with a surplus", surplus(reading.sheet) > 0);
     tally.count("plans searched", has_few_plans(reading.sheet));
-    long long rounds = 0;
-    if (std::sscanf(expected.c_str(), "total 1 %*d rounds 1 %lld", &rounds) == 1) tally.note_most("most rounds", (uint64_t)rounds);
+    long long cost = 0, rounds = 0;
+    if (std::sscanf(expected.c_str(), "total 1 %lld rounds 1 %lld", &cost, &rounds) != 2) return;
+    tally.count("with a total below 0", cost < 0);
+    tally.note_most("most rounds", (uint64_t)rounds);
 }
 
 static void run_case(const std::string &program, const Case &at_hand, Tally &tally) {

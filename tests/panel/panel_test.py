@@ -1,5 +1,6 @@
 """Holds the program to stored texts, to a search through all plans, and to plans that prove themselves, on balanced sheets and on
-sheets with a surplus; and its reading and writing to docs/FORMATS.md. The variable PANEL may name another program to hold to them.
+sheets with a surplus, with costs of both signs; and its reading and writing to docs/FORMATS.md. The variable PANEL may name another
+program to hold to them.
 
 P2, P5 and P9 of paper 01 speak of run and settle on tableaux, which no text can ask for: rust/tests has them.
 """
@@ -23,7 +24,8 @@ sys.dont_write_bytecode = True
 sys.path.insert(0, str(EXAMPLES))
 import check_plan  # noqa: E402
 
-LONGEST = 8_732
+LONGEST = 9_756
+MOST = 1_000_000
 CANNOT_READ = b"panel: cannot read standard input\n"
 CANNOT_WRITE = b"panel: cannot write standard output\n"
 WORKED = (EXAMPLES / "worked.sheet").read_bytes()
@@ -114,13 +116,23 @@ def lane_section(lanes):
     return "".join([f"lanes {len(lanes)}\n"] + [f"{i} {j} {bags}\n" for i, j, bags in lanes]).encode()
 
 
-def random_sheet(rng, m, n, bags, top):
-    """The sheet that a random plan with up to `bags` on a lane meets, with costs up to `top`."""
+def plan_text(total, rounds, u, v, lanes):
+    lines = ["total 1", total, "rounds 1", rounds, f"roasteries {len(u)}", *u, f"cafes {len(v)}", *v]
+    return "".join(f"{line}\n" for line in lines).encode() + lane_section(lanes)
+
+
+def random_sheet(rng, m, n, bags, low, high):
+    """The sheet that a random plan with up to `bags` on a lane meets, with costs from `low` to `high`."""
     while True:
         plan = [[rng.randint(0, bags) for _ in range(n)] for _ in range(m)]
         supply, demand = [sum(row) for row in plan], [sum(column) for column in zip(*plan)]
         if min(supply + demand) > 0:
-            return supply, demand, [[rng.randint(0, top) for _ in range(n)] for _ in range(m)]
+            return supply, demand, [[rng.randint(low, high) for _ in range(n)] for _ in range(m)]
+
+
+def any_range(rng, top):
+    """The least and the greatest cost, at most `top` in size: from 0 on, up to 0, or of both signs."""
+    return rng.choice([(0, top), (-top, 0), (-top, top), (-top, rng.randint(-top, top))])
 
 
 def with_surplus(rng, sheet, bags):
@@ -128,7 +140,7 @@ def with_surplus(rng, sheet, bags):
     supply, demand, cost = sheet
     more = [rng.randint(0, bags) for _ in supply]
     more[rng.randrange(len(supply))] += 1
-    return [min(have + got, 1_000_000) for have, got in zip(supply, more)], demand, cost
+    return [min(have + got, MOST) for have, got in zip(supply, more)], demand, cost
 
 
 def row_plans(left, wanted, spare):
@@ -181,7 +193,7 @@ def stored_cases():
 
 def every_place():
     """On a sheet text cut anywhere the place is its length, and on one with a byte that no sheet text has, it is the bytes before it."""
-    strangers = b"\0\t\r-./:@AZ`{\x7f\x80\xff"
+    strangers = b"\0\t\r+./:@AZ`{\x7f\x80\xff"
     for k in range(len(WORKED)):
         stranger = strangers[k % len(strangers)]
         refused = b"refused 9 %d\n" % k
@@ -189,18 +201,39 @@ def every_place():
         test(f"the worked sheet with byte {stranger} at {k}", answers(WORKED[:k] + bytes([stranger]) + WORKED[k + 1:], refused))
 
 
+def is_planned(sheet):
+    """Whether the program gives the total and the lanes that a search through all plans finds."""
+    plan = run([PANEL], sheet_text(*sheet))[0]
+    total, lanes = best_total_and_lanes(*sheet)
+    return plan.startswith(total) and plan.endswith(b"\n" + lanes)
+
+
+def every_minus():
+    """A minus may stand where a cost begins, and nowhere else. Alone there, or before another or a 0, it is the last byte that is read.
+    The costs of the worked sheet have one digit each."""
+    costs = WORKED.index(b"cost 2\n") + len(b"cost 2\n")
+    starts = [k for k in range(costs, len(WORKED)) if WORKED[k:k + 1].isdigit()]
+    for k in range(len(WORKED) + 1):
+        before, after = WORKED[:k], WORKED[k:]
+        stuck = b"refused 9 %d\n" % (k + (k in starts))
+        test(f"the worked sheet with - for byte {k}", answers(before + b"-" + after[1:], stuck))
+        test(f"the worked sheet with -- before byte {k}", answers(before + b"--" + after, stuck))
+        test(f"the worked sheet with -0 before byte {k}", answers(before + b"-0" + after, stuck))
+        text = before + b"-" + after
+        good = is_planned(check_plan.read_sheet(text.decode())) if k in starts else answers(text, stuck)
+        test(f"the worked sheet with - before byte {k}", good)
+
+
 def hold_small_sheets(name, count, make):
     rng = random.Random(11)
     other, unproved = [], []
     for _ in range(count):
-        bags = rng.randint(1, 3)
-        sheet = make(rng, random_sheet(rng, rng.randint(1, 3), rng.randint(1, 3), bags, rng.choice([0, 1, 2, 5, 1_000_000])), bags)
+        bags, top = rng.randint(1, 3), rng.choice([0, 1, 2, 5, MOST])
+        sheet = make(rng, random_sheet(rng, rng.randint(1, 3), rng.randint(1, 3), bags, *any_range(rng, top)), bags)
         text = sheet_text(*sheet)
-        plan = run([PANEL], text)[0]
-        total, lanes = best_total_and_lanes(*sheet)
-        if not (plan.startswith(total) and plan.endswith(b"\n" + lanes)):
+        if not is_planned(sheet):
             other.append(text)
-        if what_is_wrong(text, plan) is not None:
+        if what_is_wrong(text, run([PANEL], text)[0]) is not None:
             unproved.append(text)
     test(f"{count} small sheets {name}: total and lanes are those that a search through all plans finds; not on {other[:1]}", not other)
     test(f"{count} small sheets {name}: the prices prove the plan; not on {unproved[:1]}", not unproved)
@@ -220,25 +253,38 @@ def hold_large_sheet(name, sheet):
 def large_sheets():
     rng = random.Random(13)
     for k in range(20):
-        bags, top = rng.choice([1, 5, 31_250]), rng.choice([3, 1_000, 1_000_000])
-        hold_large_sheet(f"large sheet {k}, bags to {bags}, costs to {top}", random_sheet(rng, 32, 32, bags, top))
-        sheet = with_surplus(rng, random_sheet(rng, 32, 31, bags, top), 16 * bags)
-        hold_large_sheet(f"large sheet {k} with a surplus, bags to {bags}, costs to {top}", sheet)
+        bags = rng.choice([1, 5, 31_250])
+        low, high = any_range(rng, rng.choice([3, 1_000, MOST]))
+        about = f"bags to {bags}, costs from {low} to {high}"
+        hold_large_sheet(f"large sheet {k}, {about}", random_sheet(rng, 32, 32, bags, low, high))
+        sheet = with_surplus(rng, random_sheet(rng, 32, 31, bags, low, high), 16 * bags)
+        hold_large_sheet(f"large sheet {k} with a surplus, {about}", sheet)
+
+
+def full_sheet(cost):
+    """The text of the fullest sheet, every lane at this cost, and its plan."""
+    amounts, lanes = [MOST] * 32, [(k, k, MOST) for k in range(1, 33)]
+    return sheet_text(amounts, amounts, [[cost] * 32] * 32), plan_text(32 * MOST * cost, 0, [0] * 32, [cost] * 32, lanes)
 
 
 def long_sheet():
     """The longest sheet text, and its plan."""
-    million = [1_000_000] * 32
-    lanes = [(k, k, 1_000_000) for k in range(1, 33)]
-    prices = "roasteries 32\n" + "0\n" * 32 + "cafes 32\n" + "1000000\n" * 32
-    plan = b"total 1\n32000000000000\nrounds 1\n0\n" + prices.encode() + lane_section(lanes)
-    return sheet_text(million, million, [million] * 32), plan
+    return full_sheet(-MOST)
+
+
+def totals():
+    """The greatest and the least, and one beyond the costs that give them."""
+    for cost, total in ((MOST, b"32000000000000"), (-MOST, b"-32000000000000")):
+        text, plan = full_sheet(cost)
+        test(f"every cost {cost}: total {total.decode()}", plan.split(b"\n")[1] == total and answers(text, plan))
+    for cost in (MOST + 1, -MOST - 1):
+        test(f"every cost {cost}: refused", answers(full_sheet(cost)[0], b"refused 4\n"))
 
 
 def long_texts():
     text, plan = long_sheet()
     refused = b"refused 9 %d\n" % LONGEST
-    test("the longest sheet text has 8,732 bytes", len(text) == LONGEST)
+    test("the longest sheet text has 9,756 bytes", len(text) == LONGEST)
     test("the longest sheet text", answers(text, plan))
     test("the longest sheet text, cut by a byte", answers(text[:-1], b"refused 9 %d\n" % (LONGEST - 1)))
     test("the longest sheet text, and a line end more", answers(text + b"\n", refused))
@@ -249,22 +295,22 @@ def long_texts():
 
 
 def bytes_read():
-    """The program takes no byte beyond the 8,733rd from its input, and does not wait for more."""
+    """The program takes no byte beyond the 9,757th from its input, and does not wait for more."""
     text, _ = long_sheet()
-    text += b"\n" * 1_268
+    text += b"\n" * (10_000 - len(text))
     refused = (b"refused 9 %d\n" % LONGEST, b"", 0)
     with tempfile.NamedTemporaryFile() as file:
         file.write(text)
         file.flush()
         with opened(file.name, os.O_RDONLY) as number:
             test("a file of 10,000 bytes", run([PANEL], stdin=number) == refused)
-            test("a file is read up to byte 8,733", os.lseek(number, 0, os.SEEK_CUR) == LONGEST + 1)
+            test("a file is read up to byte 9,757", os.lseek(number, 0, os.SEEK_CUR) == LONGEST + 1)
     reader, writer = os.pipe()
     try:
         os.write(writer, text)
         test("a pipe of 10,000 bytes that stays open", run([PANEL], stdin=reader) == refused)
         os.close(writer)
-        test("a pipe is read up to byte 8,733", len(os.read(reader, len(text))) == len(text) - LONGEST - 1)
+        test("a pipe is read up to byte 9,757", len(os.read(reader, len(text))) == len(text) - LONGEST - 1)
     finally:
         os.close(reader)
 
@@ -299,6 +345,7 @@ def script_with_status():
         test("script on a plan: 0", run([script], WORKED) == (WORKED_PLAN, b"", 0))
         test("script called from its own place: 0", run(["./panel"], WORKED, cwd=script.parent) == (WORKED_PLAN, b"", 0))
         test("script on a surplus: 0", run([script], sheet_text([3], [2], [[0]]))[2] == 0)
+        test("script on a plan that earns: 0", run([script], sheet_text([3], [2], [[-1]]))[2] == 0)
         test("script on more demand than supply: 1", run([script], sheet_text([2], [3], [[0]])) == (b"refused 5\n", b"", 1))
         test("script on 32 cafés and a surplus: 1", run([script], sheet_text([33], [1] * 32, [[0] * 32])) == (b"refused 10\n", b"", 1))
         test("script on an empty text: 1", run([script], b"") == (b"refused 9 0\n", b"", 1))
@@ -331,8 +378,12 @@ def edited(total=0, u=(0, 0, 0), v=(0, 0, 0, 0), bags=(), lanes=None):
     lanes = lanes or [(i, j, bags) for (i, j), bags in sorted(plan.items()) if bags != 0]
     roasteries = [price + more for price, more in zip((0, 40, -130), u)]
     cafes = [price + more for price, more in zip((80, 150, 240, 190), v)]
-    lines = ["total 1", 20_950 + total, "rounds 1", 3, "roasteries 3", *roasteries, "cafes 4", *cafes]
-    return "".join(f"{line}\n" for line in lines).encode() + lane_section(lanes)
+    return plan_text(20_950 + total, 3, roasteries, cafes, lanes)
+
+
+def with_bags(lanes, bags):
+    """The lanes with other bags on some, in order; those with none are left out."""
+    return [(i, j, carried) for (i, j), carried in sorted({**lanes, **dict(bags)}.items()) if carried != 0]
 
 
 def wrong_plans():
@@ -380,9 +431,7 @@ def wrong_plans_with_surplus():
     lanes = {(1, 1): 16, (1, 3): 6, (2, 2): 14, (2, 3): 4}
 
     def said(total=3_850, u=(0, -15), v=(95, 100, 120), bags=()):
-        carried = [(i, j, more) for (i, j), more in sorted({**lanes, **dict(bags)}.items())]
-        lines = ["total 1", total, "rounds 1", 2, "roasteries 2", *u, "cafes 3", *v]
-        return what_is_wrong(sheet, "".join(f"{line}\n" for line in lines).encode() + lane_section(carried))
+        return what_is_wrong(sheet, plan_text(total, 2, u, v, with_bags(lanes, bags)))
 
     dear = {(1, 3): 8, (2, 3): 2}
     cases = [
@@ -398,14 +447,48 @@ def wrong_plans_with_surplus():
         test(f"check_plan with a surplus, {name}: {what}", what == expected)
     # No lane costs less than its prices or carries bags at another cost; yet roastery 2 should send the bag.
     one_bag = sheet_text([1, 1], [1], [[5], [3]])
-    plan = b"total 1\n5\nrounds 1\n0\nroasteries 2\n0\n-2\ncafes 1\n5\n" + lane_section([(1, 1, 1)])
-    what = what_is_wrong(one_bag, plan)
+    what = what_is_wrong(one_bag, plan_text(5, 0, [0, -2], [5], [(1, 1, 1)]))
     test(f"check_plan with a surplus, the dear lane used: {what}", what == "roastery 2 keeps bags, and its price is 2 below the greatest")
 
 
+def wrong_plans_that_earn():
+    """check_plan names what is wrong with a plan whose total is below 0. In the example sacks the first roastery keeps four bags."""
+    sheet = (EXAMPLES / "sacks.sheet").read_bytes()
+    lanes = {(1, 1): 12, (1, 3): 2, (2, 2): 9, (2, 3): 5}
+
+    def said(total=-375, v=(25, -5, -30), bags=()):
+        return what_is_wrong(sheet, plan_text(total, 2, (0, -30), v, with_bags(lanes, bags)))
+
+    # The lane that earns most goes full, and roastery 1 takes over two bags for café 2; or roastery 2 keeps the four bags.
+    filled, kept = {(1, 2): 2, (1, 3): 0, (2, 2): 7, (2, 3): 7}, {(1, 3): 6, (2, 3): 1}
+    cases = [
+        ("unedited", said(), None),
+        ("the total without its minus", said(total=375), "the bags cost -375, and the total is 375"),
+        ("a cent more", said(total=-374), "the bags cost -375, and the total is -374"),
+        ("a cent more earned", said(total=-376), "the bags cost -375, and the total is -376"),
+        ("a total of minus 0", said(total="-0"), "'-0' in section total"),
+        ("a total with a leading 0", said(total="-0375"), "'-0375' in section total"),
+        ("a bag more on a lane that earns", said(total=-435, bags={(2, 3): 6}), "roastery 2 has 14 bags on the sheet and 15 in the plan"),
+        ("a bag that earns and is not wanted", said(total=-405, bags={(1, 3): 3}), "café 3 has 7 bags on the sheet and 8 in the plan"),
+        ("the best lane filled", said(total=-285, bags=filled), "lane 1 2 carries bags and costs 45 more than its prices"),
+        ("so it is, at the old total", said(bags=filled), "the bags cost -285, and the total is -375"),
+        ("the other roastery keeps bags", said(total=-255, bags=kept), "roastery 2 keeps bags, and its price is 30 below the greatest"),
+        ("a price raised", said(v=(25, -5, -29)), "lane 1 3 costs 1 less than its prices"),
+        ("a price lowered", said(v=(25, -6, -30)), "lane 2 2 carries bags and costs 1 more than its prices"),
+        ("prices of the other sign", said(v=(25, 5, 30)), "lane 1 3 costs 60 less than its prices"),
+    ]
+    for name, what, expected in cases:
+        test(f"check_plan on a plan that earns, {name}: {what}", what == expected)
+    # A sheet that is none, or is outside the limits, has no plan that is right.
+    for cost in (b"-0", b"-025", b"--25", b"-", b"25-", b"-1000001", b"1000001"):
+        what = what_is_wrong(sheet.replace(b"\n25 ", b"\n%s " % cost), plan_text(-375, 2, (0, -30), (25, -5, -30), with_bags(lanes, {})))
+        expected = "a cost is outside the limits" if cost.endswith(b"1000001") else f"'{cost.decode()} 40 -30' in section cost"
+        test(f"check_plan on a cost {cost.decode()}: {what}", what == expected)
+
+
 def main():
-    groups = [stored_cases, every_place, small_sheets, large_sheets, long_texts, bytes_read, slow_input, failing_streams]
-    groups += [script_with_status, examples, wrong_plans, wrong_plans_with_surplus]
+    groups = [stored_cases, every_place, every_minus, small_sheets, large_sheets, totals, long_texts, bytes_read, slow_input, failing_streams]
+    groups += [script_with_status, examples, wrong_plans, wrong_plans_with_surplus, wrong_plans_that_earn]
     if not os.access(PANEL, os.X_OK):
         print(f"no program {os.path.relpath(PANEL, ROOT)}: build it first")
         groups = []

@@ -1,5 +1,5 @@
-// Holds solve to answers found another way: small sheets to a search through all plans and to rounds made in the plainest way, large sheets to such rounds and to a certificate; and refusals.
-// All on balanced sheets and on sheets with a surplus.
+// Holds solve to answers found another way: small sheets to a search through all plans and to rounds made in the plainest way, large sheets to such rounds and
+// to a certificate; and refusals. All on balanced sheets and on sheets with a surplus, with costs of both signs.
 #include "../../crates/exports/panel.h"
 #include "../sheets.h"
 
@@ -10,13 +10,12 @@
 #include <string>
 #include <utility>
 
-using Whole = std::vector<int64_t>;
-
 // What solve answers, with lists that are `spare` places longer than needed and were filled with a mark before.
 const uint64_t mark = 0x5a5a5a5a;
 struct Answer {
     int refused;
-    uint64_t cost, rounds;
+    int64_t cost;
+    uint64_t rounds;
     Whole u, v;
     Numbers plan;
     bool rest_kept;
@@ -45,9 +44,9 @@ static Answer solve(const Sheet &s, size_t spare) {
     return a;
 }
 
-static uint64_t cost_of(const Sheet &s, const Numbers &plan) {
-    uint64_t sum = 0;
-    for (size_t k = 0; k < plan.size(); k++) sum += plan[k] * s.cost[k];
+static int64_t cost_of(const Sheet &s, const Numbers &plan) {
+    int64_t sum = 0;
+    for (size_t k = 0; k < plan.size(); k++) sum += (int64_t)plan[k] * s.cost[k];
     return sum;
 }
 
@@ -67,12 +66,13 @@ static uint64_t kept(const Sheet &s, const Numbers &plan, size_t i) {
 static Numbers best_plan(const Sheet &s) {
     size_t m = s.m(), n = s.n();
     Numbers plan(m * n, 0), best, left = s.supply, wanted = s.demand;
-    uint64_t least = UINT64_MAX, spare = surplus(s); // the bags that may still be kept
+    int64_t least = INT64_MAX;
+    uint64_t spare = surplus(s); // the bags that may still be kept
     std::function<void(size_t)> go = [&](size_t k) {
         if (k == m * n) {
             for (uint64_t d : wanted)
                 if (d != 0) return;
-            uint64_t c = cost_of(s, plan);
+            int64_t c = cost_of(s, plan);
             if (c < least) {
                 least = c;
                 best = plan;
@@ -146,7 +146,7 @@ static void price(const Sheet &s, const std::vector<Basic> &cells, Whole &u, Who
     row[0] = true;
     for (size_t pass = 0; pass < cells.size(); pass++)
         for (auto &c : cells) {
-            int64_t cost = (int64_t)s.cost[c.row * s.n() + c.col];
+            int64_t cost = s.cost[c.row * s.n() + c.col];
             if (row[c.row] && !col[c.col]) {
                 v[c.col] = cost - u[c.row];
                 col[c.col] = true;
@@ -178,7 +178,7 @@ static uint64_t rounds_of_tableaux(const Sheet &s, Whole &u, Whole &v) {
         size_t row = 0, col = 0;
         for (size_t i = 0; i < s.m(); i++)
             for (size_t j = 0; j < s.n(); j++) {
-                int64_t reduced = (int64_t)s.cost[i * s.n() + j] - u[i] - v[j];
+                int64_t reduced = s.cost[i * s.n() + j] - u[i] - v[j];
                 if (reduced < least) {
                     least = reduced;
                     row = i;
@@ -229,7 +229,7 @@ static int64_t greatest(const Whole &prices) { return *std::max_element(prices.b
 static bool priced(const Sheet &s, const Answer &a) {
     for (size_t i = 0; i < s.m(); i++) {
         for (size_t j = 0; j < s.n(); j++) {
-            int64_t reduced = (int64_t)s.cost[i * s.n() + j] - a.u[i] - a.v[j];
+            int64_t reduced = s.cost[i * s.n() + j] - a.u[i] - a.v[j];
             if (reduced < 0 || (a.plan[i * s.n() + j] > 0 && reduced > 0)) return false;
         }
         if (kept(s, a.plan, i) > 0 && a.u[i] != greatest(a.u)) return false;
@@ -255,7 +255,7 @@ static Answer extended(const Sheet &s, const Answer &a) {
 static bool settled(const Sheet &s, const Answer &a) {
     size_t m = s.m(), n = s.n();
     for (size_t lane = 0; lane < m * n; lane++) {
-        auto tight = [&](size_t k) { return (int64_t)s.cost[k] == a.u[k / n] + a.v[k % n]; };
+        auto tight = [&](size_t k) { return s.cost[k] == a.u[k / n] + a.v[k % n]; };
         if (!tight(lane)) continue;
         std::vector<bool> row(m, false), col(n, false);
         std::vector<std::pair<bool, size_t>> open = {{false, lane % n}};
@@ -288,8 +288,25 @@ static void test(const std::string &name, bool good) {
     if (!good) std::printf("failed: %s\n", name.c_str());
 }
 
-static Sheet random_sheet(std::mt19937_64 &rng, bool surplus, size_t m, size_t n, uint64_t bags, uint64_t top) {
-    Sheet s = random_sheet(rng, m, n, bags, top);
+const int64_t top = 1000000; // the greatest cost; the least is as far below 0
+
+// Costs from `low` to `high`, or only these two.
+struct Costs {
+    int64_t low, high;
+    bool ends = false;
+};
+
+static Costs any_costs(std::mt19937_64 &rng) {
+    static const std::vector<Costs> all = {{0, 0},  {0, 1},  {0, 50},    {0, top},    {-1, 0},        {-1, 1},          {-5, 5},
+                                           {-50, -1}, {-top, 0}, {-top, top}, {-top, 3 - top}, {0, top, true}, {-top, top, true}, {-top, 0, true}};
+    return all[rng() % all.size()];
+}
+
+static Sheet random_sheet(std::mt19937_64 &rng, bool surplus, size_t m, size_t n, uint64_t bags) {
+    Costs costs = any_costs(rng);
+    Sheet s = random_sheet(rng, m, n, bags, costs.low, costs.high);
+    for (int64_t &cost : s.cost)
+        if (costs.ends) cost = rng() % 2 == 0 ? costs.low : costs.high;
     return surplus ? with_surplus(rng, s, bags) : s;
 }
 
@@ -298,8 +315,7 @@ static void small_sheets(const std::string &sheets, bool surplus) {
     bool plans = true, costs = true, rounds = true, prices = true, kept = true;
     for (int k = 0; k < 3000; k++) {
         size_t m = 1 + rng() % 4, n = 1 + rng() % 4;
-        const uint64_t tops[] = {0, 1, 2, 5, 1000000};
-        Sheet s = random_sheet(rng, surplus, m, n, m * n > 9 ? 3 : 5, tops[rng() % 5]);
+        Sheet s = random_sheet(rng, surplus, m, n, m * n > 9 ? 3 : 5);
         Answer a = solve(s, rng() % 3);
         Numbers best = best_plan(s);
         Whole u, v;
@@ -320,9 +336,9 @@ static void large_sheets(const std::string &sheets, bool surplus) {
     std::mt19937_64 rng(13);
     bool least = true, first = true, rounds = true, kept = true;
     for (int k = 0; k < 300; k++) {
-        const uint64_t tops[] = {0, 1, 3, 50, 1000000}, bags[] = {1, 2, 5, 1000};
+        const uint64_t bags[] = {1, 2, 5, 1000};
         size_t m = 1 + rng() % 32, n = 1 + rng() % (surplus ? 31 : 32);
-        Sheet s = random_sheet(rng, surplus, m, n, bags[rng() % 4], tops[rng() % 5]);
+        Sheet s = random_sheet(rng, surplus, m, n, bags[rng() % 4]);
         Answer a = solve(s, 2);
         Whole u, v;
         least &= a.refused == 0 && meets(s, a.plan) && priced(s, a) && a.cost == cost_of(s, a.plan);
@@ -349,21 +365,24 @@ static void refused(const std::string &name, int number, const Sheet &s, size_t 
 static void refusals() {
     Sheet worked = {{3, 4}, {5, 2}, {4, 1, 2, 6}};
     refused("no source: 1", 1, {{}, {1}, {}}, 32, 32, 1024);
-    refused("33 sinks: 1", 1, {{33}, Numbers(33, 1), Numbers(33, 0)}, 64, 64, 2048);
+    refused("33 sinks: 1", 1, {{33}, Numbers(33, 1), Whole(33, 0)}, 64, 64, 2048);
     refused("a cost too few: 2", 2, {{3, 4}, {5, 2}, {4, 1, 2}}, 2, 2, 4);
     refused("a cost too many: 2", 2, {{3, 4}, {5, 2}, {4, 1, 2, 6, 6}}, 2, 2, 4);
     refused("a supply of 0: 3", 3, {{0}, {2}, {1}}, 1, 1, 1);
     refused("a supply of 1,000,001: 3", 3, {{1000001}, {1000001}, {1}}, 1, 1, 1);
     refused("a demand of 2^64 - 1: 3", 3, {{1}, {UINT64_MAX}, {1}}, 1, 1, 1);
-    refused("a cost of 1,000,001: 4", 4, {{1000000}, {1000000}, {1000001}}, 1, 1, 1);
+    for (int64_t cost : {top + 1, -top - 1, (int64_t)UINT32_MAX, INT64_MIN, INT64_MIN + 1, INT64_MAX}) {
+        refused("a cost of " + std::to_string(cost) + ": 4", 4, {{1000000}, {1000000}, {cost}}, 1, 1, 1);
+        refused("a last cost of " + std::to_string(cost) + ": 4", 4, {{3, 4}, {5, 2}, {-4, 1, -2, cost}}, 2, 2, 4);
+    }
     refused("more demand than supply: 5", 5, {{2}, {3}, {0}}, 1, 1, 1);
     refused("more demand than supply before short lists: 5", 5, {{2}, {3}, {0}}, 0, 0, 0);
-    refused("more demand than supply with 32 sinks: 5", 5, {{31}, Numbers(32, 1), Numbers(32, 1)}, 1, 32, 32);
-    refused("a surplus and 32 sinks: 10", 10, {{40}, Numbers(32, 1), Numbers(32, 1)}, 1, 32, 32);
-    refused("a surplus of a single bag and 32 sinks: 10", 10, {{33}, Numbers(32, 1), Numbers(32, 1)}, 1, 32, 32);
-    refused("a surplus and 32 sinks before short lists: 10", 10, {{40}, Numbers(32, 1), Numbers(32, 1)}, 0, 0, 0);
-    refused("a supply of 1,000,001 before a surplus and 32 sinks: 3", 3, {{1000001}, Numbers(32, 1), Numbers(32, 1)}, 1, 32, 32);
-    refused("a cost of 1,000,001 before a surplus and 32 sinks: 4", 4, {{40}, Numbers(32, 1), Numbers(32, 1000001)}, 1, 32, 32);
+    refused("more demand than supply with 32 sinks: 5", 5, {{31}, Numbers(32, 1), Whole(32, 1)}, 1, 32, 32);
+    refused("a surplus and 32 sinks: 10", 10, {{40}, Numbers(32, 1), Whole(32, 1)}, 1, 32, 32);
+    refused("a surplus of a single bag and 32 sinks: 10", 10, {{33}, Numbers(32, 1), Whole(32, 1)}, 1, 32, 32);
+    refused("a surplus and 32 sinks before short lists: 10", 10, {{40}, Numbers(32, 1), Whole(32, 1)}, 0, 0, 0);
+    refused("a supply of 1,000,001 before a surplus and 32 sinks: 3", 3, {{1000001}, Numbers(32, 1), Whole(32, 1)}, 1, 32, 32);
+    refused("a cost of -1,000,001 before a surplus and 32 sinks: 4", 4, {{40}, Numbers(32, 1), Whole(32, -1000001)}, 1, 32, 32);
     refused("a surplus, and v too short: 8", 8, {{3}, {2}, {0}}, 1, 0, 1);
     refused("u too short: 8", 8, worked, 1, 2, 4);
     refused("v too short: 8", 8, worked, 2, 1, 4);
@@ -371,22 +390,15 @@ static void refusals() {
     refused("no lists at all: 8", 8, worked, 0, 0, 0);
 }
 
-static void samples() {
-    Sheet full = {Numbers(32, 1000000), Numbers(32, 1000000), Numbers(1024, 1000000)};
-    Answer a = solve(full, 0);
-    test("the fullest sheet: 32 million bags at a million each", a.refused == 0 && a.cost == 32000000000000u && meets(full, a.plan));
-    Sheet worked = {{3, 4}, {5, 2}, {4, 1, 2, 6}};
-    a = solve(worked, 0);
-    test("the worked sheet: 14 in 1 round", a.refused == 0 && a.cost == 14 && a.rounds == 1 && a.u == Whole{0, -2} && a.v == Whole{4, 1} && a.plan == Numbers{1, 2, 4, 0});
-    Sheet tied = {{1, 3}, {2, 1, 1}, {9, 0, 0, 0, 0, 0}};
-    a = solve(tied, 0);
-    test("the tied sheet: 0 in 2 rounds, settled", a.refused == 0 && a.cost == 0 && a.rounds == 2 && a.plan == Numbers{0, 1, 0, 2, 0, 1});
-}
-
 // Solve gives this, and fills no place beyond the cafés of the sheet.
-static void solved(const std::string &name, const Sheet &s, uint64_t cost, uint64_t rounds, const Whole &u, const Whole &v, const Numbers &plan) {
+static void solved(const std::string &name, const Sheet &s, int64_t cost, uint64_t rounds, const Whole &u, const Whole &v, const Numbers &plan) {
     Answer a = solve(s, 1);
     test(name, a.refused == 0 && a.cost == cost && a.rounds == rounds && a.u == u && a.v == v && a.plan == plan && a.rest_kept);
+}
+
+static void samples() {
+    solved("the worked sheet", {{3, 4}, {5, 2}, {4, 1, 2, 6}}, 14, 1, {0, -2}, {4, 1}, {1, 2, 4, 0});
+    solved("the tied sheet, settled", {{1, 3}, {2, 1, 1}, {9, 0, 0, 0, 0, 0}}, 0, 2, {0, 0}, {0, 0, 0}, {0, 1, 0, 2, 0, 1});
 }
 
 static void samples_with_surplus() {
@@ -396,11 +408,28 @@ static void samples_with_surplus() {
     solved("equal costs: the first lane carries all it can", {{3, 3}, {4}, {1, 1}}, 4, 0, {0, 0}, {1}, {3, 1});
     solved("a lane of the extra café enters before a later one", {{1, 2}, {1, 1}, {2, 2, 0, 1}}, 1, 2, {0, 0}, {0, 1}, {0, 0, 1, 1});
     solved("a lane of the extra café enters after an earlier one", {{1, 3}, {2, 1}, {3, 0, 2, 0}}, 4, 2, {0, 0}, {2, 0}, {0, 1, 2, 0});
-    solved("31 sinks and a surplus", {{40}, Numbers(31, 1), Numbers(31, 1)}, 31, 0, {0}, Whole(31, 1), Numbers(31, 1));
-    solved("32 sinks and none", {{32}, Numbers(32, 1), Numbers(32, 1)}, 32, 0, {0}, Whole(32, 1), Numbers(32, 1));
+    solved("31 sinks and a surplus", {{40}, Numbers(31, 1), Whole(31, 1)}, 31, 0, {0}, Whole(31, 1), Numbers(31, 1));
+    solved("32 sinks and none", {{32}, Numbers(32, 1), Whole(32, 1)}, 32, 0, {0}, Whole(32, 1), Numbers(32, 1));
     Numbers most(32, 1000000), one_bag(32, 0);
     one_bag[0] = 1;
-    solved("the greatest surplus: 32 million bags but one", {most, {1}, Numbers(32, 0)}, 0, 0, Whole(32, 0), {0}, one_bag);
+    solved("the greatest surplus: 32 million bags but one", {most, {1}, Whole(32, 0)}, 0, 0, Whole(32, 0), {0}, one_bag);
+}
+
+// The bags and prices are those of the start, and the total is as far from 0 as one can be.
+static void full_sheet(const std::string &name, int64_t cost, int64_t total) {
+    Numbers plan(1024, 0);
+    for (size_t k = 0; k < 32; k++) plan[33 * k] = 1000000;
+    solved(name, {Numbers(32, 1000000), Numbers(32, 1000000), Whole(1024, cost)}, total, 0, Whole(32, 0), Whole(32, cost), plan);
+}
+
+static void samples_with_earnings() {
+    full_sheet("the greatest total: 32 million bags at a million each", top, 32000000000000);
+    full_sheet("the least total: 32 million bags that earn a million each", -top, -32000000000000);
+    solved("the lane that earns goes full, and the other source keeps the surplus", {{3, 3}, {4}, {1, -5}}, -14, 1, {0, -6}, {1}, {1, 3});
+    solved("costs of both signs", {{2, 3}, {1, 2, 2}, {-1, 0, -1, -1, 0, 2}}, -3, 2, {0, 3}, {-4, -3, -1}, {0, 0, 2, 1, 2, 0});
+    solved("the least cost of a lane", {{1000000}, {1000000}, {-top}}, -1000000000000, 0, {0}, {-top}, {1000000});
+    solved("a lane that earns, and bags that stay all the same", {{5}, {2}, {-3}}, -6, 0, {0}, {-3}, {2});
+    solved("bags that earn alike: the first lane carries all it can", {{3, 3}, {4}, {-2, -2}}, -8, 0, {0, 0}, {-2}, {3, 1});
 }
 
 int main() {
@@ -411,6 +440,7 @@ int main() {
     refusals();
     samples();
     samples_with_surplus();
+    samples_with_earnings();
     std::printf("%d passed, %d failed\n", passed, failed);
     return failed == 0 ? 0 : 1;
 }

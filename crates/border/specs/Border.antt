@@ -3,7 +3,7 @@ use mathlib.Core.Bool.{true, false}
 use mathlib.Core.List.{List}
 use mathlib.Core.Option.{none, some}
 use Prim.Native.Nat.{ℕ}
-use lib.IntN.{natAbs}
+use lib.IntN.{pos}
 use lib.ListN.{length}
 pub use Rattle.border.specs.declared.StartOut.{StartOut}
 pub use Rattle.border.specs.declared.RoundOut.{RoundOut}
@@ -37,8 +37,8 @@ numberOf (refused r) = r .number
 numberOf (given x) = 0
 
 unfoldable pub solveOut : Answer Solution → SolveOut
-solveOut (refused r) = record { refusal = r .number; cost = 0; rounds = 0 }
-solveOut (given s) = record { refusal = 0; cost = natAbs (s .cost); rounds = s .rounds }
+solveOut (refused r) = record { refusal = r .number; cost = pos 0; rounds = 0 }
+solveOut (given s) = record { refusal = 0; cost = s .cost; rounds = s .rounds }
 
 unfoldable pub readOut : Answer Sheet → ReadOut
 readOut (refused r) = elim (r .position) [

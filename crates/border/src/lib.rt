@@ -42,7 +42,7 @@ pub struct RunOut {
 #[repr(C)]
 pub struct SolveOut {
     pub refusal: u8,
-    pub cost: u64,
+    pub cost: i64,
     pub rounds: u64,
 }
 
@@ -62,7 +62,7 @@ pub struct WriteOut {
     pub length: usize,
 }
 
-pub fn round_from(supply: &[u64], demand: &[u64], cost: &[u64], t: Tableau) -> RoundOut
+pub fn round_from(supply: &[u64], demand: &[u64], cost: &[i64], t: Tableau) -> RoundOut
     ensures { λ r.
         let S = sheetOf (now (supply .entry)) (now (demand .entry)) (now (cost .entry)) in
         ⌜ r ≡ roundOut (roundCall S t) ⌝ }
@@ -97,7 +97,7 @@ pub fn round_from(supply: &[u64], demand: &[u64], cost: &[u64], t: Tableau) -> R
     }
 }
 
-pub fn run_from(supply: &[u64], demand: &[u64], cost: &[u64], t: Tableau, allowance: u32) -> RunOut
+pub fn run_from(supply: &[u64], demand: &[u64], cost: &[i64], t: Tableau, allowance: u32) -> RunOut
     ensures { λ r.
         let S = sheetOf (now (supply .entry)) (now (demand .entry)) (now (cost .entry)) in
         ⌜ r ≡ runOut (runCall S t allowance) ⌝ }
@@ -128,7 +128,7 @@ pub fn run_from(supply: &[u64], demand: &[u64], cost: &[u64], t: Tableau, allowa
 }
 
 // Settle: 0, or the number of the refusal.
-pub fn settle_from(supply: &[u64], demand: &[u64], cost: &[u64], t: Tableau, plan: &mut [u64]) -> u8
+pub fn settle_from(supply: &[u64], demand: &[u64], cost: &[i64], t: Tableau, plan: &mut [u64]) -> u8
     ensures { λ r.
         let S = sheetOf (now (supply .entry)) (now (demand .entry)) (now (cost .entry)) in
         let a = settleCall S t (length (now (plan .entry))) in

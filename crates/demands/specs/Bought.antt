@@ -5,7 +5,7 @@ use mathlib.Core.List.{List}
 use Prim.Native.Nat.{ℕ, _*_}
 use native.Mathlib.Omega.{arith}
 use native.Mathlib.Decide.{decLt, ℕ-discrete}
-use lib.IntN.{ℤ, pos, natAbs}
+use lib.IntN.{ℤ}
 use lib.ListN.{length, take, drop}
 use lib.Seq.{take-at, drop-at}
 use Rattle.transport.specs.declared.SolveAnswer.{SolveAnswer}
@@ -16,12 +16,11 @@ use Rattle.transport.specs.Sheet.{Sheet, roasteries, cafes}
 use Rattle.transport.specs.Calls.{Answer, refused, given, refusedBy, lentAfter, Solution, solveCall}
 use Rattle.transport.specs.Answers.{solveAnswer}
 use Rattle.transport.specs.Statements.{WithinLimits, Balanced, Lacking, Crowded, Best, BestExactly, LongEnough, Bought}
-use Rattle.transport.specs.Laws.PlanLaws.{planCost-size}
 use Rattle.transport.specs.Laws.CallLaws.{Fills}
 use Rattle.reduction.specs.Balanced.{best-exactly}
 use Rattle.demands.specs.Demand3.{Solved, demand3, solve-fills}
 
-solved≢refused : {cost rounds k : ℕ} → SolveAnswer.Solved cost rounds ≡ SolveAnswer.Refused k → ⊥
+solved≢refused : {cost : ℤ} {rounds k : ℕ} → SolveAnswer.Solved cost rounds ≡ SolveAnswer.Refused k → ⊥
 solved≢refused e = let n : _≡_ {A = ℕ} 0 1 = cc in omega arith
 
 -- A lent list after a result of which a part fills n places: these places, and the rest.
@@ -37,14 +36,13 @@ module _ {A B : Type 0} (part : A → List B) (x : A) (n : ℕ) (e : length (par
 -- ---- the fields, for any answer of the paper
 
 gives-best : (S : Sheet) (a : Answer Solution) (plan : List ℕ) → Solved S a
-    → (cost : ℕ) × (rounds : ℕ) × (solveAnswer a ≡ SolveAnswer.Solved cost rounds)
-    × Best S (take (roasteries S * cafes S) (lentAfter (λ s. s .plan) a plan)) (pos cost)
+    → (cost : ℤ) × (rounds : ℕ) × (solveAnswer a ≡ SolveAnswer.Solved cost rounds)
+    × Best S (take (roasteries S * cafes S) (lentAfter (λ s. s .plan) a plan)) cost
 unfolding solveAnswer
 gives-best S a plan h =
     let s = h .found in
     let front = lent-filled (λ s. s .plan) s (roasteries S * cafes S) (h .best .meets .quantities) plan in
-    let size : pos (natAbs (s .cost)) ≡ s .cost = ap (λ (c : ℤ). pos (natAbs c)) (h .best .shown) ∙ planCost-size S (s .plan) ∙ sym (h .best .shown) in
-    (natAbs (s .cost), s .rounds, rw (h .answered), rw (h .answered, front, size) (h .best))
+    (s .cost, s .rounds, rw (h .answered), rw (h .answered, front) (h .best))
 
 -- The sheets that are refused are lacking or crowded, since all others are solved; and each of the two has its number.
 refuses-exactly : (S : Sheet) (a : Answer Solution)
@@ -74,7 +72,7 @@ leaves-all (refused r) u v plan k e = (refl, refl, refl)
 leaves-all (given s) u v plan k e = absurd (solved≢refused e)
 
 leaves-rest : (S : Sheet) (a : Answer Solution) (u v : List ℤ) (plan : List ℕ) → ((s : Solution) → a ≡ given s → Fills S s)
-    → (cost rounds : ℕ) → solveAnswer a ≡ SolveAnswer.Solved cost rounds
+    → (cost : ℤ) (rounds : ℕ) → solveAnswer a ≡ SolveAnswer.Solved cost rounds
     → (drop (roasteries S) (lentAfter (λ s. s .u) a u) ≡ drop (roasteries S) u)
     × (drop (cafes S) (lentAfter (λ s. s .v) a v) ≡ drop (cafes S) v)
     × (drop (roasteries S * cafes S) (lentAfter (λ s. s .plan) a plan) ≡ drop (roasteries S * cafes S) plan)
@@ -110,10 +108,10 @@ bought S r u v plan uAfter vAfter planAfter answered uHeld vHeld planHeld =
 -- On balanced sheets this is what was bought before One: solve gives a plan that is best in 01's own words, and refuses none of them.
 pub bought-balanced : {S : Sheet} {r : SolveAnswer} {u v : List ℤ} {plan : List ℕ} {uAfter vAfter : List ℤ} {planAfter : List ℕ}
     → Bought S r u v plan uAfter vAfter planAfter → WithinLimits S → LongEnough S (length u) (length v) (length plan) → Balanced S
-    → ((cost : ℕ) × (rounds : ℕ) × (r ≡ SolveAnswer.Solved cost rounds) × BestExactly S (take (roasteries S * cafes S) planAfter) (pos cost))
+    → ((cost : ℤ) × (rounds : ℕ) × (r ≡ SolveAnswer.Solved cost rounds) × BestExactly S (take (roasteries S * cafes S) planAfter) cost)
     × ((k : ℕ) → ¬ (r ≡ SolveAnswer.Refused k))
 bought-balanced {S} {planAfter} b w l e =
     let (cost, rounds, solved, best) = b .solved w l (λ lacking. omega arith) (λ crowded. omega (arith, crowded .0)) in (
-      (cost, rounds, solved, best-exactly e (take (roasteries S * cafes S) planAfter) (pos cost) .0 best),
+      (cost, rounds, solved, best-exactly e (take (roasteries S * cafes S) planAfter) cost .0 best),
       λ k refused. solved≢refused (sym solved ∙ refused),
     )

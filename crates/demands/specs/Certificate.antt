@@ -2,7 +2,7 @@
 use mathlib.Core.Path.{_≡_, sym, ap, _∙_}
 use mathlib.Core.Logic.{⊎-elim, by-cases}
 use mathlib.Core.List.{List}
-use Prim.Native.Nat.{ℕ, _+_, _*_, _≤_, _<_}
+use Prim.Native.Nat.{ℕ, _+_, _≤_, _<_}
 use native.Mathlib.Omega.{arith}
 use native.Mathlib.Nat.{one-mul}
 use lib.IntN.{ℤ, pos, _+ℤ_, _*ℤ_}
@@ -70,7 +70,7 @@ module _ (S : Sheet) (ok : Sound (extended S)) where
         (λ e. absurd (omega (arith, on-tight i j l h (λ z. e (z-eq z)))))
 
     -- What lanes of the sheet, and the extra café's, cost in the tableau.
-    on-sheet : (i j : ℕ) → i < roasteries S → j < cafes S → costs P i j ≈ nat (at (S .cost) (place (cafes S) i j))
+    on-sheet : (i j : ℕ) → i < roasteries S → j < cafes S → costs P i j ≈ toZ (atZ (S .cost) (place (cafes S) i j))
     on-sheet i j l h = z-eq (laneCost-at S i j l (omega (arith, width-low S)) ∙ cost-cafe S i j h)
 
     at-extra : widthOf S ≡ cafes S + 1 → (i : ℕ) → i < roasteries S → costs P i (cafes S) ≈ nat 0
@@ -82,10 +82,10 @@ module _ (S : Sheet) (ok : Sound (extended S)) where
     unfolding extended sources sinks roasteries
     plan-certified = record {
       lanes = λ i j l h.
-          le-z (u i +ℤ v j) (pos (at (S .cost) (place (cafes S) i j)))
+          le-z (u i +ℤ v j) (atZ (S .cost) (place (cafes S) i j))
           (omega (arith, z-add (u i) (v j), feasible i j l (omega (arith, width-low S)), on-sheet i j l h));
       used = λ i j l h some.
-          eq-z (u i +ℤ v j) (pos (at (S .cost) (place (cafes S) i j)))
+          eq-z (u i +ℤ v j) (atZ (S .cost) (place (cafes S) i j))
           (omega (
             arith,
             z-add (u i) (v j),

@@ -17,7 +17,6 @@ use Rattle.transport.specs.declared.Tableau.{Tableau}
 use Rattle.transport.specs.Lists.{atZ, padded}
 use Rattle.transport.specs.Laws.ListLaws.{length-table, getD-table}
 use Rattle.transport.specs.Problem.{sources, sinks}
-use Rattle.transport.specs.Laws.PlanLaws.{planCost-size}
 use Rattle.transport.specs.Calls.{solutionFrom, Answer, given, refusedBy, unless, lentAfter, tableauTests, startCall, roundCall, runCall, settleCall, solution}
 use Rattle.transport.specs.Calls.{solveCall, cafePrices, round}
 use Rattle.transport.specs.Sheet.{roasteries, cafes, Sheet, sheetTests, refusal}
@@ -141,12 +140,11 @@ solve-says S u v plan =
       lent-filled (λ s. s .u) s (roasteries S) (f .u) u,
       lent-filled (λ s. s .v) s (cafes S) (f .v) v,
       lent-filled (λ s. s .plan) s (roasteries S * cafes S) (f .plan) plan,
-      planCost-size S (settled S),
     ))
 
 -- ---- texts
 
-pub readSheet-says : (text supply demand cost : List ℕ)
+pub readSheet-says : (text supply demand : List ℕ) (cost : List ℤ)
     → let a = readSheetCall text (length supply) (length demand) (length cost) in
     readSays (readAnswer a) (lentAfter (λ S. S .supply) a supply) (lentAfter (λ S. S .demand) a demand) (lentAfter (λ S. S .cost) a cost) ≡ a
 unfolding readSheetCall readAnswer readSays refusedBy roasteries cafes

@@ -3,6 +3,7 @@ use mathlib.Core.Path.{_≡_, refl, sym, ap, _∙_}
 use mathlib.Core.List.{List}
 use mathlib.Core.Option.{Option, none, some}
 use Prim.Native.Nat.{ℕ, _-_}
+use lib.IntN.{pos}
 use lib.ListN.{length}
 use Rattle.transport.specs.declared.Tableau.{Tableau}
 use Rattle.transport.specs.declared.StartOutcome.{StartOutcome}
@@ -34,7 +35,7 @@ started-is (given T) = refl
 
 abbrev pub solvedAs : SolveAnswer → SolveOut
 solvedAs (SolveAnswer.Solved cost rounds) = record { refusal = 0; cost = cost; rounds = rounds }
-solvedAs (SolveAnswer.Refused k) = record { refusal = k; cost = 0; rounds = 0 }
+solvedAs (SolveAnswer.Refused k) = record { refusal = k; cost = pos 0; rounds = 0 }
 
 pub solved-is : (a : Answer Solution) → solvedAs (solveAnswer a) ≡ solveOut a
 unfolding solveAnswer solveOut

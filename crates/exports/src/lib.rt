@@ -24,7 +24,7 @@ ghost use Rattle.transport.specs.PlanText.{writePlanCall};
 ghost use Rattle.border.specs.Border.{startOut, roundOut, runOut, numberOf, solveOut, readOut, writeOut};
 
 #[no_mangle]
-pub extern "C" fn panel_start(supply: &[u64], demand: &[u64], cost: &[u64]) -> StartOut
+pub extern "C" fn panel_start(supply: &[u64], demand: &[u64], cost: &[i64]) -> StartOut
     ensures { λ r.
         let S = sheetOf (now (supply .entry)) (now (demand .entry)) (now (cost .entry)) in
         ⌜ r ≡ startOut (startCall S) ⌝ }
@@ -50,7 +50,7 @@ pub extern "C" fn panel_start(supply: &[u64], demand: &[u64], cost: &[u64]) -> S
 pub extern "C" fn panel_round(
     supply: &[u64],
     demand: &[u64],
-    cost: &[u64],
+    cost: &[i64],
     cells: &[Cell],
 ) -> RoundOut
     ensures { λ r.
@@ -64,7 +64,7 @@ pub extern "C" fn panel_round(
 pub extern "C" fn panel_run(
     supply: &[u64],
     demand: &[u64],
-    cost: &[u64],
+    cost: &[i64],
     cells: &[Cell],
     allowance: u32,
 ) -> RunOut
@@ -80,7 +80,7 @@ pub extern "C" fn panel_run(
 pub extern "C" fn panel_settle(
     supply: &[u64],
     demand: &[u64],
-    cost: &[u64],
+    cost: &[i64],
     cells: &[Cell],
     plan: &mut [u64],
 ) -> u8
@@ -96,7 +96,7 @@ pub extern "C" fn panel_settle(
 pub extern "C" fn panel_solve(
     supply: &[u64],
     demand: &[u64],
-    cost: &[u64],
+    cost: &[i64],
     u: &mut [i64],
     v: &mut [i64],
     plan: &mut [u64],
@@ -134,7 +134,7 @@ pub extern "C" fn panel_read_sheet(
     text: &[u8],
     supply: &mut [u64],
     demand: &mut [u64],
-    cost: &mut [u64],
+    cost: &mut [i64],
 ) -> ReadOut
     ensures { λ r.
         let a = readSheetCall (now (text .entry)) (length (now (supply .entry))) (length (now (demand .entry))) (length (now (cost .entry))) in
@@ -172,7 +172,7 @@ pub extern "C" fn panel_read_sheet(
 pub extern "C" fn panel_write_sheet(
     supply: &[u64],
     demand: &[u64],
-    cost: &[u64],
+    cost: &[i64],
     out: &mut [u8],
 ) -> WriteOut
     ensures { λ r.
@@ -187,7 +187,7 @@ pub extern "C" fn panel_write_sheet(
 pub extern "C" fn panel_write_plan(
     supply: &[u64],
     demand: &[u64],
-    cost: &[u64],
+    cost: &[i64],
     out: &mut [u8],
 ) -> WriteOut
     ensures { λ r.

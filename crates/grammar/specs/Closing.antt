@@ -14,11 +14,33 @@ use Rattle.grammar.specs.Exact.{Exact, Taken, Stopped, Any, Then, glued,
 use Rattle.grammar.specs.Readers.{Only, pure-exact, Byte, byte-exact, Bytes, word-exact, Of}
 
 -- A number, and the byte c after it.
-unfoldable pub closedBy : ℕ → Reader ℕ → Reader ℕ
+unfoldable pub closedBy : {A : Type 0} → ℕ → Reader A → Reader A
 closedBy c r = do
   x ← r
   word (c ∷ [])
   pure x
+
+-- The byte after a number may be read with the number ..
+pub spaced : {A B : Type 0} (c : ℕ) (r : Reader A) (f : A → Reader B) (t : List ℕ) → (closedBy c r >>= f) t ≡ (r >>= (λ x. word (c ∷ []) >> f x)) t
+unfolding closedBy _>>=_ _>>_ pure
+spaced c r f t = go (r t) refl
+  where
+    inner : (x : _) (z : List ℕ) (o : Reading (Unit {0})) → word (c ∷ []) z ≡ o → ((word (c ∷ []) >> pure x) >>= f) z ≡ (word (c ∷ []) >> f x) z
+    inner x z (stuck rest) d = rw (d, _>>_, _>>=_)
+    inner x z (got u rest) d = rw (d, _>>_, _>>=_)
+
+    go : (o : Reading _) → r t ≡ o → (closedBy c r >>= f) t ≡ (r >>= (λ x. word (c ∷ []) >> f x)) t
+    go (stuck rest) e = rw (e, _>>=_)
+    go (got x z) e = rw (e, _>>=_) (inner x z (word (c ∷ []) z) refl)
+
+-- .. or with its last part.
+pub closed-later : {A B : Type 0} (c : ℕ) (r : Reader A) (f : A → Reader B) (t : List ℕ) → (r >>= (λ b. closedBy c (f b))) t ≡ closedBy c (r >>= f) t
+unfolding closedBy _>>=_
+closed-later c r f t = go (r t) refl
+  where
+    go : (o : Reading _) → r t ≡ o → (r >>= (λ b. closedBy c (f b))) t ≡ closedBy c (r >>= f) t
+    go (stuck rest) e = rw (e, _>>=_)
+    go (got b rest) e = rw (e, _>>=_)
 
 -- ---- the digits after the first
 
@@ -193,15 +215,6 @@ first-then head test room = do
 abbrev pub BegunNumber : ℕ → (ℕ → Bool) → (ℕ → Bool) → (ℕ → ℕ) → ℕ → List ℕ → Type 0
 BegunNumber c head test room = Then (Byte head) (λ b. Tail test c (room b) (digitValue b))
 
--- The byte that closes a number may be read with its last digits.
-closed-later : (c : ℕ) (r : Reader ℕ) (f : ℕ → Reader ℕ) (t : List ℕ) → (r >>= (λ b. closedBy c (f b))) t ≡ closedBy c (r >>= f) t
-unfolding closedBy _>>=_
-closed-later c r f t = go (r t) refl
-  where
-    go : (o : Reading ℕ) → r t ≡ o → (r >>= (λ b. closedBy c (f b))) t ≡ closedBy c (r >>= f) t
-    go (stuck rest) e = rw (e, _>>=_)
-    go (got b rest) e = rw (e, _>>=_)
-
 -- Some byte has to pass `head`.
 pub first-exact : (c : ℕ) → isDigit c ≡ false → (head test : ℕ → Bool) (room : ℕ → ℕ) (b : ℕ) → head b ≡ true
     → Exact (closedBy c (first-then head test room)) (BegunNumber c head test room) Any
@@ -235,6 +248,10 @@ numeral-begun c head test room k n t x e r w = record {
   joined = w ∙ rw (x .written);
 }
 
--- The digits of a good number, and c.
+-- What is written of a good value, and c ..
+abbrev pub ClosedText : {A : Type 0} → (A → Type 0) → (A → List ℕ) → ℕ → A → List ℕ → Type 0
+ClosedText Good write c = Of Good (λ x. write x ++ (c ∷ []))
+
+-- .. and the digits of a good number, and c.
 abbrev pub ClosedNumber : (ℕ → Type 0) → ℕ → ℕ → List ℕ → Type 0
-ClosedNumber Good c = Of Good (λ n. digits n ++ (c ∷ []))
+ClosedNumber Good = ClosedText Good digits

@@ -1,13 +1,14 @@
--- The digits of a number are its one decimal numeral with no leading 0, of whatever length (paper 01, "Texts").
+-- The digits of a number are its one decimal numeral with no leading 0, of whatever length (paper 01, "Texts"), and a cost may have a minus before it.
 use mathlib.Core.Path.{_≡_, refl, sym, _∙_, ap}
-use mathlib.Core.Logic.{_↔_}
+use mathlib.Core.Logic.{_↔_, _⊎_, inl, inr}
 use mathlib.Core.Bool.{Bool, true}
 use mathlib.Core.List.{List, [], _∷_, head-eq-of-cons-eq}
 use Prim.Native.Nat.{ℕ, zero, suc, _+_, _*_, _^_, _≤_, _<_}
 use native.Mathlib.Omega.{arith}
 use native.Mathlib.Decide.{decLt}
+use lib.IntN.{ℤ, pos, negsuc, negℤ}
 use lib.ListN.{length}
-use Rattle.transport.specs.Text.{digits}
+use Rattle.transport.specs.Text.{bytes, digits, wholeDigits}
 use Rattle.transport.specs.SheetText.{isDigit, digitValue}
 use Rattle.grammar.specs.Digits.{digits-small, digit-value, digit-of}
 use Rattle.grammar.specs.Numeral.{value, value-digits, Follows, first-digits, numeral}
@@ -68,3 +69,34 @@ decimal-digits (b ∷ ds) h = go (decLt (digitValue b) 1)
 -- What is written of a number is such a numeral.
 pub digits-iff : (n : ℕ) (ds : List ℕ) → (ds ≡ digits n) ↔ Decimal ds × (value 0 ds ≡ n)
 digits-iff n ds = (λ e. rw e (digits-decimal n, value-digits n), λ h. sym (decimal-digits ds (h .0)) ∙ ap digits (h .1))
+
+-- A cost with a minus: `-`, and a numeral that is not that of 0.
+pub record Negative (z : ℤ) (t : List ℕ) : Type 0 where
+  pub rest : List ℕ
+  pub text : t ≡ 45 ∷ rest
+  pub decimal : Decimal rest
+  pub above : 1 ≤ value 0 rest
+  pub number : z ≡ negℤ (pos (value 0 rest))
+
+-- What is written of a cost is a numeral, or a minus and one that is not that of 0 (paper 02, Two).
+pub whole-iff : (z : ℤ) (t : List ℕ) → (t ≡ wholeDigits z) ↔ (Decimal t × (z ≡ pos (value 0 t))) ⊎ Negative z t
+unfolding wholeDigits bytes
+whole-iff z t = (there z, back)
+  where
+    there : (z : ℤ) → t ≡ wholeDigits z → (Decimal t × (z ≡ pos (value 0 t))) ⊎ Negative z t
+    there (pos n) e = let (d, v) = digits-iff n t .0 e in inl (d, ap pos (sym v))
+    there (negsuc n) e = inr (record {
+      rest = digits (suc n);
+      text = e;
+      decimal = digits-decimal (suc n);
+      above = omega (arith, value-digits (suc n));
+      number = ap (λ (k : ℕ). negℤ (pos k)) (sym (value-digits (suc n)));
+    })
+
+    minus-of : (k : ℕ) (ds : List ℕ) → value 0 ds ≡ k → 1 ≤ k → Decimal ds → 45 ∷ ds ≡ wholeDigits (negℤ (pos k))
+    minus-of zero ds v l d = absurd (omega arith)
+    minus-of (suc k) ds v l d = ap (λ (l : List ℕ). 45 ∷ l) (digits-iff (suc k) ds .1 (d, v))
+
+    back : (Decimal t × (z ≡ pos (value 0 t))) ⊎ Negative z t → t ≡ wholeDigits z
+    back (inl h) = rw (h .1) (digits-iff (value 0 t) t .1 (h .0, refl))
+    back (inr h) = rw (h .number) (h .text ∙ minus-of (value 0 (h .rest)) (h .rest) refl (h .above) (h .decimal))

@@ -2,21 +2,24 @@
 use mathlib.Core.Path.{_≡_, refl, sym, _∙_, ap}
 use mathlib.Core.List.{List, [], _++_, append-assoc, append-nil, flatMap, flatten}
 use Prim.Native.Nat.{ℕ}
+use native.Mathlib.Omega.{arith}
+use lib.IntN.{ℤ, pos}
 use lib.ListN.{length}
-use Rattle.transport.specs.Limits.{maxSources, maxSinks}
+use Rattle.transport.specs.Lists.{at, atZ}
+use Rattle.transport.specs.Limits.{maxSources, maxSinks, maxDigits}
 use Rattle.transport.specs.Sheet.{Sheet, roasteries, cafes}
-use Rattle.transport.specs.Text.{bytes, headLine, numberLine, rowLine}
+use Rattle.transport.specs.Text.{bytes, wholeDigits, headLine, numberLine, rowLine}
 use Rattle.transport.specs.SheetText.{rowsOf, sheetText, sheetReader}
 use Rattle.transport.specs.Statements.{HasText, SheetTextOf}
-use Rattle.grammar.specs.Numbers.{Side, Small, every-at, at-every}
+use Rattle.grammar.specs.Numbers.{Side, Small, SmallWhole, every-at, at-every}
 use Rattle.grammar.specs.Exact.{Exact, AtEnd, Then, joining, glued, bind, then, reworded}
 use Rattle.grammar.specs.Every.{Every, Count}
 use Rattle.grammar.specs.Readers.{Only, Bytes, word-exact, end-exact, Of, times-exact}
-use Rattle.grammar.specs.Lines.{number-line-exact, source-line-exact, sink-line-exact, row-exact}
+use Rattle.grammar.specs.Lines.{number-line-exact, source-line-exact, sink-line-exact, cost-row-exact}
 use Rattle.grammar.specs.Rows.{flatten-every, flatten-length, rowsOf-flatten, rowsOf-length, rowsOf-every, flatten-rowsOf}
 
 -- The sheet of what the sections hold.
-sheetOfRows : List ℕ → List ℕ → List (List ℕ) → Sheet
+sheetOfRows : List ℕ → List ℕ → List (List ℤ) → Sheet
 sheetOfRows supply demand rows = record { supply = supply; demand = demand; cost = flatten rows }
 
 -- The sections in their order.
@@ -29,7 +32,7 @@ Sections =
     Then (Of (Side maxSinks) numberLine) (λ n.
     Then (Of (Count Small n) (flatMap numberLine)) (λ demand.
     Then (Bytes (headLine "cost" m)) (λ u.
-    Then (Of (Count (Count Small n) m) (flatMap rowLine)) (λ rows.
+    Then (Of (Count (Count SmallWhole n) m) (flatMap (rowLine wholeDigits))) (λ rows.
     Only (sheetOfRows supply demand rows)))))))))
 
 -- Section by section, since the pieces are exact.
@@ -46,11 +49,11 @@ sections-exact =
     bind (times-exact Small numberLine number-line-exact n) (λ demand.
     then
     (word-exact (headLine "cost" m))
-    (bind (times-exact (Count Small n) rowLine (row-exact n) m) (λ rows.
+    (bind (times-exact (Count SmallWhole n) (rowLine wholeDigits) (cost-row-exact n) m) (λ rows.
     end-exact (sheetOfRows supply demand rows)))))))))
 
 -- The sections' texts one after the other.
-laidOut : (m n : ℕ) (supply demand : List ℕ) (rows : List (List ℕ)) → List ℕ
+laidOut : (m n : ℕ) (supply demand : List ℕ) (rows : List (List ℤ)) → List ℕ
 laidOut m n supply demand rows =
     bytes "supply "
     ++ (numberLine m
@@ -59,28 +62,32 @@ laidOut m n supply demand rows =
     ++ (numberLine n
     ++ (flatMap numberLine demand
     ++ (headLine "cost" m
-    ++ (flatMap rowLine rows
+    ++ (flatMap (rowLine wholeDigits) rows
     ++ [])))))))
 
 head-line : (m : ℕ) → (headLine "supply" m ≡ bytes "supply " ++ numberLine m) × (headLine "demand" m ≡ bytes "demand " ++ numberLine m)
 unfolding headLine bytes numberLine
 head-line m = (refl, refl)
 
-module _ (m n : ℕ) (supply demand : List ℕ) (rows : List (List ℕ)) (ms : length supply ≡ m) (ns : length demand ≡ n)
-    (rs : Count (Count Small n) m rows) where
+module _ (m n : ℕ) (supply demand : List ℕ) (rows : List (List ℤ)) (ms : length supply ≡ m) (ns : length demand ≡ n)
+    (rs : Count (Count SmallWhole n) m rows) where
   cut : rowsOf m n (flatten rows) ≡ rows
-  cut = rw (← rs .0) (rowsOf-flatten Small n rows (rs .1))
+  cut = rw (← rs .0) (rowsOf-flatten SmallWhole n rows (rs .1))
 
   sheetText-sections : sheetText (sheetOfRows supply demand rows) ≡ laidOut m n supply demand rows
   unfolding sheetText sheetOfRows roasteries cafes laidOut
   sheetText-sections = rw (ms, ns, cut, head-line m .0, head-line n .1) (simp (append-assoc, append-nil))
 
   hasText-sections : Side maxSources m → Every Small supply → Side maxSinks n → Every Small demand → HasText (sheetOfRows supply demand rows)
-  unfolding sheetOfRows roasteries cafes
+  unfolding sheetOfRows roasteries cafes at atZ maxDigits
   hasText-sections sm es sn ed = record {
     sides = (rw ms sm, rw ns sn);
-    lengths = flatten-length Small n rows (rs .1) ∙ rw (rs .0, ms, ns);
-    numbers = λ k. (every-at supply es k, every-at demand ed k, every-at (flatten rows) (flatten-every Small n rows (rs .1)) k);
+    lengths = flatten-length SmallWhole n rows (rs .1) ∙ rw (rs .0, ms, ns);
+    numbers = λ k. (
+      every-at Small 0 (omega arith) supply es k,
+      every-at Small 0 (omega arith) demand ed k,
+      every-at SmallWhole (pos 0) (omega arith) (flatten rows) (flatten-every SmallWhole n rows (rs .1)) k,
+    );
   }
 
 sections-there : (S : Sheet) (text : List ℕ) → Sections S text → SheetTextOf S text
@@ -119,16 +126,16 @@ sections-there S text h =
     })
 
 sections-back : (S : Sheet) (text : List ℕ) → SheetTextOf S text → Sections S text
-unfolding laidOut sheetOfRows roasteries cafes
+unfolding laidOut sheetOfRows roasteries cafes at atZ
 sections-back S text h =
     let m = roasteries S in
     let n = cafes S in
     let rows = rowsOf m n (S .cost) in
     let numbers = h .sheet .numbers in
-    let costs : Every Small (S .cost) = at-every (S .cost) (λ k. numbers k .2) in
-    let rs : Count (Count Small n) m rows = (rowsOf-length n m (S .cost), rowsOf-every Small n m (S .cost) (h .sheet .lengths) costs) in
+    let costs : Every SmallWhole (S .cost) = at-every SmallWhole (pos 0) (S .cost) (λ k. numbers k .2) in
+    let rs : Count (Count SmallWhole n) m rows = (rowsOf-length n m (S .cost), rowsOf-every SmallWhole n m (S .cost) (h .sheet .lengths) costs) in
     let same : S ≡ sheetOfRows (S .supply) (S .demand) rows =
-    ap (λ (c : List ℕ). record { supply = S .supply; demand = S .demand; cost = c }) (sym (flatten-rowsOf n m (S .cost) (h .sheet .lengths)))
+    ap (λ (c : List ℤ). record { supply = S .supply; demand = S .demand; cost = c }) (sym (flatten-rowsOf n m (S .cost) (h .sheet .lengths)))
     in
     let written : text ≡ laidOut m n (S .supply) (S .demand) rows =
     h .written ∙ ap sheetText same ∙ sheetText-sections m n (S .supply) (S .demand) rows refl refl rs
@@ -137,10 +144,10 @@ sections-back S text h =
     written
     (joining tt _ _ refl
     (joining m _ _ (h .sheet .sides .0, refl)
-    (joining (S .supply) _ _ ((refl, at-every (S .supply) (λ k. numbers k .0)), refl)
+    (joining (S .supply) _ _ ((refl, at-every Small 0 (S .supply) (λ k. numbers k .0)), refl)
     (joining tt _ _ refl
     (joining n _ _ (h .sheet .sides .1, refl)
-    (joining (S .demand) _ _ ((refl, at-every (S .demand) (λ k. numbers k .1)), refl)
+    (joining (S .demand) _ _ ((refl, at-every Small 0 (S .demand) (λ k. numbers k .1)), refl)
     (joining tt _ _ refl
     (joining rows _ [] (rs, refl)
     (same, refl)))))))))

@@ -1,5 +1,5 @@
 -- The theorems about the sheet text: `reader-iff` and `place` (Place), `text-length` (Longest), `readSheet-iff`, `writeSheet-iff`, `undo`, `nine-iff` and
--- `read-cut` (SheetCalls), and `digits-iff` (Decimal) and `digits-length` (Digits). They rest on `sheet-exact` (Grammar).
+-- `read-cut` (SheetCalls), and `digits-iff` and `whole-iff` (Decimal) and `digits-length` (Digits). They rest on `sheet-exact` (Grammar).
 pub mod Every
 pub mod Numbers
 pub mod Digits
@@ -9,6 +9,8 @@ pub mod Exact
 pub mod Readers
 pub mod Closing
 pub mod Number
+pub mod Branching
+pub mod Signed
 pub mod Rows
 pub mod Lines
 pub mod Grammar

@@ -1,4 +1,4 @@
--- The readers of lines are exact: of one number, of a count, and of a row of numbers.
+-- The readers of lines are exact: of one number, of a count, and of a row of costs.
 use mathlib.Core.Path.{_≡_, refl, sym, _∙_, ap}
 use mathlib.Core.Logic.{_↔_}
 use mathlib.Core.Bool.{false}
@@ -7,15 +7,16 @@ use Prim.Native.Nat.{ℕ, zero, suc}
 use native.Mathlib.Omega.{arith}
 use lib.ListN.{length}
 use Rattle.transport.specs.Lists.{within}
-use Rattle.transport.specs.Text.{bytes, kindOf, digits, numberLine, rowLine}
+use Rattle.transport.specs.Text.{bytes, kindOf, wholeDigits, numberLine, rowLine}
 use Rattle.transport.specs.Limits.{maxSources, maxSinks}
-use Rattle.transport.specs.SheetText.{Reading, stuck, got, Reader, _>>=_, _>>_, pure, word, isDigit, number, side, line, row}
-use Rattle.grammar.specs.Numbers.{Side, Small}
+use Rattle.transport.specs.SheetText.{Reader, _>>=_, pure, isDigit, number, side, whole, line, row}
+use Rattle.grammar.specs.Numbers.{Side, Small, SmallWhole}
 use Rattle.grammar.specs.Exact.{Exact, Any, Then, glued, bind, then, reworded, agreeing}
 use Rattle.grammar.specs.Every.{Count}
 use Rattle.grammar.specs.Readers.{Only, pure-exact, Bytes, word-exact, Of}
-use Rattle.grammar.specs.Closing.{closedBy, ClosedNumber}
+use Rattle.grammar.specs.Closing.{closedBy, ClosedText, spaced}
 use Rattle.grammar.specs.Number.{number-exact, side-exact}
+use Rattle.grammar.specs.Signed.{whole-exact}
 
 -- ---- lines
 
@@ -41,101 +42,96 @@ sink-line-exact = side-exact maxSinks (omega arith) (omega arith) 10 LF-plain
 
 -- ---- rows
 
--- The space after a number may be read with the number.
-spaced : {A : Type 0} (c : ℕ) (r : Reader ℕ) (f : ℕ → Reader A) (t : List ℕ) → (closedBy c r >>= f) t ≡ (r >>= (λ x. word (c ∷ []) >> f x)) t
-unfolding closedBy _>>=_ _>>_ pure
-spaced c r f t = go (r t) refl
-  where
-    inner : (x : ℕ) (z : List ℕ) (o : Reading (Unit {0})) → word (c ∷ []) z ≡ o → ((word (c ∷ []) >> pure x) >>= f) z ≡ (word (c ∷ []) >> f x) z
-    inner x z (stuck rest) d = rw (d, _>>_, _>>=_)
-    inner x z (got u rest) d = rw (d, _>>_, _>>=_)
+-- Rows of anything that is written by `write`: good values, each with the byte after it.
+module _ {A : Type 0} (Good : A → Type 0) (write : A → List ℕ) where
+  -- The line of n good values.
+  abbrev Row : ℕ → List A → List ℕ → Type 0
+  Row n = Of (Count Good n) (rowLine write)
 
-    go : (o : Reading ℕ) → r t ≡ o → (closedBy c r >>= f) t ≡ (r >>= (λ x. word (c ∷ []) >> f x)) t
-    go (stuck rest) e = rw (e, _>>=_)
-    go (got x z) e = rw (e, _>>=_) (inner x z (word (c ∷ []) z) refl)
+  row-none : (xs : List A) (t : List ℕ) → Then (Bytes (bytes "\n")) (λ u. Only []) xs t ↔ Row 0 xs t
+  unfolding rowLine bytes
+  row-none xs t = (λ h. rw (h .second .0) ((refl, tt), glued (h .joined) (h .first) (h .second .1)), back xs)
+    where
+      back : (ys : List A) → Row 0 ys t → Then (Bytes (bytes "\n")) (λ u. Only []) ys t
+      back [] h = record { value = tt; front = bytes "\n"; back = []; first = refl; second = (refl, refl); joined = h .1 ∙ rw append-nil }
+      back (y ∷ ys) h = absurd (omega arith)
 
--- The line of n numbers of at most seven digits.
-abbrev pub Row : ℕ → List ℕ → List ℕ → Type 0
-Row n = Of (Count Small n) rowLine
-
-row-none : (xs t : List ℕ) → Then (Bytes (bytes "\n")) (λ u. Only []) xs t ↔ Row 0 xs t
-unfolding rowLine bytes
-row-none xs t = (λ h. rw (h .second .0) ((refl, tt), glued (h .joined) (h .first) (h .second .1)), back xs)
-  where
-    back : (ys : List ℕ) → Row 0 ys t → Then (Bytes (bytes "\n")) (λ u. Only []) ys t
-    back [] h = record { value = tt; front = bytes "\n"; back = []; first = refl; second = (refl, refl); joined = h .1 ∙ rw append-nil }
-    back (y ∷ ys) h = absurd (omega arith)
-
-row-one : (xs t : List ℕ) → Then (Of Small numberLine) (λ x. Only (x ∷ [])) xs t ↔ Row 1 xs t
-unfolding rowLine
-row-one xs t = (
-  λ h. rw (h .second .0) ((refl, (h .first .0, tt)), glued (h .joined) (h .first .1) (h .second .1) ∙ append-nil _),
-  back xs,
-)
-  where
-    back : (ys : List ℕ) → Row 1 ys t → Then (Of Small numberLine) (λ x. Only (x ∷ [])) ys t
-    back [] h = absurd (omega arith)
-    back (y ∷ []) h = record {
-      value = y;
-      front = numberLine y;
-      back = [];
-      first = (h .0 .1 .0, refl);
-      second = (refl, refl);
-      joined = h .1 ∙ rw append-nil;
-    }
-    back (y ∷ z ∷ ys) h = absurd (omega arith)
-
-abbrev Longer : ℕ → List ℕ → List ℕ → Type 0
-Longer n = Then (ClosedNumber Small 32) (λ x. Then (Row (suc n)) (λ xs. Only (x ∷ xs)))
-
-rowLine-cons : (x n : ℕ) (xs : List ℕ) → length xs ≡ suc n → rowLine (x ∷ xs) ≡ (digits x ++ (32 ∷ [])) ++ rowLine xs
-unfolding rowLine bytes
-rowLine-cons x n [] e = absurd (omega arith)
-rowLine-cons x n (y ∷ ys) e = refl
-
-row-more : (n : ℕ) (xs t : List ℕ) → Longer n xs t ↔ Row (suc (suc n)) xs t
-unfolding rowLine bytes
-row-more n xs t = (there, back xs)
-  where
-    there : Longer n xs t → Row (suc (suc n)) xs t
-    there h =
-        let k = h .second in
-        let l : suc (length (k .value)) ≡ suc (suc n) = ap suc (k .first .0 .0) in
-        let e : h .back ≡ rowLine (k .value) = glued (k .joined) (k .first .1) (k .second .1) ∙ append-nil _ in
-        rw
-        (k .second .0) (
-          (l, (h .first .0, k .first .0 .1)),
-          glued (h .joined) (h .first .1) e ∙ sym (rowLine-cons (h .value) n (k .value) (k .first .0 .0)),
-        )
-
-    back : (ys : List ℕ) → Row (suc (suc n)) ys t → Longer n ys t
-    back [] h = absurd (omega arith)
-    back (y ∷ []) h = absurd (omega arith)
-    back (y ∷ z ∷ ys) h = record {
-      value = y;
-      front = digits y ++ (32 ∷ []);
-      back = rowLine (z ∷ ys);
-      first = (h .0 .1 .0, refl);
-      second = record {
-        value = z ∷ ys;
-        front = rowLine (z ∷ ys);
+  row-one : (xs : List A) (t : List ℕ) → Then (ClosedText Good write 10) (λ x. Only (x ∷ [])) xs t ↔ Row 1 xs t
+  unfolding rowLine bytes
+  row-one xs t = (
+    λ h. rw (h .second .0) ((refl, (h .first .0, tt)), glued (h .joined) (h .first .1) (h .second .1) ∙ append-nil _),
+    back xs,
+  )
+    where
+      back : (ys : List A) → Row 1 ys t → Then (ClosedText Good write 10) (λ x. Only (x ∷ [])) ys t
+      back [] h = absurd (omega arith)
+      back (y ∷ []) h = record {
+        value = y;
+        front = write y ++ (10 ∷ []);
         back = [];
-        first = ((omega arith, h .0 .1 .1), refl);
+        first = (h .0 .1 .0, refl);
         second = (refl, refl);
-        joined = rw append-nil;
-      };
-      joined = h .1;
-    }
+        joined = h .1 ∙ rw append-nil;
+      }
+      back (y ∷ z ∷ ys) h = absurd (omega arith)
 
-pub row-exact : (n : ℕ) → Exact (row n) (Row n) Any
-unfolding row bytes
-row-exact zero = reworded row-none (then (word-exact (bytes "\n")) (pure-exact []))
-row-exact (suc zero) = reworded row-one (bind number-line-exact (λ x. pure-exact (x ∷ [])))
-row-exact (suc (suc n)) =
-    reworded
-    (row-more n)
-    (agreeing
-    _
-    _
-    (spaced 32 number (λ x. row (suc n) >>= (λ xs. pure (x ∷ xs))))
-    (bind (number-exact 32 space-plain) (λ x. bind (row-exact (suc n)) (λ xs. pure-exact (x ∷ xs)))))
+  abbrev Longer : ℕ → List A → List ℕ → Type 0
+  Longer n = Then (ClosedText Good write 32) (λ x. Then (Row (suc n)) (λ xs. Only (x ∷ xs)))
+
+  rowLine-cons : (x : A) (n : ℕ) (xs : List A) → length xs ≡ suc n → rowLine write (x ∷ xs) ≡ (write x ++ (32 ∷ [])) ++ rowLine write xs
+  unfolding rowLine bytes
+  rowLine-cons x n [] e = absurd (omega arith)
+  rowLine-cons x n (y ∷ ys) e = refl
+
+  row-more : (n : ℕ) (xs : List A) (t : List ℕ) → Longer n xs t ↔ Row (suc (suc n)) xs t
+  unfolding rowLine bytes
+  row-more n xs t = (there, back xs)
+    where
+      there : Longer n xs t → Row (suc (suc n)) xs t
+      there h =
+          let k = h .second in
+          let l : suc (length (k .value)) ≡ suc (suc n) = ap suc (k .first .0 .0) in
+          let e : h .back ≡ rowLine write (k .value) = glued (k .joined) (k .first .1) (k .second .1) ∙ append-nil _ in
+          rw
+          (k .second .0) (
+            (l, (h .first .0, k .first .0 .1)),
+            glued (h .joined) (h .first .1) e ∙ sym (rowLine-cons (h .value) n (k .value) (k .first .0 .0)),
+          )
+
+      back : (ys : List A) → Row (suc (suc n)) ys t → Longer n ys t
+      back [] h = absurd (omega arith)
+      back (y ∷ []) h = absurd (omega arith)
+      back (y ∷ z ∷ ys) h = record {
+        value = y;
+        front = write y ++ (32 ∷ []);
+        back = rowLine write (z ∷ ys);
+        first = (h .0 .1 .0, refl);
+        second = record {
+          value = z ∷ ys;
+          front = rowLine write (z ∷ ys);
+          back = [];
+          first = ((omega arith, h .0 .1 .1), refl);
+          second = (refl, refl);
+          joined = rw append-nil;
+        };
+        joined = h .1;
+      }
+
+  module _ (r : Reader A) (last : Exact (line r) (ClosedText Good write 10) Any) (inner : Exact (closedBy 32 r) (ClosedText Good write 32) Any) where
+    row-exact : (n : ℕ) → Exact (row r n) (Row n) Any
+    unfolding row bytes
+    row-exact zero = reworded row-none (then (word-exact (bytes "\n")) (pure-exact []))
+    row-exact (suc zero) = reworded row-one (bind last (λ x. pure-exact (x ∷ [])))
+    row-exact (suc (suc n)) =
+        reworded
+        (row-more n)
+        (agreeing
+        _
+        _
+        (spaced 32 r (λ x. row r (suc n) >>= (λ xs. pure (x ∷ xs))))
+        (bind inner (λ x. bind (row-exact (suc n)) (λ xs. pure-exact (x ∷ xs)))))
+
+-- A row of costs.
+pub cost-row-exact : (n : ℕ) → Exact (row whole n) (Of (Count SmallWhole n) (rowLine wholeDigits)) Any
+unfolding line closedBy bytes
+cost-row-exact = row-exact SmallWhole wholeDigits whole (whole-exact 10 LF-plain) (whole-exact 32 space-plain)

@@ -1,15 +1,15 @@
--- The two number readers are exact with the byte after the number.
+-- The readers of numbers without a minus are exact with the byte after the number.
 use mathlib.Core.Path.{_≡_, refl, _∙_}
 use mathlib.Core.Bool.{Bool, true, false, _&&_, cond, and-eq-true-iff}
 use mathlib.Core.List.{List, [], _∷_}
-use Prim.Native.Nat.{ℕ, zero, suc, _+_, _-_, _/_, _≤_, _<_}
+use Prim.Native.Nat.{ℕ, zero, suc, _+_, _*_, _-_, _/_, _≤_, _<_}
 use native.Mathlib.Omega.{arith}
-use lib.Dec.{eqb}
-use borrow.Author.Tests.{eqb-false, ne-eqb}
+use lib.Dec.{eqb, leb}
+use borrow.Author.Tests.{eqb-false, ne-eqb, leb-true, le-leb}
 use Rattle.transport.specs.Lists.{within}
 use Rattle.transport.specs.Limits.{maxDigits}
 use Rattle.transport.specs.Text.{kindOf, digits}
-use Rattle.transport.specs.SheetText.{isDigit, digitValue, number, side}
+use Rattle.transport.specs.SheetText.{isDigit, digitValue, numberFrom, number, side}
 use Rattle.grammar.specs.Numbers.{within-iff, Side, Small}
 use Rattle.grammar.specs.Digits.{digits-small, digits-length, digit-value, digit-of, value-of}
 use Rattle.grammar.specs.Numeral.{value, Follows, follows-length, follows-test, first-digits, Beginnings, numeral}
@@ -43,29 +43,58 @@ number-digits b ds d f = go (eqb (digitValue b) 0) refl ds f
         let w : digits (value (digitValue b) es) ≡ b ∷ es = first-digits (λ x. true) (maxDigits - 1) b es d (omega arith) i in
         (digits-length (maxDigits - 1) (value (digitValue b) es) .0 (rw w (omega (arith, follows-length (λ x. true) (maxDigits - 1) (digitValue b) es i))), w)
 
-module _ (c : ℕ) (plain : isDigit c ≡ false) where
-  number-there : (n : ℕ) (t : List ℕ) → BegunNumber c isDigit (λ x. true) room n t → ClosedNumber Small c n t
-  number-there n t h =
-      let k = number-digits (h .value) (h .second .ds) (h .first .0) (h .second .follows) in
-      (rw (h .second .whole) (k .0), begun-written c isDigit (λ x. true) room n t h (rw (h .second .whole) (k .1)))
+-- No digit makes a number smaller.
+value-grows : (x : ℕ) (ds : List ℕ) → x ≤ value x ds
+unfolding value
+value-grows x [] = omega arith
+value-grows x (b ∷ ds) = omega (arith, value-grows (x * 10 + digitValue b) ds)
 
-  number-back : (n : ℕ) (t : List ℕ) → ClosedNumber Small c n t → BegunNumber c isDigit (λ x. true) room n t
-  unfolding maxDigits value digitValue
-  number-back zero t h = record {
-    value = 48;
-    front = 48 ∷ [];
-    back = c ∷ [];
-    first = (digit-of 0 (omega arith), refl);
-    second = record { ds = []; follows = tt; whole = refl; written = refl };
-    joined = h .1 ∙ rw (digits-small 0 (omega arith));
-  }
-  number-back (suc n) t h =
-      let x = numeral (λ y. true) (λ y l e. refl) (maxDigits - 1) (suc n) (omega arith) (h .0) refl in
-      numeral-begun c isDigit (λ y. true) room (maxDigits - 1) (suc n) t x (digit-of (x .first) (x .small)) (room-after (x .first) (x .above)) (h .1)
+-- The numbers whose first digit is at least `low`, 0 or 1, are those from `low` on.
+abbrev pub From : ℕ → ℕ → Type 0
+From low n = (low ≤ n) × Small n
 
-  pub number-exact : Exact (closedBy c number) (ClosedNumber Small c) Any
-  unfolding number first-then room
-  number-exact = reworded (λ n t. (number-there n t, number-back n t)) (first-exact c plain isDigit (λ x. true) room 48 (digit-of 0 (omega arith)))
+module _ (low : ℕ) (few : low ≤ 1) where
+  head : ℕ → Bool
+  head b = isDigit b && leb low (digitValue b)
+
+  head-of : (d : ℕ) → d < 10 → low ≤ d → head (48 + d) ≡ true
+  unfolding head
+  head-of d s l = rw (digit-of d s, value-of d, le-leb low d l)
+
+  module _ (c : ℕ) (plain : isDigit c ≡ false) where
+    from-there : (n : ℕ) (t : List ℕ) → BegunNumber c head (λ x. true) room n t → ClosedNumber (From low) c n t
+    unfolding head
+    from-there n t h =
+        let b = h .value in
+        let ds = h .second .ds in
+        let (digit, above) = and-eq-true-iff (isDigit b) (leb low (digitValue b)) .0 (h .first .0) in
+        let (small, written) = number-digits b ds digit (h .second .follows) in
+        let least : low ≤ value (digitValue b) ds = omega (arith, leb-true low (digitValue b) above, value-grows (digitValue b) ds) in
+        (rw (h .second .whole) (least, small), begun-written c head (λ x. true) room n t h (rw (h .second .whole) written))
+
+    from-back : (n : ℕ) (t : List ℕ) → ClosedNumber (From low) c n t → BegunNumber c head (λ x. true) room n t
+    unfolding maxDigits value digitValue
+    from-back zero t h = record {
+      value = 48;
+      front = 48 ∷ [];
+      back = c ∷ [];
+      first = (head-of 0 (omega arith) (h .0 .0), refl);
+      second = record { ds = []; follows = tt; whole = refl; written = refl };
+      joined = h .1 ∙ rw (digits-small 0 (omega arith));
+    }
+    from-back (suc n) t h =
+        let x = numeral (λ y. true) (λ y l e. refl) (maxDigits - 1) (suc n) (omega arith) (h .0 .1) refl in
+        let first : head (48 + x .first) ≡ true = head-of (x .first) (x .small) (omega (arith, x .above)) in
+        numeral-begun c head (λ y. true) room (maxDigits - 1) (suc n) t x first (room-after (x .first) (x .above)) (h .1)
+
+    pub from-exact : Exact (closedBy c (numberFrom low)) (ClosedNumber (From low) c) Any
+    unfolding numberFrom first-then room head
+    from-exact = reworded (λ n t. (from-there n t, from-back n t)) (first-exact c plain head (λ x. true) room 49 (head-of 1 (omega arith) few))
+
+-- A supply or demand.
+pub number-exact : (c : ℕ) → isDigit c ≡ false → Exact (closedBy c number) (ClosedNumber Small c) Any
+unfolding number
+number-exact c plain = reworded (λ n t. (λ h. (h .0 .1, h .1), λ h. ((omega arith, h .0), h .1))) (from-exact 0 (omega arith) c plain)
 
 -- ---- the counts m and n, whose limits have one or two digits
 

@@ -4,8 +4,9 @@ use mathlib.Core.Logic.{_↔_}
 use mathlib.Core.Bool.{true}
 use mathlib.Core.List.{List, [], _∷_}
 use Prim.Native.Nat.{ℕ, zero, suc, _^_, _≤_, _<_}
-use native.Mathlib.Omega.{arith}
-use Rattle.transport.specs.Lists.{at, within}
+use lib.IntN.{ℤ, natAbs}
+use lib.ListN.{getD}
+use Rattle.transport.specs.Lists.{within}
 use Rattle.transport.specs.Laws.SheetLaws.{within-true, true-within}
 use Rattle.transport.specs.Limits.{maxDigits}
 use Rattle.grammar.specs.Every.{Every}
@@ -17,17 +18,21 @@ within-iff low high x = (within-true low high x, λ h. true-within low high x (h
 abbrev pub Side : ℕ → ℕ → Type 0
 Side most n = within 1 most n ≡ true
 
--- A supply, a demand or a cost, as far as the text goes.
+-- A supply or a demand, as far as the text goes ..
 abbrev pub Small : ℕ → Type 0
 Small x = x < 10 ^ maxDigits
 
-pub every-at : (xs : List ℕ) → Every Small xs → (k : ℕ) → Small (at xs k)
-unfolding at maxDigits
-every-at [] h k = omega arith
-every-at (x ∷ xs) h zero = h .0
-every-at (x ∷ xs) h (suc k) = every-at xs (h .1) k
+-- .. and a cost.
+abbrev pub SmallWhole : ℤ → Type 0
+SmallWhole z = Small (natAbs z)
 
-pub at-every : (xs : List ℕ) → ((k : ℕ) → Small (at xs k)) → Every Small xs
-unfolding at
-at-every [] h = tt
-at-every (x ∷ xs) h = (h 0, at-every xs (λ k. h (suc k)))
+-- Of a list, and place by place with what stands beyond it.
+module _ {A : Type 0} (Good : A → Type 0) (d : A) where
+  pub every-at : Good d → (xs : List A) → Every Good xs → (k : ℕ) → Good (getD xs k d)
+  every-at g [] h k = g
+  every-at g (x ∷ xs) h zero = h .0
+  every-at g (x ∷ xs) h (suc k) = every-at g xs (h .1) k
+
+  pub at-every : (xs : List A) → ((k : ℕ) → Good (getD xs k d)) → Every Good xs
+  at-every [] h = tt
+  at-every (x ∷ xs) h = (h 0, at-every xs (λ k. h (suc k)))

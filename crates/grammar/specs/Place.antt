@@ -107,7 +107,7 @@ place text rest e =
 pub place-unique : (text : List ℕ) (p q : ℕ) → Place text p → Place text q → p ≡ q
 place-unique text p q h k = le-antisymm (k .longest p (h .shared)) (h .longest q (k .shared))
 
--- A longer text than any sheet text is refused by a byte among its first 8,733.
+-- A longer text than any sheet text is refused by a byte among its first 9,757.
 pub place-cut : (text rest : List ℕ) → sheetReader text ≡ stuck rest → suc maxText ≤ length text
     → (z : List ℕ) × (sheetReader (take (suc maxText) text) ≡ stuck z) × (length (take (suc maxText) text) - length z ≡ length text - length rest)
 place-cut text rest e l = go rest refl

@@ -10,6 +10,7 @@ use lib.ListN.{length}
 use borrow.Author.Tests.{eq-eqb}
 use Rattle.transport.specs.Limits.{maxSources, maxSinks, maxDigits, maxAmount, maxCost}
 use Rattle.transport.specs.Sheet.{Sheet, roasteries, cafes, badSides, badLength, numberTests, sheetTests, refusal}
+use Rattle.transport.specs.Laws.RangeLaws.{abs-between}
 use Rattle.transport.specs.Laws.SheetLaws.{true-within, refusal-no, refusal-clear, accepted, passes}
 use Rattle.transport.specs.Statements.{Accepted, HasText}
 
@@ -35,5 +36,5 @@ accepted-text S a =
     record {
       sides = (true-within 1 maxSources (roasteries S) (c .roasteriesLow) (c .roasteriesHigh), true-within 1 maxSinks (cafes S) (c .cafesLow) (c .cafesHigh));
       lengths = c .costLength;
-      numbers = λ k. (omega (arith, c .supplyHigh k), omega (arith, c .demandHigh k), omega (arith, c .costHigh k));
+      numbers = λ k. (omega (arith, c .supplyHigh k), omega (arith, c .demandHigh k), omega (arith, abs-between (c .costLow k) (c .costHigh k)));
     }

@@ -131,9 +131,9 @@ undo = record {
       writeSheet-iff S maxText text .1 (h .1, text-length S (h .0 .sheet), h .0 .written);
 }
 
--- ---- the first 8,733 bytes
+-- ---- the first 9,757 bytes
 
--- What a text that is longer than any sheet text is refused by stands in its first 8,733 bytes: reading those gives the same answer as reading the whole.
+-- What a text that is longer than any sheet text is refused by stands in its first 9,757 bytes: reading those gives the same answer as reading the whole.
 pub read-cut : (tests : Sheet → List (Bool × ℕ)) (text : List ℕ) → readWith tests (take (suc maxText) text) ≡ readWith tests text
 read-cut tests text = go (decLe (length text) (suc maxText)) (sheetReader text) refl
   where

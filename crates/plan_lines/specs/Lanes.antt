@@ -14,6 +14,7 @@ use Rattle.transport.specs.Laws.ListLaws.{table-cong, table-getD, flatMap-appen
 use Rattle.transport.specs.Problem.{Lane, lanes, place}
 use Rattle.transport.specs.Laws.ProblemLaws.{lane, length-lanes, getD-lanes}
 use Rattle.transport.specs.PlanText.{carried, used, laneLine}
+use Rattle.transport.specs.Text.{digits}
 use Rattle.sections.specs.Lines.{linesFrom, lines-nil, lines-row}
 
 -- The numbers of the lane at a place, among n columns: its row and its column, both from 1, and its bags; none if it carries no bag.
@@ -87,7 +88,7 @@ module _ (n : ℕ) (plan : List ℕ) where
     last : List Lane
     lanesNext : usedTo (suc k) ≡ usedTo k ++ last
     counts : length (laneNumbers n k (at plan k)) ≡ 3 * length last
-    written : (more : List ℕ) → flatMap (laneLine n plan) last ++ linesFrom 3 3 more ≡ linesFrom 3 3 (laneNumbers n k (at plan k) ++ more)
+    written : (more : List ℕ) → flatMap (laneLine n plan) last ++ linesFrom digits 3 3 more ≡ linesFrom digits 3 3 (laneNumbers n k (at plan k) ++ more)
 
   next : (k : ℕ) → Next k
   unfolding table flatMap keep laneLine
@@ -110,7 +111,7 @@ module _ (n : ℕ) (plan : List ℕ) where
             lanesNext = joined ∙ ap (λ (ls : List Lane). usedTo k ++ ls)
                 (keep-yes hasBag (laneOfPlace n k) [] (rw (carried-at k, e, ne-eqb (suc b) 0 (λ z. omega arith))));
             counts = rw three;
-            written = λ more. rw (append-nil, carried-at k, three, lines-row 3 (suc (k / n) ∷ suc (k % n) ∷ at plan k ∷ []) more (omega arith) refl);
+            written = λ more. rw (append-nil, carried-at k, three, lines-row digits 3 (suc (k / n) ∷ suc (k % n) ∷ at plan k ∷ []) more (omega arith) refl);
           }
 
   used-count : (k : ℕ) → length (usedNumbers n plan k) ≡ 3 * length (usedTo k)
@@ -128,7 +129,7 @@ module _ (n : ℕ) (plan : List ℕ) where
       )
 
   -- The lines of the lanes are their numbers in lines of three: place by place, with any lines after them.
-  used-lines : (k : ℕ) (more : List ℕ) → flatMap (laneLine n plan) (usedTo k) ++ linesFrom 3 3 more ≡ linesFrom 3 3 (usedNumbers n plan k ++ more)
+  used-lines : (k : ℕ) (more : List ℕ) → flatMap (laneLine n plan) (usedTo k) ++ linesFrom digits 3 3 more ≡ linesFrom digits 3 3 (usedNumbers n plan k ++ more)
   unfolding usedNumbers table keep flatMap
   used-lines zero more = refl
   used-lines (suc k) more =
@@ -145,7 +146,7 @@ module _ (n : ℕ) (plan : List ℕ) where
   -- The lanes of a whole plan, counted and written.
   pub used-whole : (m : ℕ) → 1 ≤ n → length plan ≡ m * n →
       (length (usedNumbers n plan (length plan)) / 3 ≡ length (used m n plan))
-      × (flatMap (laneLine n plan) (used m n plan) ≡ linesFrom 3 3 (usedNumbers n plan (length plan)))
+      × (flatMap (laneLine n plan) (used m n plan) ≡ linesFrom digits 3 3 (usedNumbers n plan (length plan)))
   unfolding used
   used-whole m p e =
       let lines = used-lines (m * n) [] in

@@ -4,40 +4,41 @@ use mathlib.Core.List.{List, [], _∷_, _++_, flatMap, append-assoc, append-nil}
 use Prim.Native.String.{String}
 use Prim.Native.Nat.{ℕ, _+_, _*_, _/_, _≤_}
 use native.Mathlib.Omega.{arith}
-use lib.IntN.{ℤ, natAbs}
+use lib.IntN.{ℤ}
 use lib.ListN.{length, length-append}
 use Rattle.plan_lines.specs.declared.plan_sections.Figures.{Figures}
 use Rattle.transport.specs.Sheet.{Sheet, roasteries, cafes}
-use Rattle.transport.specs.Text.{bytes, wholeDigits, headLine, numberLine}
-use Rattle.transport.specs.Calls.{Solution, solutionFrom, solution}
+use Rattle.transport.specs.Text.{bytes, digits, wholeDigits, headLine, numberLine}
+use Rattle.transport.specs.Calls.{Solution, solution}
 use Rattle.transport.specs.PlanText.{wholeLine, used, laneLine, planText}
-use Rattle.transport.specs.Plan.{settled}
-use Rattle.transport.specs.Laws.PlanLaws.{planCost-natural}
 use Rattle.transport.specs.Laws.CallLaws.{Fills}
-use Rattle.sections.specs.Lines.{sectionText, linesFrom, section-of, lines-column}
-use Rattle.sections.specs.Wholes.{wholeSection, whole-section-of}
+use Rattle.sections.specs.Lines.{sectionText, linesFrom, section-of, number-lines, whole-lines}
 use Rattle.plan_lines.specs.Lanes.{usedNumbers, used-whole}
 
 unfoldable pub figuresText : Figures → List ℕ
-figuresText f = sectionText (bytes "total ") 1 1 (f .total ∷ []) ++ sectionText (bytes "rounds ") 1 1 (f .rounds ∷ [])
+figuresText f = sectionText wholeDigits (bytes "total ") 1 1 (f .total ∷ []) ++ sectionText digits (bytes "rounds ") 1 1 (f .rounds ∷ [])
+
+-- Prices, one in a line, after their count.
+abbrev pub priceSection : List ℕ → List ℤ → List ℕ
+priceSection name zs = sectionText wholeDigits name (length zs) 1 zs
 
 unfoldable pub pricesText : List ℤ → List ℤ → List ℕ
-pricesText u v = wholeSection (bytes "roasteries ") u ++ wholeSection (bytes "cafes ") v
+pricesText u v = priceSection (bytes "roasteries ") u ++ priceSection (bytes "cafes ") v
 
 -- Three numbers in a line.
 unfoldable pub lanesText : ℕ → List ℕ → List ℕ
-lanesText count numbers = sectionText (bytes "lanes ") count 3 numbers
+lanesText count numbers = sectionText digits (bytes "lanes ") count 3 numbers
 
 unfoldable pub planSections : Figures → List ℤ → List ℤ → List ℕ → List ℕ
 planSections f u v numbers = figuresText f ++ (pricesText u v ++ lanesText (f .used) numbers)
 
 -- Its length, section by section.
 pub sections-length : (f : Figures) (u v : List ℤ) (numbers : List ℕ) → length (planSections f u v numbers) ≡
-    length (sectionText (bytes "total ") 1 1 (f .total ∷ []))
-    + length (sectionText (bytes "rounds ") 1 1 (f .rounds ∷ []))
-    + length (wholeSection (bytes "roasteries ") u)
-    + length (wholeSection (bytes "cafes ") v)
-    + length (sectionText (bytes "lanes ") (f .used) 3 numbers)
+    length (sectionText wholeDigits (bytes "total ") 1 1 (f .total ∷ []))
+    + length (sectionText digits (bytes "rounds ") 1 1 (f .rounds ∷ []))
+    + length (priceSection (bytes "roasteries ") u)
+    + length (priceSection (bytes "cafes ") v)
+    + length (sectionText digits (bytes "lanes ") (f .used) 3 numbers)
 unfolding planSections figuresText pricesText lanesText
 sections-length f u v numbers = simp length-append (omega arith)
 
@@ -45,31 +46,33 @@ sections-length f u v numbers = simp length-append (omega arith)
 
 -- What the plan text of a solution shows in one number each, given the numbers of its lanes.
 abbrev figuresOf : Solution → List ℕ → Figures
-figuresOf a numbers = record { total = natAbs (a .cost); rounds = a .rounds; used = length numbers / 3 }
+figuresOf a numbers = record { total = a .cost; rounds = a .rounds; used = length numbers / 3 }
 
 -- A section of one number.
-one-number : (name : String) (x : ℕ) → headLine name 1 ++ numberLine x ≡ sectionText (bytes name ++ bytes " ") 1 1 (x ∷ [])
+one-number : (name : String) (x : ℕ) → headLine name 1 ++ numberLine x ≡ sectionText digits (bytes name ++ bytes " ") 1 1 (x ∷ [])
 unfolding flatMap
 one-number name x =
-    let line : numberLine x ≡ linesFrom 1 1 (x ∷ []) = sym (append-nil (numberLine x)) ∙ lines-column (x ∷ []) in
-    rw line (section-of name 1 1 (x ∷ []))
+    let line : numberLine x ≡ linesFrom digits 1 1 (x ∷ []) = sym (append-nil (numberLine x)) ∙ number-lines (x ∷ []) in
+    rw line (section-of digits name 1 1 (x ∷ []))
 
--- A cost is a natural number.
-pub total-line : (S : Sheet) → wholeLine (solution S .cost) ≡ numberLine (natAbs (solution S .cost))
-unfolding solution solutionFrom wholeLine wholeDigits numberLine
-total-line S = rw (planCost-natural S (settled S))
+one-whole : (name : String) (z : ℤ) → headLine name 1 ++ wholeLine z ≡ sectionText wholeDigits (bytes name ++ bytes " ") 1 1 (z ∷ [])
+unfolding flatMap
+one-whole name z =
+    let line : wholeLine z ≡ linesFrom wholeDigits 1 1 (z ∷ []) = sym (append-nil (wholeLine z)) ∙ whole-lines (z ∷ []) in
+    rw line (section-of wholeDigits name 1 1 (z ∷ []))
 
 -- A section of prices, whose count is m.
-prices-section : (name : String) (m : ℕ) (zs : List ℤ) → length zs ≡ m → headLine name m ++ flatMap wholeLine zs ≡ wholeSection (bytes name ++ bytes " ") zs
-prices-section name m zs e = rw (← e) (whole-section-of name zs)
+prices-section : (name : String) (m : ℕ) (zs : List ℤ) → length zs ≡ m → headLine name m ++ flatMap wholeLine zs ≡ priceSection (bytes name ++ bytes " ") zs
+prices-section name m zs e = rw (← e, whole-lines zs) (section-of wholeDigits name (length zs) 1 zs)
 
 -- The lanes that a plan uses.
 lanes-section : (name : String) (m n : ℕ) (plan : List ℕ) → 1 ≤ n → length plan ≡ m * n → let numbers = usedNumbers n plan (length plan) in
-    headLine name (length (used m n plan)) ++ flatMap (laneLine n plan) (used m n plan) ≡ sectionText (bytes name ++ bytes " ") (length numbers / 3) 3 numbers
+    headLine name (length (used m n plan)) ++ flatMap (laneLine n plan) (used m n plan)
+    ≡ sectionText digits (bytes name ++ bytes " ") (length numbers / 3) 3 numbers
 lanes-section name m n plan p e =
     let whole = used-whole n plan m p e in
     let numbers = usedNumbers n plan (length plan) in
-    rw (← whole .0, whole .1) (section-of name (length numbers / 3) 3 numbers)
+    rw (← whole .0, whole .1) (section-of digits name (length numbers / 3) 3 numbers)
 
 regroup : (a b c d e f g h i j : List ℕ) → a ++ b ++ c ++ d ++ e ++ f ++ g ++ h ++ i ++ j ≡ a ++ b ++ (c ++ d) ++ (e ++ f ++ (g ++ h) ++ (i ++ j))
 regroup a b c d e f g h i j = simp append-assoc
@@ -84,8 +87,7 @@ plan-sections S p fills =
     let n = cafes S in
     rw (
       regroup,
-      total-line S,
-      one-number "total" (natAbs (a .cost)),
+      one-whole "total" (a .cost),
       one-number "rounds" (a .rounds),
       prices-section "roasteries" m (a .u) (fills .u),
       prices-section "cafes" n (a .v) (fills .v),

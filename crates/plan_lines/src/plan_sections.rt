@@ -11,7 +11,7 @@ use sections::wholes;
 
 // What the plan text shows in one number each: the cost, the rounds, and the count of the lanes that carry a bag.
 pub struct Figures {
-    pub total: u64,
+    pub total: i64,
     pub rounds: u64,
     pub used: usize,
 }
@@ -23,7 +23,7 @@ fn write_figures(figures: Figures, out: &mut [u8]) -> usize
 {
     let total = [figures.total];
     let rounds = [figures.rounds];
-    let at = section::write_section(b"total ", 1, 1, &total, out);
+    let at = wholes::write_whole_section(b"total ", 1, 1, &total, out);
     at + section::write_section(b"rounds ", 1, 1, &rounds, &mut out[at..])
 }
 
@@ -34,8 +34,8 @@ fn write_price_sections(u: &[i64], v: &[i64], out: &mut [u8]) -> usize
         let text = pricesText (now (u .entry)) (now (v .entry)) in
         ⌜ (r ≡ length text) × (now (out .exit) ≡ front text (now (out .entry))) ⌝ }
 {
-    let at = wholes::write_whole_section(b"roasteries ", u, out);
-    at + wholes::write_whole_section(b"cafes ", v, &mut out[at..])
+    let at = wholes::write_whole_section(b"roasteries ", u.len(), 1, u, out);
+    at + wholes::write_whole_section(b"cafes ", v.len(), 1, v, &mut out[at..])
 }
 
 // The sections after the figures: the prices, and the lanes, three numbers in a line.
@@ -75,9 +75,9 @@ pub fn plan_sections_len(figures: Figures, u: &[i64], v: &[i64], numbers: &[u64]
     let total = [figures.total];
     let rounds = [figures.rounds];
     let count = figures.used;
-    section::section_len(b"total ", 1, &total)
+    wholes::whole_section_len(b"total ", 1, &total)
         + section::section_len(b"rounds ", 1, &rounds)
-        + wholes::whole_section_len(b"roasteries ", u)
-        + wholes::whole_section_len(b"cafes ", v)
+        + wholes::whole_section_len(b"roasteries ", u.len(), u)
+        + wholes::whole_section_len(b"cafes ", v.len(), v)
         + section::section_len(b"lanes ", count, numbers)
 }

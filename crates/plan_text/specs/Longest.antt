@@ -1,48 +1,45 @@
--- No plan text is longer than 15,059 bytes, and nothing that the program prints is.
+-- No plan text is longer than 15,060 bytes, and nothing that the program prints is.
 use mathlib.Core.Path.{_≡_, refl, ap}
 use mathlib.Core.Option.{Option, none, some}
 use mathlib.Core.List.{List, _++_, flatMap, List·Memᴰ}
 use Prim.Native.String.{String}
 use Prim.Native.Nat.{ℕ, suc, _+_, _*_, _-_, _^_, _≤_, _<_}
 use native.Mathlib.Omega.{arith}
-use native.Mathlib.Nat.{le-trans, mul-le-mul, mul-le-mul-left, mul-le-mul-right}
+use native.Mathlib.Nat.{le-trans, mul-le-mul, mul-le-mul-right}
 use borrow.Author.Tests.{eq-eqb}
 use lib.IntN.{ℤ, natAbs}
 use lib.ListN.{length, take, length-append, length-take}
 use Rattle.transport.specs.declared.Cell.{Cell}
-use Rattle.transport.specs.Lists.{at, table, below, grid, sumTo}
-use Rattle.transport.specs.Laws.ListLaws.{length-table, table-member, flatMap-member, keep-member, length-keep, sumTo-le, sumTo-scale, sumTo-bound, sumTo-runs}
-use Rattle.transport.specs.Limits.{maxSide, maxAmount, maxCost, maxText, maxPlanText}
+use Rattle.transport.specs.Lists.{table, below, grid}
+use Rattle.transport.specs.Laws.ListLaws.{length-table, table-member, flatMap-member, keep-member, length-keep}
+use Rattle.transport.specs.Limits.{maxSide, maxAmount, maxText, maxPlanText}
 use Rattle.transport.specs.Sheet.{Sheet, roasteries, cafes, numberTests, sheetTests, refusal}
 use Rattle.transport.specs.Extended.{extended}
 use Rattle.transport.specs.Problem.{Lane, lanes, place, sources}
 use Rattle.transport.specs.Laws.SheetLaws.{accepted}
 use Rattle.transport.specs.Laws.Sound.{sound, sources-room, sinks-room}
-use Rattle.transport.specs.Laws.PlanLaws.{planCost-natural}
-use Rattle.transport.specs.Statements.{Accepted, HasText, Belongs, Meets}
+use Rattle.transport.specs.Statements.{Accepted, HasText, Belongs}
 use Rattle.transport.specs.Calls.{cafePrices, solutionFrom, solution}
 use Rattle.transport.specs.Laws.ProblemLaws.{lane, length-lanes, place-below}
 use Rattle.transport.specs.Tableau.{start}
 use Rattle.transport.specs.Potential.{potential, sourcePrices}
-use Rattle.transport.specs.Plan.{planCost}
 use Rattle.transport.specs.Round.{roundBound}
-use Rattle.transport.specs.Text.{bytes, headLine, numberLine, rowLine}
+use Rattle.transport.specs.Text.{bytes, digits, headLine, rowLine}
 use Rattle.transport.specs.SheetText.{Reading, stuck, got, sheetReader}
 use Rattle.transport.specs.PlanText.{wholeLine, carried, used, laneLine, planText, printed}
 use Rattle.sheet.specs.Refusals.{sheet-numbers}
 use Rattle.grammar.specs.Every.{every-members}
 use Rattle.grammar.specs.Digits.{digits-length}
-use Rattle.grammar.specs.Longest.{line-length, lines-length, side-length}
+use Rattle.grammar.specs.Longest.{line-length, lines-length, side-length, whole-length}
 use Rattle.grammar.specs.Place.{reader-iff}
 use Rattle.sections.specs.Lines.{ended, length-ended}
-use Rattle.sections.specs.Wholes.{length-whole-line, whole-most}
 use Rattle.tableaux.specs.Belonging.{fits-of, spans-of}
 use Rattle.tableaux.specs.Potentials.{price-size, price-limit}
 use Rattle.tableaux.specs.Running.{run-rounds}
 use Rattle.tableaux.specs.Ending.{roundBound-most}
+use Rattle.reduction.specs.Totals.{total-size, total-limit}
 use Rattle.demands.specs.Demand3.{solution-finished, solution-best}
 use Rattle.solving.specs.Cost.{meets-small}
-use Rattle.plan_lines.specs.Sections.{total-line}
 use Rattle.plan_text.specs.Shown.{sheetShown, shown-plan, shown-refusal, check-number, printed-place, printed-sheet}
 
 -- ---- lines
@@ -51,6 +48,11 @@ use Rattle.plan_text.specs.Shown.{sheetShown, shown-plan, shown-refusal,
 head-length : (name : String) (k count : ℕ) → count < 10 ^ suc k → length (headLine name count) ≤ length (bytes name) + 3 + k
 unfolding headLine bytes
 head-length name k count h = simp length-append (omega (arith, digits-length k count .1 h))
+
+-- A whole number of at most k + 1 digits: its minus and LF are two bytes more.
+whole-line-length : (k : ℕ) (z : ℤ) → natAbs z < 10 ^ suc k → length (wholeLine z) ≤ suc (suc (suc k))
+unfolding wholeLine bytes
+whole-line-length k z h = simp length-append (omega (arith, whole-length k z h))
 
 -- At most `count` lines, of at most `most` bytes each.
 members-length : {A : Type 0} (write : A → List ℕ) (most count : ℕ) (xs : List A) → length xs ≤ count
@@ -71,34 +73,9 @@ lane-inside m n member =
 -- ---- the figures
 
 module _ {S : Sheet} (ok : Accepted S) where
-  -- A roastery sends at most its supply, and no bag costs more than the greatest cost.
-  row-cost : {Q : List ℕ} → Meets S 1 Q → (i : ℕ) → i < roasteries S
-      → sumTo (cafes S) (λ j. at Q (place (cafes S) i j) * at (S .cost) (place (cafes S) i j)) ≤ maxCost * maxAmount
-  row-cost {Q} meets i p =
-      let n : ℕ = cafes S in
-      let bags : ℕ → ℕ = λ j. at Q (place n i j) in
-      let each : (j : ℕ) → j < n → bags j * at (S .cost) (place n i j) ≤ maxCost * bags j =
-      λ j q. omega (arith, mul-le-mul-left (bags j) (ok .limits .costHigh (place n i j)))
-      in
-      let sent : sumTo n bags ≤ maxAmount = omega (arith, meets .rows i p, ok .limits .supplyHigh i) in
-      omega (
-        arith,
-        sumTo-le n (λ j. bags j * at (S .cost) (place n i j)) (λ j. maxCost * bags j) each,
-        sumTo-scale n maxCost bags,
-        mul-le-mul-left maxCost sent,
-      )
-
-  plan-cost : {Q : List ℕ} → Meets S 1 Q → natAbs (planCost S Q) ≤ maxSide * (maxCost * maxAmount)
-  unfolding place extended sources roasteries
-  plan-cost {Q} meets =
-      rw
-      (planCost-natural S Q, sumTo-runs)
-      (omega (arith, sumTo-bound (roasteries S) (maxCost * maxAmount) _ (row-cost meets), mul-le-mul-right (maxCost * maxAmount) (sound ok .sourcesHigh)))
-
-  -- 32 × 1,000,000 × 1,000,000 has 14 digits.
+  -- 32,000,000 bags at 1,000,000 each have 14 digits.
   cost-most : natAbs (solution S .cost) < 10 ^ 14
-  unfolding maxSide maxAmount maxCost
-  cost-most = let best = solution-best S (sound ok) in omega (arith, ap natAbs (best .shown), plan-cost (best .meets))
+  cost-most = let best = solution-best S (sound ok) in omega (arith, ap natAbs (best .shown), total-size ok (best .meets), total-limit)
 
   -- No more rounds are made than solve allows, whose bound has 16 digits.
   rounds-most : solution S .rounds < 10 ^ 16
@@ -111,7 +88,7 @@ module _ {S : Sheet} (ok : Accepted S) where
   price-line : {T : List Cell} → Belongs (extended S) T → (k : ℕ) → length (wholeLine (potential (extended S) T k)) ≤ 10
   price-line {T} w k =
       let small = price-size (extended S) (sound ok) T (fits-of (sound ok) w) (spans-of (sound ok) w) k in
-      omega (arith, length-whole-line (potential (extended S) T k), whole-most 7 (potential (extended S) T k) (omega (arith, small, price-limit)))
+      whole-line-length 7 (potential (extended S) T k) (omega (arith, small, price-limit))
 
   prices-length : {T : List Cell} → Belongs (extended S) T → (count : ℕ) → count ≤ maxSide → (node : ℕ → ℕ)
       → length (flatMap wholeLine (table count (λ k. potential (extended S) T (node k)))) ≤ maxSide * 10
@@ -155,7 +132,7 @@ module _ {S : Sheet} (ok : Accepted S) where
 
   -- A source and a sink of at most 2 digits, at most 7 digits of bags, two spaces and LF.
   lane-line : (l : Lane) → List·Memᴰ l usedLanes → length (laneLine (cafes S) (solution S .plan) l) ≤ 14
-  unfolding used laneLine rowLine numberLine bytes
+  unfolding used laneLine rowLine bytes
   lane-line l member =
       let n : ℕ = cafes S in
       let inside = lane-inside (roasteries S) n (keep-member _ (lanes (roasteries S) n) member .0) in
@@ -172,9 +149,9 @@ module _ {S : Sheet} (ok : Accepted S) where
 
 -- ---- the plan text
 
--- `total 1`, LF, at most 14 digits and LF are 23 bytes; `rounds 1`, LF, at most 16 digits and LF are 26. The heads `roasteries` and `cafes`, with counts
--- of at most two digits, are 14 and 9 bytes, and their lines, at most 64, have at most 10 bytes each. The head `lanes`, with a count of at most four digits,
--- is 11 bytes, and its lines, at most 1,024, have at most 14 bytes each. In all that is 15,059.
+-- `total 1`, LF, a minus, at most 14 digits and LF are 24 bytes; `rounds 1`, LF, at most 16 digits and LF are 26. The heads `roasteries` and `cafes`, with
+-- counts of at most two digits, are 14 and 9 bytes, and their lines, at most 64, have at most 10 bytes each. The head `lanes`, with a count of at most four
+-- digits, is 11 bytes, and its lines, at most 1,024, have at most 14 bytes each. In all that is 15,060.
 plan-length : (S : Sheet) → refusal (sheetTests S) ≡ none → length (planText S) ≤ maxPlanText
 unfolding planText bytes maxSide maxPlanText
 plan-length S e =
@@ -183,8 +160,7 @@ plan-length S e =
     simp length-append (omega (
       arith,
       head-length "total" 0 1 (omega arith),
-      ap length (total-line S),
-      line-length 13 (natAbs (a .cost)) (cost-most ok),
+      whole-line-length 13 (a .cost) (cost-most ok),
       head-length "rounds" 0 1 (omega arith),
       line-length 15 (a .rounds) (rounds-most ok),
       head-length "roasteries" 1 (roasteries S) (omega (arith, ok .limits .roasteriesHigh, sources-room)),
@@ -203,14 +179,14 @@ unfolding roasteries cafes
 text-numbers S h = sheet-numbers S (h .sides .0) (h .sides .1) (eq-eqb _ _ (h .lengths))
 
 -- `refused `, a number of at most two digits and LF.
-refused-length : (k : ℕ) → k ≤ 10 → length (bytes "refused " ++ ended k 10) ≤ 11
+refused-length : (k : ℕ) → k ≤ 10 → length (bytes "refused " ++ ended digits k 10) ≤ 11
 unfolding bytes
-refused-length k p = omega (arith, length-append (bytes "refused ") (ended k 10), length-ended k 10, digits-length 1 k .1 (omega arith))
+refused-length k p = omega (arith, length-append (bytes "refused ") (ended digits k 10), length-ended digits k 10, digits-length 1 k .1 (omega arith))
 
 -- .. and with a place, which is at most one more than the longest sheet text.
-place-length : (k : ℕ) → k ≤ suc maxText → length (bytes "refused 9 " ++ ended k 10) ≤ 15
+place-length : (k : ℕ) → k ≤ suc maxText → length (bytes "refused 9 " ++ ended digits k 10) ≤ 15
 unfolding bytes maxText
-place-length k p = omega (arith, length-append (bytes "refused 9 ") (ended k 10), length-ended k 10, digits-length 3 k .1 (omega arith))
+place-length k p = omega (arith, length-append (bytes "refused 9 ") (ended digits k 10), length-ended digits k 10, digits-length 3 k .1 (omega arith))
 
 -- A text that is no sheet text is refused in one line; of a sheet text either the sheet check refuses the sheet, in one line too, or its plan text is printed.
 pub printed-length : (input : List ℕ) → length (printed input) ≤ maxPlanText

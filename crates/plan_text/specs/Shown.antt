@@ -39,11 +39,11 @@ fitting-fits room text p = rw (short-no room (length text) p)
 
 -- ---- the lines of refusals
 
-refused-line : (k : ℕ) → refusedLine (record { number = k; position = none }) ≡ bytes "refused " ++ ended k 10
+refused-line : (k : ℕ) → refusedLine (record { number = k; position = none }) ≡ bytes "refused " ++ ended digits k 10
 unfolding refusedLine numberLine ended bytes
 refused-line k = refl
 
-place-line : (p : ℕ) → refusedLine (record { number = 9; position = some p }) ≡ bytes "refused 9 " ++ ended p 10
+place-line : (p : ℕ) → refusedLine (record { number = 9; position = some p }) ≡ bytes "refused 9 " ++ ended digits p 10
 unfolding refusedLine rowLine numberLine ended bytes digits digitsUpTo
 place-line p = refl
 
@@ -53,14 +53,14 @@ place-line p = refl
 unfoldable pub sheetShown : Sheet → List ℕ
 sheetShown S = elim (refusal (sheetTests S)) [
   | none ↦ planText S
-  | some k ↦ bytes "refused " ++ ended k 10
+  | some k ↦ bytes "refused " ++ ended digits k 10
 ]
 
 pub shown-plan : (S : Sheet) → refusal (sheetTests S) ≡ none → sheetShown S ≡ planText S
 unfolding sheetShown
 shown-plan S e = rw (e, sheetShown)
 
-pub shown-refusal : (S : Sheet) (k : ℕ) → refusal (sheetTests S) ≡ some k → sheetShown S ≡ bytes "refused " ++ ended k 10
+pub shown-refusal : (S : Sheet) (k : ℕ) → refusal (sheetTests S) ≡ some k → sheetShown S ≡ bytes "refused " ++ ended digits k 10
 unfolding sheetShown
 shown-refusal S k e = rw (e, sheetShown)
 
@@ -143,11 +143,11 @@ module _ (S : Sheet) (out after : List ℕ) where
       go (short e f) = rw e (refl, held ∙ rw f)
       go (written e f) = let z : Refused 8 ≡ Written (length (planText S)) = h ∙ ap writeAnswer f in let y : _≡_ {A = ℕ} 0 1 = cc in absurd (omega arith)
 
-  pub shown-refused : (k : ℕ) → (k ≡ 8 → ⊥) → Refused k ≡ writeAnswer call → Left → (sheetShown S ≡ bytes "refused " ++ ended k 10) × (after ≡ out)
+  pub shown-refused : (k : ℕ) → (k ≡ 8 → ⊥) → Refused k ≡ writeAnswer call → Left → (sheetShown S ≡ bytes "refused " ++ ended digits k 10) × (after ≡ out)
   unfolding writeAnswer refusedBy lentAfter
   shown-refused k n h held = go which
     where
-      go : Case → (sheetShown S ≡ bytes "refused " ++ ended k 10) × (after ≡ out)
+      go : Case → (sheetShown S ≡ bytes "refused " ++ ended digits k 10) × (after ≡ out)
       go (checked j e f) = let z : Refused k ≡ Refused j = h ∙ ap writeAnswer f in let y : k ≡ j = cc in (rw y (shown-refusal S j e), held ∙ rw f)
       go (short e f) = let z : Refused k ≡ Refused 8 = h ∙ ap writeAnswer f in let y : k ≡ 8 = cc in absurd (n y)
       go (written e f) = let z : Refused k ≡ Written (length (planText S)) = h ∙ ap writeAnswer f in let y : _≡_ {A = ℕ} 0 1 = cc in absurd (omega arith)
@@ -170,7 +170,8 @@ module _ (input : List ℕ) where
   abbrev textRead : List ℕ
   textRead = take (suc maxText) input
 
-  pub printed-place : (rest : List ℕ) → sheetReader textRead ≡ stuck rest → printed input ≡ bytes "refused 9 " ++ ended (length textRead - length rest) 10
+  pub printed-place : (rest : List ℕ) → sheetReader textRead ≡ stuck rest
+      → printed input ≡ bytes "refused 9 " ++ ended digits (length textRead - length rest) 10
   unfolding printed
   printed-place rest e = rw (read-stuck numberTests textRead rest e, printed) (place-line (length textRead - length rest))
 

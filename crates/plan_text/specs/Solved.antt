@@ -5,7 +5,7 @@ use mathlib.Core.List.{List}
 use Prim.Native.Nat.{ℕ, _≤_, _*_, _/_}
 use native.Mathlib.Omega.{arith}
 use native.Mathlib.Nat.{mul-le-mul}
-use lib.IntN.{ℤ, natAbs}
+use lib.IntN.{ℤ}
 use lib.ListN.{length, take, drop}
 use lib.Seq.{take-at}
 use Rattle.transport.specs.declared.SolveAnswer.the-variants.{Solved, Refused}
@@ -50,7 +50,7 @@ module _ (S : Sheet) where
     where
       go : (o : Option ℕ) → refusal (sheetTests S) ≡ o → refusal (sheetTests S) ≡ some k
       go none e =
-          let f : Refused k ≡ Solved (natAbs (solution S .cost)) (solution S .rounds) = h ∙ ap solveAnswer (full-given e) in
+          let f : Refused k ≡ Solved (solution S .cost) (solution S .rounds) = h ∙ ap solveAnswer (full-given e) in
           let z : _≡_ {A = ℕ} 0 1 = cc in
           absurd (omega arith)
       go (some j) e =
@@ -59,16 +59,16 @@ module _ (S : Sheet) where
           e ∙ ap some (sym same)
 
 -- The sheet is accepted, the figures are those of its solution, and the fronts of the lists are its prices and its plan.
-pub record FoundPlan (S : Sheet) (total rounds : ℕ) (u v : List ℤ) (plan : List ℕ) : Type 0 where
+pub record FoundPlan (S : Sheet) (total : ℤ) (rounds : ℕ) (u v : List ℤ) (plan : List ℕ) : Type 0 where
   pub passes : refusal (sheetTests S) ≡ none
   pub fills : Fills S (solution S)
-  pub totalIs : total ≡ natAbs (solution S .cost)
+  pub totalIs : total ≡ solution S .cost
   pub roundsIs : rounds ≡ solution S .rounds
   pub uIs : take (roasteries S) u ≡ solution S .u
   pub vIs : take (cafes S) v ≡ solution S .v
   pub planIs : take (roasteries S * cafes S) plan ≡ solution S .plan
 
-module _ {S : Sheet} {total rounds : ℕ} {u′ v′ : List ℤ} {plan′ : List ℕ} where
+module _ {S : Sheet} {total : ℤ} {rounds : ℕ} {u′ v′ : List ℤ} {plan′ : List ℕ} where
   pub found : (u v : List ℤ) (plan : List ℕ) → Solved total rounds ≡ solveAnswer (full S)
       → u′ ≡ lentAfter (λ s. s .u) (full S) u → v′ ≡ lentAfter (λ s. s .v) (full S) v → plan′ ≡ lentAfter (λ s. s .plan) (full S) plan
       → FoundPlan S total rounds u′ v′ plan′
@@ -83,7 +83,7 @@ module _ {S : Sheet} {total rounds : ℕ} {u′ v′ : List ℤ} {plan′ : List
       go none e =
           let a = solution S in
           let g = full-given S e in
-          let f : Solved total rounds ≡ Solved (natAbs (a .cost)) (a .rounds) = h ∙ ap solveAnswer g in
+          let f : Solved total rounds ≡ Solved (a .cost) (a .rounds) = h ∙ ap solveAnswer g in
           let fills = solve-fills S maxSide maxSide (maxSide * maxSide) a g in
           record {
             passes = e;
@@ -95,7 +95,10 @@ module _ {S : Sheet} {total rounds : ℕ} {u′ v′ : List ℤ} {plan′ : List
             planIs = rw (plans, g) (take-at (a .plan) (drop (length (a .plan)) plan) (roasteries S * cafes S) (fills .plan));
           }
 
-  -- The sections of what was found are the plan text.
+  -- The sections of what was found are the plan text, with the total z and, in a list, the k numbers of the lanes that carry a bag.
   pub found-sections : FoundPlan S total rounds u′ v′ plan′ → let x = take (roasteries S * cafes S) plan′ in let numbers = usedNumbers (cafes S) x (length x) in
-      planText S ≡ planSections (record { total = total; rounds = rounds; used = length numbers / 3 }) (take (roasteries S) u′) (take (cafes S) v′) numbers
-  found-sections f = rw (f .totalIs, f .roundsIs, f .uIs, f .vIs, f .planIs) (plan-sections S (accepted S (f .passes) .limits .cafesLow) (f .fills))
+      (z : ℤ) (k : ℕ) (list : List ℕ) → z ≡ total → k ≡ length numbers → list ≡ numbers
+      → planText S ≡ planSections (record { total = z; rounds = rounds; used = k / 3 }) (take (roasteries S) u′) (take (cafes S) v′) list
+  found-sections f z k list is-total is-count is-list =
+      rw (is-total, is-count, is-list, f .totalIs, f .roundsIs, f .uIs, f .vIs, f .planIs)
+      (plan-sections S (accepted S (f .passes) .limits .cafesLow) (f .fills))

@@ -5,6 +5,7 @@ ghost use Prim.Native.Nat.{suc, min, _≤_};
 ghost use lib.ListN.{length, drop};
 ghost use Rattle.transport.specs.Limits.{maxText};
 ghost use Rattle.transport.specs.Sheet.{sheetOf};
+ghost use Rattle.transport.specs.Text.{digits};
 ghost use Rattle.transport.specs.PlanText.{fitting, shown};
 ghost use Rattle.sections.specs.Front.{front};
 ghost use Rattle.sections.specs.Lines.{ended};
@@ -31,7 +32,7 @@ fn bytes_read(len: usize) -> usize
 fn show_refusal(words: &[u8], number: usize, out: &mut [u8]) -> usize
     requires { ⌜ length (now words) ≤ 16 ⌝ }
     ensures { λ r.
-        let text = fitting (length (now (out .entry))) (now (words .entry) ++ ended number 10) in
+        let text = fitting (length (now (out .entry))) (now (words .entry) ++ ended digits number 10) in
         ⌜ (r ≡ length text) × (now (out .exit) ≡ front text (now (out .entry))) ⌝ }
 {
     if out.len() < section::head_len(words, number) {
@@ -41,7 +42,7 @@ fn show_refusal(words: &[u8], number: usize, out: &mut [u8]) -> usize
 }
 
 // The plan text of a sheet, or the line of its refusal, if the output has room for it; else nothing.
-fn show_plan(supply: &[u64], demand: &[u64], cost: &[u64], out: &mut [u8]) -> usize
+fn show_plan(supply: &[u64], demand: &[u64], cost: &[i64], out: &mut [u8]) -> usize
     ensures { λ r.
         let S = sheetOf (now (supply .entry)) (now (demand .entry)) (now (cost .entry)) in
         let text = fitting (length (now (out .entry))) (sheetShown S) in
@@ -69,7 +70,7 @@ pub fn show(input: &[u8], out: &mut [u8]) -> usize
 {
     let mut supply = [0u64; MAX_SIDE];
     let mut demand = [0u64; MAX_SIDE];
-    let mut cost = [0u64; MAX_LANES];
+    let mut cost = [0i64; MAX_LANES];
     let end = bytes_read(input.len());
     let answer = read_sections(&input[..end], &mut supply, &mut demand, &mut cost);
     match answer {

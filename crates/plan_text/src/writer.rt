@@ -17,7 +17,7 @@ use transport::WriteAnswer;
 
 // Write plan: the plan text of the solved sheet in the output, its length in the answer; or a refusal, as by write sheet, and the output is as it was. The
 // length is known before the first byte is written.
-pub fn write_plan(supply: &[u64], demand: &[u64], cost: &[u64], out: &mut [u8]) -> WriteAnswer
+pub fn write_plan(supply: &[u64], demand: &[u64], cost: &[i64], out: &mut [u8]) -> WriteAnswer
     ensures { λ r.
         let S = sheetOf (now (supply .entry)) (now (demand .entry)) (now (cost .entry)) in
         let a = writePlanCall S (length (now (out .entry))) in

@@ -1,18 +1,16 @@
 -- Balanced sheets: nothing stays at home, so plans are those of 01, and the extended problem is the one of the same lists.
-use mathlib.Core.Path.{_≡_, sym, _∙_}
+use mathlib.Core.Path.{_≡_}
 use mathlib.Core.Logic.{_↔_}
-use mathlib.Core.List.{List, map}
+use mathlib.Core.List.{List}
 use Prim.Native.Nat.{ℕ, _*_}
 use native.Mathlib.Omega.{arith}
 use lib.IntN.{ℤ, pos}
-use lib.ListN.{length, length-map}
-use Rattle.transport.specs.Lists.{at, grid}
-use Rattle.transport.specs.Problem.{place}
+use lib.ListN.{length}
+use Rattle.transport.specs.Lists.{atZ, grid}
 use Rattle.transport.specs.Sheet.{Sheet, roasteries, cafes}
 use Rattle.transport.specs.Extended.{surplus, costAt, extended}
 use Rattle.transport.specs.Statements.{Balanced, Meets, MeetsExactly, Best, BestExactly}
-use Rattle.transport.specs.Laws.ListLaws.{getD-map}
-use Rattle.transport.specs.Laws.ProblemLaws.{problem, place-below, grid-is}
+use Rattle.transport.specs.Laws.ProblemLaws.{problem, grid-is}
 use Rattle.transport.specs.Laws.ExtendedLaws.{Extra, without, with, extra, cost-cafe}
 use Rattle.reduction.specs.Extending.{sends-all}
 
@@ -48,17 +46,15 @@ best-exactly {S} e plan cost = (
 -- ---- the problem
 
 module _ (S : Sheet) (long : length (S .cost) ≡ roasteries S * cafes S) where
-  costs-same : grid (roasteries S) (cafes S) (costAt S) ≡ map pos (S .cost)
-  unfolding at
-  costs-same = grid-is (cafes S) (costAt S) (roasteries S) (map pos (S .cost)) (pos 0) (length-map (S .cost) pos ∙ long) (λ i j l h.
-      cost-cafe S i j h
-      ∙ sym (getD-map pos (S .cost) (place (cafes S) i j) 0 (pos 0) (omega (arith, long, place-below (roasteries S) (cafes S) i j l h))))
+  costs-same : grid (roasteries S) (cafes S) (costAt S) ≡ S .cost
+  unfolding atZ
+  costs-same = grid-is (cafes S) (costAt S) (roasteries S) (S .cost) (pos 0) long (λ i j l h. cost-cafe S i j h)
 
   -- A balanced sheet has the problem of its own lists, with no extra café.
-  pub extended-balanced : Balanced S → extended S ≡ problem (S .supply) (S .demand) (map pos (S .cost))
+  pub extended-balanced : Balanced S → extended S ≡ problem (S .supply) (S .demand) (S .cost)
   unfolding extended cafes
   extended-balanced e = go (extra S)
     where
-      go : Extra S → extended S ≡ problem (S .supply) (S .demand) (map pos (S .cost))
+      go : Extra S → extended S ≡ problem (S .supply) (S .demand) (S .cost)
       go (without z w) = rw (w, costs-same)
       go (with z w) = absurd (omega (arith, no-surplus S e))

@@ -56,7 +56,7 @@ module _ (S : Sheet) (k : ℕ) (Q : List ℕ) where
     sends-keeps i l = omega (arith, q .rows i l)
 
     -- All that is sent, by rows, is all that is wanted, by columns ..
-    all-sent : sumTo (roasteries S) sends ≡ k * total (S .demand)
+    pub all-sent : sumTo (roasteries S) sends ≡ k * total (S .demand)
     unfolding total cafes
     all-sent =
         sumTo-swap (roasteries S) (cafes S) (λ i j. at Q (place (cafes S) i j))

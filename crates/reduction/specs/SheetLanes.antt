@@ -1,25 +1,31 @@
 -- A plan of the sheet and one of the extended problem that carry the same on the sheet's lanes: they cost the same, and two of each differ first on the same
 -- lane.
-use mathlib.Core.Path.{_≡_, refl, sym, ap, _∙_}
+use mathlib.Core.Path.{_≡_, sym, ap, _∙_}
 use mathlib.Core.Logic.{_⊎_, inl, inr, ⊎-elim, by-cases}
 use mathlib.Core.List.{List, [], _∷_}
-use Prim.Native.Nat.{ℕ, zero, suc, _+_, _*_, _<_}
+use Prim.Native.Nat.{ℕ, _+_, _*_, _<_}
 use native.Mathlib.Omega.{arith}
-use native.Mathlib.Nat.{mul-zero, mul-le-mul-right}
+use native.Mathlib.Nat.{mul-le-mul-right}
+use native.Mathlib.Numerals.{add-one}
 use native.Mathlib.Decide.{decLt}
-use lib.IntN.{ℤ, pos, natAbs, _*ℤ_}
+use lib.IntN.{pos}
 use lib.ListN.{length, length-append}
-use Rattle.transport.specs.Lists.{at, atZ, sumTo, sumZ}
+use Rattle.integers.specs.Integer.{Z, _≈_, _⊗_, nat}
+use Rattle.integers.specs.Bridge.{toZ, eq-z}
+use Rattle.integers.specs.Sum.{sum}
+use Rattle.integers.specs.SumLaws.{sum-cong}
+use Rattle.transport.specs.Lists.{at, atZ, sumTo}
 use Rattle.transport.specs.Problem.{sources, sinks, place, laneCost}
 use Rattle.transport.specs.Sheet.{Sheet, roasteries, cafes}
 use Rattle.transport.specs.Extended.{surplus, wanted, extended}
 use Rattle.transport.specs.Plan.{planCost}
 use Rattle.transport.specs.Statements.{FirstDifference, scaled}
-use Rattle.transport.specs.Laws.ListLaws.{sumTo-one, sumTo-cong, sumTo-runs}
+use Rattle.transport.specs.Laws.ListLaws.{sumTo-one, sumTo-cong}
 use Rattle.transport.specs.Laws.ProblemLaws.{place-below, place-of}
-use Rattle.transport.specs.Laws.ExtendedLaws.{Extra, without, with, extra, width-low, cost-cafe, cost-extra, laneCost-at, cost-of}
-use Rattle.transport.specs.Laws.PlanLaws.{planCost-natural, scaled-at}
+use Rattle.transport.specs.Laws.ExtendedLaws.{Extra, without, with, extra, width-low, cost-cafe, cost-extra, laneCost-at}
+use Rattle.transport.specs.Laws.PlanLaws.{scaled-at}
 use Rattle.tableaux.specs.ProblemPlans.{flowCost}
+use Rattle.tableaux.specs.PlanView.{carried, lanes-cost}
 
 -- The columns of the extended problem: without a surplus the cafés, and with one there is one more.
 abbrev pub widthOf : Sheet → ℕ
@@ -44,59 +50,48 @@ same-scaled S k p x same i j l h =
 
 -- ---- cost: the extra café's lanes add nothing
 
-sumZ-naturals : (n : ℕ) (f : ℕ → ℤ) (g : ℕ → ℕ) → ((l : ℕ) → f l ≡ pos (g l)) → sumZ n f ≡ pos (sumTo n g)
-unfolding sumZ sumTo
-sumZ-naturals zero f g e = refl
-sumZ-naturals (suc n) f g e = rw (sumZ-naturals n f g e, e n)
+-- A last term that is 0 adds nothing.
+sum-last : (k n : ℕ) (f : ℕ → Z) → (k ≡ n) ⊎ (k ≡ n + 1) → (n < k → f n ≈ nat 0) → sum k f ≈ sum n f
+sum-last k n f (inl e) last = rw e (omega arith)
+sum-last k n f (inr e) last = let z = last (omega arith) in rw (e, add-one n) (omega arith)
 
 module _ (S : Sheet) where
-  -- The cost of lane l of the extended problem, a natural.
-  naturalCost : ℕ → ℕ
-  naturalCost l = natAbs (atZ (extended S .cost) l)
+  lane-cafe : (i j : ℕ) → i < roasteries S → j < cafes S → atZ (extended S .cost) (place (widthOf S) i j) ≡ atZ (S .cost) (place (cafes S) i j)
+  unfolding laneCost extended sinks
+  lane-cafe i j l h = laneCost-at S i j l (omega (arith, width-low S)) ∙ cost-cafe S i j h
 
-  natural-cafe : (i j : ℕ) → i < roasteries S → j < cafes S → naturalCost (place (widthOf S) i j) ≡ at (S .cost) (place (cafes S) i j)
-  unfolding naturalCost laneCost extended sinks
-  natural-cafe i j l h = ap natAbs (laneCost-at S i j l (omega (arith, width-low S)) ∙ cost-cafe S i j h)
-
-  natural-extra : (i : ℕ) → i < roasteries S → cafes S < widthOf S → naturalCost (place (widthOf S) i (cafes S)) ≡ 0
-  unfolding naturalCost laneCost extended sinks
-  natural-extra i l h = ap natAbs (laneCost-at S i (cafes S) l h ∙ cost-extra S i (cafes S) (omega arith))
-
-  flowCost-natural : (x : List ℕ) → flowCost (extended S) x ≡ pos (sumTo (roasteries S * widthOf S) (λ l. at x l * naturalCost l))
-  unfolding flowCost extended sources sinks roasteries naturalCost
-  flowCost-natural x = sumZ-naturals (roasteries S * widthOf S) (λ l. pos (at x l) *ℤ atZ (extended S .cost) l) (λ l. at x l * naturalCost l)
-      (λ l. let (c, e, h) = cost-of S l in rw e)
+  lane-extra : (i : ℕ) → i < roasteries S → cafes S < widthOf S → atZ (extended S .cost) (place (widthOf S) i (cafes S)) ≡ pos 0
+  unfolding laneCost extended sinks
+  lane-extra i l h = laneCost-at S i (cafes S) l h ∙ cost-extra S i (cafes S) (omega arith)
 
   module _ (p x : List ℕ) (same : SameOnSheet S p x) where
-    row-cost : (i : ℕ) → i < roasteries S
-        → sumTo (cafes S) (λ j. at p (place (cafes S) i j) * at (S .cost) (place (cafes S) i j))
-        ≡ sumTo (widthOf S) (λ j. at x (place (widthOf S) i j) * naturalCost (place (widthOf S) i j))
-    row-cost i l = on-cafes ∙ sym columns
+    -- What a lane of the sheet adds to the cost of p, and one of the extended problem to that of x.
+    abbrev term : ℕ → ℕ → Z
+    term i j = carried (cafes S) p i j ⊗ toZ (atZ (S .cost) (place (cafes S) i j))
+
+    abbrev termOf : ℕ → ℕ → Z
+    termOf i j = carried (widthOf S) x i j ⊗ toZ (atZ (extended S .cost) (place (widthOf S) i j))
+
+    row-cost : (i : ℕ) → i < roasteries S → sum (cafes S) (term i) ≈ sum (widthOf S) (termOf i)
+    row-cost i l = omega (arith, sum-cong (cafes S) (term i) (termOf i) on-cafes, columns)
       where
-        term : ℕ → ℕ
-        term j = at x (place (widthOf S) i j) * naturalCost (place (widthOf S) i j)
+        on-cafes : (j : ℕ) → j < cafes S → term i j ≈ termOf i j
+        on-cafes j h = rw (same i j l h, lane-cafe i j l h) (omega arith)
 
-        on-cafes : sumTo (cafes S) (λ j. at p (place (cafes S) i j) * at (S .cost) (place (cafes S) i j)) ≡ sumTo (cafes S) term
-        on-cafes = sumTo-cong (cafes S) _ term (λ j h. rw (same i j l h, natural-cafe i j l h))
+        last : cafes S < widthOf S → termOf i (cafes S) ≈ nat 0
+        last h = rw (lane-extra i l h) (omega arith)
 
-        last : cafes S < widthOf S → term (cafes S) ≡ 0
-        last h = ap (λ (t : ℕ). at x (place (widthOf S) i (cafes S)) * t) (natural-extra i l h) ∙ mul-zero _
-
-        columns : sumTo (widthOf S) term ≡ sumTo (cafes S) term
-        columns = ⊎-elim
-            (λ (z, e). ap (λ (t : ℕ). sumTo t term) e)
-            (λ e. ap (λ (t : ℕ). sumTo t term) e ∙ omega (arith, sumTo-one (cafes S) term, last (omega arith)))
-            (width-is S)
+        columns : sum (widthOf S) (termOf i) ≈ sum (cafes S) (termOf i)
+        columns = sum-last (widthOf S) (cafes S) (termOf i) (⊎-elim (λ (z, e). inl e) inr (width-is S)) last
 
     pub cost-same : planCost S p ≡ flowCost (extended S) x
-    unfolding place
-    cost-same =
-        planCost-natural S p
-        ∙ ap pos
-        (sumTo-runs (roasteries S) (cafes S) (λ l. at p l * at (S .cost) l)
-        ∙ sumTo-cong (roasteries S) _ _ row-cost
-        ∙ sym (sumTo-runs (roasteries S) (widthOf S) (λ l. at x l * naturalCost l)))
-        ∙ sym (flowCost-natural x)
+    unfolding planCost flowCost extended sources sinks roasteries
+    cost-same = eq-z (planCost S p) (flowCost (extended S) x) (omega (
+      arith,
+      lanes-cost (roasteries S) (cafes S) p (S .cost),
+      lanes-cost (roasteries S) (widthOf S) x (extended S .cost),
+      sum-cong (roasteries S) (λ i. sum (cafes S) (term i)) (λ i. sum (widthOf S) (termOf i)) row-cost,
+    ))
 
 -- ---- the first lane where two plans differ
 

@@ -51,7 +51,7 @@ fn finished_round(price: &[Price; NODES], m: usize, n: usize) -> RoundAnswer
 }
 
 // Round: the next tableau, or that this one is finished, with its prices. It refuses what the sheet check refuses, and by 6 a tableau that does not belong.
-pub fn round(supply: &[u64], demand: &[u64], cost: &[u64], t: Tableau) -> RoundAnswer
+pub fn round(supply: &[u64], demand: &[u64], cost: &[i64], t: Tableau) -> RoundAnswer
     ensures { λ r.
         let S = sheetOf (now (supply .entry)) (now (demand .entry)) (now (cost .entry)) in
         ⌜ r ≡ roundAnswer (roundCall S t) ⌝ }

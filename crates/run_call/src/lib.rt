@@ -49,7 +49,7 @@ fn ended_run(finished: bool, made: u64, last: Tableau) -> RunAnswer
 
 // Run makes rounds: `finished` with the tableau and the number of rounds, if it finishes within the allowance; else `spent`, after exactly that many.
 // Refusals as for a round.
-pub fn run(supply: &[u64], demand: &[u64], cost: &[u64], t: Tableau, allowance: u32) -> RunAnswer
+pub fn run(supply: &[u64], demand: &[u64], cost: &[i64], t: Tableau, allowance: u32) -> RunAnswer
     ensures { λ r.
         let S = sheetOf (now (supply .entry)) (now (demand .entry)) (now (cost .entry)) in
         ⌜ r ≡ runAnswer (runCall S t allowance) ⌝ }

@@ -1,16 +1,17 @@
 -- A text at the front of an output: the bytes of the output past the text stay.
 use mathlib.Core.Path.{_≡_, refl, sym, ap, _∙_}
-use mathlib.Core.List.{List, [], _∷_, _++_, flatMap, append-nil, append-assoc}
+use mathlib.Core.List.{List, [], _∷_, _++_, append-nil, append-assoc}
 use Prim.Native.Nat.{ℕ, suc, _+_, _-_, _≤_, _<_}
 use native.Mathlib.Omega.{arith}
 use native.Mathlib.Numerals.{add-one}
-use lib.ListN.{length, take, drop, set, getD, length-append, length-drop, drop-of-length-le, take-append-drop}
-use lib.Seq.{length-take-le, take-all, take-suc, take-at, drop-at, drop-drop, drop-cons, set-at, take-add}
+use lib.ListN.{length, take, drop, set, getD, length-append, length-drop, drop-of-length-le}
+use lib.Seq.{length-take-le, take-all, take-at, drop-at, drop-drop, drop-cons, set-at, take-add}
 use borrow.Rule.Slice.PartMut.{midOf, putMid}
-use Rattle.transport.specs.Laws.ListLaws.{flatMap-append}
 
-unfoldable pub front : List ℕ → List ℕ → List ℕ
-front text out = text ++ drop (length text) out
+module _ {A : Type 0} where
+  -- The same for lists of any elements.
+  unfoldable pub front : List A → List A → List A
+  front text out = text ++ drop (length text) out
 
 pub front-nil : (out : List ℕ) → front [] out ≡ out
 unfolding front
@@ -111,20 +112,3 @@ module _ (T : List ℕ) (at : ℕ) (piece rest : List ℕ) (p : at ≤ length T)
   piece-next out held q h =
       let n : length (take at T) ≡ at = length-take-le at T p in
       record { room = omega (arith, length-append (take at T) piece, piece-room); ends = sym n; holds = h }
-
--- ---- a text made of a piece for each element of a list
-
-module _ {A : Type 0} (f : A → List ℕ) (xs : List A) (i : ℕ) where
-  pub pieces-next : (d : A) → i < length xs → flatMap f (take (i + 1) xs) ≡ flatMap f (take i xs) ++ f (getD xs i d)
-  unfolding flatMap
-  pieces-next d p = rw (add-one, take-suc xs i d p, flatMap-append f (take i xs) (getD xs i d ∷ []), append-nil)
-
-  pub pieces-within : length (flatMap f (take i xs)) ≤ length (flatMap f xs)
-  pieces-within = omega (
-    arith,
-    ap length (sym (flatMap-append f (take i xs) (drop i xs)) ∙ ap (flatMap f) (take-append-drop i xs)),
-    length-append (flatMap f (take i xs)) (flatMap f (drop i xs)),
-  )
-
-  pub pieces-end : length xs ≤ i → flatMap f (take i xs) ≡ flatMap f xs
-  pieces-end p = rw (take-all i xs p)

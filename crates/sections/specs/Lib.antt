@@ -2,5 +2,5 @@ pub mod Digits
 pub mod Front
 pub mod Whole
 pub mod Lines
-pub mod Wholes
+pub mod LinesWritten
 pub mod WriteCall

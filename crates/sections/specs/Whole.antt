@@ -6,16 +6,15 @@ use Prim.Native.Nat.{ℕ, suc, _-_, _^_, _≤_, _<_}
 use native.Mathlib.Omega.{arith}
 use lib.Dec.{T}
 use lib.IntN.{ℤ, pos, negsuc, _-ℤ_, natAbs}
+use lib.ListN.{length}
 use lib.Signed.{ltZ, mag, nonNeg}
 use mir.Syntax.{w64}
 use mir.Val.{toZ, ofZ, SFits}
 use mir.Facts.{toZ-ofZ}
 use borrow.Author.Tests.{le-ltb}
+use Rattle.transport.specs.Laws.RangeLaws.{back}
 use Rattle.transport.specs.Text.{bytes, digits, wholeDigits}
-
--- The number of the bits of z.
-pub bits-back : (z : ℤ) → mag z < 2 ^ 63 → toZ w64 (ofZ w64 z) ≡ z
-bits-back z p = toZ-ofZ {w = w64} (record { sfits = p })
+use Rattle.grammar.specs.Longest.{whole-length}
 
 flip : (n : ℕ) → negsuc 0 -ℤ negsuc n ≡ pos n
 flip n = rw (le-ltb (suc n) 1 (omega arith)) (ap pos (omega arith))
@@ -26,7 +25,7 @@ module _ (z : ℤ) (p : mag z < 2 ^ 63) where
 
   -- −1 − z of a negative z is one less than its magnitude.
   turned-is : ltZ z (pos 0) ≡ true → turned ≡ pos (natAbs z - 1)
-  turned-is h = rw (bits-back z p) (go z h)
+  turned-is h = rw (back w64 z p) (go z h)
     where
       go : (z : ℤ) → ltZ z (pos 0) ≡ true → negsuc 0 -ℤ z ≡ pos (natAbs z - 1)
       go (pos n) h = absurd (true≢false (sym h ∙ le-ltb n 0 (omega arith)))
@@ -66,3 +65,7 @@ pub whole-positive : (z : ℤ) → ltZ z (pos 0) ≡ false → wholeDigits z ≡
 unfolding wholeDigits
 whole-positive (pos n) h = refl
 whole-positive (negsuc n) h = absurd (true≢false h)
+
+-- A whole number of 64 bits has at most 20 bytes.
+pub whole-few : (z : ℤ) → mag z < 2 ^ 63 → length (wholeDigits z) ≤ 20
+whole-few z p = whole-length 18 z (omega (arith, magnitude-le z p))

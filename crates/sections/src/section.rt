@@ -4,6 +4,7 @@ ghost use mathlib.Core.Path.{_≡_};
 ghost use mathlib.Core.List.{_++_};
 ghost use Prim.Native.Nat.{_+_, _*_, _^_, _≤_};
 ghost use lib.ListN.{length};
+ghost use Rattle.transport.specs.Text.{digits};
 ghost use Rattle.sections.specs.Front.{front};
 ghost use Rattle.sections.specs.Lines.{ended, linesFrom, numbersLength, sectionText};
 use crate::lines;
@@ -12,7 +13,7 @@ use crate::number;
 // The length of numbers in lines: each with the byte that ends it.
 fn numbers_len(numbers: &[u64]) -> usize
     requires { ⌜ length (now numbers) ≤ 2 ^ 32 ⌝ }
-    ensures { λ r. ⌜ (r ≡ numbersLength (now (numbers .entry))) × (r ≤ length (now (numbers .entry)) * 21) ⌝ }
+    ensures { λ r. ⌜ (r ≡ numbersLength digits (now (numbers .entry))) × (r ≤ length (now (numbers .entry)) * 21) ⌝ }
 {
     let mut len: usize = 0;
     let mut i: usize = 0;
@@ -38,8 +39,8 @@ fn write_bytes(bytes: &[u8], out: &mut [u8]) -> usize
 
 // A number, and the byte that ends it.
 fn write_ended(n: u64, end: u8, out: &mut [u8]) -> usize
-    requires { ⌜ length (ended n end) ≤ length (now out) ⌝ }
-    ensures { λ r. ⌜ (r ≡ length (ended n end)) × (now (out .exit) ≡ front (ended n end) (now (out .entry))) ⌝ }
+    requires { ⌜ length (ended digits n end) ≤ length (now out) ⌝ }
+    ensures { λ r. ⌜ (r ≡ length (ended digits n end)) × (now (out .exit) ≡ front (ended digits n end) (now (out .entry))) ⌝ }
 {
     let at = number::write_number(n, out);
     out[at] = end;
@@ -48,10 +49,10 @@ fn write_ended(n: u64, end: u8, out: &mut [u8]) -> usize
 
 // Numbers in lines of `width`.
 fn write_lines(numbers: &[u64], width: usize, out: &mut [u8]) -> usize
-    requires { ⌜ (1 ≤ width) × (length (linesFrom width width (now numbers)) ≤ length (now out)) ⌝ }
+    requires { ⌜ (1 ≤ width) × (length (linesFrom digits width width (now numbers)) ≤ length (now out)) ⌝ }
     ensures { λ r. ⌜
-        (r ≡ length (linesFrom width width (now (numbers .entry))))
-        × (now (out .exit) ≡ front (linesFrom width width (now (numbers .entry))) (now (out .entry)))
+        (r ≡ length (linesFrom digits width width (now (numbers .entry))))
+        × (now (out .exit) ≡ front (linesFrom digits width width (now (numbers .entry))) (now (out .entry)))
         ⌝ }
 {
     let mut at: usize = 0;
@@ -68,10 +69,10 @@ fn write_lines(numbers: &[u64], width: usize, out: &mut [u8]) -> usize
 
 // The head line of a section: its name, with the space after it, and its count.
 pub fn write_head(name: &[u8], count: usize, out: &mut [u8]) -> usize
-    requires { ⌜ length (now name ++ ended count 10) ≤ length (now out) ⌝ }
+    requires { ⌜ length (now name ++ ended digits count 10) ≤ length (now out) ⌝ }
     ensures { λ r. ⌜
-        (r ≡ length (now (name .entry) ++ ended count 10))
-        × (now (out .exit) ≡ front (now (name .entry) ++ ended count 10) (now (out .entry)))
+        (r ≡ length (now (name .entry) ++ ended digits count 10))
+        × (now (out .exit) ≡ front (now (name .entry) ++ ended digits count 10) (now (out .entry)))
         ⌝ }
 {
     let at = write_bytes(name, out);
@@ -86,10 +87,10 @@ pub fn write_section(
     numbers: &[u64],
     out: &mut [u8],
 ) -> usize
-    requires { ⌜ (1 ≤ width) × (length (sectionText (now name) count width (now numbers)) ≤ length (now out)) ⌝ }
+    requires { ⌜ (1 ≤ width) × (length (sectionText digits (now name) count width (now numbers)) ≤ length (now out)) ⌝ }
     ensures { λ r. ⌜
-        (r ≡ length (sectionText (now (name .entry)) count width (now (numbers .entry))))
-        × (now (out .exit) ≡ front (sectionText (now (name .entry)) count width (now (numbers .entry))) (now (out .entry)))
+        (r ≡ length (sectionText digits (now (name .entry)) count width (now (numbers .entry))))
+        × (now (out .exit) ≡ front (sectionText digits (now (name .entry)) count width (now (numbers .entry))) (now (out .entry)))
         ⌝ }
 {
     let at = write_head(name, count, out);
@@ -99,7 +100,7 @@ pub fn write_section(
 // The length of a head line.
 pub fn head_len(name: &[u8], count: usize) -> usize
     requires { ⌜ length (now name) ≤ 16 ⌝ }
-    ensures { λ r. ⌜ (r ≡ length (now (name .entry) ++ ended count 10)) × (r ≤ 37) ⌝ }
+    ensures { λ r. ⌜ (r ≡ length (now (name .entry) ++ ended digits count 10)) × (r ≤ 37) ⌝ }
 {
     name.len() + number::digit_count(count as u64) + 1
 }
@@ -109,7 +110,7 @@ pub fn section_len(name: &[u8], count: usize, numbers: &[u64]) -> usize
     requires { ⌜ (length (now name) ≤ 16) × (length (now numbers) ≤ 2 ^ 32) ⌝ }
     ensures { λ r.
         let xs = now (numbers .entry) in
-        ⌜ (r ≡ length (now (name .entry) ++ ended count 10) + numbersLength xs) × (r ≤ length xs * 21 + 37) ⌝ }
+        ⌜ (r ≡ length (now (name .entry) ++ ended digits count 10) + numbersLength digits xs) × (r ≤ length xs * 21 + 37) ⌝ }
 {
     head_len(name, count) + numbers_len(numbers)
 }

@@ -22,7 +22,7 @@ ghost use Rattle.transport.specs.Answers.{settleAnswer};
 pub fn settle(
     supply: &[u64],
     demand: &[u64],
-    cost: &[u64],
+    cost: &[i64],
     t: Tableau,
     plan: &mut [u64],
 ) -> SettleAnswer

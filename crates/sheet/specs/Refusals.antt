@@ -6,8 +6,9 @@ use Prim.Native.Nat.{_*_, _≤_}
 use native.Mathlib.Omega.{arith}
 use native.Mathlib.Nat.{mul-le-mul}
 use lib.Dec.{eqb}
+use lib.IntN.{pos, negℤ}
 use lib.ListN.{length}
-use Rattle.transport.specs.Lists.{all, within}
+use Rattle.transport.specs.Lists.{all, within, withinZ}
 use Rattle.transport.specs.Limits.{maxSources, maxSinks, maxAmount, maxCost}
 use Rattle.transport.specs.Sheet.{Sheet, roasteries, cafes, badSides, badLength, badAmount, badCost, lacking, crowded, numberTests, sheetTests, refusal}
 use Rattle.transport.specs.Statements.{WithinLimits, Lacking, Crowded}
@@ -21,7 +22,7 @@ module _ (S : Sheet) where
   demands = all (within 1 maxAmount) (S .demand)
 
   abbrev costs : Bool
-  costs = all (within 0 maxCost) (S .cost)
+  costs = all (withinZ (negℤ (pos maxCost)) (pos maxCost)) (S .cost)
 
   pub refused-supply : supplies ≡ false → refusal (numberTests S) ≡ some 3
   unfolding refusal numberTests badAmount

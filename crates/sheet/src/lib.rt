@@ -2,9 +2,10 @@
 ghost use mathlib.Core.Path.{_≡_};
 ghost use mathlib.Core.Bool.{true};
 ghost use Prim.Native.Nat.{_≤_};
+ghost use lib.IntN.{pos, negℤ};
 ghost use lib.ListN.{length};
-ghost use Rattle.transport.specs.Lists.{all, within, total};
-ghost use Rattle.transport.specs.Limits.{maxSide, maxAmount};
+ghost use Rattle.transport.specs.Lists.{all, within, withinZ, total};
+ghost use Rattle.transport.specs.Limits.{maxSide, maxAmount, maxCost};
 ghost use Rattle.transport.specs.Sheet.{refusal, numberTests, sheetTests, sheetOf};
 ghost use Rattle.sheet.specs.Check.{checkAnswer};
 use transport::MAX_AMOUNT;
@@ -28,17 +29,35 @@ fn side_fits(count: usize, most: usize) -> bool
     1 <= count && count <= most
 }
 
-// Whether every number is within `low` to `high`.
-fn all_within(numbers: &[u64], low: u64, high: u64) -> bool
-    ensures { λ r. ⌜ r ≡ all (within low high) (now (numbers .entry)) ⌝ }
+// Whether every amount is within `low` to `high`.
+fn all_within(amounts: &[u64], low: u64, high: u64) -> bool
+    ensures { λ r. ⌜ r ≡ all (within low high) (now (amounts .entry)) ⌝ }
 {
     let mut i: usize = 0;
-    while i < numbers.len() {
-        let x = numbers[i];
+    while i < amounts.len() {
+        let x = amounts[i];
         if x < low {
             return false;
         }
         if high < x {
+            return false;
+        }
+        i += 1;
+    }
+    true
+}
+
+// Whether every cost is within its limits, which are as far below 0 as above it.
+fn costs_within(costs: &[i64]) -> bool
+    ensures { λ r. ⌜ r ≡ all (withinZ (negℤ (pos maxCost)) (pos maxCost)) (now (costs .entry)) ⌝ }
+{
+    let mut i: usize = 0;
+    while i < costs.len() {
+        let x = costs[i];
+        if x < -MAX_COST {
+            return false;
+        }
+        if MAX_COST < x {
             return false;
         }
         i += 1;
@@ -61,7 +80,7 @@ fn total_of(amounts: &[u64]) -> u64
 }
 
 // Refusals 3, 4, 5 and 10 of a sheet whose sides are within their limits. A total is taken once its parts are known to be.
-pub fn check_numbers(supply: &[u64], demand: &[u64], cost: &[u64]) -> SheetCheck
+pub fn check_numbers(supply: &[u64], demand: &[u64], cost: &[i64]) -> SheetCheck
     requires { ⌜ (length (now supply) ≤ maxSide) × (length (now demand) ≤ maxSide) ⌝ }
     ensures { λ r.
         let S = sheetOf (now (supply .entry)) (now (demand .entry)) (now (cost .entry)) in
@@ -73,7 +92,7 @@ pub fn check_numbers(supply: &[u64], demand: &[u64], cost: &[u64]) -> SheetCheck
     if !all_within(demand, 1, MAX_AMOUNT) {
         return SheetCheck::Refused(3);
     }
-    if !all_within(cost, 0, MAX_COST) {
+    if !costs_within(cost) {
         return SheetCheck::Refused(4);
     }
     let supply_total = total_of(supply);
@@ -91,7 +110,7 @@ pub fn check_numbers(supply: &[u64], demand: &[u64], cost: &[u64]) -> SheetCheck
 }
 
 // The sheet check.
-pub fn check_sheet(supply: &[u64], demand: &[u64], cost: &[u64]) -> SheetCheck
+pub fn check_sheet(supply: &[u64], demand: &[u64], cost: &[i64]) -> SheetCheck
     ensures { λ r.
         let S = sheetOf (now (supply .entry)) (now (demand .entry)) (now (cost .entry)) in
         ⌜ r ≡ checkAnswer (refusal (sheetTests S)) ⌝ }

@@ -7,6 +7,7 @@ use mathlib.Core.Bool.{Bool, true, false, not, _&&_, _||_, and-eq-true-iff}
 use mathlib.Core.Option.{none, some}
 use borrow.Author.Tests.{leb-true, leb-false}
 use lib.Dec.{leb}
+use lib.IntN.{ℤ}
 use lib.ListN.{length, drop, length-drop}
 use Rattle.transport.specs.declared.ReadAnswer.{ReadAnswer}
 use Rattle.transport.specs.declared.ReadAnswer.the-variants as ReadAnswer
@@ -44,17 +45,17 @@ all-fit a b c e =
 -- ---- a sheet that was read
 
 -- The answer, and what the lent lists then hold.
-abbrev Filled : Answer SheetRecord → List ℕ → List ℕ → List ℕ → ReadAnswer → List ℕ → List ℕ → List ℕ → Type 0
+abbrev Filled : Answer SheetRecord → List ℕ → List ℕ → List ℤ → ReadAnswer → List ℕ → List ℕ → List ℤ → Type 0
 Filled a supply demand cost r supplyAfter demandAfter costAfter =
     (r ≡ readAnswer a)
     × (supplyAfter ≡ lentAfter (λ S. S .supply) a supply)
     × (demandAfter ≡ lentAfter (λ S. S .demand) a demand)
     × (costAfter ≡ lentAfter (λ S. S .cost) a cost)
 
-abbrev Stored : SheetRecord → List ℕ → List ℕ → List ℕ → ReadAnswer → List ℕ → List ℕ → List ℕ → Type 0
+abbrev Stored : SheetRecord → List ℕ → List ℕ → List ℤ → ReadAnswer → List ℕ → List ℕ → List ℤ → Type 0
 Stored S supply demand cost = Filled (unless (readTests (length supply) (length demand) (length cost) S) S) supply demand cost
 
-module _ (supply demand cost : List ℕ) where
+module _ (supply demand : List ℕ) (cost : List ℤ) where
   filled-refused : (a : Answer SheetRecord) (k : ℕ) → a ≡ refusedBy k → Filled a supply demand cost (ReadAnswer.Refused k) supply demand cost
   unfolding readAnswer refusedBy lentAfter
   filled-refused a k e = rw e (refl, refl, refl, refl)
@@ -103,15 +104,15 @@ module _ (text : List ℕ) (a b c : ℕ) where
   unfolding readSheetCall readWith
   call-got S rest e = rw (readWith, e)
 
-module _ (text supply demand cost : List ℕ) where
+module _ (text supply demand : List ℕ) (cost : List ℤ) where
   -- What the call answers, and what it leaves in the lent lists.
-  abbrev pub Read : ReadAnswer → List ℕ → List ℕ → List ℕ → Type 0
+  abbrev pub Read : ReadAnswer → List ℕ → List ℕ → List ℤ → Type 0
   Read = Filled (readSheetCall text (length supply) (length demand) (length cost)) supply demand cost
 
   pub read-stuck : (place : ℕ) → place ≤ length text → sheetReader text ≡ stuck (drop place text) → Read (ReadAnswer.NotSheetText place) supply demand cost
   unfolding readAnswer lentAfter
   read-stuck place p e = rw (call-stuck text (length supply) (length demand) (length cost) place p e) (refl, refl, refl, refl)
 
-  pub read-got : (S : SheetRecord) (rest : List ℕ) → sheetReader text ≡ got S rest → (r : ReadAnswer) (s d c : List ℕ) → Stored S supply demand cost r s d c
-      → Read r s d c
+  pub read-got : (S : SheetRecord) (rest : List ℕ) → sheetReader text ≡ got S rest → (r : ReadAnswer) (s d : List ℕ) (c : List ℤ)
+      → Stored S supply demand cost r s d c → Read r s d c
   read-got S rest e r s d c h = rw (call-got text (length supply) (length demand) (length cost) S rest e) h

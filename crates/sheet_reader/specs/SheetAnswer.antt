@@ -4,6 +4,7 @@ use mathlib.Core.List.{List, []}
 use Prim.Native.Nat.{ℕ, _*_, _≤_, _<_}
 use native.Mathlib.Omega.{arith}
 use native.Mathlib.Nat.{le-trans, mul-le-mul}
+use lib.IntN.{ℤ}
 use lib.ListN.{length, take, drop, drop-of-length-le}
 use lib.Seq.{drop-cons, length-take-le}
 use Rattle.transport.specs.declared.ReadAnswer.{ReadAnswer}
@@ -30,11 +31,11 @@ answerFits text P (ReadAnswer.NotSheetText place) = place ≤ length text
 answerFits text P (ReadAnswer.Refused number) = ⊥
 
 -- The sheet that the fronts of three lists are.
-abbrev frontSheet : List ℕ → List ℕ → List ℕ → ℕ → ℕ → SheetRecord
+abbrev frontSheet : List ℕ → List ℕ → List ℤ → ℕ → ℕ → SheetRecord
 frontSheet supply demand cost m n = record { supply = take m supply; demand = take n demand; cost = take (m * n) cost }
 
 -- The whole text: the sheet is in the fronts of three lists.
-abbrev pub sheetRead : List ℕ → List ℕ → List ℕ → List ℕ → ReadAnswer → Reading SheetRecord
+abbrev pub sheetRead : List ℕ → List ℕ → List ℕ → List ℤ → ReadAnswer → Reading SheetRecord
 sheetRead text supply demand cost = answerOf text (frontSheet supply demand cost)
 
 -- Sides within their limits.
@@ -52,11 +53,11 @@ module _ {A B : Type 0} (text : List ℕ) (first : Reading B) (whole : Reading A
 -- ---- the costs, and the end of the text
 
 -- Costs that were read, and the place after them.
-pub record CostsRead (m n : ℕ) (text : List ℕ) (at : ℕ) (cost : List ℕ) (next : ℕ) : Type 0 where
+pub record CostsRead (m n : ℕ) (text : List ℕ) (at : ℕ) (cost : List ℤ) (next : ℕ) : Type 0 where
   pub reads : costReader m n (drop at text) ≡ got (take (m * n) cost) (drop next text)
   pub inside : next ≤ length text
 
-module _ {m n : ℕ} {text : List ℕ} {at : ℕ} {cost : List ℕ} {next : ℕ} where
+module _ {m n : ℕ} {text : List ℕ} {at : ℕ} {cost : List ℤ} {next : ℕ} where
   pub costs-read : {found : Taken} {v : ℕ} → costReader m n (drop at text) ≡ readingOf text (λ v. take v cost) found → placeOf found ≤ length text
       → valueIs (m * n) found → found ≡ Got v next → CostsRead m n text at cost next
   costs-read e p k g =
@@ -108,7 +109,7 @@ answer-fits text P Q h (ReadAnswer.Sheet a b) p = h a b p
 answer-fits text P Q h (ReadAnswer.NotSheetText place) p = p
 answer-fits text P Q h (ReadAnswer.Refused number) p = p
 
-module _ {text : List ℕ} {at : ℕ} {demand : List ℕ} {n next : ℕ} (l : ListRead (bytes "demand ") maxSinks text at demand n next) (m : ℕ) (cost : List ℕ)
+module _ {text : List ℕ} {at : ℕ} {demand : List ℕ} {n next : ℕ} (l : ListRead (bytes "demand ") maxSinks text at demand n next) (m : ℕ) (cost : List ℤ)
     (r : ReadAnswer) where
   -- The demands were read: the answer of what comes after them, with them, is that of the whole from the demands on.
   pub demands-answer : afterDemand m n (drop next text) ≡ answerOf text (λ a b. take (a * b) cost) r → answerFits text (λ a b. (a ≡ m) × (b ≡ n)) r →
@@ -120,7 +121,8 @@ module _ {text : List ℕ} {at : ℕ} {demand : List ℕ} {n next : ℕ} (l : Li
     answer-fits text (λ a b. (a ≡ m) × (b ≡ n)) (λ a b. (a ≡ m) × (1 ≤ b) × (b ≤ maxSinks)) (λ a b p. (p .0, rw (p .1) (l .some), rw (p .1) (l .few))) r h,
   )
 
-module _ {text supply : List ℕ} {m next : ℕ} (l : ListRead (bytes "supply ") maxSources text 0 supply m next) (demand cost : List ℕ) (r : ReadAnswer) where
+module _ {text supply : List ℕ} {m next : ℕ} (l : ListRead (bytes "supply ") maxSources text 0 supply m next) (demand : List ℕ) (cost : List ℤ)
+    (r : ReadAnswer) where
   -- The supplies were read: the answer of what comes after them, with them, is that of the whole text.
   pub supplies-answer : afterSupply m (drop next text) ≡ answerOf text (λ a b. (take b demand, take (a * b) cost)) r
       → answerFits text (λ a b. (a ≡ m) × (1 ≤ b) × (b ≤ maxSinks)) r →
@@ -134,7 +136,7 @@ module _ {text supply : List ℕ} {m next : ℕ} (l : ListRead (bytes "supply ")
 -- ---- a sheet that was read
 
 -- A sheet of m sources and n sinks is the text's, and stands in the fronts of three lists.
-pub record SheetIn (text supply demand cost : List ℕ) (m n : ℕ) : Type 0 where
+pub record SheetIn (text supply demand : List ℕ) (cost : List ℤ) (m n : ℕ) : Type 0 where
   pub reads : sheetReader text ≡ got (frontSheet supply demand cost m n) []
   pub m-some : 1 ≤ m
   pub m-few : m ≤ maxSources
@@ -144,7 +146,7 @@ pub record SheetIn (text supply demand cost : List ℕ) (m n : ℕ) : Type 0 whe
   pub demand-room : n ≤ length demand
   pub cost-room : m * n ≤ length cost
 
-module _ {text supply demand cost : List ℕ} {m n : ℕ} where
+module _ {text supply demand : List ℕ} {cost : List ℤ} {m n : ℕ} where
   pub sheet-in : {r : ReadAnswer} → sheetReader text ≡ sheetRead text supply demand cost r → readFits text r → r ≡ ReadAnswer.Sheet m n → maxSources
       ≤ length supply → maxSinks ≤ length demand → maxSources * maxSinks ≤ length cost → SheetIn text supply demand cost m n
   sheet-in e f g s d c =

@@ -3,11 +3,12 @@ use mathlib.Core.Path.{_≡_, refl, sym, ap, _∙_}
 use mathlib.Core.List.{List, [], _∷_, _++_, flatten}
 use Prim.Native.Nat.{ℕ, zero, suc, _*_, _-_, _≤_}
 use native.Mathlib.Omega.{arith}
+use lib.IntN.{ℤ}
 use lib.ListN.{length, take}
 use Rattle.transport.specs.Limits.{maxSources, maxSinks}
-use Rattle.transport.specs.Text.{bytes, headLine}
+use Rattle.transport.specs.Text.{bytes, digits, headLine}
 use Rattle.transport.specs.Sheet.{Sheet}
-use Rattle.transport.specs.SheetText.{Reading, stuck, got, Reader, _>>=_, _>>_, pure, times, word, end, number, side, line, row, sheetReader}
+use Rattle.transport.specs.SheetText.{Reading, stuck, got, Reader, _>>=_, _>>_, pure, times, word, end, number, whole, side, line, row, sheetReader}
 use Rattle.sections.specs.Front.{front, front-take}
 use Rattle.sections.specs.Lines.{ended, head-line}
 use Rattle.tokens.specs.Reading.{bind-got, bind-stuck, bind-inside, bind-same, bind-assoc, then-got, then-stuck, then-same, then-assoc}
@@ -31,31 +32,31 @@ module _ (name : List ℕ) (most : ℕ) (t : List ℕ) where
     pub list-uncounted : (v : List ℕ) → line (side most) u ≡ stuck v → listReader name most t ≡ stuck v
     list-uncounted v e = list-named ∙ bind-stuck (line (side most)) u v _ e
 
-    pub list-counted : (m : ℕ) (v : List ℕ) → line (side most) u ≡ got m v → listReader name most t ≡ readLines 1 1 m v
-    list-counted m v e = list-named ∙ bind-got (line (side most)) u v _ m e ∙ column-lines m v
+    pub list-counted : (m : ℕ) (v : List ℕ) → line (side most) u ≡ got m v → listReader name most t ≡ readLines number 1 1 m v
+    list-counted m v e = list-named ∙ bind-got (line (side most)) u v _ m e ∙ column-lines number m v
 
 -- ---- the costs after their head line
 
-unfoldable pub costReader : ℕ → ℕ → Reader (List ℕ)
+unfoldable pub costReader : ℕ → ℕ → Reader (List ℤ)
 costReader m n = do
   word (headLine "cost" m)
-  rows ← times m (row n)
+  rows ← times m (row whole n)
   pure (flatten rows)
 
-flat-pure : (r : Reader (List (List ℕ))) (t : List ℕ) → (r >>= λ rows. pure (flatten rows)) t ≡ flat (r t)
+flat-pure : (r : Reader (List (List ℤ))) (t : List ℕ) → (r >>= λ rows. pure (flatten rows)) t ≡ flat (r t)
 unfolding flat pure
 flat-pure r t = go (r t) refl
   where
-    go : (v : Reading (List (List ℕ))) → r t ≡ v → (r >>= λ rows. pure (flatten rows)) t ≡ flat v
+    go : (v : Reading (List (List ℤ))) → r t ≡ v → (r >>= λ rows. pure (flatten rows)) t ≡ flat v
     go (stuck u) e = bind-stuck r t u _ e
     go (got rows u) e = bind-got r t u _ rows e
 
 -- A head line that was written first, with the count k, and was then read as a word.
-pub head-read : (k size : ℕ) (written out t : List ℕ) {r : Reading (Unit {0})} → size ≡ length (bytes "cost " ++ ended k 10)
-    → written ≡ front (bytes "cost " ++ ended k 10) out → word (take size written) t ≡ r → word (headLine "cost" k) t ≡ r
+pub head-read : (k size : ℕ) (written out t : List ℕ) {r : Reading (Unit {0})} → size ≡ length (bytes "cost " ++ ended digits k 10)
+    → written ≡ front (bytes "cost " ++ ended digits k 10) out → word (take size written) t ≡ r → word (headLine "cost" k) t ≡ r
 unfolding bytes
 head-read k size written out t s e w =
-    let same : take size written ≡ headLine "cost" k = (rw e (front-take (bytes "cost " ++ ended k 10) out size s)) ∙ sym (head-line "cost" k) in
+    let same : take size written ≡ headLine "cost" k = (rw e (front-take (bytes "cost " ++ ended digits k 10) out size s)) ∙ sym (head-line "cost" k) in
     rw same at w
 
 module _ (m n : ℕ) (t u : List ℕ) where
@@ -63,23 +64,23 @@ module _ (m n : ℕ) (t u : List ℕ) where
   unfolding costReader
   cost-unnamed e = then-stuck (word (headLine "cost" m)) t u _ e
 
-  pub cost-named : 1 ≤ n → word (headLine "cost" m) t ≡ got tt u → costReader m n t ≡ readLines n n (m * n) u
+  pub cost-named : 1 ≤ n → word (headLine "cost" m) t ≡ got tt u → costReader m n t ≡ readLines whole n n (m * n) u
   unfolding costReader
   cost-named p e =
       let s : suc (n - 1) ≡ n = omega arith in
-      then-got (word (headLine "cost" m)) t u _ tt e ∙ flat-pure (times m (row n)) u ∙ (rw s at (rows-lines m (n - 1) u))
+      then-got (word (headLine "cost" m)) t u _ tt e ∙ flat-pure (times m (row whole n)) u ∙ (rw s at (rows-lines whole m (n - 1) u))
 
 -- ---- the sections after others
 
 -- The costs, and the end of the text: what comes after n demands.
-unfoldable pub afterDemand : ℕ → ℕ → Reader (List ℕ)
+unfoldable pub afterDemand : ℕ → ℕ → Reader (List ℤ)
 afterDemand m n = do
   cost ← costReader m n
   end
   pure cost
 
 -- The demands and the costs: what comes after m supplies.
-unfoldable pub afterSupply : ℕ → Reader (List ℕ × List ℕ)
+unfoldable pub afterSupply : ℕ → Reader (List ℕ × List ℤ)
 afterSupply m = do
   demand ← listReader (bytes "demand ") maxSinks
   cost ← afterDemand m (length demand)
@@ -90,7 +91,7 @@ module _ (m n : ℕ) (t u : List ℕ) where
   unfolding afterDemand
   costs-stuck e = bind-stuck (costReader m n) t u _ e
 
-  module _ (cost : List ℕ) (c : costReader m n t ≡ got cost u) where
+  module _ (cost : List ℤ) (c : costReader m n t ≡ got cost u) where
     pub costs-more : (b : ℕ) (more : List ℕ) → u ≡ b ∷ more → afterDemand m n t ≡ stuck u
     unfolding afterDemand end
     costs-more b more e = bind-got (costReader m n) t u _ cost c ∙ then-stuck end u u _ (rw e)
@@ -129,20 +130,20 @@ module _ {B : Type 0} (name : List ℕ) (most : ℕ) (K : ℕ → List ℕ → R
         numbers m v xs z h = ap (λ k. K k xs z) (sym (times-length m (line number) v xs z h)) ∙ same xs z
 
 -- What comes after the rows has them as one list.
-rows-then : {B : Type 0} (m n : ℕ) (L : List ℕ → Reader B) (t : List ℕ) → (word (headLine "cost" m) >> (times m (row n) >>= λ rows. L (flatten rows))) t
+rows-then : {B : Type 0} (m n : ℕ) (L : List ℤ → Reader B) (t : List ℕ) → (word (headLine "cost" m) >> (times m (row whole n) >>= λ rows. L (flatten rows))) t
     ≡ (costReader m n >>= L) t
 unfolding costReader pure _>>=_
 rows-then m n L t =
-    then-same (word (headLine "cost" m)) t _ _ (λ x u w. sym (bind-assoc (times m (row n)) L u (λ rows. pure (flatten rows))))
-    ∙ sym (then-assoc (word (headLine "cost" m)) L t (times m (row n) >>= λ rows. pure (flatten rows)))
+    then-same (word (headLine "cost" m)) t _ _ (λ x u w. sym (bind-assoc (times m (row whole n)) L u (λ rows. pure (flatten rows))))
+    ∙ sym (then-assoc (word (headLine "cost" m)) L t (times m (row whole n) >>= λ rows. pure (flatten rows)))
 
 -- The sheet of the supplies and what comes after them.
-abbrev sheetWith : List ℕ → List ℕ × List ℕ → Reader Sheet
+abbrev sheetWith : List ℕ → List ℕ × List ℤ → Reader Sheet
 sheetWith supply rest = pure (record { supply = supply; demand = rest .0; cost = rest .1 })
 
 module _ (m : ℕ) (supply : List ℕ) where
   abbrev costRows : ℕ → List ℕ → Reader Sheet
-  costRows n demand = word (headLine "cost" m) >> (times m (row n) >>= λ rows. end >> sheetWith supply (demand, flatten rows))
+  costRows n demand = word (headLine "cost" m) >> (times m (row whole n) >>= λ rows. end >> sheetWith supply (demand, flatten rows))
 
   costs-then : (demand t : List ℕ) → costRows (length demand) demand t
       ≡ ((afterDemand m (length demand) >>= λ cost. pure (demand, cost)) >>= sheetWith supply) t

@@ -21,7 +21,7 @@ pub fn read_sheet(
     text: &[u8],
     supply: &mut [u64],
     demand: &mut [u64],
-    cost: &mut [u64],
+    cost: &mut [i64],
 ) -> ReadAnswer
     ensures { λ r.
         let a = readSheetCall (now (text .entry)) (length (now (supply .entry))) (length (now (demand .entry))) (length (now (cost .entry))) in
@@ -34,7 +34,7 @@ pub fn read_sheet(
 {
     let mut supplies = [0u64; MAX_SOURCES];
     let mut demands = [0u64; MAX_SINKS];
-    let mut costs = [0u64; MAX_LANES];
+    let mut costs = [0i64; MAX_LANES];
     let answer = read_sections(text, &mut supplies, &mut demands, &mut costs);
     let ReadAnswer::Sheet {
         sources: m,

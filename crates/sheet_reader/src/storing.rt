@@ -26,14 +26,32 @@ fn store_list(from: &[u64], list: &mut [u64], wanted: bool)
     }
 }
 
+// The same with costs.
+fn store_costs(from: &[i64], list: &mut [i64], wanted: bool)
+    requires { ⌜ (wanted ≡ true → length (now from) ≤ length (now list)) ⌝ }
+    ensures { λ r. ⌜
+        (wanted ≡ true → now (list .exit) ≡ front (now (from .entry)) (now (list .entry)))
+        × (wanted ≡ false → now (list .exit) ≡ now (list .entry))
+        ⌝ }
+{
+    if !wanted {
+        return;
+    }
+    let mut i: usize = 0;
+    while i < from.len() {
+        list[i] = from[i];
+        i += 1;
+    }
+}
+
 // A sheet that was read goes to the lent lists, unless 3, 4, 5, 10 or 8 refuses it.
 pub(crate) fn store_sheet(
     sheet_supply: &[u64],
     sheet_demand: &[u64],
-    sheet_cost: &[u64],
+    sheet_cost: &[i64],
     supply: &mut [u64],
     demand: &mut [u64],
-    cost: &mut [u64],
+    cost: &mut [i64],
 ) -> ReadAnswer
     requires { ⌜
         (length (now «sheet_supply») ≤ maxSources)
@@ -61,7 +79,7 @@ pub(crate) fn store_sheet(
     let fits = supply_fits && demand_fits && cost_fits;
     store_list(sheet_supply, supply, fits);
     store_list(sheet_demand, demand, fits);
-    store_list(sheet_cost, cost, fits);
+    store_costs(sheet_cost, cost, fits);
     if !fits {
         return ReadAnswer::Refused(8);
     }

@@ -25,7 +25,7 @@ fn not_sheet_text(found: Taken) -> ReadAnswer
 }
 
 // What comes after the demands: the costs, into the front of their list, and the end of the text. Never `Refused`.
-fn read_after_demand(text: &[u8], at: usize, m: usize, n: usize, cost: &mut [u64]) -> ReadAnswer
+fn read_after_demand(text: &[u8], at: usize, m: usize, n: usize, cost: &mut [i64]) -> ReadAnswer
     requires { ⌜ (at ≤ length (now text)) × (m ≤ maxSources) × (1 ≤ n) × (n ≤ maxSinks) × (m * n ≤ length (now cost)) ⌝ }
     ensures { λ r.
         let t = now (text .entry) in
@@ -53,7 +53,7 @@ fn read_after_supply(
     at: usize,
     m: usize,
     demand: &mut [u64],
-    cost: &mut [u64],
+    cost: &mut [i64],
 ) -> ReadAnswer
     requires { ⌜
         (at ≤ length (now text))
@@ -80,7 +80,7 @@ pub fn read_sections(
     text: &[u8],
     supply: &mut [u64],
     demand: &mut [u64],
-    cost: &mut [u64],
+    cost: &mut [i64],
 ) -> ReadAnswer
     requires { ⌜ (maxSources ≤ length (now supply)) × (maxSinks ≤ length (now demand)) × (maxSources * maxSinks ≤ length (now cost)) ⌝ }
     ensures { λ r.

@@ -2,21 +2,22 @@
 use mathlib.Core.Path.{_≡_}
 use mathlib.Core.List.{List, _++_, append-assoc}
 use Prim.Native.Nat.{ℕ, _*_, _≤_}
+use lib.IntN.{ℤ}
 use lib.ListN.{length}
-use Rattle.transport.specs.Text.{bytes}
+use Rattle.transport.specs.Text.{bytes, digits, wholeDigits}
 use Rattle.transport.specs.Sheet.{Sheet, roasteries, cafes}
 use Rattle.transport.specs.SheetText.{sheetText}
-use Rattle.sections.specs.Lines.{sectionText, section-of, lines-column, lines-rows}
+use Rattle.sections.specs.Lines.{sectionText, section-of, number-lines, lines-rows}
 
 abbrev pub supplySection : List ℕ → List ℕ
-supplySection supply = sectionText (bytes "supply ") (length supply) 1 supply
+supplySection supply = sectionText digits (bytes "supply ") (length supply) 1 supply
 
 abbrev pub demandSection : List ℕ → List ℕ
-demandSection demand = sectionText (bytes "demand ") (length demand) 1 demand
+demandSection demand = sectionText digits (bytes "demand ") (length demand) 1 demand
 
 -- m lines of n numbers.
-abbrev pub costSection : ℕ → ℕ → List ℕ → List ℕ
-costSection m n cost = sectionText (bytes "cost ") m n cost
+abbrev pub costSection : ℕ → ℕ → List ℤ → List ℕ
+costSection m n cost = sectionText wholeDigits (bytes "cost ") m n cost
 
 regroup : (a b c d e f : List ℕ) → a ++ b ++ c ++ d ++ e ++ f ≡ a ++ b ++ (c ++ d ++ (e ++ f))
 regroup a b c d e f = simp append-assoc
@@ -29,11 +30,11 @@ sheet-sections S p e =
     let m = length (S .supply) in
     let n = length (S .demand) in
     rw (
-      lines-column (S .supply),
-      lines-column (S .demand),
-      lines-rows m n (S .cost) p e,
+      number-lines (S .supply),
+      number-lines (S .demand),
+      lines-rows wholeDigits m n (S .cost) p e,
       regroup,
-      section-of "supply" m 1 (S .supply),
-      section-of "demand" n 1 (S .demand),
-      section-of "cost" m n (S .cost),
+      section-of digits "supply" m 1 (S .supply),
+      section-of digits "demand" n 1 (S .demand),
+      section-of wholeDigits "cost" m n (S .cost),
     )

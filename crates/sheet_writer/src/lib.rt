@@ -11,11 +11,12 @@ ghost use Rattle.transport.specs.Statements.{Accepted};
 ghost use Rattle.sections.specs.Front.{front};
 ghost use Rattle.sheet_writer.specs.SheetSections.{demandSection, costSection};
 use sections::section;
+use sections::wholes;
 use sheet::SheetCheck;
 use transport::WriteAnswer;
 
 // The length of the text of an accepted sheet.
-fn text_len(supply: &[u64], demand: &[u64], cost: &[u64]) -> usize
+fn text_len(supply: &[u64], demand: &[u64], cost: &[i64]) -> usize
     requires { ⌜ Accepted (sheetOf (now supply) (now demand) (now cost)) ⌝ }
     ensures { λ r. ⌜ r ≡ length (sheetText (sheetOf (now (supply .entry)) (now (demand .entry)) (now (cost .entry)))) ⌝ }
 {
@@ -23,11 +24,11 @@ fn text_len(supply: &[u64], demand: &[u64], cost: &[u64]) -> usize
     let n = demand.len();
     section::section_len(b"supply ", m, supply)
         + section::section_len(b"demand ", n, demand)
-        + section::section_len(b"cost ", m, cost)
+        + wholes::whole_section_len(b"cost ", m, cost)
 }
 
 // The sections after the first one, for a sheet of m sources: the demands, and the costs in what is left of the output.
-fn write_after_supply(m: usize, demand: &[u64], cost: &[u64], out: &mut [u8]) -> usize
+fn write_after_supply(m: usize, demand: &[u64], cost: &[i64], out: &mut [u8]) -> usize
     requires { ⌜
         (1 ≤ length (now demand))
         × (length (demandSection (now demand) ++ costSection m (length (now demand)) (now cost)) ≤ length (now out))
@@ -38,11 +39,11 @@ fn write_after_supply(m: usize, demand: &[u64], cost: &[u64], out: &mut [u8]) ->
 {
     let n = demand.len();
     let at = section::write_section(b"demand ", n, 1, demand, out);
-    at + section::write_section(b"cost ", m, n, cost, &mut out[at..])
+    at + wholes::write_whole_section(b"cost ", m, n, cost, &mut out[at..])
 }
 
 // The text of an accepted sheet: the supplies, and the other sections in what is left of the output.
-fn write_text(supply: &[u64], demand: &[u64], cost: &[u64], out: &mut [u8]) -> usize
+fn write_text(supply: &[u64], demand: &[u64], cost: &[i64], out: &mut [u8]) -> usize
     requires { ⌜
         (Accepted (sheetOf (now supply) (now demand) (now cost)))
         × (length (sheetText (sheetOf (now supply) (now demand) (now cost))) ≤ length (now out))
@@ -57,7 +58,7 @@ fn write_text(supply: &[u64], demand: &[u64], cost: &[u64], out: &mut [u8]) -> u
 }
 
 // Write sheet: the length of the text, which then stands at the front of the output; or the refusal, and the output is as it was.
-pub fn write_sheet(supply: &[u64], demand: &[u64], cost: &[u64], out: &mut [u8]) -> WriteAnswer
+pub fn write_sheet(supply: &[u64], demand: &[u64], cost: &[i64], out: &mut [u8]) -> WriteAnswer
     ensures { λ r.
         let S = sheetOf (now (supply .entry)) (now (demand .entry)) (now (cost .entry)) in
         let a = writeSheetCall S (length (now (out .entry))) in

@@ -1,15 +1,15 @@
 -- Solve, case by case: its refusals in their order, and the solution that it gives.
-use mathlib.Core.Path.{_≡_, refl, ap}
+use mathlib.Core.Path.{_≡_, refl}
 use mathlib.Core.Bool.{Bool, true, false, _||_}
 use mathlib.Core.Option.{none, some}
 use mathlib.Core.List.{List, _++_}
 use Prim.Native.Nat.{ℕ, _+_, _*_, _-_, _≤_, _<_}
 use native.Mathlib.Omega.{arith}
-use lib.IntN.{ℤ, natAbs}
+use lib.IntN.{ℤ}
 use lib.ListN.{length, drop}
 use Rattle.transport.specs.declared.SolveAnswer.{SolveAnswer}
 use Rattle.transport.specs.declared.SolveAnswer.the-variants.{Solved, Refused}
-use Rattle.transport.specs.Lists.{at, sumTo}
+use Rattle.transport.specs.Lists.{sumZ}
 use Rattle.transport.specs.Sheet.{Sheet, roasteries, cafes, sheetTests, refusal}
 use Rattle.transport.specs.Calls.{solutionFrom, Answer, given, refusedBy, lentAfter, tooShort, Solution, solution, solveCall}
 use Rattle.transport.specs.Statements.{Accepted, Bought}
@@ -17,7 +17,7 @@ use Rattle.transport.specs.Plan.{settled}
 use Rattle.transport.specs.Laws.CallLaws.{unless-before, unless-last, unless-none, rooms-iff}
 use Rattle.transport.specs.Answers.{solveAnswer}
 use Rattle.demands.specs.Bought.{bought}
-use Rattle.solving.specs.Cost.{Summable, settled-summable, settled-cost}
+use Rattle.solving.specs.Cost.{Summable, laneTotal, settled-summable, settled-cost}
 use Rattle.solving.specs.Stored.{SolveStored}
 
 -- ---- the call
@@ -86,11 +86,11 @@ module _ {S : Sheet} {made : ℕ} {u u′ v v′ : List ℤ} {plan plan′ : Lis
   stored-summable ok = settled-summable ok (drop (length (settled S)) plan) stored-plan refl
 
   -- The cost is that of the plan that was written.
-  pub told-stored : {total : ℕ} → Accepted S → total ≡ sumTo (length (S .cost)) (λ l. at plan′ l * at (S .cost) l)
+  pub told-stored : {total : ℤ} → Accepted S → total ≡ sumZ (length (S .cost)) (laneTotal plan′ (S .cost))
       → Told (given (solution S)) (Solved total made) u u′ v v′ plan plan′
   unfolding solveAnswer solution solutionFrom
   told-stored ok t = record {
-    answer = rw (t, w .rounds, ap natAbs (settled-cost ok (drop (length (settled S)) plan) stored-plan refl));
+    answer = rw (t, w .rounds, settled-cost ok (drop (length (settled S)) plan) stored-plan refl);
     uHeld = w .uHeld;
     vHeld = w .vHeld;
     planHeld = w .planHeld;

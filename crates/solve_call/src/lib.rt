@@ -33,7 +33,7 @@ fn missing_room(u: usize, v: usize, plan: usize, m: usize, n: usize) -> usize
 pub fn solve(
     supply: &[u64],
     demand: &[u64],
-    cost: &[u64],
+    cost: &[i64],
     u: &mut [i64],
     v: &mut [i64],
     plan: &mut [u64],

@@ -26,7 +26,7 @@ ghost use Rattle.solving.specs.Stored.{SolveStored};
 fn begin_sheet(
     supply: &[u64],
     demand: &[u64],
-    cost: &[u64],
+    cost: &[i64],
     spread: &mut [Price; LANES],
     q: &mut [i64; LANES],
     e: &mut [i64; LANES],
@@ -56,7 +56,7 @@ fn begin_sheet(
 pub fn solve_checked(
     supply: &[u64],
     demand: &[u64],
-    cost: &[u64],
+    cost: &[i64],
     u: &mut [i64],
     v: &mut [i64],
     plan: &mut [u64],

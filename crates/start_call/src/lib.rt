@@ -12,7 +12,7 @@ use transport::StartAnswer;
 use transport::StartOutcome;
 
 // Start gives the first tableau. Sheet check only.
-pub fn start(supply: &[u64], demand: &[u64], cost: &[u64]) -> StartAnswer
+pub fn start(supply: &[u64], demand: &[u64], cost: &[i64]) -> StartAnswer
     ensures { λ r.
         let S = sheetOf (now (supply .entry)) (now (demand .entry)) (now (cost .entry)) in
         ⌜ r ≡ startAnswer (startCall S) ⌝ }

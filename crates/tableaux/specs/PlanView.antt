@@ -63,17 +63,23 @@ unfolding sumZ
 sum-sumZ zero f = omega arith
 sum-sumZ (suc n) f = omega (arith, z-add (sumZ n f) (f n), sum-sumZ n f)
 
-pub cost-flowCost : (P : Problem) (Q : List ℕ) → cost (sources P) (sinks P) (costs P) (carried (sinks P) Q) ≈ toZ (flowCost P Q)
-unfolding flowCost laneCost place
-cost-flowCost P Q = omega (
+-- A plan by lanes in sheet order, added up by rows.
+pub lanes-cost : (m n : ℕ) (Q : List ℕ) (c : List ℤ)
+    → toZ (sumZ (m * n) (λ l. pos (at Q l) *ℤ atZ c l)) ≈ cost m n (λ i j. toZ (atZ c (place n i j))) (carried n Q)
+unfolding place
+lanes-cost m n Q c = omega (
   arith,
-  sum-cong (sources P * sinks P) (λ l. toZ (term l)) each (λ l h. z-mul (pos (at Q l)) (atZ (P .cost) l)),
-  sum-runs (sources P) (sinks P) each,
-  sum-sumZ (sources P * sinks P) term,
+  sum-cong (m * n) (λ l. toZ (term l)) each (λ l h. z-mul (pos (at Q l)) (atZ c l)),
+  sum-runs m n each,
+  sum-sumZ (m * n) term,
 )
   where
     term : ℕ → ℤ
-    term l = pos (at Q l) *ℤ atZ (P .cost) l
+    term l = pos (at Q l) *ℤ atZ c l
 
     each : ℕ → Z
-    each l = nat (at Q l) ⊗ toZ (atZ (P .cost) l)
+    each l = nat (at Q l) ⊗ toZ (atZ c l)
+
+pub cost-flowCost : (P : Problem) (Q : List ℕ) → cost (sources P) (sinks P) (costs P) (carried (sinks P) Q) ≈ toZ (flowCost P Q)
+unfolding flowCost laneCost
+cost-flowCost P Q = omega (arith, lanes-cost (sources P) (sinks P) Q (P .cost))

@@ -1,6 +1,6 @@
 -- Potentials through the strikes: tight on every lane, 0 at the root, the only such numbers, and bounded.
 use mathlib.Core.Path.{_≡_, refl, ap, sym, _∙_}
-use mathlib.Core.Logic.{_≢_, _⊎_, ⊎-elim, by-cases}
+use mathlib.Core.Logic.{_≢_, ⊎-elim, by-cases}
 use mathlib.Core.Bool.{true}
 use mathlib.Core.List.{List, [], _∷_, List·Memᴰ, List·Memᴰ·head, List·Memᴰ·tail, List·Memᴰ·not-nil, List·Memᴰ·cases-cons}
 use Prim.Native.Nat.{ℕ, _+_, _*_, _-_, _≤_, _<_}
@@ -8,15 +8,14 @@ use native.Mathlib.Omega.{arith}
 use native.Mathlib.Nat.{mul-le-mul-right}
 use native.Mathlib.Decide.{ℕ-discrete, decLt}
 use borrow.Author.Tests.{eq-eqb, ne-eqb}
-use lib.IntN.{ℤ, pos, negsuc, negℤ, natAbs, _-ℤ_}
-use lib.Signed.{_≤ℤ_}
+use lib.IntN.{ℤ, pos, negℤ, natAbs, _-ℤ_}
 use lib.ListN.{length}
 use Rattle.integers.specs.Integer.{_≈_, _⊕_}
-use Rattle.integers.specs.Bridge.{toZ, z-add, z-neg, z-le, z-eq, eq-z}
+use Rattle.integers.specs.Bridge.{toZ, z-add, z-neg, z-eq, eq-z}
 use Rattle.transport.specs.Limits.{maxSide, maxCost, costBelow, costAbove, maxCells}
 use Rattle.transport.specs.Lists.{atZ}
 use Rattle.transport.specs.Problem.{Problem, sources, sinks, Lane, place, laneCost}
-use Rattle.transport.specs.Laws.RangeLaws.{abs-diff}
+use Rattle.transport.specs.Laws.RangeLaws.{abs-diff, abs-between}
 use Rattle.transport.specs.Laws.Sound.{Sound}
 use Rattle.transport.specs.Laws.ProblemLaws.{lane}
 use Rattle.transport.specs.Tableau.{basisSize, basisOf}
@@ -126,14 +125,10 @@ module _ {m n : ℕ} {B : List Lane} (p : 1 ≤ m) (h : Fits m n B) (e : spans m
       let count : length (strikes m n B) ≡ m + n - 1 = omega (arith, struck-of p h e .size) in
       rw (← count) (potential-bound cost C (strikes m n B) (λ s q. c (s .lane) (struck-of p h e .lanes s q)) k)
 
--- A cost of a problem, in size.
-size-of : (x : ℤ) → negℤ (pos costBelow) ≤ℤ x → x ≤ℤ pos costAbove → natAbs x ≤ costAbove
-unfolding costBelow
-size-of (pos n) low high = omega (arith, z-le high)
-size-of (negsuc n) low high = omega (arith, z-le low)
-
+-- A cost of a problem, in size: it is as far below 0 as above it.
 pub cost-size : {P : Problem} → Sound P → (k : ℕ) → natAbs (atZ (P .cost) k) ≤ costAbove
-cost-size {P} ok k = size-of (atZ (P .cost) k) (ok .costLow k) (ok .costHigh k)
+unfolding costBelow costAbove
+cost-size {P} ok k = abs-between (ok .costLow k) (ok .costHigh k)
 
 -- No price of a tableau passes 63,000,000 in size.
 pub price-size : (P : Problem) → Sound P → (T : List Cell) → Fits (sources P) (sinks P) (basisOf T) → spans (sources P) (sinks P) (basisOf T) ≡ true

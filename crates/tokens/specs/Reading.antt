@@ -8,15 +8,15 @@ use native.Mathlib.Omega.{arith}
 use native.Mathlib.Decide.{ℕ-discrete, decLt}
 use native.Mathlib.Nat.{pow-suc, pow-le-pow-right, lt-of-lt-of-le}
 use native.Mathlib.Numerals.{add-one}
-use lib.Dec.{eqb}
+use lib.Dec.{eqb, leb}
 use lib.ListN.{length, drop, getD, drop-of-length-le}
 use lib.Seq.{drop-cons, drop-drop}
-use borrow.Author.Tests.{ne-eqb}
+use borrow.Author.Tests.{ne-eqb, le-leb, lt-leb}
 use Rattle.transport.specs.Lists.{within}
-use Rattle.transport.specs.Laws.ListLaws.{and-right}
+use Rattle.transport.specs.Laws.ListLaws.{and-left, and-right}
 use Rattle.transport.specs.Limits.{maxDigits}
 use Rattle.transport.specs.Text.{bytes, kindOf}
-use Rattle.transport.specs.SheetText.{Reading, stuck, got, Reader, _>>=_, _>>_, pure, byteThat, word, isDigit, digitValue, moreDigits, number, side, line}
+use Rattle.transport.specs.SheetText.{Reading, stuck, got, Reader, _>>=_, _>>_, pure, byteThat, word, isDigit, digitValue, moreDigits, numberFrom, side, line}
 use Rattle.transport.specs.Laws.SheetLaws.{within-true, true-within, within-low, within-high}
 use Rattle.transport.specs.declared.ByteKind.{ByteKind}
 use Rattle.transport.specs.declared.ByteKind.the-variants.{Digit, Space, LineEnd, Letter, Other}
@@ -299,27 +299,63 @@ module _ (test : ℕ → Bool) (x : ℕ) where
     unfolding moreDigits digitValue
     more-over e = rw (drop-cons text at 0 (d .inside), moreDigits, d .digit, e)
 
+-- ---- a number by its first digit
+
+-- The value of a first digit passes a test, as the reader of a number or of a side has it.
+abbrev startsBy : (ℕ → Bool) → ℕ → Bool
+startsBy test b = isDigit b && test (b - 48)
+
+module _ (test : ℕ → Bool) where
+  starts-none : (t : List ℕ) → digitNext t ≡ false → byteThat (startsBy test) t ≡ stuck t
+  unfolding digitNext
+  starts-none [] e = byte-none (startsBy test)
+  starts-none (b ∷ t) e = byte-no (startsBy test) b t (rw e)
+
+  module _ {text : List ℕ} {at : ℕ} (d : DigitAt text at) where
+    starts-no : test (getD text at 0 - 48) ≡ false → byteThat (startsBy test) (drop at text) ≡ stuck (drop at text)
+    starts-no e = rw (drop-cons text at 0 (d .inside)) (byte-no (startsBy test) (getD text at 0) (drop (suc at) text) (rw (d .digit, e)))
+
+    starts-yes : test (getD text at 0 - 48) ≡ true → byteThat (startsBy test) (drop at text) ≡ got (getD text at 0) (drop (at + 1) text)
+    starts-yes e =
+        rw (drop-cons text at 0 (d .inside), add-one) (byte-yes (startsBy test) (getD text at 0) (drop (suc at) text) (rw (d .digit, e)))
+
+  -- A first digit that was read passed the test.
+  starts-got : (t : List ℕ) (b : ℕ) (rest : List ℕ) → byteThat (startsBy test) t ≡ got b rest → startsBy test b ≡ true
+  starts-got [] b rest e = let s = byte-none (startsBy test) in let z : _≡_ {A = ℕ} 0 1 = cc in absurd (omega arith)
+  starts-got (c ∷ t) b rest e = go (startsBy test c) refl
+    where
+      go : (v : Bool) → startsBy test c ≡ v → startsBy test b ≡ true
+      go true h = let s = byte-yes (startsBy test) c t h in let z : c ≡ b = cc in rw z at h
+      go false h = let s = byte-no (startsBy test) c t h in let z : _≡_ {A = ℕ} 0 1 = cc in absurd (omega arith)
+
 -- The first digit decides how many may follow.
-number-is : (t : List ℕ) → number t ≡ (byteThat isDigit >>= λ b. moreDigits always (cond (eqb (b - 48) 0) 0 (maxDigits - 1)) (b - 48)) t
-unfolding number digitValue
-number-is t = refl
+abbrev afterFirst : ℕ → Reader ℕ
+afterFirst b = moreDigits always (cond (eqb (b - 48) 0) 0 (maxDigits - 1)) (b - 48)
 
-pub number-stuck : (t : List ℕ) → digitNext t ≡ false → number t ≡ stuck t
-unfolding digitNext
-number-stuck [] e = number-is [] ∙ bind-stuck (byteThat isDigit) [] [] _ (byte-none isDigit)
-number-stuck (b ∷ t) e = number-is (b ∷ t) ∙ bind-stuck (byteThat isDigit) (b ∷ t) (b ∷ t) _ (byte-no isDigit b t e)
+module _ (low : ℕ) where
+  number-is : (t : List ℕ) → numberFrom low t ≡ (byteThat (startsBy (leb low)) >>= afterFirst) t
+  unfolding numberFrom digitValue
+  number-is t = refl
 
-module _ {text : List ℕ} {at : ℕ} (d : DigitAt text at) where
-  first-digit : number (drop at text) ≡ moreDigits always (cond (eqb (getD text at 0 - 48) 0) 0 (maxDigits - 1)) (getD text at 0 - 48) (drop (at + 1) text)
-  first-digit =
-      rw (drop-cons text at 0 (d .inside), add-one)
-      (number-is _ ∙ bind-got (byteThat isDigit) _ (drop (suc at) text) _ (getD text at 0) (byte-yes isDigit (getD text at 0) (drop (suc at) text) (d .digit)))
+  pub number-stuck : (t : List ℕ) → digitNext t ≡ false → numberFrom low t ≡ stuck t
+  number-stuck t e = number-is t ∙ bind-stuck (byteThat (startsBy (leb low))) t t afterFirst (starts-none (leb low) t e)
 
-  pub number-zero : getD text at 0 - 48 ≡ 0 → number (drop at text) ≡ got 0 (drop (at + 1) text)
-  number-zero e = first-digit ∙ (rw e (more-none always 0 (drop (at + 1) text)))
+  module _ {text : List ℕ} {at : ℕ} (d : DigitAt text at) where
+    pub number-low : getD text at 0 - 48 < low → numberFrom low (drop at text) ≡ stuck (drop at text)
+    number-low p =
+        number-is _ ∙ bind-stuck (byteThat (startsBy (leb low))) (drop at text) (drop at text) afterFirst (starts-no (leb low) d (lt-leb low _ p))
 
-  pub number-more : (getD text at 0 - 48 ≡ 0 → ⊥) → number (drop at text) ≡ moreDigits always (maxDigits - 1) (getD text at 0 - 48) (drop (at + 1) text)
-  number-more n = first-digit ∙ (rw (ne-eqb (getD text at 0 - 48) 0 n))
+    first-digit : low ≤ getD text at 0 - 48 → numberFrom low (drop at text) ≡ afterFirst (getD text at 0) (drop (at + 1) text)
+    first-digit p =
+        number-is _
+        ∙ bind-got (byteThat (startsBy (leb low))) (drop at text) (drop (at + 1) text) afterFirst (getD text at 0) (starts-yes (leb low) d (le-leb low _ p))
+
+    pub number-zero : low ≤ getD text at 0 - 48 → getD text at 0 - 48 ≡ 0 → numberFrom low (drop at text) ≡ got 0 (drop (at + 1) text)
+    number-zero p e = first-digit p ∙ (rw e (more-none always 0 (drop (at + 1) text)))
+
+    pub number-more : low ≤ getD text at 0 - 48 → (getD text at 0 - 48 ≡ 0 → ⊥)
+        → numberFrom low (drop at text) ≡ moreDigits always (maxDigits - 1) (getD text at 0 - 48) (drop (at + 1) text)
+    number-more p n = first-digit p ∙ (rw (ne-eqb (getD text at 0 - 48) 0 n))
 
 -- ---- the value of digits
 
@@ -330,26 +366,61 @@ value-next x d k p q = rw (add-one) (omega (arith, pow-suc 10 k))
 pub value-fits : (x k : ℕ) → x < 10 ^ k → k ≤ 19 → x < 10 ^ 19
 value-fits x k p q = lt-of-lt-of-le p (pow-le-pow-right (omega arith) q)
 
+-- A digit that was read has a value of at most 9.
+digit-small : (b : ℕ) → isDigit b ≡ true → b - 48 ≤ 9
+digit-small b e = let w = within-true 48 57 b (digit-within b e) in omega arith
+
+-- At most n digits make a value below 10 ^ n.
+more-below : (n j k x : ℕ) (t : List ℕ) (m : ℕ) (rest : List ℕ) → j + k ≤ n → x < 10 ^ j → moreDigits always k x t ≡ got m rest → m < 10 ^ n
+unfolding moreDigits digitValue
+more-below n j zero x t m rest q p e = let z : x ≡ m = cc in lt-of-lt-of-le (rw z at p) (pow-le-pow-right (omega arith) (omega arith))
+more-below n j (suc k) x [] m rest q p e = let z : x ≡ m = cc in lt-of-lt-of-le (rw z at p) (pow-le-pow-right (omega arith) (omega arith))
+more-below n j (suc k) x (b ∷ t) m rest q p e = go (isDigit b) refl (more-below n (j + 1) k (x * 10 + (b - 48)) t m rest (omega arith))
+  where
+    go : (v : Bool) → isDigit b ≡ v → (x * 10 + (b - 48) < 10 ^ (j + 1) → moreDigits always k (x * 10 + (b - 48)) t ≡ got m rest → m < 10 ^ n) → m < 10 ^ n
+    go true h ih =
+        let s : moreDigits always (suc k) x (b ∷ t) ≡ moreDigits always k (x * 10 + (b - 48)) t = rw (moreDigits, h) in
+        ih (value-next x (b - 48) j p (digit-small b h)) (sym s ∙ e)
+    go false h ih =
+        let s : moreDigits always (suc k) x (b ∷ t) ≡ got x (b ∷ t) = rw (moreDigits, h) in
+        let z : x ≡ m = cc in
+        lt-of-lt-of-le (rw z at p) (pow-le-pow-right (omega arith) (omega arith))
+
+-- A number that was read has at most seven digits.
+pub number-below : (low x : ℕ) (rest t : List ℕ) → numberFrom low t ≡ got x rest → x < 10 ^ maxDigits
+unfolding maxDigits
+number-below low x rest t e =
+    let a = bind-inside (byteThat (startsBy (leb low))) t afterFirst x rest (sym (number-is low t) ∙ e) in
+    let first = and-left (isDigit (a .0)) (leb low (a .0 - 48)) (starts-got (leb low) t (a .0) (a .1) (a .2)) in
+    more-below maxDigits 1 (cond (eqb (a .0 - 48) 0) 0 (maxDigits - 1)) (a .0 - 48) (a .1) x rest (few (eqb (a .0 - 48) 0))
+    (omega (arith, digit-small (a .0) first)) (a .3)
+  where
+    few : (b : Bool) → 1 + cond b 0 (maxDigits - 1) ≤ maxDigits
+    few true = omega arith
+    few false = omega arith
+
 -- ---- a number, and the byte that ends it
 
-unfoldable pub endReading : ℕ → Reading ℕ → Reading ℕ
-endReading end (stuck rest) = stuck rest
-endReading end (got x t) = elim (byteNext end t) [
-  | true ↦ got x (drop 1 t)
-  | false ↦ stuck t
-]
+module _ {A : Type 0} where
+  unfoldable pub endReading : ℕ → Reading A → Reading A
+  endReading end (stuck rest) = stuck rest
+  endReading end (got x t) = elim (byteNext end t) [
+    | true ↦ got x (drop 1 t)
+    | false ↦ stuck t
+  ]
 
-pub end-stuck : (end : ℕ) (rest : List ℕ) → endReading end (stuck rest) ≡ stuck rest
-unfolding endReading
-end-stuck end rest = refl
+module _ {A : Type 0} (end : ℕ) where
+  pub end-stuck : (rest : List ℕ) → endReading {A = A} end (stuck rest) ≡ stuck rest
+  unfolding endReading
+  end-stuck rest = refl
 
-pub end-no : (end x : ℕ) (t : List ℕ) → byteNext end t ≡ false → endReading end (got x t) ≡ stuck t
-unfolding endReading
-end-no end x t e = rw (endReading, e)
+  pub end-no : (x : A) (t : List ℕ) → byteNext end t ≡ false → endReading end (got x t) ≡ stuck t
+  unfolding endReading
+  end-no x t e = rw (endReading, e)
 
-pub end-yes : (end x : ℕ) (t : List ℕ) → byteNext end t ≡ true → endReading end (got x t) ≡ got x (drop 1 t)
-unfolding endReading
-end-yes end x t e = rw (endReading, e)
+  pub end-yes : (x : A) (t : List ℕ) → byteNext end t ≡ true → endReading end (got x t) ≡ got x (drop 1 t)
+  unfolding endReading
+  end-yes x t e = rw (endReading, e)
 
 -- A word of one byte, and then what comes after it.
 module _ {B : Type 0} (c : ℕ) (s : Reader B) (t : List ℕ) where
@@ -359,25 +430,20 @@ module _ {B : Type 0} (c : ℕ) (s : Reader B) (t : List ℕ) where
   pub one-yes : byteNext c t ≡ true → (word (c ∷ []) >> s) t ≡ s (drop 1 t)
   one-yes e = then-got (word (c ∷ [])) t (drop 1 t) s tt (word-yes c [] t e ∙ word-nil (drop 1 t))
 
-pub line-end : (r : Reader ℕ) (t : List ℕ) → line r t ≡ endReading 10 (r t)
-unfolding line bytes pure
-line-end r t = go (r t) refl
-  where
-    ended : (x : ℕ) (u : List ℕ) (b : Bool) → byteNext 10 u ≡ b → (word (10 ∷ []) >> pure x) u ≡ endReading 10 (got x u)
-    ended x u false e = one-no 10 (pure x) u e ∙ sym (end-no 10 x u e)
-    ended x u true e = one-yes 10 (pure x) u e ∙ sym (end-yes 10 x u e)
+module _ {A : Type 0} where
+  pub line-end : (r : Reader A) (t : List ℕ) → line r t ≡ endReading 10 (r t)
+  unfolding line bytes pure
+  line-end r t = go (r t) refl
+    where
+      ended : (x : A) (u : List ℕ) (b : Bool) → byteNext 10 u ≡ b → (word (10 ∷ []) >> pure x) u ≡ endReading 10 (got x u)
+      ended x u false e = one-no 10 (pure x) u e ∙ sym (end-no 10 x u e)
+      ended x u true e = one-yes 10 (pure x) u e ∙ sym (end-yes 10 x u e)
 
-    go : (v : Reading ℕ) → r t ≡ v → line r t ≡ endReading 10 v
-    go (stuck u) e = bind-stuck r t u _ e ∙ sym (end-stuck 10 u)
-    go (got x u) e = bind-got r t u _ x e ∙ ended x u (byteNext 10 u) refl
+      go : (v : Reading A) → r t ≡ v → line r t ≡ endReading 10 v
+      go (stuck u) e = bind-stuck r t u _ e ∙ sym (end-stuck 10 u)
+      go (got x u) e = bind-got r t u _ x e ∙ ended x u (byteNext 10 u) refl
 
 -- ---- sides, which are no greater than `most`
-
-and-no : (a b : Bool) → a ≡ false → (a && b) ≡ false
-and-no a b e = rw e
-
-and-yes : (a b : Bool) → a ≡ true → (a && b) ≡ b
-and-yes a b e = rw e
 
 -- What more digits make of a number passes the test that it passed.
 more-passes : (test : ℕ → Bool) (k x : ℕ) (t : List ℕ) (m : ℕ) (rest : List ℕ) → test x ≡ true → moreDigits test k x t ≡ got m rest → test m ≡ true
@@ -397,58 +463,40 @@ more-passes test (suc k) x (b ∷ t) m rest p e = go (isDigit b && test (x * 10 
         rw z at p
 
 module _ (most : ℕ) where
-  side-is : (t : List ℕ) → side most t ≡ (byteThat (λ b. isDigit b && within 1 most (b - 48)) >>= λ b. moreDigits (within 1 most) 1 (b - 48)) t
+  abbrev afterSide : ℕ → Reader ℕ
+  afterSide b = moreDigits (within 1 most) 1 (b - 48)
+
+  side-is : (t : List ℕ) → side most t ≡ (byteThat (startsBy (within 1 most)) >>= afterSide) t
   unfolding side digitValue
   side-is t = refl
 
-  abbrev startsSide : ℕ → Bool
-  startsSide b = isDigit b && within 1 most (b - 48)
-
   pub side-stuck : (t : List ℕ) → digitNext t ≡ false → side most t ≡ stuck t
-  unfolding digitNext
-  side-stuck [] e = side-is [] ∙ bind-stuck (byteThat startsSide) [] [] _ (byte-none startsSide)
-  side-stuck (b ∷ t) e = side-is (b ∷ t) ∙ bind-stuck (byteThat startsSide) (b ∷ t) (b ∷ t) _ (byte-no startsSide b t (and-no (isDigit b) _ e))
+  side-stuck t e = side-is t ∙ bind-stuck (byteThat (startsBy (within 1 most))) t t afterSide (starts-none (within 1 most) t e)
 
   module _ {text : List ℕ} {at : ℕ} (d : DigitAt text at) where
     pub side-zero : getD text at 0 - 48 ≡ 0 → side most (drop at text) ≡ stuck (drop at text)
     side-zero e =
-        let b = getD text at 0 in
-        rw (drop-cons text at 0 (d .inside))
-        (side-is _
-        ∙ bind-stuck (byteThat startsSide) _ _ _
-        (byte-no startsSide b (drop (suc at) text) (and-yes (isDigit b) _ (d .digit) ∙ within-low 1 most (b - 48) (omega arith))))
+        side-is _
+        ∙ bind-stuck (byteThat (startsBy (within 1 most))) (drop at text) (drop at text) afterSide
+        (starts-no (within 1 most) d (within-low 1 most (getD text at 0 - 48) (omega arith)))
 
     -- A first digit other than 0 is a side, since limits are no less than 9.
     pub side-more : 9 ≤ most → (getD text at 0 - 48 ≡ 0 → ⊥)
         → side most (drop at text) ≡ moreDigits (within 1 most) 1 (getD text at 0 - 48) (drop (at + 1) text)
     side-more low n =
-        let b = getD text at 0 in
-        let first : within 1 most (b - 48) ≡ true = true-within 1 most (b - 48) (omega arith) (omega (arith, d .high)) in
-        rw (drop-cons text at 0 (d .inside), add-one)
-        (side-is _ ∙ bind-got (byteThat startsSide) _ (drop (suc at) text) _ b
-        (byte-yes startsSide b (drop (suc at) text) (and-yes (isDigit b) _ (d .digit) ∙ first)))
+        let first : within 1 most (getD text at 0 - 48) ≡ true = true-within 1 most (getD text at 0 - 48) (omega arith) (omega (arith, d .high)) in
+        side-is _
+        ∙ bind-got (byteThat (startsBy (within 1 most))) (drop at text) (drop (at + 1) text) afterSide (getD text at 0) (starts-yes (within 1 most) d first)
 
   -- A side that was read is within its limit.
   side-within : (m : ℕ) (rest t : List ℕ) → side most t ≡ got m rest → within 1 most m ≡ true
-  side-within m rest [] e =
-      let s : side most [] ≡ stuck [] = side-is [] ∙ bind-stuck (byteThat startsSide) [] [] _ (byte-none startsSide) in
-      let z : _≡_ {A = ℕ} 0 1 = cc in
-      absurd (omega arith)
-  side-within m rest (b ∷ t) e = go (startsSide b) refl
-    where
-      go : (v : Bool) → startsSide b ≡ v → within 1 most m ≡ true
-      go true h =
-          let s : side most (b ∷ t) ≡ moreDigits (within 1 most) 1 (b - 48) t =
-          side-is (b ∷ t) ∙ bind-got (byteThat startsSide) (b ∷ t) t (λ b. moreDigits (within 1 most) 1 (b - 48)) b (byte-yes startsSide b t h) in
-          more-passes (within 1 most) 1 (b - 48) t m rest (and-right (isDigit b) (within 1 most (b - 48)) h) (sym s ∙ e)
-      go false h =
-          let s : side most (b ∷ t) ≡ stuck (b ∷ t) =
-          side-is (b ∷ t) ∙ bind-stuck (byteThat startsSide) (b ∷ t) (b ∷ t) (λ b. moreDigits (within 1 most) 1 (b - 48)) (byte-no startsSide b t h) in
-          let z : _≡_ {A = ℕ} 0 1 = cc in
-          absurd (omega arith)
+  side-within m rest t e =
+      let a = bind-inside (byteThat (startsBy (within 1 most))) t afterSide m rest (sym (side-is t) ∙ e) in
+      let first = and-right (isDigit (a .0)) (within 1 most (a .0 - 48)) (starts-got (within 1 most) t (a .0) (a .1) (a .2)) in
+      more-passes (within 1 most) 1 (a .0 - 48) (a .1) m rest first (a .3)
 
 -- The value is the number's, whatever ends it.
-end-value : (m : ℕ) (rest : List ℕ) (end : ℕ) (r : Reading ℕ) → endReading end r ≡ got m rest → (u : List ℕ) × (r ≡ got m u)
+pub end-value : (m : ℕ) (rest : List ℕ) (end : ℕ) (r : Reading ℕ) → endReading end r ≡ got m rest → (u : List ℕ) × (r ≡ got m u)
 unfolding endReading
 end-value m rest end (stuck u) e = let z : _≡_ {A = ℕ} 0 1 = cc in absurd (omega arith)
 end-value m rest end (got x u) e = go (byteNext end u) refl

@@ -61,7 +61,7 @@ pub(crate) fn end_at(text: &[u8], at: usize, left: usize) -> bool
 }
 
 // Whether this byte comes next.
-fn byte_at(text: &[u8], at: usize, byte: u8) -> bool
+pub(crate) fn byte_at(text: &[u8], at: usize, byte: u8) -> bool
     ensures { λ r. ⌜ r ≡ byteNext byte (drop at (now (text .entry))) ⌝ }
 {
     if text.len() <= at {

@@ -2,9 +2,16 @@
 // where it ended.
 pub mod bytes;
 pub mod numbers;
+pub mod wholes;
 
 // What a reader finds from its place on: a value, with the place after it; or the place before the first byte that cannot come there.
 pub enum Taken {
     Got { value: u64, next: usize },
+    Stuck(usize),
+}
+
+// The same for a whole number.
+pub enum TakenWhole {
+    Got { value: i64, next: usize },
     Stuck(usize),
 }

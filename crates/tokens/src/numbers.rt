@@ -2,7 +2,7 @@
 ghost use mathlib.Core.Path.{_≡_};
 ghost use Prim.Native.Nat.{_-_, _≤_, _<_};
 ghost use lib.ListN.{length, drop};
-ghost use Rattle.transport.specs.SheetText.{moreDigits, number, side};
+ghost use Rattle.transport.specs.SheetText.{moreDigits, numberFrom, side};
 ghost use Rattle.sections.specs.Lines.{ending};
 ghost use Rattle.tokens.specs.Reading.{readingOf, placeOf, always, endReading};
 use crate::Taken;
@@ -34,15 +34,21 @@ fn more_digits(text: &[u8], at: usize, first: u64, most: usize) -> Taken
     Taken::Got { value, next }
 }
 
-// A number of one to seven digits, with no leading 0 except 0 itself.
-pub fn read_number(text: &[u8], at: usize) -> Taken
+// A number of one to seven digits, the first at least `low`, with no leading 0 except 0 itself.
+pub fn read_number(text: &[u8], at: usize, low: u64) -> Taken
     requires { ⌜ at ≤ length (now text) ⌝ }
-    ensures { λ r. ⌜ (number (drop at (now (text .entry))) ≡ readingOf (now (text .entry)) (λ v. v) r) × (placeOf r ≤ length (now (text .entry))) ⌝ }
+    ensures { λ r. ⌜
+        (numberFrom low (drop at (now (text .entry))) ≡ readingOf (now (text .entry)) (λ v. v) r)
+        × (placeOf r ≤ length (now (text .entry)))
+        ⌝ }
 {
     if !digit_at(text, at) {
         return Taken::Stuck(at);
     }
     let leading = (text[at] - b'0') as u64;
+    if leading < low {
+        return Taken::Stuck(at);
+    }
     let next = at + 1;
     if leading == 0 {
         return Taken::Got { value: 0, next };

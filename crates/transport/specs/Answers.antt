@@ -4,7 +4,7 @@ use mathlib.Core.Bool.{true, false}
 use mathlib.Core.List.{List, []}
 use mathlib.Core.Option.{none, some}
 use Prim.Native.Nat.{ℕ, _*_}
-use lib.IntN.{ℤ, pos, natAbs}
+use lib.IntN.{ℤ, pos}
 use lib.ListN.{length, take}
 pub use Rattle.transport.specs.declared.StartAnswer.{StartAnswer}
 pub use Rattle.transport.specs.declared.StartOutcome.{StartOutcome}
@@ -94,14 +94,13 @@ settleSays lanes (SettleAnswer.Refused k) plan = refusedBy k
 
 -- ---- solve, for m sources and n sinks
 
--- No plan of a sheet costs less than 0, so the size of its cost is the cost.
 unfoldable pub solveAnswer : Answer Solution → SolveAnswer
 solveAnswer (refused r) = SolveAnswer.Refused (r .number)
-solveAnswer (given a) = SolveAnswer.Solved (natAbs (a .cost)) (a .rounds)
+solveAnswer (given a) = SolveAnswer.Solved (a .cost) (a .rounds)
 
 unfoldable pub solveSays : ℕ → ℕ → SolveAnswer → List ℤ → List ℤ → List ℕ → Answer Solution
 solveSays m n (SolveAnswer.Solved cost rounds) u v plan =
-    given (record { cost = pos cost; rounds = rounds; u = take m u; v = take n v; plan = take (m * n) plan })
+    given (record { cost = cost; rounds = rounds; u = take m u; v = take n v; plan = take (m * n) plan })
 solveSays m n (SolveAnswer.Refused k) u v plan = refusedBy k
 
 -- ---- read sheet
@@ -113,7 +112,7 @@ readAnswer (refused r) = elim (r .position) [
 ]
 readAnswer (given S) = ReadAnswer.Sheet (roasteries S) (cafes S)
 
-unfoldable pub readSays : ReadAnswer → List ℕ → List ℕ → List ℕ → Answer Sheet
+unfoldable pub readSays : ReadAnswer → List ℕ → List ℕ → List ℤ → Answer Sheet
 readSays (ReadAnswer.Sheet m n) supply demand cost =
     given (record { supply = take m supply; demand = take n demand; cost = take (m * n) cost })
 readSays (ReadAnswer.NotSheetText p) supply demand cost = refused (record { number = 9; position = some p })

@@ -6,7 +6,7 @@ use Prim.Native.Nat.{ℕ, _-_}
 use lib.Dec.{eqb, ltb}
 use lib.IntN.{ℤ, pos}
 use lib.ListN.{length}
-use Rattle.transport.specs.Lists.{at, grid, total}
+use Rattle.transport.specs.Lists.{atZ, grid, total}
 use Rattle.transport.specs.Problem.{Problem, place}
 use Rattle.transport.specs.Sheet.{Sheet, roasteries, cafes}
 
@@ -20,7 +20,7 @@ wanted S = S .demand ++ cond (eqb (surplus S) 0) [] (surplus S ∷ [])
 
 -- What the lane of row i and column j costs: nothing in the extra café's column.
 unfoldable pub costAt : Sheet → ℕ → ℕ → ℤ
-costAt S i j = cond (ltb j (cafes S)) (pos (at (S .cost) (place (cafes S) i j))) (pos 0)
+costAt S i j = cond (ltb j (cafes S)) (atZ (S .cost) (place (cafes S) i j)) (pos 0)
 
 -- Roasteries are sources, cafés sinks, and the extra café is the last sink.
 unfoldable pub extended : Sheet → Problem

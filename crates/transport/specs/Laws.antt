@@ -9,3 +9,4 @@ pub mod ExtendedLaws
 pub mod Sound
 pub mod CallLaws
 pub mod PlanLaws
+pub mod Largest

@@ -21,13 +21,13 @@ maxAmount = 1_000_000
 unfoldable pub maxBags : ℕ
 maxBags = maxSide * maxAmount
 
--- A cost: 0 to 1,000,000 cents a bag.
+-- A cost: −1,000,000 to 1,000,000 cents a bag (02, Two).
 unfoldable pub maxCost : ℕ
 maxCost = 1_000_000
 
 -- What a lane of a balanced problem may cost: from −costBelow to costAbove. The costs of a sheet are such.
 unfoldable pub costBelow : ℕ
-costBelow = 0
+costBelow = maxCost
 
 unfoldable pub costAbove : ℕ
 costAbove = maxCost
@@ -36,14 +36,14 @@ costAbove = maxCost
 unfoldable pub maxCells : ℕ
 maxCells = 2 * maxSide - 1
 
--- A number of a sheet text has one to seven digits.
+-- A number of a sheet text has one to seven digits. (The minus of a cost is none.)
 unfoldable pub maxDigits : ℕ
 maxDigits = 7
 
 -- The longest sheet text, in bytes.
 unfoldable pub maxText : ℕ
-maxText = 8732
+maxText = 9756
 
 -- Not a limit of the paper but the length of the program's output, in bytes: no plan text is longer, with a line for every lane counted. (That is a theorem.)
 unfoldable pub maxPlanText : ℕ
-maxPlanText = 15_059
+maxPlanText = 15_060

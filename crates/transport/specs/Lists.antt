@@ -4,6 +4,7 @@ use mathlib.Core.List.{List, [], _∷_, _++_, flatMap}
 use Prim.Native.Nat.{ℕ, zero, suc, _+_, _-_}
 use lib.Dec.{leb}
 use lib.IntN.{ℤ, pos, _+ℤ_}
+use lib.Signed.{leZ}
 use lib.ListN.{length, getD, replicate}
 
 module _ {A : Type 0} where
@@ -71,3 +72,6 @@ total xs = sumTo (length xs) (at xs)
 
 unfoldable pub within : ℕ → ℕ → ℕ → Bool
 within low high x = leb low x && leb x high
+
+unfoldable pub withinZ : ℤ → ℤ → ℤ → Bool
+withinZ low high z = leZ low z && leZ z high

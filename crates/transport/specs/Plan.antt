@@ -6,12 +6,12 @@ use Prim.Native.Nat.{ℕ, _*_, _-_, min}
 use lib.Dec.{eqb}
 use lib.IntN.{ℤ, pos, _*ℤ_}
 use lib.Signed.{ltZ}
-use Rattle.transport.specs.Lists.{all, firstLeast, downTo, sumZ, at, total}
+use Rattle.transport.specs.Lists.{all, firstLeast, downTo, sumZ, at, atZ, total}
 use Rattle.transport.specs.Sheet.{Sheet, roasteries, cafes}
 
 -- The sum of quantity times cost.
 unfoldable pub planCost : Sheet → List ℕ → ℤ
-planCost S x = sumZ (roasteries S * cafes S) (λ l. pos (at x l) *ℤ pos (at (S .cost) l))
+planCost S x = sumZ (roasteries S * cafes S) (λ l. pos (at x l) *ℤ atZ (S .cost) l)
 
 -- All ways to send at least `low` and at most `left` over lanes to cafés that still want ds, more on an earlier lane first: a lane takes at most what its café
 -- wants, and at least what the later cafés have no room for.

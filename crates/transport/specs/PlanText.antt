@@ -11,7 +11,7 @@ use Rattle.transport.specs.Limits.{maxText}
 use Rattle.transport.specs.Problem.{Lane, lanes, place}
 use Rattle.transport.specs.Sheet.{Sheet, roasteries, cafes, sheetTests, numberTests}
 use Rattle.transport.specs.Calls.{Refusal, Answer, refused, given, unless, tooShort, solution}
-use Rattle.transport.specs.Text.{bytes, wholeDigits, headLine, numberLine, rowLine}
+use Rattle.transport.specs.Text.{bytes, digits, wholeDigits, headLine, numberLine, rowLine}
 use Rattle.transport.specs.SheetText.{readWith}
 
 -- A price or a cost on its line.
@@ -28,7 +28,7 @@ used m n plan = keep (λ l. not (eqb (carried n plan l) 0)) (lanes m n)
 
 -- Source, sink (both from 1) and bags.
 unfoldable pub laneLine : ℕ → List ℕ → Lane → List ℕ
-laneLine n plan l = rowLine (suc (l .row) ∷ suc (l .col) ∷ carried n plan l ∷ [])
+laneLine n plan l = rowLine digits (suc (l .row) ∷ suc (l .col) ∷ carried n plan l ∷ [])
 
 -- The cost; the rounds; the prices u; the prices v; and the lanes that carry a bag. The sections' names are the paper's.
 unfoldable pub planText : Sheet → List ℕ
@@ -51,10 +51,10 @@ writePlanCall S room = unless (sheetTests S ++ ((tooShort room (length (planText
 unfoldable pub refusedLine : Refusal → List ℕ
 refusedLine r = bytes "refused " ++ (elim (r .position) [
   | none ↦ numberLine (r .number)
-  | some p ↦ rowLine (r .number ∷ p ∷ [])
+  | some p ↦ rowLine digits (r .number ∷ p ∷ [])
 ])
 
--- What the program prints, given what stands on its standard input, of which it reads at most 8,733 bytes: one more than the longest sheet text.
+-- What the program prints, given what stands on its standard input, of which it reads at most 9,757 bytes: one more than the longest sheet text.
 unfoldable pub printed : List ℕ → List ℕ
 printed input = elim (readWith numberTests (take (suc maxText) input)) [
   | refused r ↦ refusedLine r

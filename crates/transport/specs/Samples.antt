@@ -1,12 +1,13 @@
--- The samples of paper 01, P1 to P9, its text samples and its worked text, those of paper 02, One, and a sample for each trap that these leave open, as one
--- theorem over the definitions.
+-- The samples of paper 01, P1 to P9, its text samples and its worked text, those of paper 02, One and Two, and a sample for each trap that these leave open,
+-- as one theorem over the definitions.
 mod Open
 use mathlib.Core.Path.{_≡_, refl}
 use mathlib.Core.Bool.{true, false}
-use mathlib.Core.List.{List, [], _∷_}
+use mathlib.Core.List.{List, [], _∷_, _++_, map}
 use mathlib.Core.Option.{some}
 use Prim.Native.Nat.{ℕ, _-_}
-use lib.IntN.{ℤ, pos, negsuc}
+use lib.IntN.{ℤ, pos, negsuc, negℤ}
+use Prim.Native.String.{String}
 use lib.ListN.{replicate}
 use Rattle.transport.specs.Problem.{Problem, Lane, laneCost}
 use Rattle.transport.specs.Sheet.{Sheet}
@@ -14,10 +15,11 @@ use Rattle.transport.specs.Extended.{extended}
 use Rattle.transport.specs.Tableau.{Cell, tableauOf, start}
 use Rattle.transport.specs.Potential.{reducedCost}
 use Rattle.transport.specs.Round.{entering, next}
-use Rattle.transport.specs.Calls.{refused, given, refusedBy, startCall, finished, moved, roundCall, runCall, settleCall, solveCall}
+use Rattle.transport.specs.Plan.{planCost}
+use Rattle.transport.specs.Calls.{Answer, refused, given, refusedBy, startCall, finished, moved, roundCall, runCall, settleCall, solveCall}
 use Rattle.transport.specs.Text.{bytes}
 use Rattle.transport.specs.SheetText.{readSheetCall, writeSheetCall}
-use Rattle.transport.specs.PlanText.{writePlanCall, printed}
+use Rattle.transport.specs.PlanText.{wholeLine, writePlanCall, printed}
 use Rattle.transport.specs.Samples.Open.{opened}
 
 -- ---- a list of samples: what the definitions give, and what the paper says
@@ -38,11 +40,18 @@ abbrev cell : ℕ → ℕ → ℤ → ℤ → Cell
 cell i j q e = record { row = i - 1; col = j - 1; amount = record { q = q; e = e } }
 
 -- The sheet of one source and one sink.
-abbrev oneLane : ℕ → ℕ → ℕ → Sheet
+abbrev oneLane : ℕ → ℕ → ℤ → Sheet
 oneLane s d c = record { supply = s ∷ []; demand = d ∷ []; cost = c ∷ [] }
 
+-- Costs without a minus, and a number with one.
+abbrev priced : List ℕ → List ℤ
+priced = map pos
+
+abbrev belowZero : ℕ → ℤ
+belowZero k = negℤ (pos k)
+
 abbrev sheet1 : Sheet
-sheet1 = record { supply = 3 ∷ 4 ∷ []; demand = 5 ∷ 2 ∷ []; cost = 4 ∷ 1 ∷ 2 ∷ 6 ∷ [] }
+sheet1 = record { supply = 3 ∷ 4 ∷ []; demand = 5 ∷ 2 ∷ []; cost = priced (4 ∷ 1 ∷ 2 ∷ 6 ∷ []) }
 
 abbrev start1 : List Cell
 start1 = cell 1 1 (pos 3) (pos 1) ∷ cell 2 1 (pos 2) (negsuc 0) ∷ cell 2 2 (pos 2) (pos 2) ∷ []
@@ -51,10 +60,10 @@ abbrev next1 : List Cell
 next1 = cell 1 1 (pos 1) (negsuc 0) ∷ cell 1 2 (pos 2) (pos 2) ∷ cell 2 1 (pos 4) (pos 1) ∷ []
 
 abbrev sheet3 : Sheet
-sheet3 = record { supply = 5 ∷ 5 ∷ []; demand = 5 ∷ 5 ∷ []; cost = 1 ∷ 1 ∷ 1 ∷ 1 ∷ [] }
+sheet3 = record { supply = 5 ∷ 5 ∷ []; demand = 5 ∷ 5 ∷ []; cost = priced (1 ∷ 1 ∷ 1 ∷ 1 ∷ []) }
 
 abbrev sheet4 : Sheet
-sheet4 = record { supply = 1 ∷ 3 ∷ []; demand = 2 ∷ 1 ∷ 1 ∷ []; cost = 9 ∷ 0 ∷ 0 ∷ 0 ∷ 0 ∷ 0 ∷ [] }
+sheet4 = record { supply = 1 ∷ 3 ∷ []; demand = 2 ∷ 1 ∷ 1 ∷ []; cost = priced (9 ∷ 0 ∷ 0 ∷ 0 ∷ 0 ∷ 0 ∷ []) }
 
 abbrev problem4 : Problem
 problem4 = extended sheet4
@@ -67,11 +76,11 @@ text1 = bytes "supply 2\n3\n4\ndemand 2\n5\n2\ncost 2\n4 1\n2 6\n"
 
 -- At its start both (1,2), at −1, and (1,3), at −5, could enter.
 abbrev sheet10 : Sheet
-sheet10 = record { supply = 1 ∷ 3 ∷ []; demand = 2 ∷ 1 ∷ 1 ∷ []; cost = 9 ∷ 8 ∷ 4 ∷ 0 ∷ 0 ∷ 0 ∷ [] }
+sheet10 = record { supply = 1 ∷ 3 ∷ []; demand = 2 ∷ 1 ∷ 1 ∷ []; cost = priced (9 ∷ 8 ∷ 4 ∷ 0 ∷ 0 ∷ 0 ∷ []) }
 
 -- One: the dear first roastery keeps what is not wanted ..
 abbrev sheetDear : Sheet
-sheetDear = record { supply = 3 ∷ 3 ∷ []; demand = 4 ∷ []; cost = 5 ∷ 1 ∷ [] }
+sheetDear = record { supply = 3 ∷ 3 ∷ []; demand = 4 ∷ []; cost = priced (5 ∷ 1 ∷ []) }
 
 abbrev startDear : List Cell
 startDear = cell 1 1 (pos 3) (pos 1) ∷ cell 2 1 (pos 1) (negsuc 0) ∷ cell 2 2 (pos 2) (pos 2) ∷ []
@@ -81,23 +90,51 @@ lastDear = cell 1 1 (pos 1) (negsuc 0) ∷ cell 1 2 (pos 2) (pos 2) ∷ cell 2 1
 
 -- .. each keeps a bag ..
 abbrev sheetSplit : Sheet
-sheetSplit = record { supply = 3 ∷ 3 ∷ []; demand = 2 ∷ 2 ∷ []; cost = 1 ∷ 9 ∷ 9 ∷ 1 ∷ [] }
+sheetSplit = record { supply = 3 ∷ 3 ∷ []; demand = 2 ∷ 2 ∷ []; cost = priced (1 ∷ 9 ∷ 9 ∷ 1 ∷ []) }
 
 -- .. both are as dear ..
 abbrev sheetEven : Sheet
-sheetEven = record { supply = 3 ∷ 3 ∷ []; demand = 4 ∷ []; cost = 1 ∷ 1 ∷ [] }
+sheetEven = record { supply = 3 ∷ 3 ∷ []; demand = 4 ∷ []; cost = priced (1 ∷ 1 ∷ []) }
 
 -- .. at the start the extra café's lane in row 1 and (2,1) could enter, both at −2 ..
 abbrev sheetExtraFirst : Sheet
-sheetExtraFirst = record { supply = 1 ∷ 2 ∷ []; demand = 1 ∷ 1 ∷ []; cost = 2 ∷ 2 ∷ 0 ∷ 1 ∷ [] }
+sheetExtraFirst = record { supply = 1 ∷ 2 ∷ []; demand = 1 ∷ 1 ∷ []; cost = priced (2 ∷ 2 ∷ 0 ∷ 1 ∷ []) }
 
 -- .. at the start (1,2) and the extra café's lane in row 1 could, both at −1 ..
 abbrev sheetExtraLater : Sheet
-sheetExtraLater = record { supply = 1 ∷ 3 ∷ []; demand = 2 ∷ 1 ∷ []; cost = 3 ∷ 0 ∷ 2 ∷ 0 ∷ [] }
+sheetExtraLater = record { supply = 1 ∷ 3 ∷ []; demand = 2 ∷ 1 ∷ []; cost = priced (3 ∷ 0 ∷ 2 ∷ 0 ∷ []) }
 
 -- .. and one roastery with so many bags serves n cafés with one bag each, at 1 cent.
 abbrev sheetWide : ℕ → ℕ → Sheet
-sheetWide s n = record { supply = s ∷ []; demand = replicate n 1; cost = replicate n 1 }
+sheetWide s n = record { supply = s ∷ []; demand = replicate n 1; cost = replicate n (pos 1) }
+
+-- Two: the lane that earns more goes full, though there is more than is wanted ..
+abbrev sheetEarns : Sheet
+sheetEarns = record { supply = 3 ∷ 3 ∷ []; demand = 4 ∷ []; cost = pos 1 ∷ belowZero 5 ∷ [] }
+
+-- .. costs of both signs, by which the rounds go from 3 to 0 and from 0 to −3 ..
+abbrev sheetBoth : Sheet
+sheetBoth = record { supply = 2 ∷ 3 ∷ []; demand = 1 ∷ 2 ∷ 2 ∷ []; cost = belowZero 1 ∷ pos 0 ∷ belowZero 1 ∷ belowZero 1 ∷ pos 0 ∷ pos 2 ∷ [] }
+
+abbrev startBoth : List Cell
+startBoth = cell 1 1 (pos 1) (pos 0) ∷ cell 1 2 (pos 1) (pos 1) ∷ cell 2 2 (pos 1) (negsuc 0) ∷ cell 2 3 (pos 2) (pos 2) ∷ []
+
+abbrev middleBoth : List Cell
+middleBoth = cell 1 1 (pos 1) (pos 0) ∷ cell 1 3 (pos 1) (pos 1) ∷ cell 2 2 (pos 2) (pos 0) ∷ cell 2 3 (pos 1) (pos 1) ∷ []
+
+abbrev lastBoth : List Cell
+lastBoth = cell 1 3 (pos 2) (pos 1) ∷ cell 2 1 (pos 1) (pos 0) ∷ cell 2 2 (pos 2) (pos 0) ∷ cell 2 3 (pos 0) (pos 1) ∷ []
+
+-- .. and a text whose one cost is written so. The cost begins at byte 29.
+abbrev withCost : String → List ℕ
+withCost c = bytes "supply 1\n2\ndemand 1\n2\ncost 1\n" ++ bytes c
+
+-- What read sheet says of it.
+abbrev readCost : String → Answer Sheet
+readCost c = readSheetCall (withCost c) 32 32 1024
+
+abbrev stuckAt : ℕ → Answer Sheet
+stuckAt p = refused (record { number = 9; position = some p })
 
 abbrev samples : List Sample
 samples =
@@ -120,20 +157,20 @@ samples =
     ∷ (roundCall sheet4 (tableauOf tableau5) is given (finished (pos 0 ∷ pos 0 ∷ []) (pos 0 ∷ pos 0 ∷ pos 0 ∷ [])))
     ∷ (settleCall sheet4 (tableauOf tableau5) 6 is given (0 ∷ 1 ∷ 0 ∷ 2 ∷ 0 ∷ 1 ∷ []))
     -- P6
-    ∷ (solveCall (oneLane 1 1 0) 1 1 1 is given (record { cost = pos 0; rounds = 0; u = pos 0 ∷ []; v = pos 0 ∷ []; plan = 1 ∷ [] }))
+    ∷ (solveCall (oneLane 1 1 (pos 0)) 1 1 1 is given (record { cost = pos 0; rounds = 0; u = pos 0 ∷ []; v = pos 0 ∷ []; plan = 1 ∷ [] }))
     -- P7
-    ∷ (solveCall (oneLane 1_000_000 1_000_000 1_000_000) 1 1 1 is given (record { cost = pos 1_000_000_000_000; rounds = 0; u = pos 0 ∷ []; v = pos 1_000_000 ∷ []; plan = 1_000_000 ∷ [] }))
-    ∷ (solveCall (oneLane 1_000_000 1_000_000 1_000_001) 1 1 1 is refusedBy 4)
+    ∷ (solveCall (oneLane 1_000_000 1_000_000 (pos 1_000_000)) 1 1 1 is given (record { cost = pos 1_000_000_000_000; rounds = 0; u = pos 0 ∷ []; v = pos 1_000_000 ∷ []; plan = 1_000_000 ∷ [] }))
+    ∷ (solveCall (oneLane 1_000_000 1_000_000 (pos 1_000_001)) 1 1 1 is refusedBy 4)
     -- P8: the first sheet is accepted since One
-    ∷ (solveCall (oneLane 3 2 0) 1 1 1 is given (record { cost = pos 0; rounds = 0; u = pos 0 ∷ []; v = pos 0 ∷ []; plan = 2 ∷ [] }))
-    ∷ (solveCall (oneLane 0 2 0) 1 1 1 is refusedBy 3)
+    ∷ (solveCall (oneLane 3 2 (pos 0)) 1 1 1 is given (record { cost = pos 0; rounds = 0; u = pos 0 ∷ []; v = pos 0 ∷ []; plan = 2 ∷ [] }))
+    ∷ (solveCall (oneLane 0 2 (pos 0)) 1 1 1 is refusedBy 3)
     -- P9
     ∷ (roundCall sheet3 (tableauOf (cell 1 1 (pos 5) (pos 0) ∷ cell 1 2 (pos 0) (pos 0) ∷ cell 2 2 (pos 5) (pos 1) ∷ [])) is refusedBy 6)
     ∷ (settleCall sheet1 (tableauOf start1) 4 is refusedBy 7)
     -- the texts with 9, and the worked text
-    ∷ (readSheetCall [] 32 32 1024 is refused (record { number = 9; position = some 0 }))
-    ∷ (readSheetCall (bytes "supply 33") 32 32 1024 is refused (record { number = 9; position = some 8 }))
-    ∷ (readSheetCall (bytes "supply 01") 32 32 1024 is refused (record { number = 9; position = some 7 }))
+    ∷ (readSheetCall [] 32 32 1024 is stuckAt 0)
+    ∷ (readSheetCall (bytes "supply 33") 32 32 1024 is stuckAt 8)
+    ∷ (readSheetCall (bytes "supply 01") 32 32 1024 is stuckAt 7)
     ∷ (readSheetCall text1 2 2 4 is given sheet1)
     ∷ (writeSheetCall sheet1 42 is given text1)
     ∷ (printed text1 is bytes "total 1\n14\nrounds 1\n1\nroasteries 2\n0\n-2\ncafes 2\n4\n1\nlanes 3\n1 1 1\n1 2 2\n2 1 4\n")
@@ -164,6 +201,38 @@ samples =
     ∷ (solveCall (sheetWide 40 32) 1 32 32 is refusedBy 10)
     ∷ (writeSheetCall (sheetWide 40 32) 1000 is refusedBy 10)
     ∷ (solveCall (sheetWide 31 32) 1 32 32 is refusedBy 5)
+    -- Two: negative costs, prices and totals
+    ∷ (solveCall sheetEarns 2 1 2 is given (record { cost = belowZero 14; rounds = 1; u = pos 0 ∷ belowZero 6 ∷ []; v = pos 1 ∷ []; plan = 1 ∷ 3 ∷ [] }))
+    ∷ (startCall sheetBoth is given startBoth)
+    ∷ (roundCall sheetBoth (tableauOf startBoth) is given (moved middleBoth))
+    ∷ (roundCall sheetBoth (tableauOf middleBoth) is given (moved lastBoth))
+    ∷ (planCost sheetBoth (1 ∷ 1 ∷ 0 ∷ 0 ∷ 1 ∷ 2 ∷ []) is pos 3)
+    ∷ (planCost sheetBoth (1 ∷ 0 ∷ 1 ∷ 0 ∷ 2 ∷ 1 ∷ []) is pos 0)
+    ∷ (solveCall sheetBoth 2 3 6 is given (record { cost = belowZero 3; rounds = 2; u = pos 0 ∷ pos 3 ∷ []; v = belowZero 4 ∷ belowZero 3 ∷ belowZero 1 ∷ []; plan = 0 ∷ 0 ∷ 2 ∷ 1 ∷ 2 ∷ 0 ∷ [] }))
+    -- the extremes, and one beyond; the greatest and the least total on their lines (reduction/Totals has that no total is beyond them)
+    ∷ (solveCall (oneLane 1_000_000 1_000_000 (belowZero 1_000_000)) 1 1 1 is given (record { cost = belowZero 1_000_000_000_000; rounds = 0; u = pos 0 ∷ []; v = belowZero 1_000_000 ∷ []; plan = 1_000_000 ∷ [] }))
+    ∷ (solveCall (oneLane 1_000_000 1_000_000 (belowZero 1_000_001)) 1 1 1 is refusedBy 4)
+    ∷ (wholeLine (pos 32_000_000_000_000) is bytes "32000000000000\n")
+    ∷ (wholeLine (belowZero 32_000_000_000_000) is bytes "-32000000000000\n")
+    -- texts with a minus: a cost may have one, never before 0, and no amount and no count does
+    ∷ (readCost "-3\n" is given (oneLane 2 2 (belowZero 3)))
+    ∷ (writeSheetCall (oneLane 2 2 (belowZero 3)) 32 is given (withCost "-3\n"))
+    ∷ (printed (withCost "-3\n") is bytes "total 1\n-6\nrounds 1\n0\nroasteries 1\n0\ncafes 1\n-3\nlanes 1\n1 1 2\n")
+    ∷ (readCost "-1000000\n" is given (oneLane 2 2 (belowZero 1_000_000)))
+    ∷ (readCost "-1000001\n" is refusedBy 4)
+    ∷ (readCost "1000001\n" is refusedBy 4)
+    ∷ (readCost "-9999999\n" is refusedBy 4)
+    ∷ (readCost "-10000000\n" is stuckAt 37)
+    ∷ (readCost "-0\n" is stuckAt 30)
+    ∷ (readCost "-01\n" is stuckAt 30)
+    ∷ (readCost "-" is stuckAt 30)
+    ∷ (readCost "-\n" is stuckAt 30)
+    ∷ (readCost "--1\n" is stuckAt 30)
+    ∷ (readCost "1-\n" is stuckAt 30)
+    ∷ (readCost "+1\n" is stuckAt 29)
+    ∷ (readSheetCall (bytes "supply -1\n") 32 32 1024 is stuckAt 7)
+    ∷ (readSheetCall (bytes "supply 1\n-2\n") 32 32 1024 is stuckAt 9)
+    ∷ (readSheetCall (bytes "supply 1\n2\ndemand 1\n-2\n") 32 32 1024 is stuckAt 20)
     -- traps: the least reduced cost enters, and not the first negative one; a count beyond the array does not belong
     ∷ (entering (extended sheet10) (start (extended sheet10)) is lane 1 3)
     ∷ (roundCall sheet1 (record { cells = tableauOf start1 .cells; count = 64 }) is refusedBy 6)
@@ -171,4 +240,4 @@ samples =
 
 pub samples-hold : Hold samples
 unfolding opened
-samples-hold = (refl, (refl, (refl, (refl, (refl, (refl, (refl, (refl, (refl, (refl, (refl, (refl, (refl, (refl, (refl, (refl, (refl, (refl, (refl, (refl, (refl, (refl, (refl, (refl, (refl, (refl, (refl, (refl, (refl, (refl, (refl, (refl, (refl, (refl, (refl, (refl, (refl, (refl, (refl, (refl, (refl, (refl, (refl, (refl, (refl, (refl, (refl, (refl, (refl, (refl, (refl, tt)))))))))))))))))))))))))))))))))))))))))))))))))))
+samples-hold = (refl, (refl, (refl, (refl, (refl, (refl, (refl, (refl, (refl, (refl, (refl, (refl, (refl, (refl, (refl, (refl, (refl, (refl, (refl, (refl, (refl, (refl, (refl, (refl, (refl, (refl, (refl, (refl, (refl, (refl, (refl, (refl, (refl, (refl, (refl, (refl, (refl, (refl, (refl, (refl, (refl, (refl, (refl, (refl, (refl, (refl, (refl, (refl, (refl, (refl, (refl, (refl, (refl, (refl, (refl, (refl, (refl, (refl, (refl, (refl, (refl, (refl, (refl, (refl, (refl, (refl, (refl, (refl, (refl, (refl, (refl, (refl, (refl, (refl, (refl, (refl, (refl, (refl, (refl, (refl, tt))))))))))))))))))))))))))))))))))))))))))))))))))))))))))))))))))))))))))))))))

@@ -1,21 +1,23 @@
--- The sheet and the sheet check (paper 01, "The sheet", and the second paragraph of "Calls and their refusals"; paper 02, One).
+-- The sheet and the sheet check (paper 01, "The sheet", and the second paragraph of "Calls and their refusals"; paper 02, One and Two).
 use mathlib.Core.Bool.{Bool, true, false, not, _&&_}
 use mathlib.Core.List.{List, [], _∷_}
 use mathlib.Core.Option.{Option, none, some}
 use Prim.Native.Nat.{ℕ, _*_}
 use lib.Dec.{eqb, ltb}
+use lib.IntN.{ℤ, pos, negℤ}
 use lib.ListN.{length}
-use Rattle.transport.specs.Lists.{all, total, within}
+use Rattle.transport.specs.Lists.{all, total, within, withinZ}
 use Rattle.transport.specs.Limits.{maxSources, maxSinks, maxSide, maxAmount, maxCost}
 
 -- What a customer hands in: a supply for each roastery, a demand for each café, both in bags, and a cost for each lane, in cents a bag and in sheet order.
+-- A lane that earns money has a negative cost (02, Two).
 pub record Sheet : Type 0 where
   pub supply : List ℕ
   pub demand : List ℕ
-  pub cost : List ℕ
+  pub cost : List ℤ
 
 -- The sheet that the three lists of a call are.
-abbrev pub sheetOf : List ℕ → List ℕ → List ℕ → Sheet
+abbrev pub sheetOf : List ℕ → List ℕ → List ℤ → Sheet
 sheetOf supply demand cost = record { supply = supply; demand = demand; cost = cost }
 
 -- m, the number of roasteries.
@@ -40,9 +42,9 @@ badLength S = (not (eqb (length (S .cost)) (roasteries S * cafes S)), 2)
 unfoldable pub badAmount : Sheet → Bool × ℕ
 badAmount S = (not (all (within 1 maxAmount) (S .supply) && all (within 1 maxAmount) (S .demand)), 3)
 
--- 4: some cost is above 1,000,000.
+-- 4 (02, Two): some cost is outside −1,000,000 to 1,000,000.
 unfoldable pub badCost : Sheet → Bool × ℕ
-badCost S = (not (all (within 0 maxCost) (S .cost)), 4)
+badCost S = (not (all (withinZ (negℤ (pos maxCost)) (pos maxCost)) (S .cost)), 4)
 
 -- 5 (02, One): total demand is greater than total supply.
 unfoldable pub lacking : Sheet → Bool × ℕ

@@ -1,24 +1,26 @@
--- The sheet text, and the calls that write and read it (paper 01, "Texts" and "Calls and their refusals").
+-- The sheet text, and the calls that write and read it (paper 01, "Texts" and "Calls and their refusals"; paper 02, Two).
 use mathlib.Core.Bool.{Bool, true, false, _&&_, _||_, cond}
 use mathlib.Core.List.{List, [], _∷_, _++_, flatMap, flatten}
 use mathlib.Core.Option.{some}
 use Prim.Native.Nat.{ℕ, zero, suc, _+_, _*_, _-_}
-use lib.Dec.{eqb}
+use lib.Dec.{eqb, leb}
+use lib.IntN.{ℤ, pos, negℤ}
 use lib.ListN.{length, take, drop}
 use Rattle.transport.specs.Lists.{within}
 use Rattle.transport.specs.Limits.{maxSources, maxSinks, maxDigits}
 use Rattle.transport.specs.Sheet.{Sheet, roasteries, cafes, sheetTests, numberTests}
 use Rattle.transport.specs.Calls.{Answer, refused, unless, tooShort}
-use Rattle.transport.specs.Text.{bytes, byte, Digit, Space, LineEnd, Letter, Other, kindOf, headLine, numberLine, rowLine}
+use Rattle.transport.specs.Text.{bytes, byte, Digit, Space, LineEnd, Letter, Other, kindOf, wholeDigits, headLine, numberLine, rowLine}
 
 -- ---- writing
 
--- The first k rows of n numbers.
-unfoldable pub rowsOf : ℕ → ℕ → List ℕ → List (List ℕ)
-rowsOf zero n xs = []
-rowsOf (suc k) n xs = take n xs ∷ rowsOf k n (drop n xs)
+module _ {A : Type 0} where
+  -- The first k rows of n numbers.
+  unfoldable pub rowsOf : ℕ → ℕ → List A → List (List A)
+  rowsOf zero n xs = []
+  rowsOf (suc k) n xs = take n xs ∷ rowsOf k n (drop n xs)
 
--- `supply m` and m lines of one number; `demand n` and n lines of one number; `cost m` and m lines of n numbers.
+-- `supply m` and m lines of one number; `demand n` and n lines of one number; `cost m` and m lines of n numbers, which may have a minus.
 unfoldable pub sheetText : Sheet → List ℕ
 sheetText S =
     headLine "supply" (roasteries S)
@@ -26,7 +28,7 @@ sheetText S =
     ++ headLine "demand" (cafes S)
     ++ flatMap numberLine (S .demand)
     ++ headLine "cost" (roasteries S)
-    ++ flatMap rowLine (rowsOf (roasteries S) (cafes S) (S .cost))
+    ++ flatMap (rowLine wholeDigits) (rowsOf (roasteries S) (cafes S) (S .cost))
 
 -- The text, whose length is the call's answer. `room` is the length of the output.
 unfoldable pub writeSheetCall : Sheet → ℕ → Answer (List ℕ)
@@ -107,11 +109,31 @@ moreDigits test (suc k) x (b ∷ t) = elim (isDigit b && test (x * 10 + digitVal
   | false ↦ got x (b ∷ t)
 ]
 
--- One to seven digits, with no leading 0 except 0 itself.
-unfoldable pub number : Reader ℕ
-number = do
-  b ← byteThat isDigit
+-- One to seven digits, the first at least `low`, with no leading 0 except 0 itself.
+unfoldable pub numberFrom : ℕ → Reader ℕ
+numberFrom low = do
+  b ← byteThat (λ b. isDigit b && leb low (digitValue b))
   moreDigits (λ x. true) (cond (eqb (digitValue b) 0) 0 (maxDigits - 1)) (digitValue b)
+
+-- A supply or demand.
+unfoldable pub number : Reader ℕ
+number = numberFrom 0
+
+-- `-` or nothing: whether there is a minus.
+unfoldable pub minus : Reader Bool
+minus [] = got false []
+minus (b ∷ t) = cond (eqb (byte "-") b) (got true t) (got false (b ∷ t))
+
+-- A number after a minus, or without one.
+abbrev pub signed : Bool → ℕ → ℤ
+signed negative x = cond negative (negℤ (pos x)) (pos x)
+
+-- A cost: it may begin with `-`, never before 0.
+unfoldable pub whole : Reader ℤ
+whole = do
+  negative ← minus
+  x ← numberFrom (cond negative 1 0)
+  pure (signed negative x)
 
 -- m or n: from 1 to its limit, of one or two digits.
 unfoldable pub side : ℕ → Reader ℕ
@@ -119,26 +141,27 @@ side most = do
   b ← byteThat (λ b. isDigit b && within 1 most (digitValue b))
   moreDigits (within 1 most) 1 (digitValue b)
 
--- One number, and LF.
-unfoldable pub line : Reader ℕ → Reader ℕ
-line r = do
-  x ← r
-  word (bytes "\n")
-  pure x
+module _ {A : Type 0} where
+  -- One number, and LF.
+  unfoldable pub line : Reader A → Reader A
+  line r = do
+    x ← r
+    word (bytes "\n")
+    pure x
 
--- n numbers with one space between, and LF.
-unfoldable pub row : ℕ → Reader (List ℕ)
-row zero = do
-  word (bytes "\n")
-  pure []
-row (suc zero) = do
-  x ← line number
-  pure (x ∷ [])
-row (suc (suc n)) = do
-  x ← number
-  word (bytes " ")
-  xs ← row (suc n)
-  pure (x ∷ xs)
+  -- n numbers with one space between, and LF.
+  unfoldable pub row : Reader A → ℕ → Reader (List A)
+  row r zero = do
+    word (bytes "\n")
+    pure []
+  row r (suc zero) = do
+    x ← line r
+    pure (x ∷ [])
+  row r (suc (suc n)) = do
+    x ← r
+    word (bytes " ")
+    xs ← row r (suc n)
+    pure (x ∷ xs)
 
 -- Sections in their order, each after its count. Both row counts must be the same m.
 unfoldable pub sheetReader : Reader Sheet
@@ -150,7 +173,7 @@ sheetReader = do
   n ← line (side maxSinks)
   demand ← times n (line number)
   word (headLine "cost" m)
-  rows ← times m (row n)
+  rows ← times m (row whole n)
   end
   pure (record { supply = supply; demand = demand; cost = flatten rows })
 

@@ -26,12 +26,12 @@ use mathlib.Core.Logic.{_↔_, _⊎_}
 use mathlib.Core.Bool.{Bool, true, false, cond}
 use mathlib.Core.List.{List, [], _∷_, map, List·Memᴰ}
 use Prim.Native.Nat.{ℕ, zero, suc, _*_, _^_, _≤_, _<_}
-use lib.IntN.{ℤ, pos, negsuc, _+ℤ_, _*ℤ_}
+use lib.IntN.{ℤ, pos, negsuc, natAbs, negℤ, _+ℤ_, _*ℤ_}
 use lib.Signed.{_≤ℤ_}
 use lib.ListN.{length, take, drop, getD}
 use Rattle.transport.specs.declared.SolveAnswer.{SolveAnswer}
 use Rattle.transport.specs.declared.SolveAnswer.the-variants as SolveAnswer
-use Rattle.transport.specs.Lists.{sumTo, at, total, within}
+use Rattle.transport.specs.Lists.{sumTo, at, atZ, total, within}
 use Rattle.transport.specs.Limits.{maxSources, maxSinks, maxSide, maxAmount, maxCost, maxDigits}
 use Rattle.transport.specs.Problem.{Problem, sources, sinks, Lane, place, laneCost}
 use Rattle.transport.specs.Sheet.{Sheet, roasteries, cafes}
@@ -59,7 +59,8 @@ pub record WithinLimits (S : Sheet) : Type 0 where
   pub supplyHigh : (i : ℕ) → at (S .supply) i ≤ maxAmount
   pub demandLow : (j : ℕ) → j < cafes S → 1 ≤ at (S .demand) j
   pub demandHigh : (j : ℕ) → at (S .demand) j ≤ maxAmount
-  pub costHigh : (l : ℕ) → at (S .cost) l ≤ maxCost
+  pub costLow : (l : ℕ) → negℤ (pos maxCost) ≤ℤ atZ (S .cost) l
+  pub costHigh : (l : ℕ) → atZ (S .cost) l ≤ℤ pos maxCost
 
 -- The sheet is balanced: total supply is total demand.
 abbrev pub Balanced : Sheet → Type 0
@@ -218,7 +219,7 @@ pub record FirstFinished (P : Problem) (cells : List Cell) (k : ℕ) : Type 0 wh
   pub finished : isFinished P (after P k cells) ≡ true
   pub before : (h : ℕ) → h < k → isFinished P (after P h cells) ≡ false
 
--- ---- the best plan (01, "Settling"; demand 3; 02, One)
+-- ---- the best plan (01, "Settling"; demand 3; 02, One and Two)
 
 -- Demand 3: the plan, in whole bags, meets the sheet; the cost shown is its cost; any plan Q in k-ths costs no less; and at equal cost this plan carries more
 -- on the first lane where they differ.
@@ -242,8 +243,8 @@ pub record BestExactly (S : Sheet) (plan : List ℕ) (cost : ℤ) : Type 0 where
 -- Prices by roastery and by café from which anyone can tell that no plan costs less: no lane costs less than the two of its ends, a lane that carries bags
 -- costs just them, and where a roastery keeps bags no other has a greater price.
 pub record Certified (S : Sheet) (u v : ℕ → ℤ) (plan : List ℕ) : Type 0 where
-  pub lanes : (i j : ℕ) → i < roasteries S → j < cafes S → (u i +ℤ v j) ≤ℤ pos (at (S .cost) (place (cafes S) i j))
-  pub used : (i j : ℕ) → i < roasteries S → j < cafes S → 1 ≤ at plan (place (cafes S) i j) → u i +ℤ v j ≡ pos (at (S .cost) (place (cafes S) i j))
+  pub lanes : (i j : ℕ) → i < roasteries S → j < cafes S → (u i +ℤ v j) ≤ℤ atZ (S .cost) (place (cafes S) i j)
+  pub used : (i j : ℕ) → i < roasteries S → j < cafes S → 1 ≤ at plan (place (cafes S) i j) → u i +ℤ v j ≡ atZ (S .cost) (place (cafes S) i j)
   pub kept : (i : ℕ) → i < roasteries S → sumTo (cafes S) (λ j. at plan (place (cafes S) i j)) < at (S .supply) i
       → (h : ℕ) → h < roasteries S → u h ≤ℤ u i
 
@@ -278,25 +279,25 @@ pub record Bought (S : Sheet) (r : SolveAnswer) (u v : List ℤ) (plan : List �
   -- Demand 3 (02, One): for every sheet within the limits that is neither lacking nor crowded, with lists long enough, solve gives a plan, and it is best at
   -- the cost shown.
   pub solved : WithinLimits S → LongEnough S (length u) (length v) (length plan) → ¬ Lacking S → ¬ Crowded S
-      → (cost : ℕ) × (rounds : ℕ) × (r ≡ SolveAnswer.Solved cost rounds) × Best S (take (roasteries S * cafes S) planAfter) (pos cost)
+      → (cost : ℤ) × (rounds : ℕ) × (r ≡ SolveAnswer.Solved cost rounds) × Best S (take (roasteries S * cafes S) planAfter) cost
   -- Demand 3 (02, One): of sheets within the limits, with lists long enough, solve refuses exactly the lacking and the crowded ones, by 5 and by 10.
   pub refuses : WithinLimits S → LongEnough S (length u) (length v) (length plan)
       → (k : ℕ) → (r ≡ SolveAnswer.Refused k) ↔ ((k ≡ 5) × Lacking S) ⊎ ((k ≡ 10) × Crowded S)
   -- Demand 1: a refusal alters no byte of lent memory.
   pub unchanged : (k : ℕ) → r ≡ SolveAnswer.Refused k → (uAfter ≡ u) × (vAfter ≡ v) × (planAfter ≡ plan)
   -- Paper 01: on success a lent list changes only in the places that the result fills.
-  pub rest : (cost rounds : ℕ) → r ≡ SolveAnswer.Solved cost rounds
+  pub rest : (cost : ℤ) (rounds : ℕ) → r ≡ SolveAnswer.Solved cost rounds
       → (drop (roasteries S) uAfter ≡ drop (roasteries S) u)
       × (drop (cafes S) vAfter ≡ drop (cafes S) v)
       × (drop (roasteries S * cafes S) planAfter ≡ drop (roasteries S * cafes S) plan)
 
 -- ---- texts (01, "Texts")
 
--- A sheet that has a text: m and n are 1 to 32, there is a cost for each lane, and no number has more than seven digits.
+-- A sheet that has a text: m and n are 1 to 32, there is a cost for each lane, and no number has more than seven digits, a minus aside.
 pub record HasText (S : Sheet) : Type 0 where
   pub sides : (within 1 maxSources (roasteries S) ≡ true) × (within 1 maxSinks (cafes S) ≡ true)
   pub lengths : length (S .cost) ≡ roasteries S * cafes S
-  pub numbers : (k : ℕ) → (at (S .supply) k < 10 ^ maxDigits) × (at (S .demand) k < 10 ^ maxDigits) × (at (S .cost) k < 10 ^ maxDigits)
+  pub numbers : (k : ℕ) → (at (S .supply) k < 10 ^ maxDigits) × (at (S .demand) k < 10 ^ maxDigits) × (natAbs (atZ (S .cost) k) < 10 ^ maxDigits)
 
 -- The text is a sheet text, that of S.
 pub record SheetTextOf (S : Sheet) (text : List ℕ) : Type 0 where

@@ -53,8 +53,9 @@ headLine name count = bytes name ++ bytes " " ++ digits count ++ bytes "\n"
 unfoldable pub numberLine : ℕ → List ℕ
 numberLine x = digits x ++ bytes "\n"
 
--- Numbers with one space between, and LF.
-unfoldable pub rowLine : List ℕ → List ℕ
-rowLine [] = bytes "\n"
-rowLine (x ∷ []) = numberLine x
-rowLine (x ∷ y ∷ ys) = digits x ++ bytes " " ++ rowLine (y ∷ ys)
+module _ {A : Type 0} where
+  -- Numbers, each as `write` has it, with one space between, and LF.
+  unfoldable pub rowLine : (A → List ℕ) → List A → List ℕ
+  rowLine write [] = bytes "\n"
+  rowLine write (x ∷ []) = write x ++ bytes "\n"
+  rowLine write (x ∷ y ∷ ys) = write x ++ bytes " " ++ rowLine write (y ∷ ys)

@@ -19,14 +19,14 @@ pub const MAX_CELLS: usize = 2 * MAX_SIDE - 1;
 // The greatest supply or demand, in bags.
 pub const MAX_AMOUNT: u64 = 1_000_000;
 
-// The greatest cost of a lane, in cents a bag.
-pub const MAX_COST: u64 = 1_000_000;
+// The greatest cost of a lane, in cents a bag; the least is as far below 0.
+pub const MAX_COST: i64 = 1_000_000;
 
 // The longest sheet text, in bytes.
-pub const MAX_TEXT: usize = 8732;
+pub const MAX_TEXT: usize = 9756;
 
 // No plan text is longer, in bytes.
-pub const MAX_PLAN_TEXT: usize = 15_059;
+pub const MAX_PLAN_TEXT: usize = 15_060;
 
 // A paired amount: `q` bags and `e` marks.
 #[repr(C)]
@@ -128,7 +128,7 @@ pub enum SettleAnswer {
 
 // The answer of solve; the potentials and the plan stand in the lent lists.
 pub enum SolveAnswer {
-    Solved { cost: u64, rounds: u64 },
+    Solved { cost: i64, rounds: u64 },
     Refused(u8),
 }
 

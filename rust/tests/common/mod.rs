@@ -4,8 +4,9 @@ use panel::{Cell, Pair, Refusal, Round, Sheet, MAX_LANES, MAX_SIDE};
 
 /// What a lent list holds before a call.
 pub const MARK: u64 = 0x5a5a_5a5a_5a5a_5a5a;
+pub const SIGNED_MARK: i64 = MARK as i64;
 
-pub fn sheet(supply: &[u64], demand: &[u64], cost: &[u64]) -> Sheet {
+pub fn sheet(supply: &[u64], demand: &[u64], cost: &[i64]) -> Sheet {
     Sheet { supply: supply.to_vec(), demand: demand.to_vec(), cost: cost.to_vec() }
 }
 
@@ -54,8 +55,13 @@ pub fn p9() -> [Cell; 3] {
     [cell(1, 1, 5, 0), cell(1, 2, 0, 0), cell(2, 2, 5, 1)]
 }
 
+/// The largest sheet, every lane at this cost.
+pub fn full(cost: i64) -> Sheet {
+    sheet(&[1_000_000; MAX_SIDE], &[1_000_000; MAX_SIDE], &[cost; MAX_LANES])
+}
+
 pub fn largest() -> Sheet {
-    sheet(&[1_000_000; MAX_SIDE], &[1_000_000; MAX_SIDE], &[1_000_000; MAX_LANES])
+    full(1_000_000)
 }
 
 /// The first roastery is dear, and keeps the surplus of two bags.
@@ -77,6 +83,21 @@ pub fn wide(supply: u64, cafes: usize) -> Sheet {
 pub fn largest_with_surplus() -> Sheet {
     let cafes = MAX_SIDE - 1;
     sheet(&[1_000_000; MAX_SIDE], &vec![1_000_000; cafes], &vec![1_000_000; MAX_SIDE * cafes])
+}
+
+/// The second roastery earns, and the first keeps the surplus of two bags.
+pub fn earns() -> Sheet {
+    sheet(&[3, 3], &[4], &[1, -5])
+}
+
+/// Costs of both signs.
+pub fn both_signs() -> Sheet {
+    sheet(&[2, 3], &[1, 2, 2], &[-1, 0, -1, -1, 0, 2])
+}
+
+/// The tableau that two rounds on its start give: it is finished.
+pub fn both_signs_last() -> [Cell; 4] {
+    [cell(1, 3, 2, 1), cell(2, 1, 1, 0), cell(2, 2, 2, 0), cell(2, 3, 0, 1)]
 }
 
 /// How many columns a tableau of the sheet has: with a surplus, one for the extra café.

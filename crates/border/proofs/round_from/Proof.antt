@@ -26,7 +26,7 @@ sheetAt t = sheetOf (t .args .supply .now) (t .args .demand .now) (t .args .cost
 
 returns : tie.Need-returns
 returns c =
-    let t = c .before .before .before .before .before .before .before .before .before in
+    let t = c .before .before .before .before .before .before .before .before in
     let w = c .before .before .before .before .before .round in
     let a = roundCall (sheetAt t) (t .args .t) in
     ap (λ (o : RoundOutcome). rounded o (w .result .tableau) (w .result .u) (w .result .v)) (sym (c .enum-told .given .1))
@@ -34,7 +34,7 @@ returns c =
 
 returns-2 : tie.Need-returns-2
 returns-2 c =
-    let t = c .before .before .before .before .before .before .before .before .before in
+    let t = c .before .before .before .before .before .before .before .before in
     let w = c .before .before .before .before .before .round in
     let a = roundCall (sheetAt t) (t .args .t) in
     ap (λ (o : RoundOutcome). rounded o (w .result .tableau) (w .result .u) (w .result .v)) (sym (c .enum-told2 .given .1))
@@ -42,7 +42,7 @@ returns-2 c =
 
 returns-3 : tie.Need-returns-3
 returns-3 c =
-    let t = c .before .before .before .before .before .before .before .before .before .before in
+    let t = c .before .before .before .before .before .before .before .before .before in
     let w = c .before .before .before .before .before .before .round in
     let a = roundCall (sheetAt t) (t .args .t) in
     ap (λ (o : RoundOutcome). rounded o (w .result .tableau) (w .result .u) (w .result .v)) (sym (c .before .outcome .given .1))

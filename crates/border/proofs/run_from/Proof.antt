@@ -26,7 +26,7 @@ sheetAt t = sheetOf (t .args .supply .now) (t .args .demand .now) (t .args .cost
 
 returns : tie.Need-returns
 returns c =
-    let t = c .before .before .before .before .before .before .before .before in
+    let t = c .before .before .before .before .before .before .before in
     let w = c .before .before .before .before .run in
     let a = runCall (sheetAt t) (t .args .t) (t .args .allowance) in
     ap (λ (o : RunOutcome). ran o (w .result .tableau)) (sym (c .before .outcome .given .1))
@@ -34,7 +34,7 @@ returns c =
 
 returns-2 : tie.Need-returns-2
 returns-2 c =
-    let t = c .before .before .before .before .before .before .before .before in
+    let t = c .before .before .before .before .before .before .before in
     let w = c .before .before .before .before .run in
     let a = runCall (sheetAt t) (t .args .t) (t .args .allowance) in
     ap (λ (o : RunOutcome). ran o (w .result .tableau)) (sym (c .before .outcome2 .given .1))
@@ -42,7 +42,7 @@ returns-2 c =
 
 returns-3 : tie.Need-returns-3
 returns-3 c =
-    let t = c .before .before .before .before .before .before .before .before in
+    let t = c .before .before .before .before .before .before .before in
     let w = c .before .before .before .before .run in
     let a = runCall (sheetAt t) (t .args .t) (t .args .allowance) in
     ap (λ (o : RunOutcome). ran o (w .result .tableau)) (sym (c .before .outcome3 .given .1))

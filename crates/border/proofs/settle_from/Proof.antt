@@ -25,7 +25,7 @@ sheetAt t = sheetOf (t .args .supply .now) (t .args .demand .now) (t .args .cost
 
 returns : tie.Need-returns
 returns c =
-    let t = c .before .before .before .before .before .before .before .before .before .before in
+    let t = c .before .before .before .before .before .before .before .before .before in
     let e = c .before .before .before .before .settle .ensures in
     (ap settledAs (sym (c .enum-told .given .1) ∙ e .0) ∙ settled-is (settleCall (sheetAt t) (t .args .t) (length (t .args .plan .now))), e .1)
 
@@ -34,7 +34,7 @@ same-length-2 c = search needs
 
 returns-2 : tie.Need-returns-2
 returns-2 c =
-    let t = c .before .before .before .before .before .before .before .before .before .before .before in
+    let t = c .before .before .before .before .before .before .before .before .before .before in
     let e = c .before .before .before .before .before .settle .ensures in
     (ap settledAs (sym (c .before .answer .given .1) ∙ e .0) ∙ settled-is (settleCall (sheetAt t) (t .args .t) (length (t .args .plan .now))), e .1)
 

@@ -29,8 +29,8 @@ same-length-3 c = search needs
 
 returns : tie.Need-returns
 returns c =
-    let t = c .before .before .before .before .before .before .before .before .before .before .before .before .before .before .before .before .before in
-    let e = c .before .before .before .before .before .before .before .before .before .read-sheet .ensures in (
+    let t = c .before .before .before .before .before .before .before .before .before .before .before .before .before .before .before in
+    let e = c .before .before .before .before .before .before .before .before .read-sheet .ensures in (
       ap readAs (sym (c .before .answer .given .1) ∙ e .0)
           ∙ read-is (t .args .text .now) (length (t .args .supply .now)) (length (t .args .demand .now)) (length (t .args .cost .now)),
       e .1,
@@ -49,8 +49,8 @@ same-length-6 c = search needs
 
 returns-2 : tie.Need-returns-2
 returns-2 c =
-    let t = c .before .before .before .before .before .before .before .before .before .before .before .before .before .before .before .before .before in
-    let e = c .before .before .before .before .before .before .before .before .before .read-sheet .ensures in (
+    let t = c .before .before .before .before .before .before .before .before .before .before .before .before .before .before .before in
+    let e = c .before .before .before .before .before .before .before .before .read-sheet .ensures in (
       ap readAs (sym (c .before .answer2 .given .1) ∙ e .0)
           ∙ read-is (t .args .text .now) (length (t .args .supply .now)) (length (t .args .demand .now)) (length (t .args .cost .now)),
       e .1,
@@ -69,8 +69,8 @@ same-length-9 c = search needs
 
 returns-3 : tie.Need-returns-3
 returns-3 c =
-    let t = c .before .before .before .before .before .before .before .before .before .before .before .before .before .before .before .before .before in
-    let e = c .before .before .before .before .before .before .before .before .before .read-sheet .ensures in (
+    let t = c .before .before .before .before .before .before .before .before .before .before .before .before .before .before .before in
+    let e = c .before .before .before .before .before .before .before .before .read-sheet .ensures in (
       ap readAs (sym (c .before .answer3 .given .1) ∙ e .0)
           ∙ read-is (t .args .text .now) (length (t .args .supply .now)) (length (t .args .demand .now)) (length (t .args .cost .now)),
       e .1,

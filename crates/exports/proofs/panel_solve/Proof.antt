@@ -1,8 +1,13 @@
 -- Each way out is a case of the answer.
-use mathlib.Core.Path.{sym, ap, _∙_}
+use mathlib.Core.Path.{_≡_, sym, ap, _∙_}
+use lib.IntN.{ℤ}
 use lib.ListN.{length}
+use mir.Syntax.{w64}
+use mir.Val.{toZ, ofZ}
+use Rattle.transport.specs.declared.SolveAnswer.the-variants as SolveAnswer
 use Rattle.transport.specs.Sheet.{Sheet, sheetOf}
 use Rattle.transport.specs.Calls.{solveCall}
+use Rattle.transport.specs.Laws.RangeLaws.{back}
 use Rattle.exports.specs.Crossing.{solvedAs, solved-is}
 use borrow.Author.Needs.{needs}
 use Rattle.exports.proofs.panel_solve.Statement.{statement}
@@ -31,10 +36,13 @@ sheetAt t = sheetOf (t .args .supply .now) (t .args .demand .now) (t .args .cost
 
 returns : tie.Need-returns
 returns c =
-    let t = c .before .before .before .before .before .before .before .before .before .before .before .before .before .before .before in
+    let t = c .before .before .before .before .before .before .before .before .before .before .before .before .before .before in
     let e = c .before .before .before .before .before .before .before .solve .ensures in
     let a = solveCall (sheetAt t) (length (t .args .u .now)) (length (t .args .v .now)) (length (t .args .plan .now)) in
-    (ap solvedAs (sym (c .before .answer .given .1) ∙ e .0) ∙ solved-is a, e .1, e .2, e .3)
+    let g = c .before .answer .given in
+    -- A signed field is read back from its bits.
+    let cost : toZ w64 (ofZ w64 (g .0 .0)) ≡ g .0 .0 = back w64 (g .0 .0) (search needs) in
+    (ap (λ (k : ℤ). solvedAs (SolveAnswer.Solved k (g .0 .1 .0))) cost ∙ ap solvedAs (sym (g .1) ∙ e .0) ∙ solved-is a, e .1, e .2, e .3)
 
 same-length-4 : tie.Need-same-length-4
 same-length-4 c = search needs
@@ -47,7 +55,7 @@ same-length-6 c = search needs
 
 returns-2 : tie.Need-returns-2
 returns-2 c =
-    let t = c .before .before .before .before .before .before .before .before .before .before .before .before .before .before .before in
+    let t = c .before .before .before .before .before .before .before .before .before .before .before .before .before .before in
     let e = c .before .before .before .before .before .before .before .solve .ensures in
     let a = solveCall (sheetAt t) (length (t .args .u .now)) (length (t .args .v .now)) (length (t .args .plan .now)) in
     (ap solvedAs (sym (c .before .answer2 .given .1) ∙ e .0) ∙ solved-is a, e .1, e .2, e .3)

@@ -23,7 +23,7 @@ sheetAt t = sheetOf (t .args .supply .now) (t .args .demand .now) (t .args .cost
 
 returns : tie.Need-returns
 returns c =
-    let t = c .before .before .before .before .before .before .before in
+    let t = c .before .before .before .before .before .before in
     let w = c .before .before .before .start in
     let a = startCall (sheetAt t) in
     ap (λ (o : StartOutcome). started o (w .result .tableau)) (sym (c .enum-told .given .1))
@@ -31,7 +31,7 @@ returns c =
 
 returns-2 : tie.Need-returns-2
 returns-2 c =
-    let t = c .before .before .before .before .before .before .before .before in
+    let t = c .before .before .before .before .before .before .before in
     let w = c .before .before .before .before .start in
     let a = startCall (sheetAt t) in
     ap (λ (o : StartOutcome). started o (w .result .tableau)) (sym (c .before .outcome .given .1))

@@ -30,7 +30,7 @@ abbrev sheetAt : tie.Start → Sheet
 sheetAt s = sheetOf (s .args .supply .now) (s .args .demand .now) (s .args .cost .now)
 
 abbrev checkedFrom : tie.After-check-sheet → tie.Start
-checkedFrom c = c .before .before .before .before
+checkedFrom c = c .before .before .before
 
 returns : tie.Need-returns
 returns c =

@@ -29,7 +29,7 @@ abbrev sheetAt : (c : tie.Start) → Sheet
 sheetAt c = sheetOf (c .args .supply .now) (c .args .demand .now) (c .args .cost .now)
 
 abbrev checkedFrom : tie.After-check-sheet → tie.Start
-checkedFrom c = c .before .before .before .before
+checkedFrom c = c .before .before .before
 
 returns : tie.Need-returns
 returns c =

@@ -42,7 +42,7 @@ enum-known-check c = search needs
 returns : tie.Need-returns
 returns c =
     let a = c .before .before .before in
-    let s = a .before .before .before .before .before in
+    let s = a .before .before .before .before in
     let t = s .args .t in
     let room = length (s .args .plan .now) in
     settle-refused (sheetAt s) t room _ _ (sheet-refuses (sheetAt s) t room _ (refused-some _ _ (sym (a .check-sheet .ensures) ∙ c .before .check .given .1)))
@@ -53,7 +53,7 @@ enum-told c = search needs
 -- ---- the sheet passes its check
 
 abbrev start : tie.After-enum-told → tie.Start
-start c = c .before .before .before .before .before .before .before
+start c = c .before .before .before .before .before .before
 
 passed : (c : tie.After-enum-told) → refusal (sheetTests (sheetAt (start c))) ≡ none
 passed c = accepted-none _ (sym (c .before .before .check-sheet .ensures) ∙ c .enum-told .given .1)

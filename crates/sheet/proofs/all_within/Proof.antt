@@ -15,10 +15,10 @@ use Rattle.sheet.proofs.all_within.Statement.{statement}
 use Rattle.sheet.proofs.all_within.Tie as tie
 
 abbrev Inv-loop : tie.InvT-loop
-Inv-loop numbers low high i₀ i = (i ≤ length numbers) × (all (within low high) numbers ≡ all (within low high) (drop i numbers))
+Inv-loop amounts low high i₀ i = (i ≤ length amounts) × (all (within low high) amounts ≡ all (within low high) (drop i amounts))
 
 abbrev μ-loop : tie.MeasureT-loop
-μ-loop numbers low high i₀ i = length numbers - i
+μ-loop amounts low high i₀ i = length amounts - i
 
 loop-holds : tie.Need-loop-holds Inv-loop μ-loop
 loop-holds c = (omega arith, refl)
@@ -33,7 +33,7 @@ returns : tie.Need-returns Inv-loop μ-loop
 returns c =
     let a = c .before .before .before .before .args in
     let i = c .before .before .before .loop in
-    let s = a .numbers .now in
+    let s = a .amounts .now in
     let t = within (a .low) (a .high) in
     let cut : drop (i .i) s ≡ getD s (i .i) 0 ∷ drop (suc (i .i)) s = drop-cons s (i .i) 0 (omega arith) in
     sym (i .inv .1 ∙ ap (all t) cut ∙ all-no t _ _ (within-low (a .low) (a .high) _ (c .if1 .taken)))
@@ -42,7 +42,7 @@ returns-2 : tie.Need-returns-2 Inv-loop μ-loop
 returns-2 c =
     let a = c .before .before .before .before .before .args in
     let i = c .before .before .before .before .loop in
-    let s = a .numbers .now in
+    let s = a .amounts .now in
     let t = within (a .low) (a .high) in
     let cut : drop (i .i) s ≡ getD s (i .i) 0 ∷ drop (suc (i .i)) s = drop-cons s (i .i) 0 (omega arith) in
     sym (i .inv .1 ∙ ap (all t) cut ∙ all-no t _ _ (within-high (a .low) (a .high) _ (c .if2 .taken)))
@@ -57,7 +57,7 @@ loop-again : tie.Need-loop-again Inv-loop μ-loop
 loop-again c =
     let a = c .before .before .before .before .before .args in
     let i = c .before .before .before .before .loop in
-    let s = a .numbers .now in
+    let s = a .amounts .now in
     let t = within (a .low) (a .high) in
     let cut : drop (i .i) s ≡ getD s (i .i) 0 ∷ drop (suc (i .i)) s = drop-cons s (i .i) 0 (omega arith) in
     let in-limits : t (getD s (i .i) 0) ≡ true = true-within (a .low) (a .high) _ (omega arith) (omega arith) in
@@ -68,7 +68,7 @@ returns-3 c =
     let a = c .before .before .args in
     let i = c .before .loop in
     let t = within (a .low) (a .high) in
-    sym (i .inv .1 ∙ ap (all t) (drop-of-length-le (a .numbers .now) {i = i .i} (omega arith)) ∙ all-nil t)
+    sym (i .inv .1 ∙ ap (all t) (drop-of-length-le (a .amounts .now) {i = i .i} (omega arith)) ∙ all-nil t)
 
 pub all-within-spec : {M : Type 1} → statement M
 all-within-spec =

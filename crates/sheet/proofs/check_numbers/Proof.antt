@@ -6,8 +6,9 @@ use mathlib.Core.Option.{none, some}
 use Prim.Native.Nat.{_≤_}
 use native.Mathlib.Omega.{arith}
 use lib.Dec.{ltb}
+use lib.IntN.{pos, negℤ}
 use borrow.Author.Tests.{not-true, not-false, eqb-true, eq-eqb, ltb-true, ltb-false}
-use Rattle.transport.specs.Lists.{all, within, total}
+use Rattle.transport.specs.Lists.{all, within, withinZ, total}
 use Rattle.transport.specs.Limits.{maxSide, maxAmount, maxCost}
 use Rattle.transport.specs.Sheet.{Sheet, cafes, sheetOf, refusal, numberTests}
 use Rattle.transport.specs.Statements.{Lacking, Crowded}
@@ -17,17 +18,17 @@ use borrow.Author.Needs.{needs}
 use Rattle.sheet.proofs.check_numbers.Statement.{statement}
 use Rattle.sheet.proofs.check_numbers.Tie as tie
 
-supplies-fit : (c : tie.Else1) → all (within 1 maxAmount) (c .before .before .before .before .before .args .supply .now) ≡ true
+supplies-fit : (c : tie.Else1) → all (within 1 maxAmount) (c .before .before .before .before .args .supply .now) ≡ true
 unfolding maxAmount
 supplies-fit c = sym (c .before .all-within .ensures) ∙ not-false _ (c .if1 .left)
 
-demands-fit : (c : tie.Else2) → all (within 1 maxAmount) (c .before .before .before .before .before .before .before .args .demand .now) ≡ true
+demands-fit : (c : tie.Else2) → all (within 1 maxAmount) (c .before .before .before .before .before .before .args .demand .now) ≡ true
 unfolding maxAmount
 demands-fit c = sym (c .before .all-within2 .ensures) ∙ not-false _ (c .if2 .left)
 
-costs-fit : (c : tie.Else3) → all (within 0 maxCost) (c .before .before .before .before .before .before .before .before .before .args .cost .now) ≡ true
-unfolding maxCost
-costs-fit c = sym (c .before .all-within3 .ensures) ∙ not-false _ (c .if3 .left)
+costs-fit : (c : tie.Else3)
+    → all (withinZ (negℤ (pos maxCost)) (pos maxCost)) (c .before .before .before .before .before .before .before .before .args .cost .now) ≡ true
+costs-fit c = sym (c .before .costs-within .ensures) ∙ not-false _ (c .if3 .left)
 
 all-within-requires : tie.Need-all-within-requires
 all-within-requires c κs = search needs
@@ -35,7 +36,7 @@ all-within-requires c κs = search needs
 returns : tie.Need-returns
 unfolding maxAmount
 returns c =
-    let a = c .before .before .before .before .before .args in
+    let a = c .before .before .before .before .args in
     let S = sheetOf (a .supply .now) (a .demand .now) (a .cost .now) in
     rw (refused-supply S (sym (c .before .all-within .ensures) ∙ not-true _ (c .if1 .taken)), check-some)
 
@@ -45,29 +46,28 @@ all-within-requires-2 c κs = search needs
 returns-2 : tie.Need-returns-2
 unfolding maxAmount
 returns-2 c =
-    let a = c .before .before .before .before .before .before .before .args in
+    let a = c .before .before .before .before .before .before .args in
     let S = sheetOf (a .supply .now) (a .demand .now) (a .cost .now) in
     rw (refused-demand S (supplies-fit (c .before .before)) (sym (c .before .all-within2 .ensures) ∙ not-true _ (c .if2 .taken)), check-some)
 
-all-within-requires-3 : tie.Need-all-within-requires-3
-all-within-requires-3 c κs = search needs
+costs-within-requires : tie.Need-costs-within-requires
+costs-within-requires c κs = search needs
 
 returns-3 : tie.Need-returns-3
-unfolding maxCost
 returns-3 c =
-    let a = c .before .before .before .before .before .before .before .before .before .args in
+    let a = c .before .before .before .before .before .before .before .before .args in
     let S = sheetOf (a .supply .now) (a .demand .now) (a .cost .now) in
     rw (
-      refused-cost S (supplies-fit (c .before .before .before .before)) (demands-fit (c .before .before)) (sym (c .before .all-within3 .ensures)
+      refused-cost S (supplies-fit (c .before .before .before .before)) (demands-fit (c .before .before)) (sym (c .before .costs-within .ensures)
           ∙ not-true _ (c .if3 .taken)),
       check-some,
     )
 
 total-of-requires : tie.Need-total-of-requires
-total-of-requires c κs = (c .before .before .before .before .before .before .before .before .before .pre .0, supplies-fit (c .before .before .before .before))
+total-of-requires c κs = (c .before .before .before .before .before .before .before .before .pre .0, supplies-fit (c .before .before .before .before))
 
 total-of-requires-2 : tie.Need-total-of-requires-2
-total-of-requires-2 c κs = (c .before .before .before .before .before .before .before .before .before .before .pre .1, demands-fit (c .before .before .before))
+total-of-requires-2 c κs = (c .before .before .before .before .before .before .before .before .before .pre .1, demands-fit (c .before .before .before))
 
 -- ---- the totals
 
@@ -75,7 +75,7 @@ abbrev costsBefore : tie.After-total-of2 → tie.Else3
 costsBefore c = c .before .before
 
 abbrev startOf : tie.After-total-of2 → tie.Start
-startOf c = costsBefore c .before .before .before .before .before .before .before .before .before
+startOf c = costsBefore c .before .before .before .before .before .before .before .before
 
 abbrev sheetAt : tie.After-total-of2 → Sheet
 sheetAt c = let a = startOf c .args in sheetOf (a .supply .now) (a .demand .now) (a .cost .now)
@@ -149,7 +149,7 @@ check-numbers-spec =
     returns
     all-within-requires-2
     returns-2
-    all-within-requires-3
+    costs-within-requires
     returns-3
     total-of-requires
     total-of-requires-2

@@ -16,11 +16,11 @@ use borrow.Author.Needs.{needs}
 use Rattle.sheet.proofs.check_sheet.Statement.{statement}
 use Rattle.sheet.proofs.check_sheet.Tie as tie
 
-sources-fit : (c : tie.Else1) → within 1 maxSources (length (c .before .before .before .before .before .args .supply .now)) ≡ true
+sources-fit : (c : tie.Else1) → within 1 maxSources (length (c .before .before .before .before .args .supply .now)) ≡ true
 unfolding maxSources
 sources-fit c = sym (c .before .side-fits .ensures) ∙ not-false _ (c .if1 .left)
 
-sinks-fit : (c : tie.Else2) → within 1 maxSinks (length (c .before .before .before .before .before .before .before .args .demand .now)) ≡ true
+sinks-fit : (c : tie.Else2) → within 1 maxSinks (length (c .before .before .before .before .before .before .args .demand .now)) ≡ true
 unfolding maxSinks
 sinks-fit c = sym (c .before .side-fits2 .ensures) ∙ not-false _ (c .if2 .left)
 
@@ -30,7 +30,7 @@ side-fits-requires c κs = search needs
 returns : tie.Need-returns
 unfolding maxSources
 returns c =
-    let a = c .before .before .before .before .before .args in
+    let a = c .before .before .before .before .args in
     let S = sheetOf (a .supply .now) (a .demand .now) (a .cost .now) in
     rw (refused-sources S (sym (c .before .side-fits .ensures) ∙ not-true _ (c .if1 .taken)), check-some)
 
@@ -40,7 +40,7 @@ side-fits-requires-2 c κs = search needs
 returns-2 : tie.Need-returns-2
 unfolding maxSinks
 returns-2 c =
-    let a = c .before .before .before .before .before .before .before .args in
+    let a = c .before .before .before .before .before .before .args in
     let S = sheetOf (a .supply .now) (a .demand .now) (a .cost .now) in
     rw (refused-sinks S (sources-fit (c .before .before)) (sym (c .before .side-fits2 .ensures) ∙ not-true _ (c .if2 .taken)), check-some)
 
@@ -50,7 +50,7 @@ mul-if3 c =
 
 returns-3 : tie.Need-returns-3
 returns-3 c =
-    let a = c .before .before .before .before .before .before .before .before .args in
+    let a = c .before .before .before .before .before .before .before .args in
     let S = sheetOf (a .supply .now) (a .demand .now) (a .cost .now) in
     rw (refused-length S (sources-fit (c .before .before .before)) (sinks-fit (c .before)) (ne-eqb _ _ (c .if3 .taken)), check-some)
 
@@ -62,7 +62,7 @@ check-numbers-requires c κs = (
 
 returns-4 : tie.Need-returns-4
 returns-4 c =
-    let a = c .before .before .before .before .before .before .before .before .before .args in
+    let a = c .before .before .before .before .before .before .before .before .args in
     let S = sheetOf (a .supply .now) (a .demand .now) (a .cost .now) in
     rw (sheet-numbers S (sources-fit (c .before .before .before .before)) (sinks-fit (c .before .before)) (eq-eqb _ _ (c .before .if3 .left)))
     (c .check-numbers .ensures)

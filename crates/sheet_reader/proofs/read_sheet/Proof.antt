@@ -4,6 +4,7 @@ use mathlib.Core.List.{List, [], _∷_}
 use mathlib.Core.Logic.{⊎-elim}
 use Prim.Native.Nat.{ℕ}
 use native.Mathlib.Omega.{arith}
+use lib.IntN.{ℤ}
 use denote.Enum.Declared.{tagOf}
 use types.Run.{OneOf}
 use Rattle.transport.proofs.ReadAnswer as declared
@@ -34,20 +35,20 @@ read-sections-requires c κs = search needs
 enum-known-answer : tie.Need-enum-known-answer
 enum-known-answer c = search needs
 
-stopped : (text s d c supply demand cost : List ℕ) (r : ReadAnswer) → OneOf (1 ∷ 2 ∷ []) (tagOf declared.the-type r) → sheetReader text
-    ≡ sheetRead text s d c r → readFits text r → Read text supply demand cost r supply demand cost
+stopped : (text s d : List ℕ) (c : List ℤ) (supply demand : List ℕ) (cost : List ℤ) (r : ReadAnswer) → OneOf (1 ∷ 2 ∷ []) (tagOf declared.the-type r)
+    → sheetReader text ≡ sheetRead text s d c r → readFits text r → Read text supply demand cost r supply demand cost
 stopped text s d c supply demand cost (ReadAnswer.Sheet m n) k e f = absurd (⊎-elim (λ z. omega arith) (λ z. omega arith) k)
 stopped text s d c supply demand cost (ReadAnswer.NotSheetText place) k e f = read-stuck text supply demand cost place f e
 stopped text s d c supply demand cost (ReadAnswer.Refused number) k e f = absurd f
 
 returns : tie.Need-returns
 returns c =
-    let a = c .before .before .before .before .before .before .before .before .before .before .before .before .args in
+    let a = c .before .before .before .before .before .before .before .before .before .before .before .args in
     let w = c .before .before .before .before .read-sections in
     stopped (a .text .now) _ _ _ (a .supply .now) (a .demand .now) (a .cost .now) (w .result) (c .match .keys2) (w .ensures .0) (w .ensures .1)
 
 sheet-read : (c : tie.After-known-told) → let w = c .before .before .before .before .before .before .read-sections .last in
-    SheetIn (c .before .before .before .before .before .before .before .before .before .before .before .before .before .before .args .text .now) (w .1 .0)
+    SheetIn (c .before .before .before .before .before .before .before .before .before .before .before .before .before .args .text .now) (w .1 .0)
     (w .1 .1 .0) (w .1 .1 .1 .0) (c .before .answer .given .0 .0) (c .before .answer .given .0 .1 .0)
 unfolding maxSources maxSinks
 sheet-read c =
@@ -91,10 +92,10 @@ same-length-3 c = search needs
 returns-2 : tie.Need-returns-2
 returns-2 c =
     let a = c .before .before .before .before .before .before .before .before .before .before .before .before .before .before .before .before .before .before
-    .before .before .before .before .before .before .before .before .before .args in
-    let w = c .before .before .before .before .before .before .store-sheet in
+    .before .before .before .before .before .before .before .args in
+    let w = c .before .before .before .before .before .store-sheet in
     read-got (a .text .now) (a .supply .now) (a .demand .now) (a .cost .now) _ _ (sheet-read
-    (c .before .before .before .before .before .before .before .before .before .before .before .before .before) .reads) (w .result) _ _ _ (w .ensures)
+    (c .before .before .before .before .before .before .before .before .before .before .before .before) .reads) (w .result) _ _ _ (w .ensures)
 
 pub read-sheet-spec : {M : Type 1} → statement M
 read-sheet-spec =

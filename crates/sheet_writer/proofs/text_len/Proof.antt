@@ -5,7 +5,7 @@ use mathlib.Core.List.{_++_}
 use Prim.Native.Nat.{_≤_}
 use lib.ListN.{length, length-append}
 use Rattle.transport.specs.Limits.{maxSources, maxSinks}
-use Rattle.transport.specs.Text.{bytes}
+use Rattle.transport.specs.Text.{bytes, digits, wholeDigits}
 use Rattle.transport.specs.Sheet.{Sheet, sheetOf}
 use Rattle.sheet.specs.Refusals.{sources-few, sinks-few, sinks-some, costs-few, costs-whole}
 use Rattle.sections.specs.Lines.{length-section}
@@ -35,39 +35,39 @@ module _ (t : tie.Start) where
   costs-most = costs-few sheetAt (t .pre .limits)
 
 section-len-requires : tie.Need-section-len-requires
-section-len-requires c κs = omega (arith, sources-most (c .before .before .before .before))
+section-len-requires c κs = omega (arith, sources-most (c .before .before .before))
 
 slice-aggregate-section-len-2 : tie.Need-slice-aggregate-section-len-2
 slice-aggregate-section-len-2 c = search needs
 
 section-len-requires-2 : tie.Need-section-len-requires-2
-section-len-requires-2 c κs = omega (arith, sinks-most (c .before .before .before .before .before .before))
+section-len-requires-2 c κs = omega (arith, sinks-most (c .before .before .before .before .before))
 
 add-result : tie.Need-add-result
 add-result c = omega (
   arith,
-  sources-most (c .before .before .before .before .before .before .before),
-  sinks-most (c .before .before .before .before .before .before .before),
+  sources-most (c .before .before .before .before .before .before),
+  sinks-most (c .before .before .before .before .before .before),
 )
 
-slice-aggregate-section-len-3 : tie.Need-slice-aggregate-section-len-3
-slice-aggregate-section-len-3 c = search needs
+slice-aggregate-whole-section-len : tie.Need-slice-aggregate-whole-section-len
+slice-aggregate-whole-section-len c = search needs
 
-section-len-requires-3 : tie.Need-section-len-requires-3
-section-len-requires-3 c κs = omega (arith, costs-most (c .before .before .before .before .before .before .before .before))
+whole-section-len-requires : tie.Need-whole-section-len-requires
+whole-section-len-requires c κs = omega (arith, costs-most (c .before .before .before .before .before .before .before))
 
 add-result-2 : tie.Need-add-result-2
 add-result-2 c = omega (
   arith,
-  sources-most (c .before .before .before .before .before .before .before .before .before),
-  sinks-most (c .before .before .before .before .before .before .before .before .before),
-  costs-most (c .before .before .before .before .before .before .before .before .before),
+  sources-most (c .before .before .before .before .before .before .before .before),
+  sinks-most (c .before .before .before .before .before .before .before .before),
+  costs-most (c .before .before .before .before .before .before .before .before),
 )
 
 returns : tie.Need-returns
 unfolding bytes
 returns c =
-    let t = c .before .before .before .before .before .before .before .before .before in
+    let t = c .before .before .before .before .before .before .before .before in
     let S = sheetAt t in
     let first = supplySection (S .supply) in
     let second = demandSection (S .demand) in
@@ -79,10 +79,10 @@ returns c =
       length-append second third,
       c .before .before .before .before .section-len .ensures .0,
       c .before .before .section-len2 .ensures .0,
-      c .section-len3 .ensures .0,
-      length-section (bytes "supply ") (length (S .supply)) 1 (S .supply),
-      length-section (bytes "demand ") (length (S .demand)) 1 (S .demand),
-      length-section (bytes "cost ") (length (S .supply)) (length (S .demand)) (S .cost),
+      c .whole-section-len .ensures .0,
+      length-section digits (bytes "supply ") (length (S .supply)) 1 (S .supply),
+      length-section digits (bytes "demand ") (length (S .demand)) 1 (S .demand),
+      length-section wholeDigits (bytes "cost ") (length (S .supply)) (length (S .demand)) (S .cost),
     )
 
 pub text-len-spec : {M : Type 1} → statement M
@@ -94,7 +94,7 @@ text-len-spec =
     slice-aggregate-section-len-2
     section-len-requires-2
     add-result
-    slice-aggregate-section-len-3
-    section-len-requires-3
+    slice-aggregate-whole-section-len
+    whole-section-len-requires
     add-result-2
     returns)

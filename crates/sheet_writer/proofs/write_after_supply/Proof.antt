@@ -14,40 +14,40 @@ slice-aggregate-write-section c = search needs
 write-section-requires : tie.Need-write-section-requires
 unfolding bytes
 write-section-requires c κs =
-    let t = c .before .before .before .before .before in (
+    let t = c .before .before .before .before in (
       omega arith,
       first-room (demandSection (t .args .demand .now)) (costSection (t .args .m) (length (t .args .demand .now)) (t .args .cost .now))
           (t .args .out .now) (t .pre .1),
     )
 
-begun : (c : tie.After-write-section) → let t = c .before .before .before .before .before .before in
+begun : (c : tie.After-write-section) → let t = c .before .before .before .before .before in
     FirstWritten (demandSection (t .args .demand .now)) (costSection (t .args .m) (length (t .args .demand .now)) (t .args .cost .now)) (t .args .out .now)
     (c .write-section .last .1 .1 .1 .1 .0) (c .write-section .result)
 unfolding bytes
-begun c = record { room = c .before .before .before .before .before .before .pre .1; ends = c .write-section .ensures .0; holds = c .write-section .ensures .1 }
+begun c = record { room = c .before .before .before .before .before .pre .1; ends = c .write-section .ensures .0; holds = c .write-section .ensures .1 }
 
-slice-aggregate-write-section-2 : tie.Need-slice-aggregate-write-section-2
-slice-aggregate-write-section-2 c = search needs
+slice-aggregate-write-whole-section : tie.Need-slice-aggregate-write-whole-section
+slice-aggregate-write-whole-section c = search needs
 
-sub-write-section : tie.Need-sub-write-section
-sub-write-section c = second-start (begun (c .before .before .before))
+sub-write-whole-section : tie.Need-sub-write-whole-section
+sub-write-whole-section c = second-start (begun (c .before .before .before))
 
-part-write-section-start : tie.Need-part-write-section-start
-part-write-section-start c = second-start (begun (c .before .before .before))
+part-write-whole-section-start : tie.Need-part-write-whole-section-start
+part-write-whole-section-start c = second-start (begun (c .before .before .before))
 
-part-write-section-end : tie.Need-part-write-section-end
-part-write-section-end c = search needs
+part-write-whole-section-end : tie.Need-part-write-whole-section-end
+part-write-whole-section-end c = search needs
 
-write-section-requires-2 : tie.Need-write-section-requires-2
+write-whole-section-requires : tie.Need-write-whole-section-requires
 unfolding bytes
-write-section-requires-2 c κs =
-    (c .before .before .before .before .before .before .before .before .before .before .pre .0, second-room (begun (c .before .before .before .before)))
+write-whole-section-requires c κs =
+    (c .before .before .before .before .before .before .before .before .before .pre .0, second-room (begun (c .before .before .before .before)))
 
 add-result : tie.Need-add-result
 unfolding bytes
 add-result c =
     let b = begun (c .before .before .before .before .before .before .before) in
-    omega (arith, b .room, both-length b _ (c .before .before .write-section2 .ensures .0))
+    omega (arith, b .room, both-length b _ (c .before .before .write-whole-section .ensures .0))
 
 same-length : tie.Need-same-length
 same-length c = search needs
@@ -56,7 +56,7 @@ returns : tie.Need-returns
 unfolding bytes
 returns c =
     let b = begun (c .before .before .before .before .before .before .before) in
-    let w = c .before .before .write-section2 in
+    let w = c .before .before .write-whole-section in
     (both-length b _ (w .ensures .0), both-written b _ (w .ensures .1))
 
 pub write-after-supply-spec : {M : Type 1} → statement M
@@ -65,11 +65,11 @@ write-after-supply-spec =
     (tie.spec
     slice-aggregate-write-section
     write-section-requires
-    slice-aggregate-write-section-2
-    sub-write-section
-    part-write-section-start
-    part-write-section-end
-    write-section-requires-2
+    slice-aggregate-write-whole-section
+    sub-write-whole-section
+    part-write-whole-section-start
+    part-write-whole-section-end
+    write-whole-section-requires
     add-result
     same-length
     returns)

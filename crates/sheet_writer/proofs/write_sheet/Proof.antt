@@ -23,28 +23,28 @@ enum-known-check c = search needs
 returns : tie.Need-returns
 unfolding writeSheetCall
 returns c =
-    let t = c .before .before .before .before .before .before .before .before in
+    let t = c .before .before .before .before .before .before .before in
     wrote-check (sheetAt t) (sheetText (sheetAt t)) (t .args .out .now) _
     (refused-some _ _ (sym (c .before .before .before .check-sheet .ensures) ∙ c .before .check .given .1))
 
 enum-told : tie.Need-enum-told
 enum-told c = search needs
 
-passed : (c : tie.After-enum-told) → refusal (sheetTests (sheetAt (c .before .before .before .before .before .before .before))) ≡ none
+passed : (c : tie.After-enum-told) → refusal (sheetTests (sheetAt (c .before .before .before .before .before .before))) ≡ none
 passed c = accepted-none _ (sym (c .before .before .check-sheet .ensures) ∙ c .enum-told .given .1)
 
 text-len-requires : tie.Need-text-len-requires
-text-len-requires c κs = accepted (sheetAt (c .before .before .before .before .before .before .before)) (passed c)
+text-len-requires c κs = accepted (sheetAt (c .before .before .before .before .before .before)) (passed c)
 
 returns-2 : tie.Need-returns-2
 unfolding writeSheetCall
 returns-2 c =
-    let t = c .before .before .before .before .before .before .before .before .before in
+    let t = c .before .before .before .before .before .before .before .before in
     wrote-short (sheetAt t) (sheetText (sheetAt t)) (t .args .out .now) (passed (c .before .before)) (omega (arith, c .before .text-len .ensures))
 
 write-text-requires : tie.Need-write-text-requires
 write-text-requires c κs = (
-  accepted (sheetAt (c .before .before .before .before .before .before .before .before .before .before))
+  accepted (sheetAt (c .before .before .before .before .before .before .before .before .before))
       (passed (c .before .before .before)),
   omega (arith, c .before .before .text-len .ensures),
 )
@@ -55,7 +55,7 @@ same-length c = search needs
 returns-3 : tie.Need-returns-3
 unfolding writeSheetCall
 returns-3 c =
-    let t = c .before .before .before .before .before .before .before .before .before .before .before .before .before in
+    let t = c .before .before .before .before .before .before .before .before .before .before .before .before in
     let w = c .before .before .write-text in
     rw (w .ensures .0, w .ensures .1) (wrote-given (sheetAt t) (sheetText (sheetAt t)) (t .args .out .now)
     (passed (c .before .before .before .before .before .before)) (omega (arith, c .before .before .before .before .before .text-len .ensures)))

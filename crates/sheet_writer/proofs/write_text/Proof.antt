@@ -33,14 +33,14 @@ slice-aggregate-write-section c = search needs
 write-section-requires : tie.Need-write-section-requires
 unfolding bytes
 write-section-requires c κs =
-    let t = c .before .before .before .before .before .before in
+    let t = c .before .before .before .before .before in
     (omega arith, first-room (supplySection (t .args .supply .now)) (others t) (t .args .out .now) (room t))
 
-begun : (c : tie.After-write-section) → let t = c .before .before .before .before .before .before .before in
+begun : (c : tie.After-write-section) → let t = c .before .before .before .before .before .before in
     FirstWritten (supplySection (t .args .supply .now)) (others t) (t .args .out .now) (c .write-section .last .1 .1 .1 .1 .0) (c .write-section .result)
 unfolding bytes
 begun c = record {
-  room = room (c .before .before .before .before .before .before .before);
+  room = room (c .before .before .before .before .before .before);
   ends = c .write-section .ensures .0;
   holds =
       c .write-section .ensures .1;
@@ -57,7 +57,7 @@ part-write-after-supply-end c = search needs
 
 write-after-supply-requires : tie.Need-write-after-supply-requires
 write-after-supply-requires c κs =
-    let t = c .before .before .before .before .before .before .before .before .before .before in
+    let t = c .before .before .before .before .before .before .before .before .before in
     (sinks-some (sheetAt t) (t .pre .0 .limits), second-room (begun (c .before .before .before)))
 
 add-result : tie.Need-add-result
@@ -72,7 +72,7 @@ returns : tie.Need-returns
 returns c =
     let b = begun (c .before .before .before .before .before .before) in
     let w = c .before .before .write-after-supply in
-    rw (sections (c .before .before .before .before .before .before .before .before .before .before .before .before .before))
+    rw (sections (c .before .before .before .before .before .before .before .before .before .before .before .before))
     (both-length b _ (w .ensures .0), both-written b _ (w .ensures .1))
 
 pub write-text-spec : {M : Type 1} → statement M

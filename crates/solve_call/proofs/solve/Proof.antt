@@ -4,8 +4,10 @@ use mathlib.Core.Option.{none}
 use Prim.Native.Nat.{_*_, _≤_}
 use native.Mathlib.Omega.{arith}
 use lib.ListN.{length}
+use mir.Syntax.{w64}
 use borrow.Author.Needs.{needs}
 use Rattle.transport.specs.Sheet.{Sheet, roasteries, cafes, refusal, sheetTests, sheetOf}
+use Rattle.transport.specs.Laws.RangeLaws.{back}
 use Rattle.transport.specs.Laws.SheetLaws.{accepted}
 use Rattle.transport.specs.Laws.Sound.{sources-room, sinks-room}
 use Rattle.tree.specs.Layout.{stride-is}
@@ -18,7 +20,7 @@ abbrev sheetAt : tie.Start → Sheet
 sheetAt s = sheetOf (s .args .supply .now) (s .args .demand .now) (s .args .cost .now)
 
 abbrev startBefore : tie.After-check-sheet → tie.Start
-startBefore c = c .before .before .before .before .before
+startBefore c = c .before .before .before .before
 
 check-sheet-requires : tie.Need-check-sheet-requires
 check-sheet-requires c κs = search needs
@@ -95,7 +97,8 @@ returns-3 c =
     let d = elseBefore o in
     let a = told d in
     let S = sheetAt (startOf a) in
-    told-all (told-by (solve-given S _ _ _ (passed a) (rooms d)) (told-stored (o .solve-checked .ensures) (accepted S (passed a)) (c .plan-cost .ensures)))
+    let total = back w64 (c .plan-cost .result) (search needs) ∙ c .plan-cost .ensures in
+    told-all (told-by (solve-given S _ _ _ (passed a) (rooms d)) (told-stored (o .solve-checked .ensures) (accepted S (passed a)) total))
 
 pub solve-spec : {M : Type 1} → statement M
 solve-spec =

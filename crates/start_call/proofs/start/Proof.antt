@@ -30,14 +30,14 @@ empty-tableau-requires c κs = search needs
 returns : tie.Need-returns
 returns c =
     rw (c .empty-tableau .ensures)
-    (start-refused (sheetAt (c .before .before .before .before .before .before .before .before)) _
+    (start-refused (sheetAt (c .before .before .before .before .before .before .before)) _
     (refused-some _ _ (sym (c .before .before .before .before .check-sheet .ensures) ∙ c .before .before .check .given .1)))
 
 enum-told : tie.Need-enum-told
 enum-told c = search needs
 
 abbrev toldAt : tie.After-enum-told → Sheet
-toldAt c = sheetAt (c .before .before .before .before .before .before)
+toldAt c = sheetAt (c .before .before .before .before .before)
 
 passed : (c : tie.After-enum-told) → refusal (sheetTests (toldAt c)) ≡ none
 passed c = accepted-none _ (sym (c .before .before .check-sheet .ensures) ∙ c .enum-told .given .1)

@@ -1,5 +1,5 @@
 -- The laws of Extended: whether there is an extra café, what each column wants, and what each lane costs.
-use mathlib.Core.Path.{_≡_, refl, sym, ap, _∙_}
+use mathlib.Core.Path.{_≡_, refl, sym, ap, _∙_, subst}
 use mathlib.Core.Logic.{by-cases}
 use mathlib.Core.Bool.{Bool, true, false, cond}
 use mathlib.Core.List.{[], _∷_, _++_, append-nil}
@@ -7,7 +7,7 @@ use Prim.Native.Nat.{ℕ, _+_, _*_, _-_, _≤_, _<_}
 use native.Mathlib.Omega.{arith}
 use native.Mathlib.Decide.{decLt}
 use lib.Dec.{eqb}
-use lib.IntN.{pos}
+use lib.IntN.{ℤ, pos}
 use lib.ListN.{length, getD, length-append, List·getD-append, List·getD-eq-default}
 use borrow.Author.Tests.{eqb-true, eqb-false, lt-ltb, le-ltb}
 use Rattle.transport.specs.Lists.{at, atZ, total}
@@ -63,7 +63,7 @@ module _ (S : Sheet) where
 
   -- ---- lanes
 
-  pub cost-cafe : (i j : ℕ) → j < cafes S → costAt S i j ≡ pos (at (S .cost) (place (cafes S) i j))
+  pub cost-cafe : (i j : ℕ) → j < cafes S → costAt S i j ≡ atZ (S .cost) (place (cafes S) i j)
   unfolding costAt
   cost-cafe i j l = rw (lt-ltb j (cafes S) l)
 
@@ -75,21 +75,21 @@ module _ (S : Sheet) where
   unfolding laneCost extended sinks atZ
   laneCost-at i j l h = getD-grid (length (wanted S)) (costAt S) (roasteries S) i j (pos 0) l h
 
-  -- Every number of the cost list is 0 or a cost of the sheet.
-  pub cost-of : (l : ℕ) → (c : ℕ) × (atZ (extended S .cost) l ≡ pos c) × ((most : ℕ) → ((k : ℕ) → at (S .cost) k ≤ most) → c ≤ most)
+  -- Every number of the cost list is 0 or a cost of the sheet: what holds of these holds of all.
+  pub cost-each : (Good : ℤ → Type 0) → Good (pos 0) → ((k : ℕ) → Good (atZ (S .cost) k)) → (l : ℕ) → Good (atZ (extended S .cost) l)
   unfolding extended atZ
-  cost-of l = by-cases (decLt l (roasteries S * length (wanted S))) inside (λ h. (0, outside h, λ most f. omega arith))
+  cost-each Good zero each l = by-cases (decLt l (roasteries S * length (wanted S))) inside outside
     where
-      outside : ¬ (l < roasteries S * length (wanted S)) → getD (extended S .cost) l (pos 0) ≡ pos 0
-      outside h = List·getD-eq-default (extended S .cost) (pos 0) {n = l} (omega (arith, length-grid (length (wanted S)) (costAt S) (roasteries S)))
+      outside : ¬ (l < roasteries S * length (wanted S)) → Good (getD (extended S .cost) l (pos 0))
+      outside h =
+          rw (List·getD-eq-default (extended S .cost) (pos 0) {n = l} (omega (arith, length-grid (length (wanted S)) (costAt S) (roasteries S)))) zero
 
-      inside : l < roasteries S * length (wanted S)
-          → (c : ℕ) × (getD (extended S .cost) l (pos 0) ≡ pos c) × ((most : ℕ) → ((k : ℕ) → at (S .cost) k ≤ most) → c ≤ most)
+      inside : l < roasteries S * length (wanted S) → Good (getD (extended S .cost) l (pos 0))
       inside h =
           let w = place-of (roasteries S) (length (wanted S)) l h in
           let here : getD (extended S .cost) l (pos 0) ≡ costAt S (w .row) (w .col) =
           ap (λ (k : ℕ). getD (extended S .cost) k (pos 0)) (sym (w .placed))
           ∙ getD-grid (length (wanted S)) (costAt S) (roasteries S) (w .row) (w .col) (pos 0) (w .rowBelow) (w .colBelow) in
           by-cases (decLt (w .col) (cafes S))
-          (λ b. (at (S .cost) (place (cafes S) (w .row) (w .col)), here ∙ cost-cafe (w .row) (w .col) b, λ most f. f (place (cafes S) (w .row) (w .col))))
-          (λ b. (0, here ∙ cost-extra (w .row) (w .col) (omega arith), λ most f. omega arith))
+          (λ b. subst Good (sym (here ∙ cost-cafe (w .row) (w .col) b)) (each (place (cafes S) (w .row) (w .col))))
+          (λ b. subst Good (sym (here ∙ cost-extra (w .row) (w .col) (omega arith))) zero)

@@ -11,7 +11,8 @@ use mathlib.Core.List.{List, [], _∷_, _++_, map, flatMap, append-assoc, append
 use mathlib.Core.List.{List·Memᴰ·cases-cons, List·Memᴰ·append-cases, Memᴰ·append-left, Memᴰ·append-right}
 use lib.ListN.{length, drop, getD, set, length-append, List·getD-append, List·getD-eq-default}
 use lib.Seq.{drop-cons, set-at, getD-at, getD-append-add, ext-getD}
-use Rattle.transport.specs.Lists.{all, keep, leastFrom, firstLeast, table, below, sumTo, at, total}
+use lib.IntN.{ℤ, pos, _+ℤ_}
+use Rattle.transport.specs.Lists.{all, keep, leastFrom, firstLeast, table, below, sumTo, sumZ, at, atZ, total}
 
 -- ---- table
 
@@ -296,6 +297,15 @@ pub sumTo-one : (n : ℕ) (f : ℕ → ℕ) → sumTo (n + 1) f ≡ sumTo n f + 
 unfolding sumTo
 sumTo-one n f = rw (add-one, sumTo)
 
+pub sumZ-one : (n : ℕ) (f : ℕ → ℤ) → sumZ (n + 1) f ≡ sumZ n f +ℤ f n
+unfolding sumZ
+sumZ-one n f = rw (add-one, sumZ)
+
+pub sumZ-cong : (n : ℕ) (f g : ℕ → ℤ) → ((k : ℕ) → k < n → f k ≡ g k) → sumZ n f ≡ sumZ n g
+unfolding sumZ
+sumZ-cong zero f g h = refl
+sumZ-cong (suc n) f g h = rw (sumZ-cong n f g (λ k l. h k (omega arith)), h n (omega arith))
+
 pub sumTo-cong : (n : ℕ) (f g : ℕ → ℕ) → ((k : ℕ) → k < n → f k ≡ g k) → sumTo n f ≡ sumTo n g
 unfolding sumTo
 sumTo-cong zero f g h = refl
@@ -364,6 +374,10 @@ sumTo-swap (suc m) n f = omega (arith, sumTo-swap m n f, sumTo-add n (λ j. sumT
 pub at-past : (xs : List ℕ) (k : ℕ) → length xs ≤ k → at xs k ≡ 0
 unfolding at
 at-past xs k l = List·getD-eq-default xs 0 l
+
+pub atZ-past : (zs : List ℤ) (k : ℕ) → length zs ≤ k → atZ zs k ≡ pos 0
+unfolding atZ
+atZ-past zs k l = List·getD-eq-default zs (pos 0) l
 
 pub total-nil : total [] ≡ 0
 unfolding total sumTo

@@ -1,15 +1,17 @@
 -- The range of signed numbers: bounds by absolute value, which `omega` reads, and what the code's tests and sums on bits say of the numbers.
-use Prim.Native.Nat.{ℕ, zero, suc, _+_, _-_, _<_, _≤_, _^_}
+use Prim.Native.Nat.{ℕ, zero, suc, _+_, _*_, _-_, _<_, _≤_, _^_}
 use native.Mathlib.Omega.{arith}
+use native.Mathlib.Nat.{mul-le-mul-left}
 use mathlib.Core.Path.{_≡_, refl, _∙_}
 use mathlib.Core.Bool.{Bool, true, false, cond}
-use lib.Dec.{ltb}
-use lib.IntN.{ℤ, pos, negsuc, natAbs, negℤ, subℕ, _+ℤ_, _-ℤ_}
-use lib.Signed.{mag}
+use lib.Dec.{T, ltb, leb→le}
+use lib.IntN.{ℤ, pos, negsuc, natAbs, negℤ, subℕ, _+ℤ_, _-ℤ_, _*ℤ_}
+use lib.Signed.{mag, leZ, _≤ℤ_}
 use borrow.Author.Tests.{ltb-true}
 use mir.Syntax.{Width}
 use mir.Val.{SFits, hbits, toZ, ofZ}
 use mir.Facts.{toZ-ofZ}
+use Rattle.transport.specs.Lists.{sumTo, sumZ}
 use Rattle.transport.specs.Amount.{Pair}
 
 -- ---- absolute values
@@ -34,6 +36,31 @@ abs-add (negsuc a) (negsuc b) = omega arith
 
 pub abs-diff : (a b : ℤ) → natAbs (a -ℤ b) ≤ natAbs a + natAbs b
 abs-diff a b = omega (arith, abs-add a (negℤ b), abs-neg b)
+
+pub abs-times : (k : ℕ) (a : ℤ) → natAbs (pos k *ℤ a) ≡ k * natAbs a
+abs-times k (pos n) = refl
+abs-times k (negsuc n) = abs-neg (pos (k * suc n))
+
+-- A number between two bounds that are as far from 0.
+pub abs-between : {most : ℕ} {a : ℤ} → negℤ (pos most) ≤ℤ a → a ≤ℤ pos most → natAbs a ≤ most
+abs-between {most} {a} low high = go most a (low .le) (high .le)
+  where
+    go : (most : ℕ) (a : ℤ) → T (leZ (negℤ (pos most)) a) → T (leZ a (pos most)) → natAbs a ≤ most
+    go most (pos n) low high = leb→le n most high
+    go zero (negsuc n) low high = absurd low
+    go (suc most) (negsuc n) low high = omega (arith, leb→le n most low)
+
+-- Numbers of at most `most` in size, each taken x times.
+pub abs-sum : (n most : ℕ) (x : ℕ → ℕ) (c : ℕ → ℤ) → ((k : ℕ) → natAbs (c k) ≤ most) → natAbs (sumZ n (λ k. pos (x k) *ℤ c k)) ≤ most * sumTo n x
+unfolding sumZ sumTo
+abs-sum zero most x c each = omega arith
+abs-sum (suc n) most x c each = omega (
+  arith,
+  abs-add (sumZ n (λ k. pos (x k) *ℤ c k)) (pos (x n) *ℤ c n),
+  abs-times (x n) (c n),
+  mul-le-mul-left (x n) (each n),
+  abs-sum n most x c each,
+)
 
 pub mag-abs : (a : ℤ) → mag a ≤ natAbs a
 mag-abs (pos n) = omega arith

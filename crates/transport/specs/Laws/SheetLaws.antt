@@ -3,17 +3,19 @@ use Prim.Native.Nat.{ℕ, _*_, _≤_, _<_}
 use native.Mathlib.Omega.{arith}
 use native.Mathlib.Decide.{decLt}
 use mathlib.Core.Path.{_≡_, refl, sym, ap, _∙_}
-use mathlib.Core.Bool.{Bool, true, false, _&&_, and-false, true≢false}
+use mathlib.Core.Bool.{Bool, true, false, not, _&&_, and-false, true≢false}
 use mathlib.Core.List.{List, [], _∷_, _++_, append-nil}
 use mathlib.Core.Option.{Option, none, some}
-use lib.Dec.{leb, eqb, ltb}
+use lib.Dec.{leb, eqb, ltb, T}
+use lib.IntN.{ℤ, pos, negsuc, negℤ}
+use lib.Signed.{leZ, ltZ, _≤ℤ_, leZ-yes}
 use lib.ListN.{length, getD}
-use borrow.Author.Tests.{leb-true, le-leb, lt-leb, eqb-true, eq-eqb, ne-eqb, le-ltb, lt-ltb, not-false}
-use Rattle.transport.specs.Lists.{all, at, total, within}
+use borrow.Author.Tests.{leb-true, le-leb, lt-leb, eqb-true, eq-eqb, ne-eqb, le-ltb, lt-ltb, ltb-true, ltb-false, not-false}
+use Rattle.transport.specs.Lists.{all, at, atZ, total, within, withinZ}
 use Rattle.transport.specs.Limits.{maxSources, maxSinks, maxSide, maxAmount, maxCost}
 use Rattle.transport.specs.Sheet.{Sheet, roasteries, cafes, badSides, badLength, badAmount, badCost, lacking, crowded, numberTests, sheetTests, refusal}
 use Rattle.transport.specs.Statements.{WithinLimits, Lacking, Crowded, Accepted}
-use Rattle.transport.specs.Laws.ListLaws.{and-left, and-right, all-at, all-of, at-past}
+use Rattle.transport.specs.Laws.ListLaws.{and-left, and-right, all-at, all-of, at-past, atZ-past}
 
 -- ---- refusal
 
@@ -73,6 +75,38 @@ pub within-high : (low high x : ℕ) → high < x → within low high x ≡ fals
 unfolding within
 within-high low high x p = rw (lt-leb x high p, and-false)
 
+withinZ-true : (low high z : ℤ) → withinZ low high z ≡ true → (low ≤ℤ z) × (z ≤ℤ high)
+unfolding withinZ
+withinZ-true low high z e =
+    (leZ-yes (told (leZ low z) (and-left (leZ low z) (leZ z high) e)), leZ-yes (told (leZ z high) (and-right (leZ low z) (leZ z high) e)))
+  where
+    told : (b : Bool) → b ≡ true → T b
+    told true e = tt
+    told false e = absurd (true≢false (sym e))
+
+true-withinZ : (low high z : ℤ) → low ≤ℤ z → z ≤ℤ high → withinZ low high z ≡ true
+unfolding withinZ
+true-withinZ low high z p q = rw (yes (leZ low z) (p .le), yes (leZ z high) (q .le))
+  where
+    yes : (b : Bool) → T b → b ≡ true
+    yes true t = refl
+    yes false t = absurd t
+
+-- As the code tests it, by the strict order.
+pub withinZ-tests : (low high z : ℤ) → withinZ low high z ≡ not (ltZ z low) && not (ltZ high z)
+unfolding withinZ
+withinZ-tests low high z = rw (le-lt low z, le-lt z high)
+  where
+    nat : (a b : ℕ) (t : Bool) → ltb b a ≡ t → leb a b ≡ not t
+    nat a b true e = lt-leb a b (ltb-true b a e)
+    nat a b false e = le-leb a b (ltb-false b a e)
+
+    le-lt : (a b : ℤ) → leZ a b ≡ not (ltZ b a)
+    le-lt (pos a) (pos b) = nat a b (ltb b a) refl
+    le-lt (pos a) (negsuc b) = refl
+    le-lt (negsuc a) (pos b) = refl
+    le-lt (negsuc a) (negsuc b) = nat b a (ltb a b) refl
+
 -- Every number of the list is within the bounds.
 all-within-low : (low high : ℕ) (xs : List ℕ) → all (within low high) xs ≡ true → (k : ℕ) → k < length xs → low ≤ at xs k
 unfolding at
@@ -86,12 +120,23 @@ all-within-high low high xs e k = go (decLt k (length xs))
     go (yes l) = within-true low high _ (all-at (within low high) xs 0 k e l) .1
     go (no l) = omega (arith, at-past xs k (omega arith))
 
+-- Beyond the list stands 0, which is within bounds that have it between them.
+all-withinZ-at : (low high : ℤ) (zs : List ℤ) → low ≤ℤ pos 0 → pos 0 ≤ℤ high → all (withinZ low high) zs ≡ true
+    → (k : ℕ) → (low ≤ℤ atZ zs k) × (atZ zs k ≤ℤ high)
+unfolding atZ
+all-withinZ-at low high zs p q e k = go (decLt k (length zs))
+  where
+    go : Dec (k < length zs) → (low ≤ℤ getD zs k (pos 0)) × (getD zs k (pos 0) ≤ℤ high)
+    go (yes l) = withinZ-true low high _ (all-at (withinZ low high) zs (pos 0) k e l)
+    go (no l) = rw (atZ-past zs k (omega arith)) (p, q)
+
 within-limits : (S : Sheet) → badSides S .0 ≡ false → badLength S .0 ≡ false → badAmount S .0 ≡ false → badCost S .0 ≡ false → WithinLimits S
-unfolding badSides badLength badAmount badCost roasteries cafes
+unfolding badSides badLength badAmount badCost roasteries cafes maxCost
 within-limits S sides lengths amounts costs =
     let sides : within 1 maxSources (roasteries S) && within 1 maxSinks (cafes S) ≡ true = not-false _ sides in
     let amounts : all (within 1 maxAmount) (S .supply) && all (within 1 maxAmount) (S .demand) ≡ true = not-false _ amounts in
-    let costs : all (within 0 maxCost) (S .cost) ≡ true = not-false _ costs in
+    let costs : all (withinZ (negℤ (pos maxCost)) (pos maxCost)) (S .cost) ≡ true = not-false _ costs in
+    let costs = all-withinZ-at (negℤ (pos maxCost)) (pos maxCost) (S .cost) (leZ-yes tt) (leZ-yes tt) costs in
     let rows = within-true 1 maxSources (roasteries S) (and-left _ (within 1 maxSinks (cafes S)) sides) in
     let columns = within-true 1 maxSinks (cafes S) (and-right (within 1 maxSources (roasteries S)) _ sides) in
     let supplies : all (within 1 maxAmount) (S .supply) ≡ true = and-left _ (all (within 1 maxAmount) (S .demand)) amounts in
@@ -106,7 +151,8 @@ within-limits S sides lengths amounts costs =
       supplyHigh = all-within-high 1 maxAmount (S .supply) supplies;
       demandLow = all-within-low 1 maxAmount (S .demand) demands;
       demandHigh = all-within-high 1 maxAmount (S .demand) demands;
-      costHigh = all-within-high 0 maxCost (S .cost) costs;
+      costLow = λ l. costs l .0;
+      costHigh = λ l. costs l .1;
     }
 
 -- The tests that a sheet within the limits passes.
@@ -119,6 +165,10 @@ record Passes (S : Sheet) : Type 0 where
 all-within : (low high : ℕ) (xs : List ℕ) → ((k : ℕ) → k < length xs → low ≤ at xs k) → ((k : ℕ) → at xs k ≤ high) → all (within low high) xs ≡ true
 unfolding at
 all-within low high xs p q = all-of (within low high) xs 0 (λ k l. true-within low high _ (p k l) (q k))
+
+all-withinZ : (low high : ℤ) (zs : List ℤ) → ((k : ℕ) → (low ≤ℤ atZ zs k) × (atZ zs k ≤ℤ high)) → all (withinZ low high) zs ≡ true
+unfolding atZ
+all-withinZ low high zs h = all-of (withinZ low high) zs (pos 0) (λ k l. true-withinZ low high _ (h k .0) (h k .1))
 
 module _ {S : Sheet} (h : WithinLimits S) where
   pub supplies-within : all (within 1 maxAmount) (S .supply) ≡ true
@@ -135,7 +185,7 @@ limits-pass {S} h = record {
   sides = rw (true-within 1 maxSources (roasteries S) (h .roasteriesLow) (h .roasteriesHigh), true-within 1 maxSinks (cafes S) (h .cafesLow) (h .cafesHigh));
   lengths = rw (eq-eqb (length (S .cost)) (roasteries S * cafes S) (h .costLength));
   amounts = rw (supplies-within h, demands-within h);
-  costs = rw (all-within 0 maxCost (S .cost) (λ k l. omega arith) (h .costHigh));
+  costs = rw (all-withinZ (negℤ (pos maxCost)) (pos maxCost) (S .cost) (λ k. (h .costLow k, h .costHigh k)));
 }
 
 -- 5 and 10, each exactly on its condition.

@@ -9,7 +9,6 @@ use mathlib.Core.List.{List}
 use native.Mathlib.Decide.{decLt, ℕ-discrete}
 use lib.IntN.{pos, negℤ}
 use lib.Signed.{_≤ℤ_, leZ-yes}
-use lib.Dec.{le→leb}
 use mathlib.Core.Option.{none}
 use lib.ListN.{length, length-append}
 use Rattle.transport.specs.Lists.{at, atZ, total}
@@ -21,7 +20,7 @@ use Rattle.transport.specs.Statements.{Accepted}
 use Rattle.transport.specs.Laws.ListLaws.{sumTo-each, sumTo-bound, at-past}
 use Rattle.transport.specs.Laws.SheetLaws.{accepted}
 use Rattle.transport.specs.Laws.ProblemLaws.{length-grid}
-use Rattle.transport.specs.Laws.ExtendedLaws.{Extra, without, with, extra, wanted-total, width-low, wanted-at, beyond, cost-of}
+use Rattle.transport.specs.Laws.ExtendedLaws.{Extra, without, with, extra, wanted-total, width-low, wanted-at, beyond, cost-each}
 
 pub record Sound (P : Problem) : Type 0 where
   pub sourcesLow : 1 ≤ sources P
@@ -61,9 +60,6 @@ module _ {P : Problem} (ok : Sound P) where
 
 -- ---- the extended problem of a sheet
 
-pos-≤ : {a b : ℕ} → a ≤ b → pos a ≤ℤ pos b
-pos-≤ {a} {b} l = leZ-yes (le→leb a b l)
-
 module _ {S : Sheet} (ok : Accepted S) where
   -- Room for all columns, since a surplus and 32 cafés are refused.
   pub wanted-room : length (wanted S) ≤ maxSide
@@ -84,12 +80,12 @@ module _ {S : Sheet} (ok : Accepted S) where
       (λ h. let (z, last, takes) = beyond S j (omega arith) l in rw takes z)
 
   cost-low : (l : ℕ) → negℤ (pos costBelow) ≤ℤ atZ (extended S .cost) l
-  unfolding costBelow
-  cost-low l = rw (cost-of S l .1) (pos-≤ (omega arith))
+  unfolding costBelow maxCost
+  cost-low l = cost-each S (λ c. negℤ (pos costBelow) ≤ℤ c) (leZ-yes tt) (ok .limits .costLow) l
 
   cost-high : (l : ℕ) → atZ (extended S .cost) l ≤ℤ pos costAbove
-  unfolding costAbove
-  cost-high l = let (c, e, h) = cost-of S l in rw e (pos-≤ (h maxCost (ok .limits .costHigh)))
+  unfolding costAbove maxCost
+  cost-high l = cost-each S (λ c. c ≤ℤ pos costAbove) (leZ-yes tt) (ok .limits .costHigh) l
 
   bags-of : total (S .supply) ≤ maxBags
   unfolding maxBags total roasteries

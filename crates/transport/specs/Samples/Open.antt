@@ -1,6 +1,6 @@
 -- `unfolding opened` opens every definition of the specification, to compute with.
 use mathlib.Core.List.{flatMap, flatten, zipWith}
-use Rattle.transport.specs.Lists.{all, keep, leastFrom, firstLeast, table, padded, below, grid, downTo, sumTo, sumZ, at, atZ, total, within}
+use Rattle.transport.specs.Lists.{all, keep, leastFrom, firstLeast, table, padded, below, grid, downTo, sumTo, sumZ, at, atZ, total, within, withinZ}
 use Rattle.transport.specs.Limits.{maxSources, maxSinks, maxSide, maxAmount, maxBags, maxCost, costBelow, costAbove, maxCells, maxDigits, maxText}
 use Rattle.transport.specs.Limits.{maxPlanText}
 use Rattle.transport.specs.Problem.{sources, sinks, lanes, place, laneCost}
@@ -17,22 +17,22 @@ use Rattle.transport.specs.Calls.{refusedBy, unless, lentAfter, tableauT
 use Rattle.transport.specs.Calls.{solutionFrom, solution, solveCall}
 use Rattle.transport.specs.Text.{bytes, kindOf, digitsUpTo, digits, wholeDigits, headLine, numberLine, rowLine}
 use Rattle.transport.specs.SheetText.{rowsOf, sheetText, writeSheetCall, _>>=_, _>>_, pure, times, byteThat, word, end, isDigit, digitValue, moreDigits}
-use Rattle.transport.specs.SheetText.{number, side, line, row, sheetReader, readWith, readTests, readSheetCall}
+use Rattle.transport.specs.SheetText.{numberFrom, number, minus, whole, side, line, row, sheetReader, readWith, readTests, readSheetCall}
 use Rattle.transport.specs.PlanText.{wholeLine, carried, used, laneLine, planText, writePlanCall, refusedLine, printed, fitting, shown}
 use Rattle.transport.specs.Answers.{startAnswer, startSays, prices, noPrices, roundAnswer, roundSays, runOutcome, runAnswer, runSays, settleAnswer}
 use Rattle.transport.specs.Answers.{settleSays, solveAnswer, solveSays, readAnswer, readSays, writeAnswer, writeSays}
 use Rattle.transport.specs.Statements.{scaled, loopSign, after}
 
 unfoldable pub opened : Unit {0}
-unfolding flatMap flatten zipWith all keep leastFrom firstLeast table padded below grid downTo sumTo sumZ at atZ total within maxSources maxSinks maxSide
-    maxAmount maxBags maxCost costBelow costAbove maxCells maxDigits maxText maxPlanText sources sinks lanes place laneCost roasteries cafes surplus wanted
-    costAt extended badSides badLength badAmount badCost lacking crowded numberTests sheetTests refusal eqZ nothing add subtract less same smaller addUp
-    pairedSupply pairedDemand basisSize laneOf withAmount basisOf sameLane noCell cellsOf tableauOf noTableau corner start onSheet inOrder aboveZero
+unfolding flatMap flatten zipWith all keep leastFrom firstLeast table padded below grid downTo sumTo sumZ at atZ total within withinZ maxSources maxSinks
+    maxSide maxAmount maxBags maxCost costBelow costAbove maxCells maxDigits maxText maxPlanText sources sinks lanes place laneCost roasteries cafes surplus
+    wanted costAt extended badSides badLength badAmount badCost lacking crowded numberTests sheetTests refusal eqZ nothing add subtract less same smaller
+    addUp pairedSupply pairedDemand basisSize laneOf withAmount basisOf sameLane noCell cellsOf tableauOf noTableau corner start onSheet inOrder aboveZero
     rowTotal columnTotal balanced touches strikeAt onlyOne firstLeaf strikeOff strikes spans cellsBelong belongs potentialBy potential sourcePrices
     sinkPrices reducedCost isFinished entering takeFrom flow sign leaving gain shift insert pivot next round run planCost rowPlans plansFor plans settled
     refusedBy unless lentAfter tableauTests tooShort startCall cafePrices roundCall runCall settleCall roundBound solutionFrom solution solveCall bytes
     kindOf digitsUpTo digits wholeDigits headLine numberLine rowLine rowsOf sheetText writeSheetCall _>>=_ _>>_ pure times byteThat word end isDigit
-    digitValue moreDigits number side line row sheetReader readWith readTests readSheetCall wholeLine carried used laneLine planText writePlanCall
-    refusedLine printed fitting shown startAnswer startSays prices noPrices roundAnswer roundSays runOutcome runAnswer runSays settleAnswer settleSays
-    solveAnswer solveSays readAnswer readSays writeAnswer writeSays scaled loopSign after
+    digitValue moreDigits numberFrom number minus whole side line row sheetReader readWith readTests readSheetCall wholeLine carried used laneLine planText
+    writePlanCall refusedLine printed fitting shown startAnswer startSays prices noPrices roundAnswer roundSays runOutcome runAnswer runSays settleAnswer
+    settleSays solveAnswer solveSays readAnswer readSays writeAnswer writeSays scaled loopSign after
 opened = tt

@@ -1,7 +1,11 @@
 -- The cost, and then the rounds in what is left of the output.
+use mathlib.Core.Path.{_≡_}
 use mathlib.Core.List.{[], _∷_}
 use native.Mathlib.Omega.{arith}
-use Rattle.transport.specs.Text.{bytes}
+use mir.Syntax.{w64}
+use mir.Val.{toZ, ofZ}
+use Rattle.transport.specs.Laws.RangeLaws.{back}
+use Rattle.transport.specs.Text.{bytes, digits, wholeDigits}
 use Rattle.sections.specs.Front.{FirstWritten, first-room, second-start, second-room, both-length, both-written}
 use Rattle.sections.specs.Lines.{sectionText}
 use Rattle.plan_lines.specs.Sections.{figuresText}
@@ -9,32 +13,43 @@ use borrow.Author.Needs.{needs}
 use Rattle.plan_lines.proofs.plan_sections.write_figures.Statement.{statement}
 use Rattle.plan_lines.proofs.plan_sections.write_figures.Tie as tie
 
+slice-aggregate-write-whole-section : tie.Need-slice-aggregate-write-whole-section
+slice-aggregate-write-whole-section c = search needs
+
+slice-aggregate-write-whole-section-2 : tie.Need-slice-aggregate-write-whole-section-2
+slice-aggregate-write-whole-section-2 c = search needs
+
+-- The cost is passed on as it is.
+as-it-is : (c : tie.After-struct-told) → toZ w64 (ofZ w64 (c .before .before .args .figures .total)) ≡ c .before .before .args .figures .total
+as-it-is c = back w64 (c .before .before .args .figures .total) (search needs)
+
+write-whole-section-requires : tie.Need-write-whole-section-requires
+unfolding figuresText bytes
+write-whole-section-requires c κs =
+    let t = c .before .before .before .before .before in (
+      omega arith,
+      rw (as-it-is (c .before .before .before)) (first-room (sectionText wholeDigits (bytes "total ") 1 1 (t .args .figures .total ∷ []))
+          (sectionText digits (bytes "rounds ") 1 1 (t .args .figures .rounds ∷ [])) (t .args .out .now) (t .pre)),
+    )
+
 slice-aggregate-write-section : tie.Need-slice-aggregate-write-section
 slice-aggregate-write-section c = search needs
 
 slice-aggregate-write-section-2 : tie.Need-slice-aggregate-write-section-2
 slice-aggregate-write-section-2 c = search needs
 
-write-section-requires : tie.Need-write-section-requires
+begun : (c : tie.After-write-whole-section) → let t = c .before .before .before .before .before .before in
+    FirstWritten (sectionText wholeDigits (bytes "total ") 1 1 (t .args .figures .total ∷ []))
+    (sectionText digits (bytes "rounds ") 1 1 (t .args .figures .rounds ∷ [])) (t .args .out .now)
+    (c .write-whole-section .last .1 .1 .1 .1 .0) (c .write-whole-section .result)
 unfolding figuresText bytes
-write-section-requires c κs =
-    let t = c .before .before .before .before in (
-      omega arith,
-      first-room (sectionText (bytes "total ") 1 1 (t .args .figures .total ∷ []))
-          (sectionText (bytes "rounds ") 1 1 (t .args .figures .rounds ∷ [])) (t .args .out .now) (t .pre),
-    )
-
-slice-aggregate-write-section-3 : tie.Need-slice-aggregate-write-section-3
-slice-aggregate-write-section-3 c = search needs
-
-slice-aggregate-write-section-4 : tie.Need-slice-aggregate-write-section-4
-slice-aggregate-write-section-4 c = search needs
-
-begun : (c : tie.After-write-section) → let t = c .before .before .before .before .before in
-    FirstWritten (sectionText (bytes "total ") 1 1 (t .args .figures .total ∷ [])) (sectionText (bytes "rounds ") 1 1 (t .args .figures .rounds ∷ []))
-    (t .args .out .now) (c .write-section .last .1 .1 .1 .1 .0) (c .write-section .result)
-unfolding figuresText bytes
-begun c = record { room = c .before .before .before .before .before .pre; ends = c .write-section .ensures .0; holds = c .write-section .ensures .1 }
+begun c =
+    let total = as-it-is (c .before .before .before .before) in
+    record {
+      room = c .before .before .before .before .before .before .pre;
+      ends = rw total at (c .write-whole-section .ensures .0);
+      holds = rw total at (c .write-whole-section .ensures .1);
+    }
 
 sub-write-section : tie.Need-sub-write-section
 sub-write-section c = second-start (begun (c .before .before .before .before))
@@ -45,15 +60,15 @@ part-write-section-start c = second-start (begun (c .before .before .before .bef
 part-write-section-end : tie.Need-part-write-section-end
 part-write-section-end c = search needs
 
-write-section-requires-2 : tie.Need-write-section-requires-2
+write-section-requires : tie.Need-write-section-requires
 unfolding figuresText bytes
-write-section-requires-2 c κs = (omega arith, second-room (begun (c .before .before .before .before .before)))
+write-section-requires c κs = (omega arith, second-room (begun (c .before .before .before .before .before)))
 
 add-result : tie.Need-add-result
 unfolding figuresText bytes
 add-result c =
     let b = begun (c .before .before .before .before .before .before .before .before) in
-    omega (arith, b .room, both-length b _ (c .before .before .write-section2 .ensures .0))
+    omega (arith, b .room, both-length b _ (c .before .before .write-section .ensures .0))
 
 same-length : tie.Need-same-length
 same-length c = search needs
@@ -62,22 +77,22 @@ returns : tie.Need-returns
 unfolding figuresText bytes
 returns c =
     let b = begun (c .before .before .before .before .before .before .before .before) in
-    let w = c .before .before .write-section2 in
+    let w = c .before .before .write-section in
     (both-length b _ (w .ensures .0), both-written b _ (w .ensures .1))
 
 pub write-figures-spec : {M : Type 1} → statement M
 write-figures-spec =
     tie.close
     (tie.spec
+    slice-aggregate-write-whole-section
+    slice-aggregate-write-whole-section-2
+    write-whole-section-requires
     slice-aggregate-write-section
     slice-aggregate-write-section-2
-    write-section-requires
-    slice-aggregate-write-section-3
-    slice-aggregate-write-section-4
     sub-write-section
     part-write-section-start
     part-write-section-end
-    write-section-requires-2
+    write-section-requires
     add-result
     same-length
     returns)

@@ -2,8 +2,7 @@
 use native.Mathlib.Omega.{arith}
 use Rattle.transport.specs.Text.{bytes}
 use Rattle.sections.specs.Front.{FirstWritten, first-room, second-start, second-room, both-length, both-written}
-use Rattle.sections.specs.Wholes.{wholeSection}
-use Rattle.plan_lines.specs.Sections.{pricesText}
+use Rattle.plan_lines.specs.Sections.{priceSection, pricesText}
 use borrow.Author.Needs.{needs}
 use Rattle.plan_lines.proofs.plan_sections.write_price_sections.Statement.{statement}
 use Rattle.plan_lines.proofs.plan_sections.write_price_sections.Tie as tie
@@ -15,14 +14,15 @@ write-whole-section-requires : tie.Need-write-whole-section-requires
 unfolding pricesText bytes
 write-whole-section-requires c κs =
     let t = c .before .before .before in
-    first-room (wholeSection (bytes "roasteries ") (t .args .u .now)) (wholeSection (bytes "cafes ") (t .args .v .now)) (t .args .out .now) (t .pre)
+    let first = priceSection (bytes "roasteries ") (t .args .u .now) in
+    (omega arith, first-room first (priceSection (bytes "cafes ") (t .args .v .now)) (t .args .out .now) (t .pre))
 
 slice-aggregate-write-whole-section-2 : tie.Need-slice-aggregate-write-whole-section-2
 slice-aggregate-write-whole-section-2 c = search needs
 
 begun : (c : tie.After-write-whole-section) → let t = c .before .before .before .before in
-    FirstWritten (wholeSection (bytes "roasteries ") (t .args .u .now)) (wholeSection (bytes "cafes ") (t .args .v .now)) (t .args .out .now)
-    (c .write-whole-section .last .1 .1 .0) (c .write-whole-section .result)
+    FirstWritten (priceSection (bytes "roasteries ") (t .args .u .now)) (priceSection (bytes "cafes ") (t .args .v .now)) (t .args .out .now)
+    (c .write-whole-section .last .1 .1 .1 .1 .0) (c .write-whole-section .result)
 unfolding pricesText bytes
 begun c = record { room = c .before .before .before .before .pre; ends = c .write-whole-section .ensures .0; holds = c .write-whole-section .ensures .1 }
 
@@ -37,7 +37,7 @@ part-write-whole-section-end c = search needs
 
 write-whole-section-requires-2 : tie.Need-write-whole-section-requires-2
 unfolding pricesText bytes
-write-whole-section-requires-2 c κs = second-room (begun (c .before .before .before .before))
+write-whole-section-requires-2 c κs = (omega arith, second-room (begun (c .before .before .before .before)))
 
 add-result : tie.Need-add-result
 unfolding pricesText bytes

@@ -8,7 +8,7 @@ use lib.ListN.{length, take, drop, length-drop}
 use lib.Seq.{length-take-le}
 use Rattle.transport.specs.Limits.{maxSources, maxSinks, maxText}
 use Rattle.transport.specs.Sheet.{sheetOf}
-use Rattle.transport.specs.Text.{bytes}
+use Rattle.transport.specs.Text.{bytes, digits}
 use Rattle.transport.specs.SheetText.{stuck, sheetReader}
 use Rattle.transport.specs.PlanText.{printed}
 use Rattle.sections.specs.Front.{front}
@@ -72,7 +72,7 @@ module _ (c : tie.After-answer) where
 -- A text that is no sheet text, with its place.
 the-place : (c : tie.After-answer2)
     → printed (c .before .before .before .before .before .before .before .before .before .before .before .before .before .args .input .now)
-    ≡ bytes "refused 9 " ++ ended (c .answer2 .given .0 .0) 10
+    ≡ bytes "refused 9 " ++ ended digits (c .answer2 .given .0 .0) 10
 the-place c =
     let t = c .before .before .before .before .before .before .before .before .before .before in
     let place = c .answer2 .given .0 .0 in

@@ -25,7 +25,7 @@ sheetAt t = sheetOf (t .args .supply .now) (t .args .demand .now) (t .args .cost
 
 returns : tie.Need-returns
 returns c =
-    let t = c .before .before .before .before .before .before .before .before .before .before .before .before in
+    let t = c .before .before .before .before .before .before .before .before .before .before .before in
     let w = c .before .before .before .before .before .before .write-plan in
     shown-short (sheetAt t) (t .args .out .now) (w .last .1 .1 .1 .0) (ap Refused (sym (c .if1 .taken)) ∙ sym (c .before .before .answer2 .given .1)
     ∙ w .ensures .0) (w .ensures .1)
@@ -44,7 +44,7 @@ same-length-2 c = search needs
 
 returns-2 : tie.Need-returns-2
 returns-2 c =
-    let t = c .before .before .before .before .before .before .before .before .before .before .before in
+    let t = c .before .before .before .before .before .before .before .before .before .before in
     let w = c .before .before .before .before .before .write-plan in
     shown-written (sheetAt t) (t .args .out .now) (w .last .1 .1 .1 .0) _ (sym (c .before .answer .given .1) ∙ w .ensures .0) (w .ensures .1)
 
@@ -54,7 +54,7 @@ same-length-3 c = search needs
 returns-3 : tie.Need-returns-3
 unfolding bytes
 returns-3 c =
-    let t = c .before .before .before .before .before .before .before .before .before .before .before .before .before .before .before .before .before in
+    let t = c .before .before .before .before .before .before .before .before .before .before .before .before .before .before .before .before in
     let w = c .before .before .before .before .before .before .before .before .before .before .before .write-plan in
     let e = shown-refused (sheetAt t) (t .args .out .now) (w .last .1 .1 .1 .0) _ (c .before .before .before .before .before .if1 .left)
     (sym (c .before .before .before .before .before .before .before .answer2 .given .1) ∙ w .ensures .0) (w .ensures .1) in

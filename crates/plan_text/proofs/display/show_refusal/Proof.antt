@@ -3,6 +3,7 @@ use mathlib.Core.Path.{refl, sym}
 use mathlib.Core.List.{_++_}
 use native.Mathlib.Omega.{arith}
 use lib.ListN.{length}
+use Rattle.transport.specs.Text.{digits}
 use Rattle.sections.specs.Front.{front-nil}
 use Rattle.sections.specs.Lines.{ended}
 use Rattle.plan_text.specs.Shown.{fitting-short, fitting-fits}
@@ -16,7 +17,7 @@ head-len-requires c κs = search needs
 returns : tie.Need-returns
 returns c =
     let a = c .before .before .before .before .args in
-    rw (fitting-short (length (a .out .now)) (a .words .now ++ ended (a .number) 10) (omega (arith, c .before .head-len .ensures))) (
+    rw (fitting-short (length (a .out .now)) (a .words .now ++ ended digits (a .number) 10) (omega (arith, c .before .head-len .ensures))) (
       refl,
       sym (front-nil (a .out .now)),
     )
@@ -30,7 +31,7 @@ same-length c = search needs
 returns-2 : tie.Need-returns-2
 returns-2 c =
     let a = c .before .before .before .before .before .before .before .before .args in
-    rw (fitting-fits (length (a .out .now)) (a .words .now ++ ended (a .number) 10)
+    rw (fitting-fits (length (a .out .now)) (a .words .now ++ ended digits (a .number) 10)
     (omega (arith, c .before .before .before .before .before .head-len .ensures))) (c .before .before .write-head .ensures)
 
 pub show-refusal-spec : {M : Type 1} → statement M

@@ -4,8 +4,12 @@ use mathlib.Core.List.{List}
 use Prim.Native.Nat.{ℕ, _*_, _/_, _≤_}
 use native.Mathlib.Omega.{arith}
 use native.Mathlib.Nat.{mul-le-mul}
+use lib.IntN.{ℤ}
 use lib.ListN.{length, take}
 use lib.Seq.{length-take-le}
+use mir.Syntax.{w64}
+use mir.Val.{toZ, ofZ}
+use Rattle.transport.specs.Laws.RangeLaws.{back}
 use Rattle.transport.specs.Limits.{maxSources, maxSinks, maxSide}
 use Rattle.transport.specs.Sheet.{Sheet, roasteries, cafes, sheetOf}
 use Rattle.transport.specs.Laws.SheetLaws.{accepted}
@@ -41,36 +45,49 @@ enum-known-answer-2 c = search needs
 abbrev sheetAt : (t : tie.Start) → Sheet
 sheetAt t = sheetOf (t .args .supply .now) (t .args .demand .now) (t .args .cost .now)
 
+-- From the answer of solve that was matched to the call and to the start, and to it from the list of the lanes.
+abbrev solveOf : tie.After-answer2 → tie.After-solve
+solveOf c = c .before .before .before .before .before
+
+abbrev startOf : tie.After-answer2 → tie.Start
+startOf c = solveOf c .before .before .before .before .before .before .before
+
+abbrev answerOf : tie.After-used-lanes → tie.After-answer2
+answerOf c = c .before .before .before .before
+
 -- What solve found.
 module _ (c : tie.After-answer2) where
-  abbrev total : ℕ
+  abbrev total : ℤ
   total = c .answer2 .given .0 .0
 
   abbrev made : ℕ
   made = c .answer2 .given .0 .1 .0
 
-  plan-found : FoundPlan (sheetAt (c .before .before .before .before .before .before .before .before .before .before .before .before .before)) total made
-      (c .before .before .before .before .before .solve .last .1 .1 .1 .0) (c .before .before .before .before .before .solve .last .1 .1 .1 .1 .0)
-      (c .before .before .before .before .before .solve .last .1 .1 .1 .1 .1 .0)
+  plan-found : FoundPlan (sheetAt (startOf c)) total made (solveOf c .solve .last .1 .1 .1 .0) (solveOf c .solve .last .1 .1 .1 .1 .0)
+      (solveOf c .solve .last .1 .1 .1 .1 .1 .0)
   unfolding maxSide
   plan-found =
-      let e = c .before .before .before .before .before .solve .ensures in
+      let e = solveOf c .solve .ensures in
       found _ _ _ (sym (c .answer2 .given .1) ∙ e .0) (e .1) (e .2) (e .3)
 
-  ok : Accepted (sheetAt (c .before .before .before .before .before .before .before .before .before .before .before .before .before))
-  ok = accepted (sheetAt (c .before .before .before .before .before .before .before .before .before .before .before .before .before)) (plan-found .passes)
+  ok : Accepted (sheetAt (startOf c))
+  ok = accepted (sheetAt (startOf c)) (plan-found .passes)
 
-  m-few : length (c .before .before .before .before .before .before .before .before .before .before .before .before .before .args .supply .now) ≤ 32
+  m-few : length (startOf c .args .supply .now) ≤ 32
   unfolding roasteries maxSources
   m-few = ok .limits .roasteriesHigh
 
-  n-few : length (c .before .before .before .before .before .before .before .before .before .before .before .before .before .args .demand .now) ≤ 32
+  n-few : length (startOf c .args .demand .now) ≤ 32
   unfolding cafes maxSinks
   n-few = ok .limits .cafesHigh
 
-  n-some : 1 ≤ length (c .before .before .before .before .before .before .before .before .before .before .before .before .before .args .demand .now)
+  n-some : 1 ≤ length (startOf c .args .demand .now)
   unfolding cafes
   n-some = ok .limits .cafesLow
+
+-- The total is passed on as it is.
+total-kept : (c : tie.After-known-told2) → toZ w64 (ofZ w64 (total (c .before))) ≡ total (c .before)
+total-kept c = back w64 (total (c .before)) (search needs)
 
 -- The next needs hold whatever two sides the count of lanes is made of, so that a program that leaves out lanes is refused by the contract.
 mul-lanes : tie.Need-mul-lanes
@@ -117,33 +134,27 @@ module _ (c : tie.After-used-lanes) where
   numbers-few = omega (arith, c .used-lanes .ensures .2, slice-aggregate-used-lanes (c .before .before), array-share-prefix-plan (c .before .before .before))
 
   abbrev plan : List ℕ
-  plan = take (length (c .before .before .before .before .before .before .before .before .before .before .before .before .before .before .before .before
-      .before .args .supply .now) * length (c .before .before .before .before .before .before .before .before .before .before .before .before .before .before
-      .before .before .before .args .demand .now)) (c .before .before .before .before .before .before .before .before .before .solve .last .1 .1 .1 .1 .1 .0)
+  plan = take (length (startOf (answerOf c) .args .supply .now) * length (startOf (answerOf c) .args .demand .now))
+      (solveOf (answerOf c) .solve .last .1 .1 .1 .1 .1 .0)
 
   abbrev numbers : List ℕ
-  numbers = usedNumbers (length (c .before .before .before .before .before .before .before .before .before .before .before .before .before .before .before
-      .before .before .args .demand .now)) plan (length plan)
+  numbers = usedNumbers (length (startOf (answerOf c) .args .demand .now)) plan (length plan)
 
   -- If the list holds the numbers of the lanes that carry a bag, the sections are the plan text.
   the-text : (old : List ℕ) → c .used-lanes .result ≡ length numbers → c .used-lanes .last .1 .1 .0 ≡ front numbers old
-      → planText (sheetAt (c .before .before .before .before .before .before .before .before .before .before .before .before .before .before .before .before
-      .before))
+      → planText (sheetAt (startOf (answerOf c)))
       ≡ planSections (record {
-        total = total (c .before .before .before .before);
-        rounds = made (c .before .before .before .before);
-        used =
-            c .used-lanes .result / 3;
+        total = toZ w64 (ofZ w64 (total (answerOf c)));
+        rounds = made (answerOf c);
+        used = c .used-lanes .result / 3;
       })
-      (take (length (c .before .before .before .before .before .before .before .before .before .before .before .before .before .before .before .before .before
-      .args .supply .now)) (c .before .before .before .before .before .before .before .before .before .solve .last .1 .1 .1 .0))
-      (take (length (c .before .before .before .before .before .before .before .before .before .before .before .before .before .before .before .before .before
-      .args .demand .now)) (c .before .before .before .before .before .before .before .before .before .solve .last .1 .1 .1 .1 .0))
+      (take (length (startOf (answerOf c) .args .supply .now)) (solveOf (answerOf c) .solve .last .1 .1 .1 .0))
+      (take (length (startOf (answerOf c) .args .demand .now)) (solveOf (answerOf c) .solve .last .1 .1 .1 .1 .0))
       (take (c .used-lanes .result) (c .used-lanes .last .1 .1 .0))
   unfolding roasteries cafes
   the-text old count holds =
-      let list : take (c .used-lanes .result) (c .used-lanes .last .1 .1 .0) ≡ numbers = rw holds (front-take numbers old (c .used-lanes .result) count) in
-      found-sections (plan-found (c .before .before .before .before)) ∙ (rw (list, count))
+      let list = ap (take (c .used-lanes .result)) holds ∙ front-take numbers old (c .used-lanes .result) count in
+      found-sections (plan-found (answerOf c)) _ _ _ (total-kept (c .before .before .before)) count list
 
 array-share-prefix-numbers : tie.Need-array-share-prefix-numbers
 array-share-prefix-numbers c = omega (arith, numbers-few (c .before .before .before))
@@ -168,10 +179,10 @@ returns : tie.Need-returns
 unfolding writePlanCall
 returns c =
     let t = c .before .before .before .before .before .before .before .before .before .before .before .before .before .before .before .before .before .before
-    .before .before .before .before .before in
+    .before .before .before .before in
     let u = c .before .before .before .before .before .before in
     let l = u .used-lanes in
-    wrote-short (sheetAt t) (planText (sheetAt t)) (t .args .out .now) (plan-found (u .before .before .before .before) .passes)
+    wrote-short (sheetAt t) (planText (sheetAt t)) (t .args .out .now) (plan-found (answerOf u) .passes)
     (omega (arith, c .before .plan-sections-len .ensures, ap length (the-text u _ (l .ensures .0) (l .ensures .1))))
 
 array-share-prefix-u-2 : tie.Need-array-share-prefix-u-2
@@ -198,7 +209,7 @@ write-plan-sections-requires c κs = search needs
 returns-2 : tie.Need-returns-2
 unfolding writePlanCall maxSide
 returns-2 c =
-    let t = c .before .before .before .before .before .before .before .before .before .before .before .before .before .before in
+    let t = c .before .before .before .before .before .before .before .before .before .before .before .before .before in
     wrote-check (sheetAt t) (planText (sheetAt t)) (t .args .out .now) _
     (refused-check (sheetAt t) _ (sym (c .before .answer .given .1) ∙ c .before .before .before .before .before .before .solve .ensures .0))
 
@@ -209,12 +220,12 @@ returns-3 : tie.Need-returns-3
 unfolding writePlanCall
 returns-3 c =
     let t = c .before .before .before .before .before .before .before .before .before .before .before .before .before .before .before .before .before .before
-    .before .before .before .before .before .before .before .before .before .before .before .before in
+    .before .before .before .before .before .before .before .before .before .before .before in
     let u = c .before .before .before .before .before .before .before .before .before .before .before .before .before in
     let w = c .before .before .write-plan-sections in
     let text = the-text u _ (u .used-lanes .ensures .0) (u .used-lanes .ensures .1) in
     rw (w .ensures .0, w .ensures .1, ← text)
-    (wrote-given (sheetAt t) (planText (sheetAt t)) (t .args .out .now) (plan-found (u .before .before .before .before) .passes)
+    (wrote-given (sheetAt t) (planText (sheetAt t)) (t .args .out .now) (plan-found (answerOf u) .passes)
     (omega (
       arith,
       c .before .before .before .before .before .before .before .before .plan-sections-len .ensures,

@@ -1,18 +1,19 @@
 -- `pricing::costs::spread_costs` meets its contract. The loops' invariants: the rows before i are filled in, and of row i the columns before j.
-use Prim.Native.Nat.{_+_, _-_, _*_, _≤_, _<_}
+use Prim.Native.Nat.{ℕ, _+_, _-_, _*_, _≤_, _<_, _^_}
 use native.Mathlib.Omega.{arith}
 use borrow.Author.Needs.{needs}
 use native.Mathlib.Nat.{mul-le-mul-right}
 use mathlib.Core.Path.{_≡_, refl}
 use mathlib.Core.List.{List}
-use lib.IntN.{ℤ}
-use lib.ListN.{length}
-use mir.Syntax.{w32}
-use mir.Facts.{toZ-pos}
-use Rattle.transport.specs.Lists.{at}
+use lib.IntN.{ℤ, pos, natAbs}
+use lib.ListN.{length, getD}
+use mir.Syntax.{w32, w64}
+use mir.Facts.{toZ-ofZ}
+use Rattle.transport.specs.Lists.{atZ}
 use Rattle.transport.specs.Limits.{maxCost}
 use Rattle.transport.specs.Problem.{place}
 use Rattle.transport.specs.Laws.ProblemLaws.{place-below}
+use Rattle.transport.specs.Laws.RangeLaws.{abs-fits, back}
 use Rattle.tree.specs.Layout.{stride, laneRoom}
 use Rattle.pricing.specs.Costs.{Part, part-none, part-one, part-row, part-all}
 use Rattle.pricing.proofs.costs.spread_costs.Statement.{statement}
@@ -52,23 +53,32 @@ inside c =
     let size : m * n ≤ stride * n = mul-le-mul-right n (s .pre .0) in
     (omega (arith, place-below m n (turn (c .before) .loop .i) (c .before .loop2 .j) (omega arith) (omega arith)), omega arith)
 
+-- The cost that is stored, and its size.
+module _ (l : tie.At-loop2 Inv-loop2 μ-loop2 Inv-loop μ-loop) where
+  abbrev laneHere : ℕ
+  laneHere = turn l .loop .i * turn l .before .before .args .n + l .loop2 .j
+
+  abbrev costHere : ℤ
+  costHere = getD (turn l .before .before .args .cost .now) laneHere (pos 0)
+
+  small : natAbs costHere < 2 ^ 31
+  unfolding atZ maxCost
+  small = omega (arith, turn l .before .before .pre .3 laneHere)
+
 cast-out : tie.Need-cast-out Inv-loop2 μ-loop2 Inv-loop μ-loop
-unfolding at maxCost
-cast-out c =
-    let l = c .before .before in
-    let s = turn l .before .before in
-    omega (arith, s .pre .3 (turn l .loop .i * s .args .n + l .loop2 .j))
+cast-out c = let l = c .before .before in rw (back w64 (costHere l) (search needs)) (abs-fits w32 (costHere l) (small l))
 
 loop2-again : tie.Need-loop2-again Inv-loop2 μ-loop2 Inv-loop μ-loop
-unfolding at place
+unfolding atZ place
 loop2-again c =
     let l = c .before .before .loop2 in
     let i = turn (c .before .before) .loop .i in
     let s = turn (c .before .before) .before .before in
-    let small = s .pre .3 (i * s .args .n + l .j) in (
+    let x = costHere (c .before .before) in (
       omega arith,
-      λ before p. rw (toZ-pos w32 (cast-out c .sfits))
-          (part-one (s .args .cost .now) (s .args .n) before i (l .j) (l .out) (l .inv .1 before p) (s .pre .1) (omega arith) (omega arith) small),
+      λ before p. rw (back w64 x (search needs), toZ-ofZ {w = w32} (abs-fits w32 x (small (c .before .before))))
+          (part-one (s .args .cost .now) (s .args .n) before i (l .j) (l .out) (l .inv .1 before p) (s .pre .1) (omega arith) (omega arith)
+          (s .pre .3 (laneHere (c .before .before)))),
     )
 
 loop-again : tie.Need-loop-again Inv-loop2 μ-loop2 Inv-loop μ-loop
@@ -98,7 +108,7 @@ spread-costs-spec =
     (λ c. omega (arith, inside c))
     (λ c. omega (arith, inside c))
     (λ c. omega (arith, inside c))
-    (λ c. omega (arith, inside (c .before)))
+    (λ c. omega (arith, inside c))
     cast-out
     (λ c. search needs)
     (λ c. search needs)

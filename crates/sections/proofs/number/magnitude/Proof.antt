@@ -5,7 +5,9 @@ use Prim.Native.Nat.{_<_, _^_}
 use native.Mathlib.Omega.{arith}
 use lib.IntN.{pos}
 use lib.Signed.{ltZ, mag}
-use Rattle.sections.specs.Whole.{bits-back, turned-fits, turned-back, magnitude-le, magnitude-pos, not-negative}
+use mir.Syntax.{w64}
+use Rattle.transport.specs.Laws.RangeLaws.{back}
+use Rattle.sections.specs.Whole.{turned-fits, turned-back, magnitude-le, magnitude-pos, not-negative}
 use borrow.Author.Needs.{needs}
 use Rattle.sections.proofs.number.magnitude.Statement.{statement}
 use Rattle.sections.proofs.number.magnitude.Tie as tie
@@ -14,7 +16,7 @@ in-range : (c : tie.Start) → mag (c .args .z) < 2 ^ 63
 in-range c = search needs
 
 negative : (c : tie.Then1) → ltZ (c .before .args .z) (pos 0) ≡ true
-negative c = rw (bits-back (c .before .args .z) (in-range (c .before))) at (c .if1 .taken)
+negative c = rw (back w64 (c .before .args .z) (in-range (c .before))) at (c .if1 .taken)
 
 sub-result : tie.Need-sub-result
 sub-result c = turned-fits (c .before .args .z) (in-range (c .before)) (negative c)
@@ -33,7 +35,7 @@ cast-result-2 : tie.Need-cast-result-2
 cast-result-2 c =
     let z = c .before .args .z in
     let p = in-range (c .before) in
-    rw (bits-back z p) (not-negative z (rw (bits-back z p) at (c .if1 .left)), omega (arith, magnitude-le z p))
+    rw (back w64 z p) (not-negative z (rw (back w64 z p) at (c .if1 .left)), omega (arith, magnitude-le z p))
 
 returns : tie.Need-returns
 returns c =

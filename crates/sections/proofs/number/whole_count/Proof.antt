@@ -6,9 +6,11 @@ use native.Mathlib.Omega.{arith}
 use lib.IntN.{pos, natAbs}
 use lib.ListN.{length}
 use lib.Signed.{ltZ, mag}
+use mir.Syntax.{w64}
+use Rattle.transport.specs.Laws.RangeLaws.{back}
 use Rattle.transport.specs.Text.{digits}
 use Rattle.grammar.specs.Digits.{digits-length}
-use Rattle.sections.specs.Whole.{bits-back, magnitude-le, whole-negative, whole-positive}
+use Rattle.sections.specs.Whole.{magnitude-le, whole-negative, whole-positive}
 use borrow.Author.Needs.{needs}
 use Rattle.sections.proofs.number.whole_count.Statement.{statement}
 use Rattle.sections.proofs.number.whole_count.Tie as tie
@@ -23,7 +25,7 @@ in-range : (c : tie.Start) → mag (c .args .z) < 2 ^ 63
 in-range c = search needs
 
 sized : (c : tie.After-magnitude) → c .magnitude .result ≡ natAbs (c .before .args .z)
-sized c = rw (bits-back (c .before .args .z) (in-range (c .before))) at (c .magnitude .ensures)
+sized c = rw (back w64 (c .before .args .z) (in-range (c .before))) at (c .magnitude .ensures)
 
 counted : (c : tie.After-digit-count) → c .digit-count .result ≡ length (digits (natAbs (c .before .before .args .z)))
 counted c = c .digit-count .ensures ∙ (rw (sized (c .before)))
@@ -40,13 +42,13 @@ add-result c =
 returns : tie.Need-returns
 returns c =
     let z = c .before .before .before .args .z in
-    let h : ltZ z (pos 0) ≡ true = rw (bits-back z (in-range (c .before .before .before))) at (c .if1 .taken) in
+    let h : ltZ z (pos 0) ≡ true = rw (back w64 z (in-range (c .before .before .before))) at (c .if1 .taken) in
     omega (arith, counted (c .before), ap length (whole-negative z h))
 
 returns-2 : tie.Need-returns-2
 returns-2 c =
     let z = c .before .before .before .args .z in
-    let h : ltZ z (pos 0) ≡ false = rw (bits-back z (in-range (c .before .before .before))) at (c .if1 .left) in
+    let h : ltZ z (pos 0) ≡ false = rw (back w64 z (in-range (c .before .before .before))) at (c .if1 .left) in
     counted (c .before) ∙ sym (ap length (whole-positive z h))
 
 pub whole-count-spec : {M : Type 1} → statement M

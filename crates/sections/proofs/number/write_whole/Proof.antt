@@ -7,9 +7,11 @@ use lib.IntN.{natAbs}
 use borrow.Rule.Slice.PartMut.{same-len-mid}
 use lib.ListN.{length, length-set, length-take, length-drop}
 use lib.Signed.{mag}
+use mir.Syntax.{w64}
+use Rattle.transport.specs.Laws.RangeLaws.{back}
 use Rattle.transport.specs.Text.{digits, wholeDigits}
 use Rattle.sections.specs.Front.{front-first, front-then}
-use Rattle.sections.specs.Whole.{bits-back, whole-negative, whole-positive}
+use Rattle.sections.specs.Whole.{whole-negative, whole-positive}
 use borrow.Author.Needs.{needs}
 use Rattle.sections.proofs.number.write_whole.Statement.{statement}
 use Rattle.sections.proofs.number.write_whole.Tie as tie
@@ -18,17 +20,17 @@ in-range : (c : tie.Start) → mag (c .args .z) < 2 ^ 63
 in-range c = search needs
 
 sized : (c : tie.After-magnitude) → c .magnitude .result ≡ natAbs (c .before .before .args .z)
-sized c = rw (bits-back (c .before .before .args .z) (in-range (c .before .before))) at (c .magnitude .ensures)
+sized c = rw (back w64 (c .before .before .args .z) (in-range (c .before .before))) at (c .magnitude .ensures)
 
 negative : (c : tie.Then1) → wholeDigits (c .before .before .before .args .z) ≡ 45 ∷ digits (c .before .magnitude .result)
 negative c =
     let z = c .before .before .before .args .z in
-    whole-negative z (rw (bits-back z (in-range (c .before .before .before))) at (c .if1 .taken)) ∙ (rw (sized (c .before)))
+    whole-negative z (rw (back w64 z (in-range (c .before .before .before))) at (c .if1 .taken)) ∙ (rw (sized (c .before)))
 
 positive : (c : tie.Else1) → wholeDigits (c .before .before .before .args .z) ≡ digits (c .before .magnitude .result)
 positive c =
     let z = c .before .before .before .args .z in
-    whole-positive z (rw (bits-back z (in-range (c .before .before .before))) at (c .if1 .left)) ∙ (rw (sized (c .before)))
+    whole-positive z (rw (back w64 z (in-range (c .before .before .before))) at (c .if1 .left)) ∙ (rw (sized (c .before)))
 
 room : (c : tie.Then1) → length (digits (c .before .magnitude .result)) + 1 ≤ length (c .before .before .before .args .out .now)
 room c = omega (arith, ap length (negative c))

@@ -2,6 +2,7 @@
 use Prim.Native.Nat.{_≤_}
 use native.Mathlib.Omega.{arith}
 use lib.ListN.{length-append}
+use Rattle.transport.specs.Text.{digits}
 use Rattle.grammar.specs.Digits.{digits-length}
 use Rattle.sections.specs.Lines.{ended, length-ended}
 use borrow.Author.Needs.{needs}
@@ -23,7 +24,7 @@ add-result-2 c = omega (arith, few c)
 returns : tie.Need-returns
 returns c =
     let t = c .before .before .args in
-    omega (arith, few c, c .digit-count .ensures, length-append (t .name .now) (ended (t .count) 10), length-ended (t .count) 10)
+    omega (arith, few c, c .digit-count .ensures, length-append (t .name .now) (ended digits (t .count) 10), length-ended digits (t .count) 10)
 
 pub head-len-spec : {M : Type 1} → statement M
 head-len-spec = tie.close (tie.spec digit-count-requires add-result add-result-2 returns)

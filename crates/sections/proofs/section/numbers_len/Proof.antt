@@ -4,13 +4,14 @@ use mathlib.Core.Path.{_≡_}
 use Prim.Native.Nat.{_≤_, _+_, _-_, _*_}
 use native.Mathlib.Omega.{arith}
 use lib.ListN.{length, drop, getD}
+use Rattle.transport.specs.Text.{digits}
 use Rattle.grammar.specs.Digits.{digits-length}
 use Rattle.sections.specs.Lines.{numbersLength, numbers-next, numbers-end}
 use Rattle.sections.proofs.section.numbers_len.Statement.{statement}
 use Rattle.sections.proofs.section.numbers_len.Tie as tie
 
 abbrev Inv-loop : tie.InvT-loop
-Inv-loop numbers len₀ i₀ len i = (i ≤ length numbers) × (len ≤ i * 21) × (len + numbersLength (drop i numbers) ≡ numbersLength numbers)
+Inv-loop numbers len₀ i₀ len i = (i ≤ length numbers) × (len ≤ i * 21) × (len + numbersLength digits (drop i numbers) ≡ numbersLength digits numbers)
 
 abbrev μ-loop : tie.MeasureT-loop
 μ-loop numbers len₀ i₀ len i = length numbers - i
@@ -49,11 +50,11 @@ loop-again c = omega (
   arith,
   few c,
   c .digit-count .ensures,
-  numbers-next (c .before .before .before .before .before .args .numbers .now) (c .before .before .before .loop .i) (omega arith),
+  numbers-next digits (c .before .before .before .before .before .args .numbers .now) (c .before .before .before .loop .i) 0 (omega arith),
 )
 
 returns : tie.Need-returns Inv-loop μ-loop
-returns c = omega (arith, numbers-end (c .before .before .before .args .numbers .now) (c .before .loop .i) (omega arith))
+returns c = omega (arith, numbers-end digits (c .before .before .before .args .numbers .now) (c .before .loop .i) (omega arith))
 
 pub numbers-len-spec : {M : Type 1} → statement M
 numbers-len-spec =

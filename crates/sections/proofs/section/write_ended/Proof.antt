@@ -10,14 +10,14 @@ use Rattle.sections.proofs.section.write_ended.Statement.{statement}
 use Rattle.sections.proofs.section.write_ended.Tie as tie
 
 write-number-requires : tie.Need-write-number-requires
-write-number-requires c κs = omega (arith, c .before .before .pre, length-ended (c .before .before .args .n) (c .before .before .args .end))
+write-number-requires c κs = omega (arith, c .before .before .pre, length-ended digits (c .before .before .args .n) (c .before .before .args .end))
 
 room : (c : tie.After-slice-known2) → length (digits (c .before .before .before .before .before .args .n))
     < length (c .before .before .before .before .before .args .out .now)
 room c = omega (
   arith,
   c .before .before .before .before .before .pre,
-  length-ended (c .before .before .before .before .before .args .n) (c .before .before .before .before .before .args .end),
+  length-ended digits (c .before .before .before .before .before .args .n) (c .before .before .before .before .before .args .end),
 )
 
 slice-write-out : tie.Need-slice-write-out
@@ -34,7 +34,7 @@ unfolding ended
 returns c =
     let a = c .before .before .before .before .before .args in
     let w = c .before .before .write-number in (
-      omega (arith, w .ensures .0, length-ended (a .n) (a .end)),
+      omega (arith, w .ensures .0, length-ended digits (a .n) (a .end)),
       rw (w .ensures .1) (front-byte (digits (a .n)) (a .out .now) (w .result) (a .end) (w .ensures .0) (room c)),
     )
 

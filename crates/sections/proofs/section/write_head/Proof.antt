@@ -1,5 +1,6 @@
 -- The name, and then the count in what is left of the output.
 use native.Mathlib.Omega.{arith}
+use Rattle.transport.specs.Text.{digits}
 use Rattle.sections.specs.Front.{FirstWritten, first-room, second-start, second-room, both-length, both-written}
 use Rattle.sections.specs.Lines.{ended}
 use borrow.Author.Needs.{needs}
@@ -9,10 +10,10 @@ use Rattle.sections.proofs.section.write_head.Tie as tie
 write-bytes-requires : tie.Need-write-bytes-requires
 write-bytes-requires c κs =
     let t = c .before .before .before in
-    first-room (t .args .name .now) (ended (t .args .count) 10) (t .args .out .now) (t .pre)
+    first-room (t .args .name .now) (ended digits (t .args .count) 10) (t .args .out .now) (t .pre)
 
 begun : (c : tie.After-write-bytes) → let t = c .before .before .before .before in
-    FirstWritten (t .args .name .now) (ended (t .args .count) 10) (t .args .out .now) (c .write-bytes .last .1 .0) (c .write-bytes .result)
+    FirstWritten (t .args .name .now) (ended digits (t .args .count) 10) (t .args .out .now) (c .write-bytes .last .1 .0) (c .write-bytes .result)
 begun c = record { room = c .before .before .before .before .pre; ends = c .write-bytes .ensures .0; holds = c .write-bytes .ensures .1 }
 
 sub-write-ended : tie.Need-sub-write-ended

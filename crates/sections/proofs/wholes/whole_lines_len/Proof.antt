@@ -1,29 +1,27 @@
--- The loop's invariant: the length of the lines so far; no number has more than 20 bytes.
+-- The loop's invariant: the length so far and that of the numbers left make up the whole; no number has more than 20 bytes.
 use borrow.Author.Needs.{needs}
-use mathlib.Core.Path.{_≡_, refl, ap, _∙_}
-use mathlib.Core.List.{flatMap}
-use Prim.Native.Nat.{_≤_, _*_, _-_}
+use mathlib.Core.Path.{_≡_}
+use Prim.Native.Nat.{_≤_, _+_, _-_, _*_}
 use native.Mathlib.Omega.{arith}
 use lib.IntN.{pos}
-use lib.ListN.{length, take, getD, length-append}
-use Rattle.transport.specs.Limits.{maxSide}
+use lib.ListN.{length, drop, getD}
+use mir.Syntax.{w64}
+use Rattle.transport.specs.Laws.RangeLaws.{back}
 use Rattle.transport.specs.Text.{wholeDigits}
-use Rattle.transport.specs.PlanText.{wholeLine}
-use Rattle.sections.specs.Front.{pieces-next, pieces-end}
-use Rattle.sections.specs.Whole.{bits-back}
-use Rattle.sections.specs.Wholes.{length-whole-line, whole-few}
+use Rattle.sections.specs.Lines.{numbersLength, numbers-next, numbers-end}
+use Rattle.sections.specs.Whole.{whole-few}
 use Rattle.sections.proofs.wholes.whole_lines_len.Statement.{statement}
 use Rattle.sections.proofs.wholes.whole_lines_len.Tie as tie
 
 abbrev Inv-loop : tie.InvT-loop
-Inv-loop wholes len₀ i₀ len i = (i ≤ length wholes) × (len ≤ i * 21) × (len ≡ length (flatMap wholeLine (take i wholes)))
+Inv-loop wholes len₀ i₀ len i =
+    (i ≤ length wholes) × (len ≤ i * 21) × (len + numbersLength wholeDigits (drop i wholes) ≡ numbersLength wholeDigits wholes)
 
 abbrev μ-loop : tie.MeasureT-loop
 μ-loop wholes len₀ i₀ len i = length wholes - i
 
 loop-holds : tie.Need-loop-holds Inv-loop μ-loop
-unfolding flatMap
-loop-holds c = (omega arith, omega arith, refl)
+loop-holds c = omega arith
 
 mul-whole-count : tie.Need-mul-whole-count Inv-loop μ-loop
 mul-whole-count c = search needs
@@ -37,7 +35,7 @@ whole-count-requires c κs = search needs
 -- The count is that of the number in the list.
 counted : (c : tie.After-whole-count Inv-loop μ-loop) → c .whole-count .result
     ≡ length (wholeDigits (getD (c .before .before .before .before .args .wholes .now) (c .before .before .before .loop .i) (pos 0)))
-counted c = rw (bits-back (getD (c .before .before .before .before .args .wholes .now) (c .before .before .before .loop .i) (pos 0)) (search needs)) at
+counted c = rw (back w64 (getD (c .before .before .before .before .args .wholes .now) (c .before .before .before .loop .i) (pos 0)) (search needs)) at
     (c .whole-count .ensures)
 
 few : (c : tie.After-whole-count Inv-loop μ-loop) → c .whole-count .result ≤ 20
@@ -51,7 +49,6 @@ add-len : tie.Need-add-len Inv-loop μ-loop
 add-len c = omega (arith, few c)
 
 add-len-2 : tie.Need-add-len-2 Inv-loop μ-loop
-unfolding maxSide
 add-len-2 c = omega (arith, few c)
 
 add-i : tie.Need-add-i Inv-loop μ-loop
@@ -61,19 +58,15 @@ loop-less : tie.Need-loop-less Inv-loop μ-loop
 loop-less c = search needs
 
 loop-again : tie.Need-loop-again Inv-loop μ-loop
-loop-again c =
-    let xs = c .before .before .before .before .args .wholes .now in
-    let l = c .before .before .before .loop in
-    let z = getD xs (l .i) (pos 0) in
-    rw (pieces-next wholeLine xs (l .i) (pos 0) (omega arith))
-    (omega arith, omega (arith, few c), omega (arith, counted c, length-whole-line z, length-append (flatMap wholeLine (take (l .i) xs)) (wholeLine z)))
+loop-again c = omega (
+  arith,
+  few c,
+  counted c,
+  numbers-next wholeDigits (c .before .before .before .before .args .wholes .now) (c .before .before .before .loop .i) (pos 0) (omega arith),
+)
 
 returns : tie.Need-returns Inv-loop μ-loop
-unfolding maxSide
-returns c =
-    let l = c .before .loop in
-    let e = pieces-end wholeLine (c .before .before .args .wholes .now) (l .i) (omega arith) in
-    (l .inv .2 ∙ ap length e, omega (arith, c .before .before .pre))
+returns c = omega (arith, numbers-end wholeDigits (c .before .before .args .wholes .now) (c .before .loop .i) (omega arith))
 
 pub whole-lines-len-spec : {M : Type 1} → statement M
 whole-lines-len-spec =

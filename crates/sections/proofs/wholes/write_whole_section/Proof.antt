@@ -1,26 +1,25 @@
 -- The head line, and then the lines in what is left of the output.
-use mathlib.Core.List.{_++_, flatMap}
+use mathlib.Core.List.{_++_}
 use native.Mathlib.Omega.{arith}
-use lib.ListN.{length}
-use Rattle.transport.specs.PlanText.{wholeLine}
+use Rattle.transport.specs.Text.{digits, wholeDigits}
 use Rattle.sections.specs.Front.{FirstWritten, first-room, second-start, second-room, both-length, both-written}
-use Rattle.sections.specs.Lines.{ended}
-use Rattle.sections.specs.Wholes.{wholeSection}
+use Rattle.sections.specs.Lines.{ended, linesFrom, sectionText}
 use borrow.Author.Needs.{needs}
 use Rattle.sections.proofs.wholes.write_whole_section.Statement.{statement}
 use Rattle.sections.proofs.wholes.write_whole_section.Tie as tie
 
 write-head-requires : tie.Need-write-head-requires
-unfolding wholeSection
+unfolding sectionText
 write-head-requires c κs =
     let t = c .before .before .before in
-    first-room (t .args .name .now ++ ended (length (t .args .wholes .now)) 10) (flatMap wholeLine (t .args .wholes .now)) (t .args .out .now) (t .pre)
+    first-room (t .args .name .now ++ ended digits (t .args .count) 10)
+    (linesFrom wholeDigits (t .args .width) (t .args .width) (t .args .wholes .now)) (t .args .out .now) (t .pre .1)
 
 begun : (c : tie.After-write-head) → let t = c .before .before .before .before in
-    FirstWritten (t .args .name .now ++ ended (length (t .args .wholes .now)) 10) (flatMap wholeLine (t .args .wholes .now)) (t .args .out .now)
-    (c .write-head .last .1 .1 .0) (c .write-head .result)
-unfolding wholeSection
-begun c = record { room = c .before .before .before .before .pre; ends = c .write-head .ensures .0; holds = c .write-head .ensures .1 }
+    FirstWritten (t .args .name .now ++ ended digits (t .args .count) 10) (linesFrom wholeDigits (t .args .width) (t .args .width) (t .args .wholes .now))
+    (t .args .out .now) (c .write-head .last .1 .1 .0) (c .write-head .result)
+unfolding sectionText
+begun c = record { room = c .before .before .before .before .pre .1; ends = c .write-head .ensures .0; holds = c .write-head .ensures .1 }
 
 sub-write-whole-lines : tie.Need-sub-write-whole-lines
 sub-write-whole-lines c = second-start (begun (c .before .before))
@@ -32,7 +31,7 @@ part-write-whole-lines-end : tie.Need-part-write-whole-lines-end
 part-write-whole-lines-end c = search needs
 
 write-whole-lines-requires : tie.Need-write-whole-lines-requires
-write-whole-lines-requires c κs = second-room (begun (c .before .before .before))
+write-whole-lines-requires c κs = (c .before .before .before .before .before .before .before .pre .0, second-room (begun (c .before .before .before)))
 
 add-result : tie.Need-add-result
 add-result c =
@@ -43,7 +42,7 @@ same-length : tie.Need-same-length
 same-length c = search needs
 
 returns : tie.Need-returns
-unfolding wholeSection
+unfolding sectionText
 returns c =
     let b = begun (c .before .before .before .before .before .before) in
     let w = c .before .before .write-whole-lines in

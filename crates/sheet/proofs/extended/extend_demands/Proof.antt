@@ -2,8 +2,9 @@
 use borrow.Author.Needs.{needs}
 use mathlib.Core.Path.{_≡_, sym, ap, subst}
 use mathlib.Core.List.{List, [], _∷_, _++_}
-use Prim.Native.Nat.{ℕ, _+_, _-_, _≤_, _<_}
+use Prim.Native.Nat.{_+_, _-_, _≤_, _<_}
 use native.Mathlib.Omega.{arith}
+use lib.IntN.{ℤ}
 use lib.ListN.{length, drop, set, length-append}
 use Rattle.transport.specs.Lists.{total}
 use Rattle.transport.specs.Sheet.{Sheet, roasteries, cafes, sheetOf}
@@ -15,7 +16,7 @@ use Rattle.sheet.specs.Columns.{Columns, columns-even, wanted-extra, col
 use Rattle.sheet.proofs.extended.extend_demands.Statement.{statement}
 use Rattle.sheet.proofs.extended.extend_demands.Tie as tie
 
-abbrev sheetAt : (s : tie.Start) → List ℕ → Sheet
+abbrev sheetAt : (s : tie.Start) → List ℤ → Sheet
 sheetAt s cost = sheetOf (s .args .supply .now) (s .args .demand .now) cost
 
 -- A sheet with these supplies and demands is accepted.

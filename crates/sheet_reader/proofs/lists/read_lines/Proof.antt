@@ -1,33 +1,29 @@
 -- The loop's invariant: the numbers read so far stand in the list, and the others are to be read from the present place on.
 use borrow.Author.Needs.{needs}
-use mathlib.Core.Path.{_≡_, refl, sym, _∙_}
-use mathlib.Core.List.{append-nil}
-use Prim.Native.Nat.{_≤_, _+_, _-_, suc}
+use mathlib.Core.Path.{_≡_, refl, ap, _∙_}
+use Prim.Native.Nat.{_-_}
 use native.Mathlib.Omega.{arith}
-use native.Mathlib.Numerals.{add-one}
-use lib.ListN.{length, take, drop, length-set}
-use lib.Seq.{take-suc-set}
-use Rattle.transport.specs.SheetText.{stuck, got, number}
-use Rattle.sections.specs.Lines.{ending, left-pos}
+use lib.ListN.{length, drop, length-set}
+use Rattle.transport.specs.SheetText.{number}
+use Rattle.sections.specs.Lines.{ending}
 use Rattle.tokens.specs.Reading.{readingOf, endReading}
-use Rattle.sheet_reader.specs.LinesRead.{readLines, read-none, read-stuck, read-got, after, after-nil, after-stuck, after-got, after-after}
+use Rattle.sheet_reader.specs.LinesRead.{ReadSoFar, read-start, read-stopped, read-more, read-done}
 use Rattle.sheet_reader.proofs.lists.read_lines.Statement.{statement}
 use Rattle.sheet_reader.proofs.lists.read_lines.Tie as tie
 
 abbrev Inv-loop : tie.InvT-loop
-Inv-loop text at width count list₀ next₀ left₀ i₀ list next left i = (i ≤ count) × (1 ≤ left) × (length list ≡ length list₀) × (next ≤ length text)
-    × (readLines width width count (drop at text) ≡ after (take i list) (readLines width left (count - i) (drop next text)))
+Inv-loop text at width count list₀ next₀ left₀ i₀ list next left i = (length list ≡ length list₀) × ReadSoFar number text at width count list next left i
 
 abbrev μ-loop : tie.MeasureT-loop
 μ-loop text at width count list₀ next₀ left₀ i₀ list next left i = count - i
 
 loop-holds : tie.Need-loop-holds Inv-loop μ-loop
 loop-holds c =
-    let z : c .before .before .args .count - 0 ≡ c .before .before .args .count = omega arith in
-    (omega arith, c .before .before .pre .1, refl, c .before .before .pre .0, rw z (sym (after-nil _)))
+    let t = c .before .before in
+    (refl, read-start number (t .args .text .now) (t .args .at) (t .args .width) (t .args .count) (t .pre .0) (t .pre .1) (t .args .list .now))
 
 read-number-requires : tie.Need-read-number-requires Inv-loop μ-loop
-read-number-requires c κs = c .before .loop .inv .3
+read-number-requires c κs = c .before .loop .inv .1 .place
 
 read-end-requires : tie.Need-read-end-requires Inv-loop μ-loop
 read-end-requires c κs = c .read-number .ensures .1
@@ -41,22 +37,17 @@ enum-told c = search needs
 same-length : tie.Need-same-length Inv-loop μ-loop
 same-length c = search needs
 
-found : (c : tie.After-read-end Inv-loop μ-loop) → endReading (ending (c .before .before .before .loop .left))
-    (number (drop (c .before .before .before .loop .next) (c .before .before .before .before .before .before .args .text .now)))
-    ≡ readingOf (c .before .before .before .before .before .before .args .text .now) (λ v. v) (c .read-end .result)
-found c = rw (c .before .read-number .ensures .0) (c .read-end .ensures .0)
+found : (c : tie.After-read-end Inv-loop μ-loop) → let l = c .before .before .before .loop in
+    let text = c .before .before .before .before .before .before .args .text .now in
+    endReading (ending (l .left)) (number (drop (l .next) text)) ≡ readingOf text (λ v. v) (c .read-end .result)
+unfolding number
+found c = ap (endReading (ending (c .before .before .before .loop .left))) (c .before .read-number .ensures .0) ∙ c .read-end .ensures .0
 
 returns : tie.Need-returns Inv-loop μ-loop
 returns c =
     let t = c .before .before in
-    let l = c .before .before .before .before .before .loop in
-    let a = c .before .before .before .before .before .before .before .before .args in
-    let stopped = c .enum-told .given .1 in
-    let e : a .count - l .i ≡ suc (a .count - (l .i + 1)) = omega arith in
-    let n : endReading (ending (l .left)) (number (drop (l .next) (a .text .now))) ≡ stuck (drop (c .enum-told .given .0 .0) (a .text .now)) = found t
-    ∙ (rw stopped) in (
-      rw stopped (l .inv .4 ∙ (rw (e, read-stuck (a .width) (l .left) (a .count - (l .i + 1)) (drop (l .next) (a .text .now)) _ n)
-          (after-stuck (take (l .i) (l .list)) _))),
+    let stopped = c .enum-told .given .1 in (
+      rw stopped (read-stopped (c .before .before .before .before .before .loop .inv .1) (omega arith) _ (found t ∙ (rw stopped))),
       t .read-end .ensures .1,
       rw stopped tt,
     )
@@ -68,7 +59,7 @@ slice-write-list : tie.Need-slice-write-list Inv-loop μ-loop
 slice-write-list c = search needs
 
 left-after-requires : tie.Need-left-after-requires Inv-loop μ-loop
-left-after-requires c κs = search needs
+left-after-requires c κs = c .before .before .before .before .before .before .loop .inv .1 .onLine
 
 add-i : tie.Need-add-i Inv-loop μ-loop
 add-i c = search needs
@@ -80,37 +71,16 @@ loop-again : tie.Need-loop-again Inv-loop μ-loop
 loop-again c =
     let t = c .before .before .before .before in
     let l = c .before .before .before .before .before .before .before .loop in
-    let a = c .before .before .before .before .before .before .before .before .before .before .args in
-    let g = c .before .before .number .given in
-    let e : a .count - l .i ≡ suc (a .count - (l .i + 1)) = omega arith in
-    let n : endReading (ending (l .left)) (number (drop (l .next) (a .text .now))) ≡ got (g .0 .0) (drop (g .0 .1 .0) (a .text .now)) = found t
-    ∙ (rw (g .1)) in (
-      omega arith,
-      rw (c .left-after .ensures) (left-pos (a .width) (l .left) (c .before .before .before .before .before .before .before .before .before .before .pre .1)
-          (l .inv .1)),
-      simp length-set (l .inv .2),
-      rw (g .1) at (t .read-end .ensures .1),
-      l .inv .4
-          ∙ (rw (
-            e,
-            read-got (a .width) (l .left) (a .count - (l .i + 1)) (drop (l .next) (a .text .now)) (g .0 .0) _ n,
-            after-after,
-            add-one (l .i),
-            take-suc-set (l .list) (l .i) (g .0 .0) (omega arith),
-            c .left-after .ensures,
-          )),
+    let is-number = c .before .before .number .given .1 in (
+      simp length-set (l .inv .0),
+      read-more (l .inv .1) (omega arith) _ _ _ (omega arith) (found t ∙ (rw is-number)) (rw is-number at (t .read-end .ensures .1)) (c .left-after .ensures),
     )
 
 same-length-2 : tie.Need-same-length-2 Inv-loop μ-loop
 same-length-2 c = search needs
 
 returns-2 : tie.Need-returns-2 Inv-loop μ-loop
-returns-2 c =
-    let l = c .before .loop in
-    let a = c .before .before .before .before .args in
-    let e : l .i ≡ a .count = omega arith in
-    let z : a .count - l .i ≡ 0 = omega arith in
-    (l .inv .4 ∙ (rw (z, read-none, after-got, append-nil, e)), l .inv .3, refl)
+returns-2 c = let s = c .before .loop .inv .1 in (read-done s (omega arith), s .place, refl)
 
 pub read-lines-spec : {M : Type 1} → statement M
 read-lines-spec =

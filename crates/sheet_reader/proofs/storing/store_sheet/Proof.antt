@@ -30,18 +30,18 @@ abbrev costFits : (c : tie.Start) → Bool
 costFits c = leb (length (c .args .sheet-cost .now)) (length (c .args .cost .now))
 
 abbrev startOf : (c : tie.After-enum-told) → tie.Start
-startOf c = c .before .before .before .before .before .before .before .before .before
+startOf c = c .before .before .before .before .before .before .before
 
 check-numbers-requires : tie.Need-check-numbers-requires
 check-numbers-requires c κs =
-    let p = c .before .before .before .before .before .before .pre in
+    let p = c .before .before .before .before .pre in
     (le-trans (p .0) sources-room, le-trans (p .1) sinks-room)
 
 enum-known-check : tie.Need-enum-known-check
 enum-known-check c = search needs
 
 returns : tie.Need-returns
-returns c = let s = c .before .before .before .before .before .before .before .before .before .before in
+returns c = let s = c .before .before .before .before .before .before .before .before in
     stored-number (s .args .supply .now) (s .args .demand .now) (s .args .cost .now) (sheetAt s) _
     (refused-some _ _ (sym (c .before .before .before .check-numbers .ensures) ∙ c .before .check .given .1))
 
@@ -72,8 +72,8 @@ store-list-requires c κs = search (needs, supply-set (c .before))
 store-list-requires-2 : tie.Need-store-list-requires-2
 store-list-requires-2 c κs e = leb-true _ _ (each (c .before .before .before .before .before) e .1)
 
-store-list-requires-3 : tie.Need-store-list-requires-3
-store-list-requires-3 c κs e = leb-true _ _ (each (c .before .before .before .before .before .before .before .before .before) e .2)
+store-costs-requires : tie.Need-store-costs-requires
+store-costs-requires c κs e = leb-true _ _ (each (c .before .before .before .before .before .before .before .before .before) e .2)
 
 same-length : tie.Need-same-length
 same-length c = search needs
@@ -86,13 +86,13 @@ same-length-3 c = search needs
 
 returns-2 : tie.Need-returns-2
 returns-2 c =
-    let j = c .before .before .before .before .before .before .before .before .before .before .before .before .before in
+    let j = c .before .before .before .before .before .before .before .before .before .before .before .before in
     let s = startOf (j .before .before) in
     let off : j .if2 .fits ≡ false = not-true (j .if2 .fits) (c .if3 .taken) in
     rw (
-      c .before .before .before .before .before .before .before .before .before .before .before .store-list .ensures .1 off,
-      c .before .before .before .before .before .before .before .store-list2 .ensures .1 off,
-      c .before .before .before .store-list3 .ensures .1 off,
+      c .before .before .before .before .before .before .before .before .before .before .store-list .ensures .1 off,
+      c .before .before .before .before .before .before .store-list2 .ensures .1 off,
+      c .before .before .store-costs .ensures .1 off,
     )
     (stored-tight (s .args .supply .now) (s .args .demand .now) (s .args .cost .now) (sheetAt s) (accepted (j .before .before)) (s .pre .2) (sym (verdict j)
     ∙ off))
@@ -108,14 +108,14 @@ same-length-6 c = search needs
 
 returns-3 : tie.Need-returns-3
 returns-3 c =
-    let j = c .before .before .before .before .before .before .before .before .before .before .before .before .before in
+    let j = c .before .before .before .before .before .before .before .before .before .before .before .before in
     let s = startOf (j .before .before) in
     let on : j .if2 .fits ≡ true = not-false (j .if2 .fits) (c .if3 .left) in
     let set = each j on in
     rw (
-      c .before .before .before .before .before .before .before .before .before .before .before .store-list .ensures .0 (search needs),
-      c .before .before .before .before .before .before .before .store-list2 .ensures .0 on,
-      c .before .before .before .store-list3 .ensures .0 on,
+      c .before .before .before .before .before .before .before .before .before .before .store-list .ensures .0 (search needs),
+      c .before .before .before .before .before .before .store-list2 .ensures .0 on,
+      c .before .before .store-costs .ensures .0 on,
     )
     (stored-given (s .args .supply .now) (s .args .demand .now) (s .args .cost .now) (sheetAt s) (accepted (j .before .before)) (s .pre .2) (sym (verdict j)
     ∙ on))
@@ -130,7 +130,7 @@ store-sheet-spec =
     enum-told
     store-list-requires
     store-list-requires-2
-    store-list-requires-3
+    store-costs-requires
     same-length
     same-length-2
     same-length-3

@@ -24,15 +24,15 @@ same-length c = search needs
 
 returns : tie.Need-returns
 returns c =
-    let a = c .before .before .before .before .before .before .before .before .before .args in
-    let w = c .before .before .before .before .before .read-costs in
+    let a = c .before .before .before .before .before .before .before .args in
+    let w = c .before .before .before .before .read-costs in
     rw (c .not-sheet-text .ensures) (answer-stopped (a .text .now) _ _ (costs-stuck (a .m) (a .n) (drop (a .at) (a .text .now))) _ _ _ (w .ensures .0)
     (w .ensures .1) (c .before .enum-told .given .1))
 
-cost-read : (c : tie.After-known-told) → let t = c .before .before .before .before .before .before .before .before .before in
-    CostsRead (t .args .m) (t .args .n) (t .args .text .now) (t .args .at) (c .before .before .before .before .before .read-costs .last .1 .1 .1 .1 .0)
+cost-read : (c : tie.After-known-told) → let t = c .before .before .before .before .before .before .before in
+    CostsRead (t .args .m) (t .args .n) (t .args .text .now) (t .args .at) (c .before .before .before .before .read-costs .last .1 .1 .1 .1 .0)
     (c .before .costs .given .0 .1 .0)
-cost-read c = let w = c .before .before .before .before .before .read-costs in
+cost-read c = let w = c .before .before .before .before .read-costs in
     costs-read (w .ensures .0) (w .ensures .1) (w .ensures .2) (c .before .costs .given .1)
 
 same-length-2 : tie.Need-same-length-2

@@ -32,13 +32,13 @@ same-length c = search needs
 returns : tie.Need-returns
 unfolding bytes maxSinks
 returns c =
-    let a = c .before .before .before .before .before .before .before .before .before .before .before .args in
+    let a = c .before .before .before .before .before .before .before .before .before .before .args in
     let w = c .before .before .before .before .before .read-list in
     rw (c .not-sheet-text .ensures) (answer-stopped (a .text .now) _ _ (demands-stuck (a .m) (drop (a .at) (a .text .now))) _ _ _ (w .ensures .0)
     (w .ensures .1) (c .before .enum-told .given .1))
 
 demand-read : (c : tie.After-known-told) → let g = c .before .demands .given .0 in
-    let t = c .before .before .before .before .before .before .before .before .before .before .before in
+    let t = c .before .before .before .before .before .before .before .before .before .before in
     ListRead (bytes "demand ") maxSinks (t .args .text .now) (t .args .at) (c .before .before .before .before .before .read-list .last .1 .1 .1 .1 .0) (g .0)
     (g .1 .0)
 unfolding bytes maxSinks
@@ -47,13 +47,13 @@ demand-read c =
     list-read (w .ensures .0) (w .ensures .1) (w .ensures .2) (omega (
       arith,
       w .kept,
-      c .before .before .before .before .before .before .before .before .before .before .before .pre .2,
+      c .before .before .before .before .before .before .before .before .before .before .pre .2,
     )) (c .before .demands .given .1)
 
 read-after-demand-requires : tie.Need-read-after-demand-requires
 read-after-demand-requires c κs =
     let l = demand-read (c .before) in
-    let p = c .before .before .before .before .before .before .before .before .before .before .before .before .pre in
+    let p = c .before .before .before .before .before .before .before .before .before .before .before .pre in
     (l .inside, p .1, l .some, l .few, le-trans (mul-le-mul (p .1) (l .few)) (p .3))
 
 same-length-2 : tie.Need-same-length-2
@@ -63,8 +63,8 @@ same-length-3 : tie.Need-same-length-3
 same-length-3 c = search needs
 
 returns-2 : tie.Need-returns-2
-returns-2 c = let w = c .before .before .read-after-demand in
-    demands-answer (demand-read (c .before .before .before .before)) _ _ (w .result) (w .ensures .0) (w .ensures .1)
+returns-2 c = let w = c .before .read-after-demand in
+    demands-answer (demand-read (c .before .before .before)) _ _ (w .result) (w .ensures .0) (w .ensures .1)
 
 pub read-after-supply-spec : {M : Type 1} → statement M
 read-after-supply-spec =

@@ -30,12 +30,12 @@ same-length c = search needs
 returns : tie.Need-returns
 unfolding bytes maxSources
 returns c =
-    let t = c .before .before .before .before .before .before .before .before .before .before .before .before .args .text .now in
+    let t = c .before .before .before .before .before .before .before .before .before .before .before .args .text .now in
     let w = c .before .before .before .before .before .read-list in
     rw (c .not-sheet-text .ensures) (answer-stopped t _ _ (sheet-stuck t) _ _ _ (w .ensures .0) (w .ensures .1) (c .before .enum-told .given .1))
 
 supply-read : (c : tie.After-known-told) → let g = c .before .supplies .given .0 in
-    ListRead (bytes "supply ") maxSources (c .before .before .before .before .before .before .before .before .before .before .before .before .args .text .now)
+    ListRead (bytes "supply ") maxSources (c .before .before .before .before .before .before .before .before .before .before .before .args .text .now)
     0 (c .before .before .before .before .before .read-list .last .1 .1 .1 .1 .0) (g .0) (g .1 .0)
 unfolding bytes maxSources
 supply-read c =
@@ -43,13 +43,13 @@ supply-read c =
     list-read (w .ensures .0) (w .ensures .1) (w .ensures .2) (omega (
       arith,
       w .kept,
-      c .before .before .before .before .before .before .before .before .before .before .before .before .pre .0,
+      c .before .before .before .before .before .before .before .before .before .before .before .pre .0,
     )) (c .before .supplies .given .1)
 
 read-after-supply-requires : tie.Need-read-after-supply-requires
 read-after-supply-requires c κs =
     let l = supply-read (c .before .before) in
-    let p = c .before .before .before .before .before .before .before .before .before .before .before .before .before .before .pre in
+    let p = c .before .before .before .before .before .before .before .before .before .before .before .before .before .pre in
     (l .inside, l .few, p .1, p .2)
 
 same-length-2 : tie.Need-same-length-2
@@ -62,8 +62,8 @@ same-length-4 : tie.Need-same-length-4
 same-length-4 c = search needs
 
 returns-2 : tie.Need-returns-2
-returns-2 c = let w = c .before .before .before .before .read-after-supply in
-    supplies-answer (supply-read (c .before .before .before .before .before .before .before)) _ _ (w .result) (w .ensures .0) (w .ensures .1)
+returns-2 c = let w = c .before .before .before .read-after-supply in
+    supplies-answer (supply-read (c .before .before .before .before .before .before)) _ _ (w .result) (w .ensures .0) (w .ensures .1)
 
 pub read-sections-spec : {M : Type 1} → statement M
 read-sections-spec =

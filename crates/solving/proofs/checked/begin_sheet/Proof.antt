@@ -16,7 +16,7 @@ abbrev sheetAt : tie.Start → Sheet
 sheetAt s = sheetOf (s .args .supply .now) (s .args .demand .now) (s .args .cost .now)
 
 abbrev startBefore : tie.After-columns → tie.Start
-startBefore c = c .before .before .before .before
+startBefore c = c .before .before .before
 
 extend-demands-requires : tie.Need-extend-demands-requires
 unfolding maxSide

@@ -27,10 +27,10 @@ abbrev sheetAt : tie.Start → Sheet
 sheetAt s = sheetOf (s .args .supply .now) (s .args .demand .now) (s .args .cost .now)
 
 abbrev startOf : tie.After-begin-sheet → tie.Start
-startOf b = b .before .before .before .before .before .before .before .before .before .before .before
+startOf b = b .before .before .before .before .before .before .before .before .before .before
 
 begin-sheet-requires : tie.Need-begin-sheet-requires
-begin-sheet-requires c κs = (c .before .before .before .before .before .before .before .before .before .before .pre .0, (refl, refl, refl))
+begin-sheet-requires c κs = (c .before .before .before .before .before .before .before .before .before .pre .0, (refl, refl, refl))
 
 -- The tableau has a column for each café.
 wide : (b : tie.After-begin-sheet) → length (startOf b .args .demand .now) ≤ b .begin-sheet .result

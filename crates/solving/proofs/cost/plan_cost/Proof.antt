@@ -1,23 +1,31 @@
--- `solving::cost::plan_cost` meets its contract. The loop's invariant: the sum over the lanes before l, each of which is at most maxAmount * maxCost.
-use Prim.Native.Nat.{ℕ, _*_, _-_, _≤_}
+-- `solving::cost::plan_cost` meets its contract. The loop's invariant: the sum over the lanes before l.
+use Prim.Native.Nat.{ℕ, _+_, _-_, _≤_, _<_, _^_}
 use native.Mathlib.Omega.{arith}
-use native.Mathlib.Nat.{mul-le-mul}
-use mathlib.Core.Path.{_≡_, ap, _∙_}
+use borrow.Author.Needs.{needs}
+use mathlib.Core.Path.{_≡_, refl, sym, ap, _∙_}
+use mathlib.Core.List.{List}
+use lib.IntN.{ℤ, pos, natAbs, _+ℤ_, _*ℤ_}
 use lib.ListN.{length, getD}
-use Rattle.transport.specs.Lists.{at, sumTo}
-use Rattle.transport.specs.Laws.ListLaws.{sumTo-zero, sumTo-one}
+use mir.Syntax.{w64}
+use mir.Val.{SFits, toZ, ofZ}
+use mir.Facts.{toZ-pos, toZ-ofZ}
+use Rattle.transport.specs.Lists.{at, atZ, sumZ}
+use Rattle.transport.specs.Laws.ListLaws.{sumZ-one}
+use Rattle.transport.specs.Laws.RangeLaws.{abs-fits}
 use Rattle.transport.specs.Limits.{maxSources, maxSinks, maxAmount, maxCost}
+use Rattle.solving.specs.Cost.{laneTotal, lane-fits, part-fits}
 use Rattle.solving.proofs.cost.plan_cost.Statement.{statement}
 use Rattle.solving.proofs.cost.plan_cost.Tie as tie
 
 abbrev Inv-loop : tie.InvT-loop
-Inv-loop plan cost sum₀ l₀ sum l = (l ≤ length cost) × (sum ≤ l * (maxAmount * maxCost)) × (sum ≡ sumTo l (λ k. at plan k * at cost k))
+Inv-loop plan cost sum₀ l₀ sum l = (l ≤ length cost) × (toZ w64 sum ≡ sumZ l (laneTotal plan cost))
 
 abbrev μ-loop : tie.MeasureT-loop
 μ-loop plan cost sum₀ l₀ sum l = length cost - l
 
 loop-holds : tie.Need-loop-holds Inv-loop μ-loop
-loop-holds c = (omega arith, omega arith, rw sumTo-zero)
+unfolding sumZ
+loop-holds c = (omega arith, refl)
 
 mul-sum : tie.Need-mul-sum Inv-loop μ-loop
 unfolding maxSources maxSinks
@@ -26,47 +34,70 @@ mul-sum c = omega (arith, c .before .before .pre .few)
 shared-slice-read-sum : tie.Need-shared-slice-read-sum Inv-loop μ-loop
 shared-slice-read-sum c = omega arith
 
+-- A quantity in the loop is small.
+few : (t : tie.In-loop Inv-loop μ-loop) → getD (t .before .before .args .plan .now) (t .before .loop .l) 0 < 2 ^ 63
+unfolding at maxAmount
+few t = omega (arith, t .before .before .pre .quantities (t .before .loop .l) (omega arith))
+
+cast-sum : tie.Need-cast-sum Inv-loop μ-loop
+cast-sum c = abs-fits w64 (pos _) (few (c .before))
+
 mul-sum-2 : tie.Need-mul-sum-2 Inv-loop μ-loop
 unfolding maxSources maxSinks
 mul-sum-2 c = omega (arith, c .before .before .before .pre .few)
 
-shared-slice-read-sum-2 : tie.Need-shared-slice-read-sum-2 Inv-loop μ-loop
-shared-slice-read-sum-2 c = omega arith
+shared-slice-copy-out-sum : tie.Need-shared-slice-copy-out-sum Inv-loop μ-loop
+shared-slice-copy-out-sum c = omega arith
 
-small : (c : tie.In-loop Inv-loop μ-loop)
-    → let a = c .before .before .args in
-    let l = c .before .loop .l in
-    getD (a .plan .now) l 0 * getD (a .cost .now) l 0 ≤ maxAmount * maxCost
-unfolding at
-small c = let p = c .before .before .pre in mul-le-mul (p .quantities (c .before .loop .l) (omega arith)) (p .costs (c .before .loop .l))
+-- What a turn adds is what its lane does, and then the sum is over one lane more.
+module _ (t : tie.In-loop Inv-loop μ-loop) where
+  abbrev plan : List ℕ
+  plan = t .before .before .args .plan .now
+
+  abbrev cost : List ℤ
+  cost = t .before .before .args .cost .now
+
+  abbrev l : ℕ
+  l = t .before .loop .l
+
+  abbrev product : ℤ
+  product = toZ w64 (getD plan l 0) *ℤ toZ w64 (ofZ w64 (getD cost l (pos 0)))
+
+  product-is : product ≡ laneTotal plan cost l
+  unfolding at atZ maxCost
+  product-is =
+      let cheap : natAbs (getD cost l (pos 0)) < 2 ^ 63 = omega (arith, t .before .before .pre .costs l) in
+      rw (toZ-pos w64 (few t), toZ-ofZ {w = w64} (abs-fits w64 (getD cost l (pos 0)) cheap))
+
+  product-fits : SFits w64 product
+  product-fits = rw product-is (abs-fits w64 (laneTotal plan cost l) (lane-fits (t .before .before .pre) l (omega arith)))
+
+  sum-is : toZ w64 (t .before .loop .sum) +ℤ toZ w64 (ofZ w64 product) ≡ sumZ (l + 1) (laneTotal plan cost)
+  sum-is = rw (toZ-ofZ {w = w64} product-fits, product-is, t .before .loop .inv .1) (sym (sumZ-one l (laneTotal plan cost)))
+
+  sum-fits : SFits w64 (toZ w64 (t .before .loop .sum) +ℤ toZ w64 (ofZ w64 product))
+  sum-fits = rw sum-is (abs-fits w64 (sumZ (l + 1) (laneTotal plan cost)) (part-fits (t .before .before .pre) (l + 1) (omega arith)))
 
 mul-sum-3 : tie.Need-mul-sum-3 Inv-loop μ-loop
-unfolding maxAmount maxCost
-mul-sum-3 c = omega (arith, small (c .before .before))
+mul-sum-3 c = product-fits (c .before .before)
 
 add-sum : tie.Need-add-sum Inv-loop μ-loop
-unfolding maxSources maxSinks maxAmount maxCost
-add-sum c = omega (arith, small (c .before .before), c .before .before .before .before .pre .few)
+add-sum c = sum-fits (c .before .before)
 
 add-l : tie.Need-add-l Inv-loop μ-loop
-unfolding maxSources maxSinks
-add-l c = omega (arith, c .before .before .before .before .pre .few)
+add-l c = search needs
 
 loop-less : tie.Need-loop-less Inv-loop μ-loop
 loop-less c = omega arith
 
 loop-again : tie.Need-loop-again Inv-loop μ-loop
-unfolding at
-loop-again c =
-    let a = c .before .before .before .before .args in
-    let l = c .before .before .before .loop .l in
-    (omega arith, omega (arith, small (c .before .before)), omega (arith, sumTo-one l (λ k. at (a .plan .now) k * at (a .cost .now) k)))
+loop-again c = let t = c .before .before in (omega arith, toZ-ofZ {w = w64} (sum-fits t) ∙ sum-is t)
 
 returns : tie.Need-returns Inv-loop μ-loop
 returns c =
     let a = c .before .before .args in
     let whole : c .before .loop .l ≡ length (a .cost .now) = omega arith in
-    c .before .loop .inv .2 ∙ ap (λ (n : ℕ). sumTo n (λ k. at (a .plan .now) k * at (a .cost .now) k)) whole
+    c .before .loop .inv .1 ∙ ap (λ (n : ℕ). sumZ n (laneTotal (a .plan .now) (a .cost .now))) whole
 
 pub plan-cost-spec : {M : Type 1} → statement M
 plan-cost-spec =
@@ -77,8 +108,9 @@ plan-cost-spec =
     loop-holds
     mul-sum
     shared-slice-read-sum
+    cast-sum
     mul-sum-2
-    shared-slice-read-sum-2
+    shared-slice-copy-out-sum
     mul-sum-3
     add-sum
     add-l

@@ -3,7 +3,7 @@ use mathlib.Core.Path.{sym, _∙_}
 use native.Mathlib.Omega.{arith}
 use borrow.Author.Tests.{not-true, not-false}
 use Rattle.transport.specs.Limits.{maxDigits}
-use Rattle.tokens.specs.Reading.{DigitAt, digit-at, number-stuck, number-zero, number-more}
+use Rattle.tokens.specs.Reading.{DigitAt, digit-at, number-stuck, number-low, number-zero, number-more}
 use borrow.Author.Needs.{needs}
 use Rattle.tokens.proofs.numbers.read_number.Statement.{statement}
 use Rattle.tokens.proofs.numbers.read_number.Tie as tie
@@ -12,7 +12,7 @@ digit-at-requires : tie.Need-digit-at-requires
 digit-at-requires c κs = search needs
 
 returns : tie.Need-returns
-returns c = (number-stuck _ (sym (c .before .digit-at .ensures) ∙ not-true _ (c .if1 .taken)), c .before .before .before .pre)
+returns c = (number-stuck _ _ (sym (c .before .digit-at .ensures) ∙ not-true _ (c .if1 .taken)), c .before .before .before .pre)
 
 digit : (c : tie.Else1) → DigitAt (c .before .before .before .args .text .now) (c .before .before .before .args .at)
 digit c = digit-at _ _ (sym (c .before .digit-at .ensures) ∙ not-false _ (c .if1 .left))
@@ -26,18 +26,24 @@ sub-leading c = digit (c .before) .low
 cast-leading : tie.Need-cast-leading
 cast-leading c = omega (arith, digit (c .before) .high)
 
-add-next : tie.Need-add-next
-add-next c = omega (arith, digit (c .before) .inside)
-
 returns-2 : tie.Need-returns-2
-returns-2 c = let d = digit (c .before .before) in (number-zero d (c .if2 .taken), omega arith)
+returns-2 c = (number-low _ (digit (c .before .before)) (c .if2 .taken), c .before .before .before .before .before .pre)
 
-more-digits-requires : tie.Need-more-digits-requires
-more-digits-requires c κs = let d = digit (c .before .before) in (omega arith, omega arith, omega arith, omega arith)
+add-next : tie.Need-add-next
+add-next c = omega (arith, digit (c .before .before) .inside)
 
 returns-3 : tie.Need-returns-3
+returns-3 c = let d = digit (c .before .before .before) in (number-zero _ d (c .before .if2 .left) (c .if3 .taken), omega arith)
+
+more-digits-requires : tie.Need-more-digits-requires
+more-digits-requires c κs = let d = digit (c .before .before .before) in (omega arith, omega arith, omega arith, omega arith)
+
+returns-4 : tie.Need-returns-4
 unfolding maxDigits
-returns-3 c = (number-more (digit (c .before .before .before)) (c .before .if2 .left) ∙ c .more-digits .ensures .0, c .more-digits .ensures .1)
+returns-4 c = (
+  number-more _ (digit (c .before .before .before .before)) (c .before .before .if2 .left) (c .before .if3 .left) ∙ c .more-digits .ensures .0,
+  c .more-digits .ensures .1,
+)
 
 pub read-number-spec : {M : Type 1} → statement M
 read-number-spec =
@@ -48,7 +54,8 @@ read-number-spec =
     shared-slice-read-leading
     sub-leading
     cast-leading
-    add-next
     returns-2
+    add-next
+    returns-3
     more-digits-requires
-    returns-3)
+    returns-4)

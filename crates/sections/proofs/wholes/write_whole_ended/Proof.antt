@@ -4,14 +4,14 @@ use Prim.Native.Nat.{_<_, _^_}
 use native.Mathlib.Omega.{arith}
 use lib.ListN.{length}
 use lib.Signed.{mag}
-use Rattle.transport.specs.Text.{bytes, wholeDigits}
-use Rattle.transport.specs.PlanText.{wholeLine}
+use mir.Syntax.{w64}
+use Rattle.transport.specs.Laws.RangeLaws.{back}
+use Rattle.transport.specs.Text.{wholeDigits}
 use Rattle.sections.specs.Front.{front, front-byte}
-use Rattle.sections.specs.Whole.{bits-back}
-use Rattle.sections.specs.Wholes.{length-whole-line}
+use Rattle.sections.specs.Lines.{ended, length-ended}
 use borrow.Author.Needs.{needs}
-use Rattle.sections.proofs.wholes.write_whole_line.Statement.{statement}
-use Rattle.sections.proofs.wholes.write_whole_line.Tie as tie
+use Rattle.sections.proofs.wholes.write_whole_ended.Statement.{statement}
+use Rattle.sections.proofs.wholes.write_whole_ended.Tie as tie
 
 in-range : (c : tie.Start) → mag (c .args .z) < 2 ^ 63
 in-range c = search needs
@@ -19,17 +19,17 @@ in-range c = search needs
 write-whole-requires : tie.Need-write-whole-requires
 write-whole-requires c κs =
     let t = c .before .before in
-    rw (bits-back (t .args .z) (in-range t)) (omega (arith, t .pre, length-whole-line (t .args .z)))
+    rw (back w64 (t .args .z) (in-range t)) (omega (arith, t .pre, length-ended wholeDigits (t .args .z) (t .args .end)))
 
 module _ (c : tie.After-write-whole) where
   counted : c .write-whole .result ≡ length (wholeDigits (c .before .before .before .args .z))
-  counted = rw (bits-back (c .before .before .before .args .z) (in-range (c .before .before .before))) at (c .write-whole .ensures .0)
+  counted = rw (back w64 (c .before .before .before .args .z) (in-range (c .before .before .before))) at (c .write-whole .ensures .0)
 
   held : c .write-whole .last .1 .0 ≡ front (wholeDigits (c .before .before .before .args .z)) (c .before .before .before .args .out .now)
-  held = rw (bits-back (c .before .before .before .args .z) (in-range (c .before .before .before))) at (c .write-whole .ensures .1)
+  held = rw (back w64 (c .before .before .before .args .z) (in-range (c .before .before .before))) at (c .write-whole .ensures .1)
 
   room : length (wholeDigits (c .before .before .before .args .z)) < length (c .before .before .before .args .out .now)
-  room = omega (arith, c .before .before .before .pre, length-whole-line (c .before .before .before .args .z))
+  room = omega (arith, c .before .before .before .pre, length-ended wholeDigits (c .before .before .before .args .z) (c .before .before .before .args .end))
 
 slice-write-out : tie.Need-slice-write-out
 slice-write-out c = omega (arith, room (c .before .before), counted (c .before .before))
@@ -41,13 +41,13 @@ same-length : tie.Need-same-length
 same-length c = search needs
 
 returns : tie.Need-returns
-unfolding wholeLine bytes
+unfolding ended
 returns c =
     let t = c .before .before .before .before .before in
     let w = c .before .before in (
-      omega (arith, counted w, length-whole-line (t .args .z)),
-      rw (held w) (front-byte (wholeDigits (t .args .z)) (t .args .out .now) (w .write-whole .result) 10 (counted w) (room w)),
+      omega (arith, counted w, length-ended wholeDigits (t .args .z) (t .args .end)),
+      rw (held w) (front-byte (wholeDigits (t .args .z)) (t .args .out .now) (w .write-whole .result) (t .args .end) (counted w) (room w)),
     )
 
-pub write-whole-line-spec : {M : Type 1} → statement M
-write-whole-line-spec = tie.close (tie.spec write-whole-requires slice-write-out add-result same-length returns)
+pub write-whole-ended-spec : {M : Type 1} → statement M
+write-whole-ended-spec = tie.close (tie.spec write-whole-requires slice-write-out add-result same-length returns)

@@ -1,0 +1,88 @@
+-- The list as it was, or the loop, whose invariant is that the list holds the first i costs.
+use borrow.Author.Needs.{needs}
+use mathlib.Core.Path.{_≡_, refl, sym, _∙_}
+use mathlib.Core.Bool.{true≢false}
+use mathlib.Core.List.{_++_}
+use Prim.Native.Nat.{_≤_, _-_}
+use native.Mathlib.Omega.{arith}
+use borrow.Author.Tests.{not-true, not-false}
+use lib.IntN.{pos}
+use lib.ListN.{length, drop, getD, length-set}
+use mir.Syntax.{w64}
+use Rattle.transport.specs.Laws.RangeLaws.{back}
+use Rattle.transport.specs.Lists.{table}
+use Rattle.transport.specs.Laws.ListLaws.{table-zero, table-getD, fill-one}
+use Rattle.sections.specs.Front.{front}
+use Rattle.sheet_reader.proofs.storing.store_costs.Statement.{statement}
+use Rattle.sheet_reader.proofs.storing.store_costs.Tie as tie
+
+abbrev Inv-loop : tie.InvT-loop
+Inv-loop from list₀ wanted i₀ list i =
+    (i ≤ length from) × (length from ≤ length list₀) × (length list ≡ length list₀) × (list ≡ table i (λ k. getD from k (pos 0)) ++ drop i list₀)
+
+abbrev μ-loop : tie.MeasureT-loop
+μ-loop from list₀ wanted i₀ list i = length from - i
+
+returns : tie.Need-returns Inv-loop μ-loop
+returns c = (λ e. absurd (true≢false (sym e ∙ not-true _ (c .if1 .taken))), λ e. refl)
+
+loop-holds : tie.Need-loop-holds Inv-loop μ-loop
+loop-holds c = (omega arith, c .before .pre (not-false _ (c .if1 .left)), refl, rw table-zero)
+
+mul-list : tie.Need-mul-list Inv-loop μ-loop
+mul-list c = search needs
+
+shared-slice-copy-out-list : tie.Need-shared-slice-copy-out-list Inv-loop μ-loop
+shared-slice-copy-out-list c = search needs
+
+mul-t10 : tie.Need-mul-t10 Inv-loop μ-loop
+mul-t10 c = search needs
+
+slice-set-from-list : tie.Need-slice-set-from-list Inv-loop μ-loop
+slice-set-from-list c = search needs
+
+add-i : tie.Need-add-i Inv-loop μ-loop
+add-i c = search needs
+
+loop-less : tie.Need-loop-less Inv-loop μ-loop
+loop-less c = search needs
+
+loop-again : tie.Need-loop-again Inv-loop μ-loop
+loop-again c =
+    let l = c .before .before .loop in
+    let a = c .before .before .before .before .args in
+    let as-it-is = back w64 (getD (a .from .now) (l .i) (pos 0)) (search needs) in (
+      omega arith,
+      l .inv .1,
+      simp length-set (l .inv .2),
+      rw (as-it-is, l .inv .3) (fill-one (λ k. getD (a .from .now) k (pos 0)) (a .list .now) (l .i) (pos 0) (omega (arith, l .inv .1))),
+    )
+
+same-length : tie.Need-same-length Inv-loop μ-loop
+same-length c = search needs
+
+returns-2 : tie.Need-returns-2 Inv-loop μ-loop
+unfolding front
+returns-2 c =
+    let l = c .before .loop in
+    let a = c .before .before .before .args in
+    let all : l .i ≡ length (a .from .now) = omega arith in
+    (λ e. l .inv .3 ∙ (rw (all, table-getD (a .from .now) (pos 0))), λ e. absurd (true≢false (sym (not-false _ (c .before .before .if1 .left)) ∙ e)))
+
+pub store-costs-spec : {M : Type 1} → statement M
+store-costs-spec =
+    tie.close
+    (tie.spec
+    Inv-loop
+    μ-loop
+    returns
+    loop-holds
+    mul-list
+    shared-slice-copy-out-list
+    mul-t10
+    slice-set-from-list
+    add-i
+    loop-less
+    loop-again
+    same-length
+    returns-2)

@@ -1,0 +1,59 @@
+-- The minus, and then the number that comes after it.
+use mathlib.Core.Path.{sym, ap, _∙_}
+use native.Mathlib.Omega.{arith}
+use Rattle.sections.specs.Lines.{ending}
+use Rattle.tokens.specs.Reading.{endReading}
+use Rattle.tokens.specs.Wholes.{signed-reading, signed-place, number-value, minus-fits, whole-read}
+use borrow.Author.Needs.{needs}
+use Rattle.tokens.proofs.wholes.read_whole.Statement.{statement}
+use Rattle.tokens.proofs.wholes.read_whole.Tie as tie
+
+byte-at-requires : tie.Need-byte-at-requires
+byte-at-requires c κs = search needs
+
+cast-first : tie.Need-cast-first
+cast-first c = search needs
+
+add-first : tie.Need-add-first
+add-first c =
+    let t = c .before .before in omega (arith, minus-fits (t .args .text .now) (t .args .at) _ (t .pre) (sym (c .byte-at .ensures)))
+
+cast-least : tie.Need-cast-least
+cast-least c = search needs
+
+read-number-requires : tie.Need-read-number-requires
+read-number-requires c κs = let t = c .before .before in minus-fits (t .args .text .now) (t .args .at) _ (t .pre) (sym (c .byte-at .ensures))
+
+read-end-requires : tie.Need-read-end-requires
+read-end-requires c κs = search needs
+
+-- Whatever its first digit is, a number fits.
+signed-requires : tie.Need-signed-requires
+signed-requires c κs =
+    let t = c .before .before .before .before in
+    let number = ap (endReading (ending (t .args .left))) (c .before .read-number .ensures .0) ∙ c .read-end .ensures .0 in
+    number-value (t .args .text .now) _ _ _ (c .read-end .result) number
+
+returns : tie.Need-returns
+returns c =
+    let t = c .before .before .before .before .before in
+    let minus = c .before .before .before .byte-at in
+    let end = c .before .read-end in
+    let number = ap (endReading (ending (t .args .left))) (c .before .before .read-number .ensures .0) ∙ end .ensures .0 in (
+      whole-read (t .args .text .now) (t .args .at) _ (minus .result) (end .result) (sym (minus .ensures)) number
+          ∙ sym (signed-reading (t .args .text .now) (minus .result) (end .result)) ∙ (rw (c .signed .ensures)),
+      rw (c .signed .ensures, signed-place) (end .ensures .1),
+    )
+
+pub read-whole-spec : {M : Type 1} → statement M
+read-whole-spec =
+    tie.close
+    (tie.spec
+    byte-at-requires
+    cast-first
+    add-first
+    cast-least
+    read-number-requires
+    read-end-requires
+    signed-requires
+    returns)
