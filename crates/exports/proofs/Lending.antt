@@ -1,9 +1,10 @@
 -- What the walks of the calls on a lent list of cells share. Each lends the cells to `lent_tableau` and the sheet's lists to a function that takes the
 -- tableau. The lists that are only read are Copy: each callee is passed a copy, and the exit has the rest.
---     Lent, lent-is        the contract of `lent_tableau`, and what it ensures
---     v₀ …, Own₀ …         the machine values of the supplies, demands, costs and cells, and what each list owns
---     SheetToks, CellToks  the tokens of the sheet's lists, and of the cells
---     to-lent, goes-lent   what `lent_tableau` is passed
+--     Lent, lent-is                 the contract of `lent_tableau`, and what it ensures
+--     listVal                       the machine value of a lent list
+--     OwnList, OwnCosts, OwnCells   what a list of amounts, of costs or of cells owns
+--     Tok                           the token of a lent list
+--     to-lent, goes-lent            what `lent_tableau` is passed
 use mathlib.Core.Path.{_≡_}
 use Prim.Native.Nat.{ℕ}
 use mathlib.Core.List.{List, [], _∷_}

@@ -20,11 +20,11 @@ use Rattle.grammar.specs.Signed.{whole-exact}
 
 -- ---- lines
 
-LF-plain : isDigit 10 ≡ false
+pub LF-plain : isDigit 10 ≡ false
 unfolding isDigit kindOf within
 LF-plain = refl
 
-space-plain : isDigit 32 ≡ false
+pub space-plain : isDigit 32 ≡ false
 unfolding isDigit kindOf within
 space-plain = refl
 

@@ -1,5 +1,5 @@
 -- The plan text by its sections, from the figures that they show.
-use mathlib.Core.Path.{_≡_, sym, _∙_}
+use mathlib.Core.Path.{_≡_}
 use mathlib.Core.List.{List, [], _∷_, _++_, flatMap, append-assoc, append-nil}
 use Prim.Native.String.{String}
 use Prim.Native.Nat.{ℕ, _+_, _*_, _/_, _≤_}
@@ -48,22 +48,18 @@ sections-length f u v numbers = simp length-append (omega arith)
 abbrev figuresOf : Solution → List ℕ → Figures
 figuresOf a numbers = record { total = a .cost; rounds = a .rounds; used = length numbers / 3 }
 
--- A section of one number.
-one-number : (name : String) (x : ℕ) → headLine name 1 ++ numberLine x ≡ sectionText digits (bytes name ++ bytes " ") 1 1 (x ∷ [])
-unfolding flatMap
-one-number name x =
-    let line : numberLine x ≡ linesFrom digits 1 1 (x ∷ []) = sym (append-nil (numberLine x)) ∙ number-lines (x ∷ []) in
-    rw line (section-of digits name 1 1 (x ∷ []))
+-- A section of lines of one number, of whatever kind: `line` writes a number with LF, `write` without.
+module _ {A : Type 0} (line write : A → List ℕ) (same : (xs : List A) → flatMap line xs ≡ linesFrom write 1 1 xs) (name : String) where
+  column-section : (count : ℕ) (xs : List A) → headLine name count ++ flatMap line xs ≡ sectionText write (bytes name ++ bytes " ") count 1 xs
+  column-section count xs = rw (same xs) (section-of write name count 1 xs)
 
-one-whole : (name : String) (z : ℤ) → headLine name 1 ++ wholeLine z ≡ sectionText wholeDigits (bytes name ++ bytes " ") 1 1 (z ∷ [])
-unfolding flatMap
-one-whole name z =
-    let line : wholeLine z ≡ linesFrom wholeDigits 1 1 (z ∷ []) = sym (append-nil (wholeLine z)) ∙ whole-lines (z ∷ []) in
-    rw line (section-of wholeDigits name 1 1 (z ∷ []))
+  one-section : (x : A) → headLine name 1 ++ line x ≡ sectionText write (bytes name ++ bytes " ") 1 1 (x ∷ [])
+  unfolding flatMap
+  one-section x = rw (← append-nil (line x)) (column-section 1 (x ∷ []))
 
 -- A section of prices, whose count is m.
 prices-section : (name : String) (m : ℕ) (zs : List ℤ) → length zs ≡ m → headLine name m ++ flatMap wholeLine zs ≡ priceSection (bytes name ++ bytes " ") zs
-prices-section name m zs e = rw (← e, whole-lines zs) (section-of wholeDigits name (length zs) 1 zs)
+prices-section name m zs e = rw (← e) (column-section wholeLine wholeDigits whole-lines name (length zs) zs)
 
 -- The lanes that a plan uses.
 lanes-section : (name : String) (m n : ℕ) (plan : List ℕ) → 1 ≤ n → length plan ≡ m * n → let numbers = usedNumbers n plan (length plan) in
@@ -87,8 +83,8 @@ plan-sections S p fills =
     let n = cafes S in
     rw (
       regroup,
-      one-whole "total" (a .cost),
-      one-number "rounds" (a .rounds),
+      one-section wholeLine wholeDigits whole-lines "total" (a .cost),
+      one-section numberLine digits number-lines "rounds" (a .rounds),
       prices-section "roasteries" m (a .u) (fills .u),
       prices-section "cafes" n (a .v) (fills .v),
       lanes-section "lanes" m n (a .plan) p (fills .plan),

@@ -1,4 +1,4 @@
--- A text at the front of an output: the bytes of the output past the text stay.
+-- A text at the front of an output: the bytes of the output past the text stay. So it is with a list of anything in a longer one.
 use mathlib.Core.Path.{_≡_, refl, sym, ap, _∙_}
 use mathlib.Core.List.{List, [], _∷_, _++_, append-nil, append-assoc}
 use Prim.Native.Nat.{ℕ, suc, _+_, _-_, _≤_, _<_}
@@ -9,7 +9,6 @@ use lib.Seq.{length-take-le, take-all, take-at, drop-at, drop-drop, drop-cons, s
 use borrow.Rule.Slice.PartMut.{midOf, putMid}
 
 module _ {A : Type 0} where
-  -- The same for lists of any elements.
   unfoldable pub front : List A → List A → List A
   front text out = text ++ drop (length text) out
 

@@ -13,13 +13,14 @@ use lib.ListN.{length, drop, getD, drop-of-length-le}
 use lib.Seq.{drop-cons, drop-drop}
 use borrow.Author.Tests.{ne-eqb, le-leb, lt-leb}
 use Rattle.transport.specs.Lists.{within}
-use Rattle.transport.specs.Laws.ListLaws.{and-left, and-right}
+use Rattle.transport.specs.Laws.ListLaws.{and-right}
 use Rattle.transport.specs.Limits.{maxDigits}
 use Rattle.transport.specs.Text.{bytes, kindOf}
 use Rattle.transport.specs.SheetText.{Reading, stuck, got, Reader, _>>=_, _>>_, pure, byteThat, word, isDigit, digitValue, moreDigits, numberFrom, side, line}
 use Rattle.transport.specs.Laws.SheetLaws.{within-true, true-within, within-low, within-high}
 use Rattle.transport.specs.declared.ByteKind.{ByteKind}
 use Rattle.transport.specs.declared.ByteKind.the-variants.{Digit, Space, LineEnd, Letter, Other}
+use Rattle.grammar.specs.Closing.{closedBy}
 use Rattle.sections.specs.Lines.{ending}
 pub use Rattle.tokens.specs.declared.Taken.{Taken}
 pub use Rattle.tokens.specs.declared.Taken.the-variants.{Got, Stuck}
@@ -366,39 +367,6 @@ value-next x d k p q = rw (add-one) (omega (arith, pow-suc 10 k))
 pub value-fits : (x k : ℕ) → x < 10 ^ k → k ≤ 19 → x < 10 ^ 19
 value-fits x k p q = lt-of-lt-of-le p (pow-le-pow-right (omega arith) q)
 
--- A digit that was read has a value of at most 9.
-digit-small : (b : ℕ) → isDigit b ≡ true → b - 48 ≤ 9
-digit-small b e = let w = within-true 48 57 b (digit-within b e) in omega arith
-
--- At most n digits make a value below 10 ^ n.
-more-below : (n j k x : ℕ) (t : List ℕ) (m : ℕ) (rest : List ℕ) → j + k ≤ n → x < 10 ^ j → moreDigits always k x t ≡ got m rest → m < 10 ^ n
-unfolding moreDigits digitValue
-more-below n j zero x t m rest q p e = let z : x ≡ m = cc in lt-of-lt-of-le (rw z at p) (pow-le-pow-right (omega arith) (omega arith))
-more-below n j (suc k) x [] m rest q p e = let z : x ≡ m = cc in lt-of-lt-of-le (rw z at p) (pow-le-pow-right (omega arith) (omega arith))
-more-below n j (suc k) x (b ∷ t) m rest q p e = go (isDigit b) refl (more-below n (j + 1) k (x * 10 + (b - 48)) t m rest (omega arith))
-  where
-    go : (v : Bool) → isDigit b ≡ v → (x * 10 + (b - 48) < 10 ^ (j + 1) → moreDigits always k (x * 10 + (b - 48)) t ≡ got m rest → m < 10 ^ n) → m < 10 ^ n
-    go true h ih =
-        let s : moreDigits always (suc k) x (b ∷ t) ≡ moreDigits always k (x * 10 + (b - 48)) t = rw (moreDigits, h) in
-        ih (value-next x (b - 48) j p (digit-small b h)) (sym s ∙ e)
-    go false h ih =
-        let s : moreDigits always (suc k) x (b ∷ t) ≡ got x (b ∷ t) = rw (moreDigits, h) in
-        let z : x ≡ m = cc in
-        lt-of-lt-of-le (rw z at p) (pow-le-pow-right (omega arith) (omega arith))
-
--- A number that was read has at most seven digits.
-pub number-below : (low x : ℕ) (rest t : List ℕ) → numberFrom low t ≡ got x rest → x < 10 ^ maxDigits
-unfolding maxDigits
-number-below low x rest t e =
-    let a = bind-inside (byteThat (startsBy (leb low))) t afterFirst x rest (sym (number-is low t) ∙ e) in
-    let first = and-left (isDigit (a .0)) (leb low (a .0 - 48)) (starts-got (leb low) t (a .0) (a .1) (a .2)) in
-    more-below maxDigits 1 (cond (eqb (a .0 - 48) 0) 0 (maxDigits - 1)) (a .0 - 48) (a .1) x rest (few (eqb (a .0 - 48) 0))
-    (omega (arith, digit-small (a .0) first)) (a .3)
-  where
-    few : (b : Bool) → 1 + cond b 0 (maxDigits - 1) ≤ maxDigits
-    few true = omega arith
-    few false = omega arith
-
 -- ---- a number, and the byte that ends it
 
 module _ {A : Type 0} where
@@ -431,17 +399,22 @@ module _ {B : Type 0} (c : ℕ) (s : Reader B) (t : List ℕ) where
   one-yes e = then-got (word (c ∷ [])) t (drop 1 t) s tt (word-yes c [] t e ∙ word-nil (drop 1 t))
 
 module _ {A : Type 0} where
-  pub line-end : (r : Reader A) (t : List ℕ) → line r t ≡ endReading 10 (r t)
-  unfolding line bytes pure
-  line-end r t = go (r t) refl
+  -- What the grammar closes by a byte is what ends with it.
+  pub closed-end : (c : ℕ) (r : Reader A) (t : List ℕ) → closedBy c r t ≡ endReading c (r t)
+  unfolding closedBy pure
+  closed-end c r t = go (r t) refl
     where
-      ended : (x : A) (u : List ℕ) (b : Bool) → byteNext 10 u ≡ b → (word (10 ∷ []) >> pure x) u ≡ endReading 10 (got x u)
-      ended x u false e = one-no 10 (pure x) u e ∙ sym (end-no 10 x u e)
-      ended x u true e = one-yes 10 (pure x) u e ∙ sym (end-yes 10 x u e)
+      ended : (x : A) (u : List ℕ) (b : Bool) → byteNext c u ≡ b → (word (c ∷ []) >> pure x) u ≡ endReading c (got x u)
+      ended x u false e = one-no c (pure x) u e ∙ sym (end-no c x u e)
+      ended x u true e = one-yes c (pure x) u e ∙ sym (end-yes c x u e)
 
-      go : (v : Reading A) → r t ≡ v → line r t ≡ endReading 10 v
-      go (stuck u) e = bind-stuck r t u _ e ∙ sym (end-stuck 10 u)
-      go (got x u) e = bind-got r t u _ x e ∙ ended x u (byteNext 10 u) refl
+      go : (v : Reading A) → r t ≡ v → closedBy c r t ≡ endReading c v
+      go (stuck u) e = bind-stuck r t u _ e ∙ sym (end-stuck c u)
+      go (got x u) e = bind-got r t u _ x e ∙ ended x u (byteNext c u) refl
+
+  pub line-end : (r : Reader A) (t : List ℕ) → line r t ≡ endReading 10 (r t)
+  unfolding line closedBy bytes
+  line-end r t = closed-end 10 r t
 
 -- ---- sides, which are no greater than `most`
 
@@ -496,7 +469,7 @@ module _ (most : ℕ) where
       more-passes (within 1 most) 1 (a .0 - 48) (a .1) m rest first (a .3)
 
 -- The value is the number's, whatever ends it.
-pub end-value : (m : ℕ) (rest : List ℕ) (end : ℕ) (r : Reading ℕ) → endReading end r ≡ got m rest → (u : List ℕ) × (r ≡ got m u)
+end-value : (m : ℕ) (rest : List ℕ) (end : ℕ) (r : Reading ℕ) → endReading end r ≡ got m rest → (u : List ℕ) × (r ≡ got m u)
 unfolding endReading
 end-value m rest end (stuck u) e = let z : _≡_ {A = ℕ} 0 1 = cc in absurd (omega arith)
 end-value m rest end (got x u) e = go (byteNext end u) refl

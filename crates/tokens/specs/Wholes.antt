@@ -4,18 +4,22 @@ use mathlib.Core.Bool.{Bool, true, false, cond}
 use mathlib.Core.List.{List, [], _∷_}
 use Prim.Native.Nat.{ℕ, zero, suc, _+_, _≤_, _<_, _^_}
 use native.Mathlib.Omega.{arith}
+use lib.Dec.{eqb}
 use lib.IntN.{ℤ, pos, negsuc, negℤ, _-ℤ_}
 use lib.ListN.{length, drop}
 use lib.Seq.{drop-drop}
-use lib.Signed.{mag}
 use mir.Syntax.{w64}
 use mir.Val.{toZ, ofZ, SFits, boolByte}
 use mir.Facts.{toZ-ofZ, toZ-pos}
 use borrow.Author.Tests.{lt-ltb}
+use Rattle.grammar.specs.Number.{from-exact}
+use Rattle.grammar.specs.Lines.{LF-plain, space-plain}
+use Rattle.sections.specs.Lines.{ending}
 use Rattle.transport.specs.Limits.{maxDigits}
-use Rattle.transport.specs.SheetText.{Reading, stuck, got, Reader, _>>=_, pure, numberFrom, minus, signed, whole}
+use Rattle.transport.specs.Laws.RangeLaws.{abs-neg, abs-fits}
+use Rattle.transport.specs.SheetText.{Reading, stuck, got, Reader, _>>=_, pure, isDigit, numberFrom, minus, signed, whole}
 use Rattle.tokens.specs.Reading.{Taken, Got, Stuck, readingOf, placeOf, byteNext, bind-got, bind-stuck, endReading, end-stuck, end-no, end-yes}
-use Rattle.tokens.specs.Reading.{byte-inside, end-value, number-below}
+use Rattle.tokens.specs.Reading.{byte-inside, closed-end}
 pub use Rattle.tokens.specs.declared.TakenWhole.{TakenWhole}
 pub use Rattle.tokens.specs.declared.TakenWhole.the-variants as Whole
 
@@ -46,12 +50,23 @@ abbrev pub valueBelow : ℕ → Taken → Type 0
 valueBelow limit (Got value next) = value < limit
 valueBelow limit (Stuck place) = Unit {0}
 
-pub number-value : (text : List ℕ) (end low : ℕ) (t : List ℕ) (r : Taken) → endReading end (numberFrom low t) ≡ readingOf text (λ v. v) r
-    → valueBelow (2 ^ 63) r
+ending-plain : (left : ℕ) → isDigit (ending left) ≡ false
+unfolding ending
+ending-plain left = go (eqb left 1)
+  where
+    go : (last : Bool) → isDigit (cond last 10 32) ≡ false
+    go true = LF-plain
+    go false = space-plain
+
+-- It has at most seven digits.
+pub number-value : (text : List ℕ) (left low : ℕ) → low ≤ 1 → (t : List ℕ) (r : Taken)
+    → endReading (ending left) (numberFrom low t) ≡ readingOf text (λ v. v) r → valueBelow (2 ^ 63) r
 unfolding maxDigits
-number-value text end low t (Got value next) e =
-    let v = end-value value (drop next text) end (numberFrom low t) e in omega (arith, number-below low value (v .0) t (v .1))
-number-value text end low t (Stuck place) e = tt
+number-value text left low few t (Got value next) e =
+    let closed = closed-end (ending left) (numberFrom low) t ∙ e in
+    let read = from-exact low few (ending left) (ending-plain left) .taken t value (drop next text) closed in
+    omega (arith, read .member .0 .1)
+number-value text left low few t (Stuck place) e = tt
 
 -- ---- the sign before the number
 
@@ -95,6 +110,13 @@ minus-size : (b : Bool) → boolByte b ≡ cond b 1 0
 minus-size true = refl
 minus-size false = refl
 
+pub minus-few : (b : Bool) → boolByte b ≤ 1
+minus-few b = rw (minus-size b) (go b)
+  where
+    go : (b : Bool) → cond b 1 0 ≤ 1
+    go true = omega arith
+    go false = omega arith
+
 pub minus-fits : (text : List ℕ) (at : ℕ) (b : Bool) → at ≤ length text → byteNext 45 (drop at text) ≡ b → at + boolByte b ≤ length text
 minus-fits text at true p e = omega (arith, byte-inside text at 45 e)
 minus-fits text at false p e = omega arith
@@ -116,7 +138,7 @@ whole-read text at end b r m e =
 
 module _ {x : ℕ} (p : x < 2 ^ 63) where
   pub number-fits : SFits w64 (pos x)
-  number-fits = record { sfits = p }
+  number-fits = abs-fits w64 (pos x) p
 
   pub number-back : toZ w64 x ≡ pos x
   number-back = toZ-pos w64 p
@@ -129,11 +151,7 @@ module _ {x : ℕ} (p : x < 2 ^ 63) where
       go (suc n) = rw (lt-ltb 0 (suc n) (omega arith)) (ap negsuc (omega arith))
 
   pub opposite-fits : SFits w64 (pos 0 -ℤ toZ w64 x)
-  opposite-fits = rw opposite-is (record { sfits = go x p })
-    where
-      go : (n : ℕ) → n < 2 ^ 63 → mag (negℤ (pos n)) < 2 ^ 63
-      go zero p = p
-      go (suc n) p = omega arith
+  opposite-fits = rw opposite-is (abs-fits w64 (negℤ (pos x)) (omega (arith, abs-neg (pos x))))
 
   pub opposite-back : toZ w64 (ofZ w64 (pos 0 -ℤ toZ w64 x)) ≡ negℤ (pos x)
   opposite-back = toZ-ofZ {w = w64} opposite-fits ∙ opposite-is

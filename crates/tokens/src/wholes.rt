@@ -20,7 +20,7 @@ fn signed(negative: bool, number: Taken) -> TakenWhole
     match number {
         Taken::Got { value, next } => {
             let size = value as i64;
-            let value = if negative { 0 - size } else { size };
+            let value = if negative { -size } else { size };
             TakenWhole::Got { value, next }
         }
         Taken::Stuck(place) => TakenWhole::Stuck(place),

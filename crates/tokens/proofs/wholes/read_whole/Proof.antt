@@ -3,7 +3,7 @@ use mathlib.Core.Path.{sym, ap, _∙_}
 use native.Mathlib.Omega.{arith}
 use Rattle.sections.specs.Lines.{ending}
 use Rattle.tokens.specs.Reading.{endReading}
-use Rattle.tokens.specs.Wholes.{signed-reading, signed-place, number-value, minus-fits, whole-read}
+use Rattle.tokens.specs.Wholes.{signed-reading, signed-place, number-value, minus-few, minus-fits, whole-read}
 use borrow.Author.Needs.{needs}
 use Rattle.tokens.proofs.wholes.read_whole.Statement.{statement}
 use Rattle.tokens.proofs.wholes.read_whole.Tie as tie
@@ -32,7 +32,7 @@ signed-requires : tie.Need-signed-requires
 signed-requires c κs =
     let t = c .before .before .before .before in
     let number = ap (endReading (ending (t .args .left))) (c .before .read-number .ensures .0) ∙ c .read-end .ensures .0 in
-    number-value (t .args .text .now) _ _ _ (c .read-end .result) number
+    number-value (t .args .text .now) (t .args .left) _ (omega (arith, minus-few (c .before .before .byte-at .result))) _ (c .read-end .result) number
 
 returns : tie.Need-returns
 returns c =
