@@ -119,7 +119,7 @@ struct panel_read_result panel_read_sheet(const uint8_t *text, size_t length, ui
 struct panel_write_result panel_write_sheet(const uint64_t *supply, size_t m, const uint64_t *demand, size_t n, const int64_t *cost, size_t lanes,
                                             uint8_t *out, size_t room);
 
-/* The plan text of a sheet; 15,060 bytes are always enough. */
+/* The plan text of a sheet; 1,604 bytes are always enough. */
 struct panel_write_result panel_write_plan(const uint64_t *supply, size_t m, const uint64_t *demand, size_t n, const int64_t *cost, size_t lanes,
                                            uint8_t *out, size_t room);
 

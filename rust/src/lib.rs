@@ -28,7 +28,7 @@ pub const MAX_CELLS: usize = 2 * MAX_SIDE - 1;
 /// The longest sheet text, in bytes.
 pub const MAX_SHEET_TEXT: usize = 9_756;
 /// No plan text is longer, in bytes.
-pub const MAX_PLAN_TEXT: usize = 15_060;
+pub const MAX_PLAN_TEXT: usize = 1_604;
 
 /// What a round gives.
 #[derive(Clone, Copy, Debug, PartialEq, Eq)]

@@ -235,6 +235,6 @@ fn small_stack() {
         assert_eq!(Sheet::read(large.text().unwrap().as_bytes()).unwrap().plan_text(), large.plan_text());
     };
     for large in [largest(), largest_with_surplus()] {
-        std::thread::Builder::new().stack_size(128 << 10).spawn(move || calls(large)).unwrap().join().unwrap();
+        std::thread::Builder::new().stack_size(96 << 10).spawn(move || calls(large)).unwrap().join().unwrap();
     }
 }

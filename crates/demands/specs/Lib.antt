@@ -3,3 +3,4 @@ pub mod Demand3
 pub mod Bought
 pub mod Certificate
 pub mod Says
+pub mod FewLanes

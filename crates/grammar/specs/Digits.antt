@@ -62,7 +62,7 @@ digits-push x d h k =
 
 -- ---- how many there are
 
-digits-some : (n : ℕ) → 1 ≤ length (digits n)
+pub digits-some : (n : ℕ) → 1 ≤ length (digits n)
 digits-some n = go (decLt n 10)
   where
     go : Dec (n < 10) → 1 ≤ length (digits n)

@@ -14,3 +14,4 @@ pub mod Settling
 pub mod Search
 pub mod Settles
 pub mod Measure
+pub mod Circulation

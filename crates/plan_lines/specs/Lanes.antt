@@ -1,10 +1,12 @@
--- The lanes that carry a bag, as numbers: what the code lists is what the lanes' section of the plan text shows.
+-- The lanes that carry a bag: what the code writes and counts, place by place, is what the lanes' section of the plan text shows.
 use mathlib.Core.Path.{_≡_, refl, sym, ap, _∙_}
-use mathlib.Core.Bool.{Bool, true, false, not, cond}
-use mathlib.Core.List.{List, [], _∷_, _++_, flatMap, append-nil, append-assoc}
+use mathlib.Core.Logic.{by-cases}
+use mathlib.Core.Bool.{Bool, not, cond}
+use mathlib.Core.List.{List, [], _∷_, _++_, flatMap, append-nil}
 use Prim.Native.Nat.{ℕ, zero, suc, _+_, _*_, _/_, _%_, _≤_, _<_}
 use native.Mathlib.Omega.{arith}
 use native.Mathlib.Numerals.{add-one}
+use native.Mathlib.Decide.{decLe}
 use native.Mathlib.Nat.{div-add-mod', mod-lt, div-lt-iff-lt-mul}
 use lib.Dec.{eqb}
 use lib.ListN.{length, getD, length-append}
@@ -17,43 +19,59 @@ use Rattle.transport.specs.PlanText.{carried, used, laneLine}
 use Rattle.transport.specs.Text.{digits}
 use Rattle.sections.specs.Lines.{linesFrom, lines-nil, lines-row}
 
--- The numbers of the lane at a place, among n columns: its row and its column, both from 1, and its bags; none if it carries no bag.
-unfoldable pub laneNumbers : ℕ → ℕ → ℕ → List ℕ
-laneNumbers n l bags = cond (eqb bags 0) [] (suc (l / n) ∷ suc (l % n) ∷ bags ∷ [])
+-- The numbers in the line of the lane at a place, among n columns: its row and its column, both from 1, and its bags.
+abbrev laneNumbers : ℕ → ℕ → ℕ → List ℕ
+laneNumbers n l bags = suc (l / n) ∷ suc (l % n) ∷ bags ∷ []
 
--- Those of the first k places of a plan.
-unfoldable pub usedNumbers : ℕ → List ℕ → ℕ → List ℕ
-usedNumbers n plan zero = []
-usedNumbers n plan (suc k) = usedNumbers n plan k ++ laneNumbers n k (at plan k)
+-- Its line; none if it carries no bag.
+unfoldable pub laneText : ℕ → ℕ → ℕ → List ℕ
+laneText n l bags = cond (eqb bags 0) [] (linesFrom digits 3 3 (laneNumbers n l bags))
 
-pub numbers-none : (n l : ℕ) → laneNumbers n l 0 ≡ []
-unfolding laneNumbers
-numbers-none n l = refl
+-- The lines of the first k places of a plan, and their count.
+unfoldable pub usedText : ℕ → List ℕ → ℕ → List ℕ
+usedText n plan zero = []
+usedText n plan (suc k) = usedText n plan k ++ laneText n k (at plan k)
 
-pub numbers-three : (n l bags : ℕ) → (bags ≡ 0 → ⊥) → laneNumbers n l bags ≡ suc (l / n) ∷ suc (l % n) ∷ bags ∷ []
-unfolding laneNumbers
-numbers-three n l bags p = rw (ne-eqb bags 0 p)
+unfoldable pub usedCount : List ℕ → ℕ → ℕ
+usedCount plan zero = 0
+usedCount plan (suc k) = usedCount plan k + cond (eqb (at plan k) 0) 0 1
 
-numbers-most : (n l bags : ℕ) → length (laneNumbers n l bags) ≤ 3
-unfolding laneNumbers
-numbers-most n l bags = go (eqb bags 0)
-  where
-    go : (b : Bool) → length (cond b [] (suc (l / n) ∷ suc (l % n) ∷ bags ∷ [])) ≤ 3
-    go true = omega arith
-    go false = omega arith
+pub line-none : (n l : ℕ) → laneText n l 0 ≡ []
+unfolding laneText
+line-none n l = refl
 
-pub used-zero : (n : ℕ) (plan : List ℕ) → usedNumbers n plan 0 ≡ []
-unfolding usedNumbers
-used-zero n plan = refl
+pub line-one : (n l bags : ℕ) (numbers : List ℕ) → numbers ≡ laneNumbers n l bags → (bags ≡ 0 → ⊥) → laneText n l bags ≡ linesFrom digits 3 3 numbers
+unfolding laneText
+line-one n l bags numbers e p = rw (ne-eqb bags 0 p, e)
 
-pub used-one : (n : ℕ) (plan : List ℕ) (k : ℕ) → usedNumbers n plan (k + 1) ≡ usedNumbers n plan k ++ laneNumbers n k (at plan k)
-unfolding usedNumbers
-used-one n plan k = rw add-one
+pub text-zero : (n : ℕ) (plan : List ℕ) → usedText n plan 0 ≡ []
+unfolding usedText
+text-zero n plan = refl
 
-pub used-most : (n : ℕ) (plan : List ℕ) (k : ℕ) → length (usedNumbers n plan k) ≤ k * 3
-unfolding usedNumbers
-used-most n plan zero = omega arith
-used-most n plan (suc k) = omega (arith, length-append (usedNumbers n plan k) (laneNumbers n k (at plan k)), used-most n plan k, numbers-most n k (at plan k))
+pub text-next : (n : ℕ) (plan : List ℕ) (k : ℕ) → usedText n plan (k + 1) ≡ usedText n plan k ++ laneText n k (at plan k)
+unfolding usedText
+text-next n plan k = rw add-one
+
+-- The lines of more places are no shorter.
+pub text-grows : (n : ℕ) (plan : List ℕ) (k m : ℕ) → k ≤ m → length (usedText n plan k) ≤ length (usedText n plan m)
+unfolding usedText
+text-grows n plan k zero p = let e : k ≡ 0 = omega arith in rw e (omega arith)
+text-grows n plan k (suc m) p =
+    by-cases (decLe k m)
+    (λ q. omega (arith, length-append (usedText n plan m) (laneText n m (at plan m)), text-grows n plan k m q))
+    (λ q. let e : k ≡ suc m = omega arith in rw e (omega arith))
+
+pub count-zero : (plan : List ℕ) → usedCount plan 0 ≡ 0
+unfolding usedCount
+count-zero plan = refl
+
+pub count-none : (plan : List ℕ) (k : ℕ) → at plan k ≡ 0 → usedCount plan (k + 1) ≡ usedCount plan k
+unfolding usedCount
+count-none plan k e = rw (add-one, e) (omega arith)
+
+pub count-one : (plan : List ℕ) (k : ℕ) → (at plan k ≡ 0 → ⊥) → usedCount plan (k + 1) ≡ usedCount plan k + 1
+unfolding usedCount
+count-one plan k p = rw (add-one, ne-eqb (at plan k) 0 p)
 
 -- ---- sheet order, by places
 
@@ -83,71 +101,35 @@ module _ (n : ℕ) (plan : List ℕ) where
   unfolding carried place
   carried-at k = rw (div-add-mod' k n)
 
-  -- One place more: a lane that carries a bag, with its three numbers, or neither.
-  record Next (k : ℕ) : Type 0 where
-    last : List Lane
-    lanesNext : usedTo (suc k) ≡ usedTo k ++ last
-    counts : length (laneNumbers n k (at plan k)) ≡ 3 * length last
-    written : (more : List ℕ) → flatMap (laneLine n plan) last ++ linesFrom digits 3 3 more ≡ linesFrom digits 3 3 (laneNumbers n k (at plan k) ++ more)
+  -- What is counted and written of the first k places are those lanes.
+  abbrev Told : ℕ → Type 0
+  Told k = (length (usedTo k) ≡ usedCount plan k) × (flatMap (laneLine n plan) (usedTo k) ≡ usedText n plan k)
 
-  next : (k : ℕ) → Next k
-  unfolding table flatMap keep laneLine
-  next k = go (at plan k) refl
+  -- One place more: a lane that carries a bag, with its line, or neither.
+  told : (k : ℕ) → Told k
+  unfolding usedText usedCount table keep flatMap laneLine
+  told zero = (refl, refl)
+  told (suc k) = go (at plan k) refl (told k)
     where
       joined : usedTo (suc k) ≡ usedTo k ++ keep hasBag (laneOfPlace n k ∷ [])
       joined = keep-append hasBag (table k (laneOfPlace n)) (laneOfPlace n k ∷ [])
 
-      go : (bags : ℕ) → at plan k ≡ bags → Next k
-      go zero e = record {
-        last = [];
-        lanesNext = joined ∙ ap (λ (ls : List Lane). usedTo k ++ ls) (keep-no hasBag (laneOfPlace n k) [] (rw (carried-at k, e)));
-        counts = rw (e, numbers-none n k);
-        written = λ more. rw (e, numbers-none n k);
-      }
-      go (suc b) e =
-          let three = numbers-three n k (at plan k) (λ z. omega (arith, e)) in
-          record {
-            last = laneOfPlace n k ∷ [];
-            lanesNext = joined ∙ ap (λ (ls : List Lane). usedTo k ++ ls)
-                (keep-yes hasBag (laneOfPlace n k) [] (rw (carried-at k, e, ne-eqb (suc b) 0 (λ z. omega arith))));
-            counts = rw three;
-            written = λ more. rw (append-nil, carried-at k, three, lines-row digits 3 (suc (k / n) ∷ suc (k % n) ∷ at plan k ∷ []) more (omega arith) refl);
-          }
-
-  used-count : (k : ℕ) → length (usedNumbers n plan k) ≡ 3 * length (usedTo k)
-  unfolding usedNumbers table keep
-  used-count zero = refl
-  used-count (suc k) =
-      let x = next k in
-      omega (
-        arith,
-        length-append (usedNumbers n plan k) (laneNumbers n k (at plan k)),
-        used-count k,
-        x .counts,
-        ap length (x .lanesNext),
-        length-append (usedTo k) (x .last),
-      )
-
-  -- The lines of the lanes are their numbers in lines of three: place by place, with any lines after them.
-  used-lines : (k : ℕ) (more : List ℕ) → flatMap (laneLine n plan) (usedTo k) ++ linesFrom digits 3 3 more ≡ linesFrom digits 3 3 (usedNumbers n plan k ++ more)
-  unfolding usedNumbers table keep flatMap
-  used-lines zero more = refl
-  used-lines (suc k) more =
-      let x = next k in
-      rw (
-        x .lanesNext,
-        flatMap-append (laneLine n plan) (usedTo k) (x .last),
-        append-assoc,
-        x .written more,
-        used-lines k (laneNumbers n k (at plan k) ++ more),
-        append-assoc,
-      )
+      go : (bags : ℕ) → at plan k ≡ bags → Told k → Told (suc k)
+      go zero e t =
+          let same : usedTo (suc k) ≡ usedTo k = joined ∙ rw (keep-no hasBag (laneOfPlace n k) [] (rw (carried-at k, e)), append-nil) in
+          rw (same, e, line-none n k, append-nil) (omega (arith, t .0), t .1)
+      go (suc b) e t =
+          let bags : at plan k ≡ 0 → ⊥ = λ z. omega (arith, e) in
+          let yes = keep-yes hasBag (laneOfPlace n k) [] (rw (carried-at k, ne-eqb (at plan k) 0 bags)) in
+          let more : usedTo (suc k) ≡ usedTo k ++ (laneOfPlace n k ∷ []) = joined ∙ rw yes in
+          let row = lines-row digits 3 (laneNumbers n k (at plan k)) [] (omega arith) refl in
+          rw (more, ne-eqb (at plan k) 0 bags) (
+            omega (arith, length-append (usedTo k) (laneOfPlace n k ∷ []), t .0),
+            rw (flatMap-append, t .1, append-nil, carried-at k, line-one n k (at plan k) _ refl bags, row, lines-nil, append-nil),
+          )
 
   -- The lanes of a whole plan, counted and written.
   pub used-whole : (m : ℕ) → 1 ≤ n → length plan ≡ m * n →
-      (length (usedNumbers n plan (length plan)) / 3 ≡ length (used m n plan))
-      × (flatMap (laneLine n plan) (used m n plan) ≡ linesFrom digits 3 3 (usedNumbers n plan (length plan)))
+      (length (used m n plan) ≡ usedCount plan (length plan)) × (flatMap (laneLine n plan) (used m n plan) ≡ usedText n plan (length plan))
   unfolding used
-  used-whole m p e =
-      let lines = used-lines (m * n) [] in
-      rw (e, lanes-places m n p) (omega (arith, used-count (m * n)), rw (lines-nil, append-nil, append-nil) at lines)
+  used-whole m p e = rw (e, lanes-places m n p) (told (m * n))

@@ -2,18 +2,17 @@
 use mathlib.Core.Path.{_≡_}
 use mathlib.Core.List.{List, [], _∷_, _++_, flatMap, append-assoc, append-nil}
 use Prim.Native.String.{String}
-use Prim.Native.Nat.{ℕ, _+_, _*_, _/_, _≤_}
-use native.Mathlib.Omega.{arith}
+use Prim.Native.Nat.{ℕ, _*_, _≤_}
 use lib.IntN.{ℤ}
-use lib.ListN.{length, length-append}
+use lib.ListN.{length}
 use Rattle.plan_lines.specs.declared.plan_sections.Figures.{Figures}
 use Rattle.transport.specs.Sheet.{Sheet, roasteries, cafes}
 use Rattle.transport.specs.Text.{bytes, digits, wholeDigits, headLine, numberLine}
 use Rattle.transport.specs.Calls.{Solution, solution}
 use Rattle.transport.specs.PlanText.{wholeLine, used, laneLine, planText}
 use Rattle.transport.specs.Laws.CallLaws.{Fills}
-use Rattle.sections.specs.Lines.{sectionText, linesFrom, section-of, number-lines, whole-lines}
-use Rattle.plan_lines.specs.Lanes.{usedNumbers, used-whole}
+use Rattle.sections.specs.Lines.{ended, sectionText, linesFrom, section-of, head-line, number-lines, whole-lines}
+use Rattle.plan_lines.specs.Lanes.{usedText, usedCount, used-whole}
 
 unfoldable pub figuresText : Figures → List ℕ
 figuresText f = sectionText wholeDigits (bytes "total ") 1 1 (f .total ∷ []) ++ sectionText digits (bytes "rounds ") 1 1 (f .rounds ∷ [])
@@ -25,28 +24,19 @@ priceSection name zs = sectionText wholeDigits name (length zs) 1 zs
 unfoldable pub pricesText : List ℤ → List ℤ → List ℕ
 pricesText u v = priceSection (bytes "roasteries ") u ++ priceSection (bytes "cafes ") v
 
--- Three numbers in a line.
-unfoldable pub lanesText : ℕ → List ℕ → List ℕ
-lanesText count numbers = sectionText digits (bytes "lanes ") count 3 numbers
+-- The lanes of a plan of n columns that carry a bag, after their count.
+unfoldable pub lanesText : ℕ → ℕ → List ℕ → List ℕ
+lanesText count n plan = bytes "lanes " ++ ended digits count 10 ++ usedText n plan (length plan)
 
+-- Each café has a price, and a column in the plan.
 unfoldable pub planSections : Figures → List ℤ → List ℤ → List ℕ → List ℕ
-planSections f u v numbers = figuresText f ++ (pricesText u v ++ lanesText (f .used) numbers)
-
--- Its length, section by section.
-pub sections-length : (f : Figures) (u v : List ℤ) (numbers : List ℕ) → length (planSections f u v numbers) ≡
-    length (sectionText wholeDigits (bytes "total ") 1 1 (f .total ∷ []))
-    + length (sectionText digits (bytes "rounds ") 1 1 (f .rounds ∷ []))
-    + length (priceSection (bytes "roasteries ") u)
-    + length (priceSection (bytes "cafes ") v)
-    + length (sectionText digits (bytes "lanes ") (f .used) 3 numbers)
-unfolding planSections figuresText pricesText lanesText
-sections-length f u v numbers = simp length-append (omega arith)
+planSections f u v plan = figuresText f ++ (pricesText u v ++ lanesText (f .used) (length v) plan)
 
 -- ---- of a solution
 
--- What the plan text of a solution shows in one number each, given the numbers of its lanes.
-abbrev figuresOf : Solution → List ℕ → Figures
-figuresOf a numbers = record { total = a .cost; rounds = a .rounds; used = length numbers / 3 }
+-- What the plan text of a solution shows in one number each.
+abbrev figuresOf : Solution → Figures
+figuresOf a = record { total = a .cost; rounds = a .rounds; used = usedCount (a .plan) (length (a .plan)) }
 
 -- A section of lines of one number, of whatever kind: `line` writes a number with LF, `write` without.
 module _ {A : Type 0} (line write : A → List ℕ) (same : (xs : List A) → flatMap line xs ≡ linesFrom write 1 1 xs) (name : String) where
@@ -62,21 +52,20 @@ prices-section : (name : String) (m : ℕ) (zs : List ℤ) → length zs ≡ m �
 prices-section name m zs e = rw (← e) (column-section wholeLine wholeDigits whole-lines name (length zs) zs)
 
 -- The lanes that a plan uses.
-lanes-section : (name : String) (m n : ℕ) (plan : List ℕ) → 1 ≤ n → length plan ≡ m * n → let numbers = usedNumbers n plan (length plan) in
-    headLine name (length (used m n plan)) ++ flatMap (laneLine n plan) (used m n plan)
-    ≡ sectionText digits (bytes name ++ bytes " ") (length numbers / 3) 3 numbers
-lanes-section name m n plan p e =
+lanes-section : (m n : ℕ) (plan : List ℕ) → 1 ≤ n → length plan ≡ m * n →
+    headLine "lanes" (length (used m n plan)) ++ flatMap (laneLine n plan) (used m n plan) ≡ lanesText (usedCount plan (length plan)) n plan
+unfolding lanesText bytes
+lanes-section m n plan p e =
     let whole = used-whole n plan m p e in
-    let numbers = usedNumbers n plan (length plan) in
-    rw (← whole .0, whole .1) (section-of digits name (length numbers / 3) 3 numbers)
+    rw (whole .0, whole .1, head-line)
 
 regroup : (a b c d e f g h i j : List ℕ) → a ++ b ++ c ++ d ++ e ++ f ++ g ++ h ++ i ++ j ≡ a ++ b ++ (c ++ d) ++ (e ++ f ++ (g ++ h) ++ (i ++ j))
 regroup a b c d e f g h i j = simp append-assoc
 
--- The plan text is the sections of the solution: its figures, its prices, and the numbers of the lanes that its plan uses.
-pub plan-sections : (S : Sheet) → 1 ≤ cafes S → Fills S (solution S) → let a = solution S in let numbers = usedNumbers (cafes S) (a .plan) (length (a .plan)) in
-    planText S ≡ planSections (figuresOf a numbers) (a .u) (a .v) numbers
-unfolding planText planSections figuresText pricesText lanesText bytes
+-- The plan text is the sections of the solution: its figures, its prices, and the lanes that its plan uses.
+pub plan-sections : (S : Sheet) → 1 ≤ cafes S → Fills S (solution S) → let a = solution S in
+    planText S ≡ planSections (figuresOf a) (a .u) (a .v) (a .plan)
+unfolding planText planSections figuresText pricesText bytes
 plan-sections S p fills =
     let a = solution S in
     let m = roasteries S in
@@ -87,5 +76,6 @@ plan-sections S p fills =
       one-section numberLine digits number-lines "rounds" (a .rounds),
       prices-section "roasteries" m (a .u) (fills .u),
       prices-section "cafes" n (a .v) (fills .v),
-      lanes-section "lanes" m n (a .plan) p (fills .plan),
+      lanes-section m n (a .plan) p (fills .plan),
+      fills .v,
     )

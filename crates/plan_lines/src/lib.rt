@@ -1,3 +1,3 @@
-// What a plan text is made of: its lanes as numbers, and its five sections from the figures that they show.
+// What a plan text is made of: the lines of its lanes, and its five sections from the figures that they show.
 pub mod lanes;
 pub mod plan_sections;

@@ -6,6 +6,7 @@ ghost use lib.ListN.{length};
 ghost use Rattle.transport.specs.Limits.{maxSide};
 ghost use Rattle.sections.specs.Front.{front};
 ghost use Rattle.plan_lines.specs.Sections.{figuresText, pricesText, lanesText, planSections};
+use crate::lanes;
 use sections::section;
 use sections::wholes;
 
@@ -24,7 +25,7 @@ fn write_figures(figures: Figures, out: &mut [u8]) -> usize
     let total = [figures.total];
     let rounds = [figures.rounds];
     let at = wholes::write_whole_section(b"total ", 1, 1, &total, out);
-    at + section::write_section(b"rounds ", 1, 1, &rounds, &mut out[at..])
+    at + section::write_section(b"rounds ", 1, &rounds, &mut out[at..])
 }
 
 // The prices: those of the roasteries, and those of the cafés.
@@ -38,46 +39,49 @@ fn write_price_sections(u: &[i64], v: &[i64], out: &mut [u8]) -> usize
     at + wholes::write_whole_section(b"cafes ", v.len(), 1, v, &mut out[at..])
 }
 
-// The sections after the figures: the prices, and the lanes, three numbers in a line.
-fn write_after_figures(count: usize, u: &[i64], v: &[i64], numbers: &[u64], out: &mut [u8]) -> usize
-    requires { ⌜ length (pricesText (now u) (now v) ++ lanesText count (now numbers)) ≤ length (now out) ⌝ }
+// The lanes: the count of those that carry a bag, and their lines.
+fn write_lane_section(count: usize, plan: &[u64], n: usize, out: &mut [u8]) -> usize
+    requires { ⌜ (length (now plan) ≤ maxSide * maxSide) × (1 ≤ n) × (length (lanesText count n (now plan)) ≤ length (now out)) ⌝ }
     ensures { λ r.
-        let text = pricesText (now (u .entry)) (now (v .entry)) ++ lanesText count (now (numbers .entry)) in
+        let text = lanesText count n (now (plan .entry)) in
+        ⌜ (r ≡ length text) × (now (out .exit) ≡ front text (now (out .entry))) ⌝ }
+{
+    let at = section::write_head(b"lanes ", count, out);
+    at + lanes::write_lanes(plan, n, &mut out[at..])
+}
+
+// The sections after the figures: the prices, and the lanes.
+fn write_after_figures(count: usize, u: &[i64], v: &[i64], plan: &[u64], out: &mut [u8]) -> usize
+    requires { ⌜
+        (length (now plan) ≤ maxSide * maxSide) × (1 ≤ length (now v))
+        × (length (pricesText (now u) (now v) ++ lanesText count (length (now v)) (now plan)) ≤ length (now out))
+        ⌝ }
+    ensures { λ r.
+        let v = now (v .entry) in
+        let text = pricesText (now (u .entry)) v ++ lanesText count (length v) (now (plan .entry)) in
         ⌜ (r ≡ length text) × (now (out .exit) ≡ front text (now (out .entry))) ⌝ }
 {
     let at = write_price_sections(u, v, out);
-    at + section::write_section(b"lanes ", count, 3, numbers, &mut out[at..])
+    at + write_lane_section(count, plan, v.len(), &mut out[at..])
 }
 
-// The whole text.
+// The whole text. Each café has a price, and a column in the plan.
 pub fn write_plan_sections(
     figures: Figures,
     u: &[i64],
     v: &[i64],
-    numbers: &[u64],
+    plan: &[u64],
     out: &mut [u8],
 ) -> usize
-    requires { ⌜ length (planSections figures (now u) (now v) (now numbers)) ≤ length (now out) ⌝ }
+    requires { ⌜
+        (length (now plan) ≤ maxSide * maxSide) × (1 ≤ length (now v))
+        × (length (planSections figures (now u) (now v) (now plan)) ≤ length (now out))
+        ⌝ }
     ensures { λ r.
-        let text = planSections figures (now (u .entry)) (now (v .entry)) (now (numbers .entry)) in
+        let text = planSections figures (now (u .entry)) (now (v .entry)) (now (plan .entry)) in
         ⌜ (r ≡ length text) × (now (out .exit) ≡ front text (now (out .entry))) ⌝ }
 {
     let at = write_figures(figures, out);
     let count = figures.used;
-    at + write_after_figures(count, u, v, numbers, &mut out[at..])
-}
-
-// Its length.
-pub fn plan_sections_len(figures: Figures, u: &[i64], v: &[i64], numbers: &[u64]) -> usize
-    requires { ⌜ (length (now u) ≤ maxSide) × (length (now v) ≤ maxSide) × (length (now numbers) ≤ maxSide * maxSide * 3) ⌝ }
-    ensures { λ r. ⌜ r ≡ length (planSections figures (now (u .entry)) (now (v .entry)) (now (numbers .entry))) ⌝ }
-{
-    let total = [figures.total];
-    let rounds = [figures.rounds];
-    let count = figures.used;
-    wholes::whole_section_len(b"total ", 1, &total)
-        + section::section_len(b"rounds ", 1, &rounds)
-        + wholes::whole_section_len(b"roasteries ", u.len(), u)
-        + wholes::whole_section_len(b"cafes ", v.len(), v)
-        + section::section_len(b"lanes ", count, numbers)
+    at + write_after_figures(count, u, v, plan, &mut out[at..])
 }

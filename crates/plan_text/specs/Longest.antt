@@ -1,18 +1,18 @@
--- No plan text is longer than 15,060 bytes, and nothing that the program prints is.
+-- No plan text is longer than 1,604 bytes, and nothing that the program prints is.
 use mathlib.Core.Path.{_≡_, refl, ap}
 use mathlib.Core.Option.{Option, none, some}
 use mathlib.Core.List.{List, _++_, flatMap, List·Memᴰ}
 use Prim.Native.String.{String}
 use Prim.Native.Nat.{ℕ, suc, _+_, _*_, _-_, _^_, _≤_, _<_}
 use native.Mathlib.Omega.{arith}
-use native.Mathlib.Nat.{le-trans, mul-le-mul, mul-le-mul-right}
+use native.Mathlib.Nat.{mul-le-mul-right}
 use borrow.Author.Tests.{eq-eqb}
 use lib.IntN.{ℤ, natAbs}
 use lib.ListN.{length, take, length-append, length-take}
 use Rattle.transport.specs.declared.Cell.{Cell}
 use Rattle.transport.specs.Lists.{table, below, grid}
-use Rattle.transport.specs.Laws.ListLaws.{length-table, table-member, flatMap-member, keep-member, length-keep}
-use Rattle.transport.specs.Limits.{maxSide, maxAmount, maxText, maxPlanText}
+use Rattle.transport.specs.Laws.ListLaws.{length-table, table-member, flatMap-member, keep-member}
+use Rattle.transport.specs.Limits.{maxSide, maxAmount, maxCells, maxText, maxPlanText}
 use Rattle.transport.specs.Sheet.{Sheet, roasteries, cafes, numberTests, sheetTests, refusal}
 use Rattle.transport.specs.Extended.{extended}
 use Rattle.transport.specs.Problem.{Lane, lanes, place, sources}
@@ -20,7 +20,7 @@ use Rattle.transport.specs.Laws.SheetLaws.{accepted}
 use Rattle.transport.specs.Laws.Sound.{sound, sources-room, sinks-room}
 use Rattle.transport.specs.Statements.{Accepted, HasText, Belongs}
 use Rattle.transport.specs.Calls.{cafePrices, solutionFrom, solution}
-use Rattle.transport.specs.Laws.ProblemLaws.{lane, length-lanes, place-below}
+use Rattle.transport.specs.Laws.ProblemLaws.{lane, place-below}
 use Rattle.transport.specs.Tableau.{start}
 use Rattle.transport.specs.Potential.{potential, sourcePrices}
 use Rattle.transport.specs.Round.{roundBound}
@@ -39,6 +39,7 @@ use Rattle.tableaux.specs.Running.{run-rounds}
 use Rattle.tableaux.specs.Ending.{roundBound-most}
 use Rattle.reduction.specs.Totals.{total-size, total-limit}
 use Rattle.demands.specs.Demand3.{solution-finished, solution-best}
+use Rattle.demands.specs.FewLanes.{few-lanes}
 use Rattle.solving.specs.Cost.{meets-small}
 use Rattle.plan_text.specs.Shown.{sheetShown, shown-plan, shown-refusal, check-number, printed-place, printed-sheet}
 
@@ -114,14 +115,17 @@ module _ {S : Sheet} (ok : Accepted S) where
   abbrev usedLanes : List Lane
   usedLanes = used (roasteries S) (cafes S) (solution S .plan)
 
-  -- No more than all of them.
-  lanes-count : length usedLanes ≤ maxSide * maxSide
-  unfolding used
-  lanes-count =
-      let m : ℕ = roasteries S in
-      let n : ℕ = cafes S in
-      let kept : length usedLanes ≤ length (lanes m n) = length-keep _ (lanes m n) in
-      omega (arith, length-lanes m n, mul-le-mul (le-trans (ok .limits .roasteriesHigh) sources-room) (le-trans (ok .limits .cafesHigh) sinks-room))
+  -- No more than a tableau has cells.
+  lanes-count : length usedLanes ≤ maxCells
+  unfolding maxCells
+  lanes-count = omega (
+    arith,
+    few-lanes (ok .limits .cafesLow) (solution-best S (sound ok)),
+    ok .limits .roasteriesHigh,
+    sources-room,
+    ok .limits .cafesHigh,
+    sinks-room,
+  )
 
   -- A lane carries at most 1,000,000 bags, which has 7 digits.
   carried-most : (l : Lane) → l .row < roasteries S → l .col < cafes S → carried (cafes S) (solution S .plan) l < 10 ^ 7
@@ -144,16 +148,16 @@ module _ {S : Sheet} (ok : Accepted S) where
         digits-length 6 (carried n (solution S .plan) l) .1 bags,
       ))
 
-  lanes-length : length (flatMap (laneLine (cafes S) (solution S .plan)) usedLanes) ≤ maxSide * maxSide * 14
-  lanes-length = members-length (laneLine (cafes S) (solution S .plan)) 14 (maxSide * maxSide) usedLanes lanes-count lane-line
+  lanes-length : length (flatMap (laneLine (cafes S) (solution S .plan)) usedLanes) ≤ maxCells * 14
+  lanes-length = members-length (laneLine (cafes S) (solution S .plan)) 14 maxCells usedLanes lanes-count lane-line
 
 -- ---- the plan text
 
 -- `total 1`, LF, a minus, at most 14 digits and LF are 24 bytes; `rounds 1`, LF, at most 16 digits and LF are 26. The heads `roasteries` and `cafes`, with
--- counts of at most two digits, are 14 and 9 bytes, and their lines, at most 64, have at most 10 bytes each. The head `lanes`, with a count of at most four
--- digits, is 11 bytes, and its lines, at most 1,024, have at most 14 bytes each. In all that is 15,060.
-plan-length : (S : Sheet) → refusal (sheetTests S) ≡ none → length (planText S) ≤ maxPlanText
-unfolding planText bytes maxSide maxPlanText
+-- counts of at most two digits, are 14 and 9 bytes, and their lines, at most 64, have at most 10 bytes each. The head `lanes`, with a count of at most two
+-- digits, is 9 bytes, and its lines, at most 63, have at most 14 bytes each. In all that is 1,604.
+pub plan-length : (S : Sheet) → refusal (sheetTests S) ≡ none → length (planText S) ≤ maxPlanText
+unfolding planText bytes maxSide maxCells maxPlanText
 plan-length S e =
     let ok = accepted S e in
     let a = solution S in
@@ -167,7 +171,7 @@ plan-length S e =
       u-length ok,
       head-length "cafes" 1 (cafes S) (omega (arith, ok .limits .cafesHigh, sinks-room)),
       v-length ok,
-      head-length "lanes" 3 (length (usedLanes ok)) (omega (arith, lanes-count ok)),
+      head-length "lanes" 1 (length (usedLanes ok)) (omega (arith, lanes-count ok)),
       lanes-length ok,
     ))
 

@@ -4,7 +4,7 @@ use mathlib.Core.Logic.{by-cases}
 use mathlib.Core.Bool.{Bool, true, false}
 use mathlib.Core.Option.{Option, none, some}
 use mathlib.Core.List.{List, [], _∷_, _++_}
-use Prim.Native.Nat.{ℕ, suc, min, _*_, _-_, _≤_, _<_}
+use Prim.Native.Nat.{ℕ, suc, min, _*_, _-_, _≤_}
 use native.Mathlib.Omega.{arith}
 use native.Mathlib.Decide.{decLe}
 use lib.ListN.{length, take}
@@ -15,7 +15,7 @@ use Rattle.transport.specs.Limits.{maxSources, maxSinks, maxText}
 use Rattle.transport.specs.Sheet.{Sheet, sheetTests, numberTests, badSides, badLength, badAmount, badCost, lacking, crowded, refusal}
 use Rattle.transport.specs.Laws.SheetLaws.{true-within, refusal-yes, refusal-no}
 use Rattle.transport.specs.Calls.{Answer, given, refusedBy, lentAfter}
-use Rattle.transport.specs.Laws.CallLaws.{some≢none, short-yes, short-no, unless-given, unless-refused}
+use Rattle.transport.specs.Laws.CallLaws.{some≢none, unless-given, unless-refused}
 use Rattle.transport.specs.Text.{bytes, digits, digitsUpTo, numberLine, rowLine}
 use Rattle.transport.specs.SheetText.{stuck, got, sheetReader}
 use Rattle.transport.specs.PlanText.{planText, writePlanCall, refusedLine, printed, fitting, shown}
@@ -24,18 +24,9 @@ use Rattle.sheet.specs.Refusals.{sheet-numbers}
 use Rattle.grammar.specs.Every.{Every}
 use Rattle.grammar.specs.SheetCalls.{read-got, read-stuck}
 use Rattle.sections.specs.Front.{front}
+use Rattle.sections.specs.Fitting.{fitting-short, fitting-fits}
 use Rattle.sections.specs.Lines.{ended}
 use Rattle.sections.specs.WriteCall.{call-checked, call-short, call-written}
-
--- ---- what fits
-
-pub fitting-short : (room : ℕ) (text : List ℕ) → room < length text → fitting room text ≡ []
-unfolding fitting
-fitting-short room text p = rw (short-yes room (length text) p)
-
-pub fitting-fits : (room : ℕ) (text : List ℕ) → length text ≤ room → fitting room text ≡ text
-unfolding fitting
-fitting-fits room text p = rw (short-no room (length text) p)
 
 -- ---- the lines of refusals
 

@@ -1,8 +1,8 @@
--- What write plan knows once solve has sheetShown, with lists that have room for any sheet.
+-- What write plan knows once solve has answered, with lists that have room for any sheet.
 use mathlib.Core.Path.{_≡_, refl, sym, ap, _∙_}
 use mathlib.Core.Option.{Option, none, some}
 use mathlib.Core.List.{List}
-use Prim.Native.Nat.{ℕ, _≤_, _*_, _/_}
+use Prim.Native.Nat.{ℕ, _≤_, _*_}
 use native.Mathlib.Omega.{arith}
 use native.Mathlib.Nat.{mul-le-mul}
 use lib.IntN.{ℤ}
@@ -18,7 +18,7 @@ use Rattle.transport.specs.Laws.CallLaws.{Fills, unless-before, unless-none, ro
 use Rattle.transport.specs.Answers.{solveAnswer}
 use Rattle.transport.specs.PlanText.{planText}
 use Rattle.demands.specs.Demand3.{solve-fills}
-use Rattle.plan_lines.specs.Lanes.{usedNumbers}
+use Rattle.plan_lines.specs.Lanes.{usedCount}
 use Rattle.plan_lines.specs.Sections.{planSections, plan-sections}
 
 -- An accepted sheet fits lists of the largest side.
@@ -95,10 +95,10 @@ module _ {S : Sheet} {total : ℤ} {rounds : ℕ} {u′ v′ : List ℤ} {plan�
             planIs = rw (plans, g) (take-at (a .plan) (drop (length (a .plan)) plan) (roasteries S * cafes S) (fills .plan));
           }
 
-  -- The sections of what was found are the plan text, with the total z and, in a list, the k numbers of the lanes that carry a bag.
-  pub found-sections : FoundPlan S total rounds u′ v′ plan′ → let x = take (roasteries S * cafes S) plan′ in let numbers = usedNumbers (cafes S) x (length x) in
-      (z : ℤ) (k : ℕ) (list : List ℕ) → z ≡ total → k ≡ length numbers → list ≡ numbers
-      → planText S ≡ planSections (record { total = z; rounds = rounds; used = k / 3 }) (take (roasteries S) u′) (take (cafes S) v′) list
-  found-sections f z k list is-total is-count is-list =
-      rw (is-total, is-count, is-list, f .totalIs, f .roundsIs, f .uIs, f .vIs, f .planIs)
+  -- The sections of what was found are the plan text, with the total z and the count k of the lanes that carry a bag.
+  pub found-sections : FoundPlan S total rounds u′ v′ plan′ → let plan = take (roasteries S * cafes S) plan′ in
+      (z : ℤ) (k : ℕ) → z ≡ total → k ≡ usedCount plan (length plan)
+      → planText S ≡ planSections (record { total = z; rounds = rounds; used = k }) (take (roasteries S) u′) (take (cafes S) v′) plan
+  found-sections f z k is-total is-count =
+      rw (is-total, is-count, f .totalIs, f .roundsIs, f .uIs, f .vIs, f .planIs)
       (plan-sections S (accepted S (f .passes) .limits .cafesLow) (f .fills))

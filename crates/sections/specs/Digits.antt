@@ -29,6 +29,10 @@ snoc-same (x ∷ xs) (y ∷ ys) a b e =
     let head : x ≡ y = cc in
     (rw (head, same .0), same .1)
 
+-- The first `at` digits are those of `rest`: they are as many.
+pub digits-left : (D : List ℕ) (at rest : ℕ) → at ≤ length D → take at D ≡ digits rest → at ≡ length (digits rest)
+digits-left D at rest p e = omega (arith, length-take at D, ap length e)
+
 -- The first k + 1 digits are those of `rest`: the one at place k is its last, and those before are the digits of its tenth.
 module _ (D : List ℕ) (rest k : ℕ) (p : k < length D) (e : take (suc k) D ≡ digits rest) where
   last-of : (xs : List ℕ) (d : ℕ) → digits rest ≡ xs ++ (d ∷ []) → (take k D ≡ xs) × (getD D k 0 ≡ d)

@@ -41,10 +41,6 @@ unfolding front
 front-first (x ∷ out) b p = refl
 front-first [] b p = absurd (omega arith)
 
-pub front-three : (out : List ℕ) (a b c : ℕ) → 3 ≤ length out → set (set (set out 0 a) 1 b) 2 c ≡ front (a ∷ b ∷ c ∷ []) out
-front-three out a b c p =
-    rw (front-first out a (omega arith), front-byte (a ∷ []) out 1 b refl (omega arith), front-byte (a ∷ b ∷ []) out 2 c refl (omega arith))
-
 -- ---- the part of a list from a place on, lent and come back
 
 mid-tail : (n : ℕ) (xs : List ℕ) → midOf n (length xs - n) xs ≡ drop n xs
@@ -60,7 +56,7 @@ module _ (first out held : List ℕ) (n : ℕ) (e : n ≡ length first) (h : hel
   unfolding front
   lent-rest = mid-tail n held ∙ (rw (h, drop-at first (drop (length first) out) n (sym e), e))
 
-  pub lent-length : length (midOf n (length held - n) held) ≡ length out - n
+  lent-length : length (midOf n (length held - n) held) ≡ length out - n
   lent-length = ap length lent-rest ∙ length-drop n out
 
   -- .. and the output after it has come back with the second text.

@@ -7,7 +7,7 @@ ghost use Rattle.transport.specs.Text.{digits, wholeDigits};
 ghost use Rattle.sections.specs.Front.{front};
 
 // The count of the digits of `n`.
-pub(crate) fn digit_count(n: u64) -> usize
+pub fn digit_count(n: u64) -> usize
     ensures { λ r. ⌜ r ≡ length (digits n) ⌝ }
 {
     let mut count: usize = 1;
@@ -19,19 +19,21 @@ pub(crate) fn digit_count(n: u64) -> usize
     count
 }
 
-// Writes the digits of `n` at the front of the output, and gives their count.
-pub(crate) fn write_number(n: u64, out: &mut [u8]) -> usize
+// Writes the digits of `n` at the front of the output, from the last one to the first, and gives their count. A loop that ends by what is left of `n` is not
+// unrolled, so its code is short.
+pub fn write_number(n: u64, out: &mut [u8]) -> usize
     requires { ⌜ length (digits n) ≤ length (now out) ⌝ }
     ensures { λ r. ⌜ (r ≡ length (digits n)) × (now (out .exit) ≡ front (digits n) (now (out .entry))) ⌝ }
 {
     let count = digit_count(n);
     let mut at = count;
     let mut rest = n;
-    while 0 < at {
+    while 10 <= rest {
         at -= 1;
         out[at] = b'0' + (rest % 10) as u8;
         rest = rest / 10;
     }
+    out[0] = b'0' + rest as u8;
     count
 }
 
@@ -43,7 +45,7 @@ fn magnitude(z: i64) -> u64
 }
 
 // The count of the bytes of `z`, its minus among them.
-pub(crate) fn whole_count(z: i64) -> usize
+pub fn whole_count(z: i64) -> usize
     ensures { λ r. ⌜ r ≡ length (wholeDigits z) ⌝ }
 {
     let count = digit_count(magnitude(z));
@@ -54,7 +56,7 @@ pub(crate) fn whole_count(z: i64) -> usize
 }
 
 // Writes `z`, with its minus if it is negative, at the front of the output, and gives the count of its bytes.
-pub(crate) fn write_whole(z: i64, out: &mut [u8]) -> usize
+pub fn write_whole(z: i64, out: &mut [u8]) -> usize
     requires { ⌜ length (wholeDigits z) ≤ length (now out) ⌝ }
     ensures { λ r. ⌜ (r ≡ length (wholeDigits z)) × (now (out .exit) ≡ front (wholeDigits z) (now (out .entry))) ⌝ }
 {

@@ -25,7 +25,7 @@ fn numbers_len(numbers: &[u64]) -> usize
 }
 
 // Copies bytes to the output.
-fn write_bytes(bytes: &[u8], out: &mut [u8]) -> usize
+pub fn write_bytes(bytes: &[u8], out: &mut [u8]) -> usize
     requires { ⌜ length (now bytes) ≤ length (now out) ⌝ }
     ensures { λ r. ⌜ (r ≡ length (now (bytes .entry))) × (now (out .exit) ≡ front (now (bytes .entry)) (now (out .entry))) ⌝ }
 {
@@ -48,7 +48,7 @@ fn write_ended(n: u64, end: u8, out: &mut [u8]) -> usize
 }
 
 // Numbers in lines of `width`.
-fn write_lines(numbers: &[u64], width: usize, out: &mut [u8]) -> usize
+pub fn write_lines(numbers: &[u64], width: usize, out: &mut [u8]) -> usize
     requires { ⌜ (1 ≤ width) × (length (linesFrom digits width width (now numbers)) ≤ length (now out)) ⌝ }
     ensures { λ r. ⌜
         (r ≡ length (linesFrom digits width width (now (numbers .entry))))
@@ -79,22 +79,15 @@ pub fn write_head(name: &[u8], count: usize, out: &mut [u8]) -> usize
     at + write_ended(count as u64, b'\n', &mut out[at..])
 }
 
-// A section: its head line, and its numbers in lines of `width`.
-pub fn write_section(
-    name: &[u8],
-    count: usize,
-    width: usize,
-    numbers: &[u64],
-    out: &mut [u8],
-) -> usize
-    requires { ⌜ (1 ≤ width) × (length (sectionText digits (now name) count width (now numbers)) ≤ length (now out)) ⌝ }
-    ensures { λ r. ⌜
-        (r ≡ length (sectionText digits (now (name .entry)) count width (now (numbers .entry))))
-        × (now (out .exit) ≡ front (sectionText digits (now (name .entry)) count width (now (numbers .entry))) (now (out .entry)))
-        ⌝ }
+// A section: its head line, and its numbers, one in a line.
+pub fn write_section(name: &[u8], count: usize, numbers: &[u64], out: &mut [u8]) -> usize
+    requires { ⌜ length (sectionText digits (now name) count 1 (now numbers)) ≤ length (now out) ⌝ }
+    ensures { λ r.
+        let text = sectionText digits (now (name .entry)) count 1 (now (numbers .entry)) in
+        ⌜ (r ≡ length text) × (now (out .exit) ≡ front text (now (out .entry))) ⌝ }
 {
     let at = write_head(name, count, out);
-    at + write_lines(numbers, width, &mut out[at..])
+    at + write_lines(numbers, 1, &mut out[at..])
 }
 
 // The length of a head line.

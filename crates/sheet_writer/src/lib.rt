@@ -38,7 +38,7 @@ fn write_after_supply(m: usize, demand: &[u64], cost: &[i64], out: &mut [u8]) ->
         ⌜ (r ≡ length text) × (now (out .exit) ≡ front text (now (out .entry))) ⌝ }
 {
     let n = demand.len();
-    let at = section::write_section(b"demand ", n, 1, demand, out);
+    let at = section::write_section(b"demand ", n, demand, out);
     at + wholes::write_whole_section(b"cost ", m, n, cost, &mut out[at..])
 }
 
@@ -53,7 +53,7 @@ fn write_text(supply: &[u64], demand: &[u64], cost: &[i64], out: &mut [u8]) -> u
         ⌜ (r ≡ length text) × (now (out .exit) ≡ front text (now (out .entry))) ⌝ }
 {
     let m = supply.len();
-    let at = section::write_section(b"supply ", m, 1, supply, out);
+    let at = section::write_section(b"supply ", m, supply, out);
     at + write_after_supply(m, demand, cost, &mut out[at..])
 }
 

@@ -63,22 +63,19 @@ unfolding sumZ
 sum-sumZ zero f = omega arith
 sum-sumZ (suc n) f = omega (arith, z-add (sumZ n f) (f n), sum-sumZ n f)
 
--- A plan by lanes in sheet order, added up by rows.
+-- A plan by places in sheet order.
+pub places-cost : (N : ℕ) (Q : List ℕ) (c : List ℤ) → toZ (sumZ N (λ l. pos (at Q l) *ℤ atZ c l)) ≈ sum N (λ l. nat (at Q l) ⊗ toZ (atZ c l))
+places-cost N Q c = omega (
+  arith,
+  sum-sumZ N (λ l. pos (at Q l) *ℤ atZ c l),
+  sum-cong N (λ l. toZ (pos (at Q l) *ℤ atZ c l)) (λ l. nat (at Q l) ⊗ toZ (atZ c l)) (λ l h. z-mul (pos (at Q l)) (atZ c l)),
+)
+
+-- .. and added up by rows.
 pub lanes-cost : (m n : ℕ) (Q : List ℕ) (c : List ℤ)
     → toZ (sumZ (m * n) (λ l. pos (at Q l) *ℤ atZ c l)) ≈ cost m n (λ i j. toZ (atZ c (place n i j))) (carried n Q)
 unfolding place
-lanes-cost m n Q c = omega (
-  arith,
-  sum-cong (m * n) (λ l. toZ (term l)) each (λ l h. z-mul (pos (at Q l)) (atZ c l)),
-  sum-runs m n each,
-  sum-sumZ (m * n) term,
-)
-  where
-    term : ℕ → ℤ
-    term l = pos (at Q l) *ℤ atZ c l
-
-    each : ℕ → Z
-    each l = nat (at Q l) ⊗ toZ (atZ c l)
+lanes-cost m n Q c = omega (arith, places-cost (m * n) Q c, sum-runs m n (λ l. nat (at Q l) ⊗ toZ (atZ c l)))
 
 pub cost-flowCost : (P : Problem) (Q : List ℕ) → cost (sources P) (sinks P) (costs P) (carried (sinks P) Q) ≈ toZ (flowCost P Q)
 unfolding flowCost laneCost

@@ -44,6 +44,6 @@ maxDigits = 7
 unfoldable pub maxText : ℕ
 maxText = 9756
 
--- Not a limit of the paper but the length of the program's output, in bytes: no plan text is longer, with a line for every lane counted. (That is a theorem.)
+-- Not a limit of the paper but the length of the program's output, in bytes: no plan text is longer. (That is a theorem.)
 unfoldable pub maxPlanText : ℕ
-maxPlanText = 15_060
+maxPlanText = 1_604

@@ -1,4 +1,4 @@
--- The samples of paper 01, P1 to P9, its text samples and its worked text, those of paper 02, One and Two, and a sample for each trap that these leave open,
+-- The samples of paper 01, P1 to P9, its text samples and its worked text, those of paper 02, One to Three, and a sample for each trap that these leave open,
 -- as one theorem over the definitions.
 mod Open
 use mathlib.Core.Path.{_≡_, refl}
@@ -17,7 +17,7 @@ use Rattle.transport.specs.Potential.{reducedCost}
 use Rattle.transport.specs.Round.{entering, next}
 use Rattle.transport.specs.Plan.{planCost}
 use Rattle.transport.specs.Calls.{Answer, refused, given, refusedBy, startCall, finished, moved, roundCall, runCall, settleCall, solveCall}
-use Rattle.transport.specs.Text.{bytes}
+use Rattle.transport.specs.Text.{bytes, numberLine}
 use Rattle.transport.specs.SheetText.{readSheetCall, writeSheetCall}
 use Rattle.transport.specs.PlanText.{wholeLine, writePlanCall, printed}
 use Rattle.transport.specs.Samples.Open.{opened}
@@ -233,6 +233,10 @@ samples =
     ∷ (readSheetCall (bytes "supply -1\n") 32 32 1024 is stuckAt 7)
     ∷ (readSheetCall (bytes "supply 1\n-2\n") 32 32 1024 is stuckAt 9)
     ∷ (readSheetCall (bytes "supply 1\n2\ndemand 1\n-2\n") 32 32 1024 is stuckAt 20)
+    -- Three: any number of 64 bits
+    ∷ (wholeLine (belowZero 9_223_372_036_854_775_808) is bytes "-9223372036854775808\n")
+    ∷ (wholeLine (pos 9_223_372_036_854_775_807) is bytes "9223372036854775807\n")
+    ∷ (numberLine 18_446_744_073_709_551_615 is bytes "18446744073709551615\n")
     -- traps: the least reduced cost enters, and not the first negative one; a count beyond the array does not belong
     ∷ (entering (extended sheet10) (start (extended sheet10)) is lane 1 3)
     ∷ (roundCall sheet1 (record { cells = tableauOf start1 .cells; count = 64 }) is refusedBy 6)
@@ -240,4 +244,4 @@ samples =
 
 pub samples-hold : Hold samples
 unfolding opened
-samples-hold = (refl, (refl, (refl, (refl, (refl, (refl, (refl, (refl, (refl, (refl, (refl, (refl, (refl, (refl, (refl, (refl, (refl, (refl, (refl, (refl, (refl, (refl, (refl, (refl, (refl, (refl, (refl, (refl, (refl, (refl, (refl, (refl, (refl, (refl, (refl, (refl, (refl, (refl, (refl, (refl, (refl, (refl, (refl, (refl, (refl, (refl, (refl, (refl, (refl, (refl, (refl, (refl, (refl, (refl, (refl, (refl, (refl, (refl, (refl, (refl, (refl, (refl, (refl, (refl, (refl, (refl, (refl, (refl, (refl, (refl, (refl, (refl, (refl, (refl, (refl, (refl, (refl, (refl, (refl, (refl, tt))))))))))))))))))))))))))))))))))))))))))))))))))))))))))))))))))))))))))))))))
+samples-hold = (refl, (refl, (refl, (refl, (refl, (refl, (refl, (refl, (refl, (refl, (refl, (refl, (refl, (refl, (refl, (refl, (refl, (refl, (refl, (refl, (refl, (refl, (refl, (refl, (refl, (refl, (refl, (refl, (refl, (refl, (refl, (refl, (refl, (refl, (refl, (refl, (refl, (refl, (refl, (refl, (refl, (refl, (refl, (refl, (refl, (refl, (refl, (refl, (refl, (refl, (refl, (refl, (refl, (refl, (refl, (refl, (refl, (refl, (refl, (refl, (refl, (refl, (refl, (refl, (refl, (refl, (refl, (refl, (refl, (refl, (refl, (refl, (refl, (refl, (refl, (refl, (refl, (refl, (refl, (refl, (refl, (refl, (refl, tt)))))))))))))))))))))))))))))))))))))))))))))))))))))))))))))))))))))))))))))))))))

@@ -26,7 +26,7 @@ pub const MAX_COST: i64 = 1_000_000;
 pub const MAX_TEXT: usize = 9756;
 
 // No plan text is longer, in bytes.
-pub const MAX_PLAN_TEXT: usize = 15_060;
+pub const MAX_PLAN_TEXT: usize = 1_604;
 
 // A paired amount: `q` bags and `e` marks.
 #[repr(C)]

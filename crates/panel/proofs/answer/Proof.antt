@@ -3,7 +3,7 @@ use native.Mathlib.Omega.{arith}
 use lib.ListN.{length}
 use Rattle.transport.specs.PlanText.{printed, shown}
 use Rattle.sections.specs.Front.{front}
-use Rattle.plan_text.specs.Shown.{fitting-fits}
+use Rattle.sections.specs.Fitting.{fitting-fits}
 use Rattle.plan_text.specs.Longest.{printed-length}
 use borrow.Author.Needs.{needs}
 use Rattle.panel.proofs.answer.Statement.{statement}

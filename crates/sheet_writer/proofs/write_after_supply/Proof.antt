@@ -14,15 +14,13 @@ slice-aggregate-write-section c = search needs
 write-section-requires : tie.Need-write-section-requires
 unfolding bytes
 write-section-requires c κs =
-    let t = c .before .before .before .before in (
-      omega arith,
-      first-room (demandSection (t .args .demand .now)) (costSection (t .args .m) (length (t .args .demand .now)) (t .args .cost .now))
-          (t .args .out .now) (t .pre .1),
-    )
+    let t = c .before .before .before .before in
+    first-room (demandSection (t .args .demand .now)) (costSection (t .args .m) (length (t .args .demand .now)) (t .args .cost .now))
+    (t .args .out .now) (t .pre .1)
 
 begun : (c : tie.After-write-section) → let t = c .before .before .before .before .before in
     FirstWritten (demandSection (t .args .demand .now)) (costSection (t .args .m) (length (t .args .demand .now)) (t .args .cost .now)) (t .args .out .now)
-    (c .write-section .last .1 .1 .1 .1 .0) (c .write-section .result)
+    (c .write-section .last .1 .1 .1 .0) (c .write-section .result)
 unfolding bytes
 begun c = record { room = c .before .before .before .before .before .pre .1; ends = c .write-section .ensures .0; holds = c .write-section .ensures .1 }
 

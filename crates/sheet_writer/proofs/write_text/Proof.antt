@@ -34,10 +34,10 @@ write-section-requires : tie.Need-write-section-requires
 unfolding bytes
 write-section-requires c κs =
     let t = c .before .before .before .before .before in
-    (omega arith, first-room (supplySection (t .args .supply .now)) (others t) (t .args .out .now) (room t))
+    first-room (supplySection (t .args .supply .now)) (others t) (t .args .out .now) (room t)
 
 begun : (c : tie.After-write-section) → let t = c .before .before .before .before .before .before in
-    FirstWritten (supplySection (t .args .supply .now)) (others t) (t .args .out .now) (c .write-section .last .1 .1 .1 .1 .0) (c .write-section .result)
+    FirstWritten (supplySection (t .args .supply .now)) (others t) (t .args .out .now) (c .write-section .last .1 .1 .1 .0) (c .write-section .result)
 unfolding bytes
 begun c = record {
   room = room (c .before .before .before .before .before .before);

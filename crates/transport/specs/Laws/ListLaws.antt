@@ -242,15 +242,6 @@ module _ {A : Type 0} (p : A → Bool) where
       go true e m rest = head (List·Memᴰ·cases-cons m) e rest
       go false e m rest = (List·Memᴰ·tail (rest m .0), rest m .1)
 
-  pub length-keep : (xs : List A) → length (keep p xs) ≤ length xs
-  unfolding keep
-  length-keep [] = omega arith
-  length-keep (x ∷ xs) = go (p x) (length-keep xs)
-    where
-      go : (b : Bool) → length (keep p xs) ≤ length xs → length (cond b (x ∷ keep p xs) (keep p xs)) ≤ suc (length xs)
-      go true e = omega arith
-      go false e = omega arith
-
   pub keep-all : (xs : List A) → all p xs ≡ true → keep p xs ≡ xs
   unfolding keep all
   keep-all [] e = refl

@@ -1,66 +1,68 @@
 -- The prices, and then the lanes in what is left of the output.
 use native.Mathlib.Omega.{arith}
-use Rattle.transport.specs.Text.{bytes}
+use lib.ListN.{length}
 use Rattle.sections.specs.Front.{FirstWritten, first-room, second-start, second-room, both-length, both-written}
 use Rattle.plan_lines.specs.Sections.{pricesText, lanesText}
 use borrow.Author.Needs.{needs}
 use Rattle.plan_lines.proofs.plan_sections.write_after_figures.Statement.{statement}
 use Rattle.plan_lines.proofs.plan_sections.write_after_figures.Tie as tie
 
+-- From the prices to the start, and from the lanes to the prices.
+abbrev start : tie.After-write-price-sections-arg → tie.Start
+start c = c .before .before .before
+
+abbrev prices : tie.After-write-lane-section → tie.After-write-price-sections
+prices c = c .before .before .before .before
+
 write-price-sections-requires : tie.Need-write-price-sections-requires
-unfolding lanesText bytes
 write-price-sections-requires c κs =
-    let t = c .before .before .before in
-    first-room (pricesText (t .args .u .now) (t .args .v .now)) (lanesText (t .args .count) (t .args .numbers .now)) (t .args .out .now) (t .pre)
+    let a = start c .args in
+    first-room (pricesText (a .u .now) (a .v .now)) (lanesText (a .count) (length (a .v .now)) (a .plan .now)) (a .out .now) (start c .pre .2)
 
-slice-aggregate-write-section : tie.Need-slice-aggregate-write-section
-slice-aggregate-write-section c = search needs
-
-begun : (c : tie.After-write-price-sections) → let t = c .before .before .before .before in
-    FirstWritten (pricesText (t .args .u .now) (t .args .v .now)) (lanesText (t .args .count) (t .args .numbers .now)) (t .args .out .now)
+begun : (c : tie.After-write-price-sections) → let a = start (c .before) .args in
+    FirstWritten (pricesText (a .u .now) (a .v .now)) (lanesText (a .count) (length (a .v .now)) (a .plan .now)) (a .out .now)
     (c .write-price-sections .last .1 .1 .0) (c .write-price-sections .result)
-unfolding lanesText bytes
-begun c = record { room = c .before .before .before .before .pre; ends = c .write-price-sections .ensures .0; holds = c .write-price-sections .ensures .1 }
+begun c = record { room = start (c .before) .pre .2; ends = c .write-price-sections .ensures .0; holds = c .write-price-sections .ensures .1 }
 
-sub-write-section : tie.Need-sub-write-section
-sub-write-section c = second-start (begun (c .before .before .before))
+sub-write-lane-section : tie.Need-sub-write-lane-section
+sub-write-lane-section c = second-start (begun (c .before .before))
 
-part-write-section-start : tie.Need-part-write-section-start
-part-write-section-start c = second-start (begun (c .before .before .before))
+part-write-lane-section-start : tie.Need-part-write-lane-section-start
+part-write-lane-section-start c = second-start (begun (c .before .before))
 
-part-write-section-end : tie.Need-part-write-section-end
-part-write-section-end c = search needs
+part-write-lane-section-end : tie.Need-part-write-lane-section-end
+part-write-lane-section-end c = search needs
 
-write-section-requires : tie.Need-write-section-requires
-unfolding lanesText bytes
-write-section-requires c κs = (omega arith, second-room (begun (c .before .before .before .before)))
+write-lane-section-requires : tie.Need-write-lane-section-requires
+write-lane-section-requires c κs =
+    let b = c .before .before .before in
+    let p = start (b .before) .pre in
+    (p .0, p .1, second-room (begun b))
 
 add-result : tie.Need-add-result
-unfolding lanesText bytes
 add-result c =
-    let b = begun (c .before .before .before .before .before .before .before) in
-    omega (arith, b .room, both-length b _ (c .before .before .write-section .ensures .0))
+    let w = c .before .before in
+    let b = begun (prices w) in
+    omega (arith, b .room, both-length b _ (w .write-lane-section .ensures .0), start (prices w .before) .good)
 
 same-length : tie.Need-same-length
 same-length c = search needs
 
 returns : tie.Need-returns
-unfolding lanesText bytes
 returns c =
-    let b = begun (c .before .before .before .before .before .before .before) in
-    let w = c .before .before .write-section in
-    (both-length b _ (w .ensures .0), both-written b _ (w .ensures .1))
+    let w = c .before .before in
+    let b = begun (prices w) in
+    (both-length b _ (w .write-lane-section .ensures .0), both-written b _ (w .write-lane-section .ensures .1))
 
 pub write-after-figures-spec : {M : Type 1} → statement M
 write-after-figures-spec =
     tie.close
     (tie.spec
     write-price-sections-requires
-    slice-aggregate-write-section
-    sub-write-section
-    part-write-section-start
-    part-write-section-end
-    write-section-requires
+    sub-write-lane-section
+    part-write-lane-section-start
+    part-write-lane-section-end
+    write-lane-section-requires
     add-result
     same-length
     returns)

@@ -62,7 +62,7 @@ part-write-section-end c = search needs
 
 write-section-requires : tie.Need-write-section-requires
 unfolding figuresText bytes
-write-section-requires c κs = (omega arith, second-room (begun (c .before .before .before .before .before)))
+write-section-requires c κs = second-room (begun (c .before .before .before .before .before))
 
 add-result : tie.Need-add-result
 unfolding figuresText bytes

@@ -1,12 +1,9 @@
 -- Too short, or written.
-use mathlib.Core.Path.{refl, sym}
 use mathlib.Core.List.{_++_}
 use native.Mathlib.Omega.{arith}
-use lib.ListN.{length}
 use Rattle.transport.specs.Text.{digits}
-use Rattle.sections.specs.Front.{front-nil}
+use Rattle.sections.specs.Fitting.{put-nothing, put-whole}
 use Rattle.sections.specs.Lines.{ended}
-use Rattle.plan_text.specs.Shown.{fitting-short, fitting-fits}
 use borrow.Author.Needs.{needs}
 use Rattle.plan_text.proofs.display.show_refusal.Statement.{statement}
 use Rattle.plan_text.proofs.display.show_refusal.Tie as tie
@@ -17,10 +14,7 @@ head-len-requires c κs = search needs
 returns : tie.Need-returns
 returns c =
     let a = c .before .before .before .before .args in
-    rw (fitting-short (length (a .out .now)) (a .words .now ++ ended digits (a .number) 10) (omega (arith, c .before .head-len .ensures))) (
-      refl,
-      sym (front-nil (a .out .now)),
-    )
+    put-nothing (a .words .now ++ ended digits (a .number) 10) (a .out .now) (omega (arith, c .before .head-len .ensures))
 
 write-head-requires : tie.Need-write-head-requires
 write-head-requires c κs = search needs
@@ -30,9 +24,9 @@ same-length c = search needs
 
 returns-2 : tie.Need-returns-2
 returns-2 c =
-    let a = c .before .before .before .before .before .before .before .before .args in
-    rw (fitting-fits (length (a .out .now)) (a .words .now ++ ended digits (a .number) 10)
-    (omega (arith, c .before .before .before .before .before .head-len .ensures))) (c .before .before .write-head .ensures)
+    let h = c .before .before .before .before .before in
+    let a = h .before .before .before .args in
+    put-whole (a .words .now ++ ended digits (a .number) 10) (a .out .now) _ _ (omega (arith, h .head-len .ensures)) (c .before .before .write-head .ensures)
 
 pub show-refusal-spec : {M : Type 1} → statement M
 show-refusal-spec =

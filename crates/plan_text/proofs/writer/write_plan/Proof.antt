@@ -1,7 +1,7 @@
--- Each way out is a case of the call; the sections that are written are those of what solve found.
+-- Each way out is a case of the call; the sections that are written are those of what solve found, and no plan text is longer than their list.
 use mathlib.Core.Path.{_≡_, sym, ap, _∙_}
 use mathlib.Core.List.{List}
-use Prim.Native.Nat.{ℕ, _*_, _/_, _≤_}
+use Prim.Native.Nat.{ℕ, _*_, _≤_}
 use native.Mathlib.Omega.{arith}
 use native.Mathlib.Nat.{mul-le-mul}
 use lib.IntN.{ℤ}
@@ -10,15 +10,15 @@ use lib.Seq.{length-take-le}
 use mir.Syntax.{w64}
 use mir.Val.{toZ, ofZ}
 use Rattle.transport.specs.Laws.RangeLaws.{back}
-use Rattle.transport.specs.Limits.{maxSources, maxSinks, maxSide}
+use Rattle.transport.specs.Limits.{maxSources, maxSinks, maxSide, maxPlanText}
 use Rattle.transport.specs.Sheet.{Sheet, roasteries, cafes, sheetOf}
 use Rattle.transport.specs.Laws.SheetLaws.{accepted}
 use Rattle.transport.specs.Statements.{Accepted}
 use Rattle.transport.specs.PlanText.{planText, writePlanCall}
-use Rattle.sections.specs.Front.{front, front-take}
+use Rattle.sections.specs.Front.{front-take}
 use Rattle.sections.specs.WriteCall.{wrote-check, wrote-short, wrote-given}
-use Rattle.plan_lines.specs.Lanes.{usedNumbers}
 use Rattle.plan_lines.specs.Sections.{planSections}
+use Rattle.plan_text.specs.Longest.{plan-length}
 use Rattle.plan_text.specs.Solved.{FoundPlan, found, found-sections, refused-check}
 use borrow.Author.Needs.{needs}
 use Rattle.plan_text.proofs.writer.write_plan.Statement.{statement}
@@ -42,18 +42,24 @@ enum-known-answer c = search needs
 enum-known-answer-2 : tie.Need-enum-known-answer-2
 enum-known-answer-2 c = search needs
 
-abbrev sheetAt : (t : tie.Start) → Sheet
-sheetAt t = sheetOf (t .args .supply .now) (t .args .demand .now) (t .args .cost .now)
+-- From solve to the start, and from each step to the one before it: the answer of solve that was matched, the count of the lanes, and the text.
+abbrev solveStart : tie.After-solve → tie.Start
+solveStart c = c .before .before .before .before .before .before .before
 
--- From the answer of solve that was matched to the call and to the start, and to it from the list of the lanes.
 abbrev solveOf : tie.After-answer2 → tie.After-solve
 solveOf c = c .before .before .before .before .before
 
-abbrev startOf : tie.After-answer2 → tie.Start
-startOf c = solveOf c .before .before .before .before .before .before .before
+abbrev answerOf : tie.After-used-count → tie.After-answer2
+answerOf c = c .before .before .before
 
-abbrev answerOf : tie.After-used-lanes → tie.After-answer2
-answerOf c = c .before .before .before .before
+abbrev countOf : tie.After-text → tie.After-used-count
+countOf c = c .before .before .before .before
+
+abbrev startOf : tie.After-answer2 → tie.Start
+startOf c = solveStart (solveOf c)
+
+abbrev sheetAt : (t : tie.Start) → Sheet
+sheetAt t = sheetOf (t .args .supply .now) (t .args .demand .now) (t .args .cost .now)
 
 -- What solve found.
 module _ (c : tie.After-answer2) where
@@ -89,129 +95,115 @@ module _ (c : tie.After-answer2) where
 total-kept : (c : tie.After-known-told2) → toZ w64 (ofZ w64 (total (c .before))) ≡ total (c .before)
 total-kept c = back w64 (total (c .before)) (search needs)
 
--- The next needs hold whatever two sides the count of lanes is made of, so that a program that leaves out lanes is refused by the contract.
 mul-lanes : tie.Need-mul-lanes
-mul-lanes c =
-    let p = m-few (c .before) in
-    let q = n-few (c .before) in
-    omega (arith, mul-le-mul p q, mul-le-mul p p)
+mul-lanes c = omega (arith, mul-le-mul (m-few (c .before)) (n-few (c .before)))
 
 array-share-prefix-plan : tie.Need-array-share-prefix-plan
-array-share-prefix-plan c =
-    let p = m-few (c .before) in
-    let q = n-few (c .before) in
-    omega (arith, mul-le-mul p q, mul-le-mul p p)
+array-share-prefix-plan c = omega (arith, mul-le-mul (m-few (c .before)) (n-few (c .before)))
 
-slice-aggregate-used-lanes : tie.Need-slice-aggregate-used-lanes
-slice-aggregate-used-lanes c = sym (length-take-le _ _ (array-share-prefix-plan (c .before)))
+slice-aggregate-used-count : tie.Need-slice-aggregate-used-count
+slice-aggregate-used-count c = sym (length-take-le _ _ (array-share-prefix-plan (c .before)))
 
-slice-aggregate-used-lanes-2 : tie.Need-slice-aggregate-used-lanes-2
-slice-aggregate-used-lanes-2 c = search needs
+used-count-requires : tie.Need-used-count-requires
+used-count-requires c κs = search needs
 
-used-lanes-requires : tie.Need-used-lanes-requires
-unfolding maxSide
-used-lanes-requires c κs = omega (
-  arith,
-  slice-aggregate-used-lanes (c .before),
-  array-share-prefix-plan (c .before .before),
-  n-some (c .before .before .before),
-)
-
-array-share-prefix-u : tie.Need-array-share-prefix-u
-array-share-prefix-u c = omega (arith, m-few (c .before .before .before .before .before))
-
-slice-aggregate-plan-sections-len : tie.Need-slice-aggregate-plan-sections-len
-slice-aggregate-plan-sections-len c = sym (length-take-le _ _ (array-share-prefix-u (c .before)))
-
-array-share-prefix-v : tie.Need-array-share-prefix-v
-array-share-prefix-v c = omega (arith, n-few (c .before .before .before .before .before .before))
-
-slice-aggregate-plan-sections-len-2 : tie.Need-slice-aggregate-plan-sections-len-2
-slice-aggregate-plan-sections-len-2 c = sym (length-take-le _ _ (array-share-prefix-v (c .before)))
-
-module _ (c : tie.After-used-lanes) where
-  numbers-few : c .used-lanes .result ≤ 3072
-  numbers-few = omega (arith, c .used-lanes .ensures .2, slice-aggregate-used-lanes (c .before .before), array-share-prefix-plan (c .before .before .before))
-
+-- The sections are the plan text.
+module _ (c : tie.After-used-count) where
   abbrev plan : List ℕ
   plan = take (length (startOf (answerOf c) .args .supply .now) * length (startOf (answerOf c) .args .demand .now))
       (solveOf (answerOf c) .solve .last .1 .1 .1 .1 .1 .0)
 
-  abbrev numbers : List ℕ
-  numbers = usedNumbers (length (startOf (answerOf c) .args .demand .now)) plan (length plan)
-
-  -- If the list holds the numbers of the lanes that carry a bag, the sections are the plan text.
-  the-text : (old : List ℕ) → c .used-lanes .result ≡ length numbers → c .used-lanes .last .1 .1 .0 ≡ front numbers old
-      → planText (sheetAt (startOf (answerOf c)))
+  the-text : planText (sheetAt (startOf (answerOf c)))
       ≡ planSections (record {
         total = toZ w64 (ofZ w64 (total (answerOf c)));
         rounds = made (answerOf c);
-        used = c .used-lanes .result / 3;
+        used = c .used-count .result;
       })
       (take (length (startOf (answerOf c) .args .supply .now)) (solveOf (answerOf c) .solve .last .1 .1 .1 .0))
       (take (length (startOf (answerOf c) .args .demand .now)) (solveOf (answerOf c) .solve .last .1 .1 .1 .1 .0))
-      (take (c .used-lanes .result) (c .used-lanes .last .1 .1 .0))
+      plan
   unfolding roasteries cafes
-  the-text old count holds =
-      let list = ap (take (c .used-lanes .result)) holds ∙ front-take numbers old (c .used-lanes .result) count in
-      found-sections (plan-found (answerOf c)) _ _ _ (total-kept (c .before .before .before)) count list
+  the-text = found-sections (plan-found (answerOf c)) _ _ (total-kept (c .before .before)) (c .used-count .ensures)
 
-array-share-prefix-numbers : tie.Need-array-share-prefix-numbers
-array-share-prefix-numbers c = omega (arith, numbers-few (c .before .before .before))
+  text-few : length (planText (sheetAt (startOf (answerOf c)))) ≤ 1604
+  unfolding maxPlanText
+  text-few = plan-length (sheetAt (startOf (answerOf c))) (plan-found (answerOf c) .passes)
 
-slice-aggregate-plan-sections-len-3 : tie.Need-slice-aggregate-plan-sections-len-3
-slice-aggregate-plan-sections-len-3 c = sym (length-take-le _ _ (array-share-prefix-numbers (c .before)))
+array-share-prefix-u : tie.Need-array-share-prefix-u
+array-share-prefix-u c = omega (arith, m-few (answerOf c))
 
-plan-sections-len-requires : tie.Need-plan-sections-len-requires
+slice-aggregate-write-plan-sections : tie.Need-slice-aggregate-write-plan-sections
+slice-aggregate-write-plan-sections c = sym (length-take-le _ _ (array-share-prefix-u (c .before)))
+
+array-share-prefix-v : tie.Need-array-share-prefix-v
+array-share-prefix-v c = omega (arith, n-few (answerOf (c .before)))
+
+slice-aggregate-write-plan-sections-2 : tie.Need-slice-aggregate-write-plan-sections-2
+slice-aggregate-write-plan-sections-2 c = sym (length-take-le _ _ (array-share-prefix-v (c .before)))
+
+array-share-prefix-plan-2 : tie.Need-array-share-prefix-plan-2
+array-share-prefix-plan-2 c = array-share-prefix-plan (c .before .before .before .before)
+
+slice-aggregate-write-plan-sections-3 : tie.Need-slice-aggregate-write-plan-sections-3
+slice-aggregate-write-plan-sections-3 c = slice-aggregate-used-count (c .before .before .before .before)
+
+slice-aggregate-write-plan-sections-4 : tie.Need-slice-aggregate-write-plan-sections-4
+slice-aggregate-write-plan-sections-4 c = search needs
+
+write-plan-sections-requires : tie.Need-write-plan-sections-requires
 unfolding maxSide
-plan-sections-len-requires c κs =
+write-plan-sections-requires c κs =
+    let k = countOf c in
     omega (
       arith,
-      slice-aggregate-plan-sections-len (c .before .before),
-      slice-aggregate-plan-sections-len-2 (c .before),
-      slice-aggregate-plan-sections-len-3 c,
-      m-few (c .before .before .before .before .before .before .before .before),
-      n-few (c .before .before .before .before .before .before .before .before),
-      numbers-few (c .before .before .before .before),
+      slice-aggregate-write-plan-sections-2 (c .before .before),
+      slice-aggregate-write-plan-sections-3 (c .before),
+      array-share-prefix-plan-2 (c .before .before),
+      n-some (answerOf k),
+      ap length (the-text k),
+      text-few k,
     )
+
+-- The list holds the plan text at its front.
+module _ (c : tie.After-write-plan-sections) where
+  abbrev counted : tie.After-used-count
+  counted = countOf (c .before)
+
+  abbrev began : tie.Start
+  began = startOf (answerOf counted)
+
+  abbrev text : List ℕ
+  text = planText (sheetAt began)
+
+  text-length : c .write-plan-sections .result ≡ length text
+  text-length = c .write-plan-sections .ensures .0 ∙ sym (ap length (the-text counted))
+
+  text-written : take (c .write-plan-sections .result) (c .write-plan-sections .last .1 .1 .1 .1 .0) ≡ text
+  text-written =
+      let e = c .write-plan-sections .ensures in
+      ap (take (c .write-plan-sections .result)) (e .1) ∙ front-take _ _ _ (e .0) ∙ sym (the-text counted)
 
 returns : tie.Need-returns
 unfolding writePlanCall
 returns c =
-    let t = c .before .before .before .before .before .before .before .before .before .before .before .before .before .before .before .before .before .before
-    .before .before .before .before in
-    let u = c .before .before .before .before .before .before in
-    let l = u .used-lanes in
-    wrote-short (sheetAt t) (planText (sheetAt t)) (t .args .out .now) (plan-found (answerOf u) .passes)
-    (omega (arith, c .before .plan-sections-len .ensures, ap length (the-text u _ (l .ensures .0) (l .ensures .1))))
+    let w = c .before .before in
+    wrote-short (sheetAt (began w)) (text w) (began w .args .out .now) (plan-found (answerOf (counted w)) .passes) (omega (arith, text-length w))
 
-array-share-prefix-u-2 : tie.Need-array-share-prefix-u-2
-array-share-prefix-u-2 c = array-share-prefix-u (c .before .before .before .before .before)
+array-share-prefix-text : tie.Need-array-share-prefix-text
+array-share-prefix-text c = let w = c .before .before in omega (arith, text-length w, text-few (counted w))
 
-slice-aggregate-write-plan-sections : tie.Need-slice-aggregate-write-plan-sections
-slice-aggregate-write-plan-sections c = slice-aggregate-plan-sections-len (c .before .before .before .before .before)
+slice-aggregate-write-bytes : tie.Need-slice-aggregate-write-bytes
+slice-aggregate-write-bytes c = sym (length-take-le _ _ (array-share-prefix-text (c .before)))
 
-array-share-prefix-v-2 : tie.Need-array-share-prefix-v-2
-array-share-prefix-v-2 c = array-share-prefix-v (c .before .before .before .before .before)
-
-slice-aggregate-write-plan-sections-2 : tie.Need-slice-aggregate-write-plan-sections-2
-slice-aggregate-write-plan-sections-2 c = slice-aggregate-plan-sections-len-2 (c .before .before .before .before .before)
-
-array-share-prefix-numbers-2 : tie.Need-array-share-prefix-numbers-2
-array-share-prefix-numbers-2 c = array-share-prefix-numbers (c .before .before .before .before .before)
-
-slice-aggregate-write-plan-sections-3 : tie.Need-slice-aggregate-write-plan-sections-3
-slice-aggregate-write-plan-sections-3 c = slice-aggregate-plan-sections-len-3 (c .before .before .before .before .before)
-
-write-plan-sections-requires : tie.Need-write-plan-sections-requires
-write-plan-sections-requires c κs = search needs
+write-bytes-requires : tie.Need-write-bytes-requires
+write-bytes-requires c κs = omega (arith, slice-aggregate-write-bytes (c .before))
 
 returns-2 : tie.Need-returns-2
 unfolding writePlanCall maxSide
 returns-2 c =
-    let t = c .before .before .before .before .before .before .before .before .before .before .before .before .before in
-    wrote-check (sheetAt t) (planText (sheetAt t)) (t .args .out .now) _
-    (refused-check (sheetAt t) _ (sym (c .before .answer .given .1) ∙ c .before .before .before .before .before .before .solve .ensures .0))
+    let s = c .before .before .before .before .before .before in
+    let S = sheetAt (solveStart s) in
+    wrote-check S (planText S) (solveStart s .args .out .now) _ (refused-check S _ (sym (c .before .answer .given .1) ∙ s .solve .ensures .0))
 
 same-length : tie.Need-same-length
 same-length c = search needs
@@ -219,19 +211,10 @@ same-length c = search needs
 returns-3 : tie.Need-returns-3
 unfolding writePlanCall
 returns-3 c =
-    let t = c .before .before .before .before .before .before .before .before .before .before .before .before .before .before .before .before .before .before
-    .before .before .before .before .before .before .before .before .before .before .before in
-    let u = c .before .before .before .before .before .before .before .before .before .before .before .before .before in
-    let w = c .before .before .write-plan-sections in
-    let text = the-text u _ (u .used-lanes .ensures .0) (u .used-lanes .ensures .1) in
-    rw (w .ensures .0, w .ensures .1, ← text)
-    (wrote-given (sheetAt t) (planText (sheetAt t)) (t .args .out .now) (plan-found (answerOf u) .passes)
-    (omega (
-      arith,
-      c .before .before .before .before .before .before .before .before .plan-sections-len .ensures,
-      ap length text,
-      c .before .before .before .before .before .before .before .if1 .left,
-    )))
+    let b = c .before .before in
+    let w = b .before .before .before .before .before in
+    rw (b .write-bytes .ensures .1, text-written w, text-length w)
+    (wrote-given (sheetAt (began w)) (text w) (began w .args .out .now) (plan-found (answerOf (counted w)) .passes) (omega (arith, text-length w)))
 
 pub write-plan-spec : {M : Type 1} → statement M
 write-plan-spec =
@@ -245,24 +228,20 @@ write-plan-spec =
     enum-known-answer-2
     mul-lanes
     array-share-prefix-plan
-    slice-aggregate-used-lanes
-    slice-aggregate-used-lanes-2
-    used-lanes-requires
+    slice-aggregate-used-count
+    used-count-requires
     array-share-prefix-u
-    slice-aggregate-plan-sections-len
-    array-share-prefix-v
-    slice-aggregate-plan-sections-len-2
-    array-share-prefix-numbers
-    slice-aggregate-plan-sections-len-3
-    plan-sections-len-requires
-    returns
-    array-share-prefix-u-2
     slice-aggregate-write-plan-sections
-    array-share-prefix-v-2
+    array-share-prefix-v
     slice-aggregate-write-plan-sections-2
-    array-share-prefix-numbers-2
+    array-share-prefix-plan-2
     slice-aggregate-write-plan-sections-3
+    slice-aggregate-write-plan-sections-4
     write-plan-sections-requires
+    returns
+    array-share-prefix-text
+    slice-aggregate-write-bytes
+    write-bytes-requires
     returns-2
     same-length
     returns-3)

@@ -1,19 +1,20 @@
--- The loop's invariant: the output holds the digits from place `at` on, and those before are the digits of what is left of n.
+-- The loop's invariant: the output holds the digits from place `at` on, and those before are the digits of what is left of n, which are one or more.
 use borrow.Author.Needs.{needs}
 use mathlib.Core.Path.{_≡_, refl, _∙_}
 use mathlib.Core.List.{_++_}
-use Prim.Native.Nat.{_≤_, _<_, _-_, suc}
+use Prim.Native.Nat.{_≤_, _<_, _-_, _/_, suc}
 use native.Mathlib.Omega.{arith}
 use lib.ListN.{length, take, drop, length-set}
 use lib.Seq.{take-length, drop-length}
 use Rattle.transport.specs.Text.{digits}
+use Rattle.grammar.specs.Digits.{digits-some}
 use Rattle.sections.specs.Front.{front}
-use Rattle.sections.specs.Digits.{digit-last, digits-before, fill-back}
+use Rattle.sections.specs.Digits.{length-digits-small, length-digits-more, digits-left, digit-last, digits-before, fill-back}
 use Rattle.sections.proofs.number.write_number.Statement.{statement}
 use Rattle.sections.proofs.number.write_number.Tie as tie
 
 abbrev Inv-loop : tie.InvT-loop
-Inv-loop n out₀ count at₀ rest₀ out at rest = (at ≤ count) × (length out ≡ length out₀) × (0 < at → take at (digits n) ≡ digits rest)
+Inv-loop n out₀ count at₀ rest₀ out at rest = (at ≤ count) × (length out ≡ length out₀) × (take at (digits n) ≡ digits rest)
     × (drop at out ≡ drop at (digits n) ++ drop count out₀)
 
 abbrev μ-loop : tie.MeasureT-loop
@@ -26,10 +27,18 @@ loop-holds : tie.Need-loop-holds Inv-loop μ-loop
 loop-holds c =
     let a = c .before .before .args in
     let e = c .digit-count .ensures in
-    (omega arith, refl, λ p. (rw (e, take-length (digits (a .n)))), rw (e, drop-length (digits (a .n))))
+    (omega arith, refl, rw (e, take-length (digits (a .n))), rw (e, drop-length (digits (a .n))))
+
+-- While the rest has two digits or more, so many places are left.
+places : (c : tie.In-loop Inv-loop μ-loop) → 2 ≤ c .before .loop .at
+places c =
+    let l = c .before .loop in
+    let D = digits (c .before .before .before .before .args .n) in
+    let left = digits-left D (l .at) (l .rest) (omega (arith, c .before .before .digit-count .ensures)) (l .inv .2) in
+    omega (arith, left, length-digits-more (l .rest) (omega arith), digits-some (l .rest / 10))
 
 sub-at : tie.Need-sub-at Inv-loop μ-loop
-sub-at c = search needs
+sub-at c = omega (arith, places c)
 
 cast-out : tie.Need-cast-out Inv-loop μ-loop
 cast-out c = search needs
@@ -38,25 +47,34 @@ add-out : tie.Need-add-out Inv-loop μ-loop
 add-out c = search needs
 
 slice-write-out : tie.Need-slice-write-out Inv-loop μ-loop
-slice-write-out c = search needs
+slice-write-out c = omega (arith, places c, c .before .before .digit-count .ensures)
 
 loop-less : tie.Need-loop-less Inv-loop μ-loop
-loop-less c = search needs
+loop-less c = omega (arith, places c)
 
 loop-again : tie.Need-loop-again Inv-loop μ-loop
 loop-again c =
     let D = digits (c .before .before .before .before .args .n) in
     let l = c .before .loop in
     let k = l .at - 1 in
-    let e : l .at ≡ suc k = omega arith in
+    let e : l .at ≡ suc k = omega (arith, places c) in
     let p : k < length D = omega (arith, c .before .before .digit-count .ensures) in
     let q : k < length (l .out) = omega (arith, c .before .before .digit-count .ensures) in
-    let t : take (suc k) D ≡ digits (l .rest) = rw e at (l .inv .2 (omega arith)) in (
+    let t : take (suc k) D ≡ digits (l .rest) = rw e at (l .inv .2) in (
       omega arith,
       simp length-set (l .inv .1),
-      digits-before D (l .rest) k p t,
+      digits-before D (l .rest) k p t (omega (arith, places c)),
       fill-back D (l .out) _ k _ p q (digit-last D (l .rest) k p t) (rw e at (l .inv .3)),
     )
+
+cast-out-2 : tie.Need-cast-out-2 Inv-loop μ-loop
+cast-out-2 c = search needs
+
+add-out-2 : tie.Need-add-out-2 Inv-loop μ-loop
+add-out-2 c = search needs
+
+slice-write-out-2 : tie.Need-slice-write-out-2 Inv-loop μ-loop
+slice-write-out-2 c = omega (arith, c .before .before .digit-count .ensures, digits-some (c .before .before .before .before .args .n))
 
 same-length : tie.Need-same-length Inv-loop μ-loop
 same-length c = search needs
@@ -64,9 +82,14 @@ same-length c = search needs
 returns : tie.Need-returns Inv-loop μ-loop
 unfolding front
 returns c =
+    let D = digits (c .before .before .before .before .args .n) in
     let l = c .before .loop in
-    let z : l .at ≡ 0 = omega arith in
-    (c .before .before .digit-count .ensures, (rw z at (l .inv .3)) ∙ (rw (c .before .before .digit-count .ensures)))
+    let count = c .before .before .digit-count .ensures in
+    let one : l .at ≡ 1 = omega (arith, digits-left D (l .at) (l .rest) (omega (arith, count)) (l .inv .2), length-digits-small (l .rest) (omega arith)) in
+    let p : 0 < length D = omega (arith, digits-some (c .before .before .before .before .args .n)) in
+    let q : 0 < length (l .out) = omega (arith, count) in
+    let first = digit-last D (l .rest) 0 p (rw one at (l .inv .2)) in
+    (count, fill-back D (l .out) _ 0 _ p q (omega (arith, first)) (rw one at (l .inv .3)) ∙ (rw count))
 
 pub write-number-spec : {M : Type 1} → statement M
 write-number-spec =
@@ -82,5 +105,8 @@ write-number-spec =
     slice-write-out
     loop-less
     loop-again
+    cast-out-2
+    add-out-2
+    slice-write-out-2
     same-length
     returns)

@@ -13,13 +13,13 @@ unfolding sectionText
 write-head-requires c κs =
     let t = c .before .before .before .before in
     first-room (t .args .name .now ++ ended digits (t .args .count) 10)
-    (linesFrom digits (t .args .width) (t .args .width) (t .args .numbers .now)) (t .args .out .now) (t .pre .1)
+    (linesFrom digits 1 1 (t .args .numbers .now)) (t .args .out .now) (t .pre)
 
 begun : (c : tie.After-write-head) → let t = c .before .before .before .before .before in
-    FirstWritten (t .args .name .now ++ ended digits (t .args .count) 10) (linesFrom digits (t .args .width) (t .args .width) (t .args .numbers .now))
+    FirstWritten (t .args .name .now ++ ended digits (t .args .count) 10) (linesFrom digits 1 1 (t .args .numbers .now))
     (t .args .out .now) (c .write-head .last .1 .1 .0) (c .write-head .result)
 unfolding sectionText
-begun c = record { room = c .before .before .before .before .before .pre .1; ends = c .write-head .ensures .0; holds = c .write-head .ensures .1 }
+begun c = record { room = c .before .before .before .before .before .pre; ends = c .write-head .ensures .0; holds = c .write-head .ensures .1 }
 
 sub-write-lines : tie.Need-sub-write-lines
 sub-write-lines c = second-start (begun (c .before .before))
@@ -31,7 +31,7 @@ part-write-lines-end : tie.Need-part-write-lines-end
 part-write-lines-end c = search needs
 
 write-lines-requires : tie.Need-write-lines-requires
-write-lines-requires c κs = (c .before .before .before .before .before .before .before .before .pre .0, second-room (begun (c .before .before .before)))
+write-lines-requires c κs = (omega arith, second-room (begun (c .before .before .before)))
 
 add-result : tie.Need-add-result
 add-result c =

@@ -1,5 +1,5 @@
-/* Holds each call to the stack that docs/EMBEDDING.md tells. A call runs on a thread whose stack was filled with a mark; what is no longer the mark was used.
- * The count is with the call's arguments and result, and without what an empty thread uses. */
+/* Prints the stack that each call of the library and the program use. A call runs on a thread whose stack was filled with a mark; what is no longer the mark was
+ * used. The count is with the call's arguments and result, and without what an empty thread uses. */
 #define _XOPEN_SOURCE 700
 #include "panel.h"
 
@@ -7,8 +7,9 @@
 #include <stdio.h>
 #include <stdlib.h>
 #include <string.h>
+#include <unistd.h>
 
-enum { STACK = 1 << 20, TOLD = 96 << 10, MARK = 0x5a, SIDE = PANEL_MAX_SIDE, LANES = SIDE * SIDE, SHEET_TEXT = 9756, PLAN_TEXT = 15060 };
+enum { STACK = 1 << 20, MARK = 0x5a, SIDE = PANEL_MAX_SIDE, LANES = SIDE * SIDE, SHEET_TEXT = 9756, PLAN_TEXT = 1604 };
 
 static uint64_t supply[SIDE], demand[SIDE], plan[LANES];
 static size_t cafes;
@@ -50,6 +51,15 @@ static void read_sheet(void) { refusal = panel_read_sheet(sheet_text, sheet_leng
 
 static void write_plan(void) { refusal = panel_write_plan(SHEET, plan_text, PLAN_TEXT).refusal; }
 
+/* The main function of the program, under another name. It reads the sheet text, and prints a plan text, which begins with `total`. */
+int program_main(void);
+
+static void program(void) {
+    char first = 0;
+    program_main();
+    refusal = pread(STDOUT_FILENO, &first, 1, 0) != 1 || first != 't';
+}
+
 /* In an order in which each has what it needs. */
 static const struct {
     const char *name;
@@ -57,6 +67,7 @@ static const struct {
 } calls[] = {
     {"start", start}, {"round", round_},           {"run", run},               {"settle", settle},
     {"solve", solve}, {"write sheet", write_sheet}, {"read sheet", read_sheet}, {"write plan", write_plan},
+    {"the program", program},
 };
 enum { CALLS = sizeof calls / sizeof *calls };
 
@@ -96,7 +107,22 @@ static void make_sheet(uint32_t top, uint32_t bags, int surplus) {
     }
 }
 
+static void put_file(int stream) {
+    FILE *file = tmpfile();
+    if (file == NULL || dup2(fileno(file), stream) < 0) abort();
+}
+
+/* Puts the sheet text on the standard input, and empties the standard output; both are files. */
+static void lend_streams(void) {
+    if (ftruncate(STDIN_FILENO, 0) != 0 || pwrite(STDIN_FILENO, sheet_text, sheet_length, 0) != (ssize_t)sheet_length) abort();
+    if (ftruncate(STDOUT_FILENO, 0) != 0) abort();
+    if (lseek(STDIN_FILENO, 0, SEEK_SET) != 0 || lseek(STDOUT_FILENO, 0, SEEK_SET) != 0) abort();
+}
+
 int main(void) {
+    int out = dup(STDOUT_FILENO);
+    put_file(STDIN_FILENO);
+    put_file(STDOUT_FILENO);
     static const uint32_t tops[] = {1000000, 1000, 3, 0}, bags[] = {1000000, 1000, 5, 1};
     size_t most[CALLS] = {0};
     int failed = 0;
@@ -104,17 +130,16 @@ int main(void) {
         make_sheet(tops[s / 2], bags[s / 2], s % 2);
         size_t empty = stack_of(nothing);
         for (size_t k = 0; k < CALLS; k++) {
+            lend_streams();
             size_t used = stack_of(calls[k].make) - empty;
             if (used > most[k]) most[k] = used;
             if (refusal != 0) {
-                printf("%s: refused %d\n", calls[k].name, refusal);
+                fprintf(stderr, "%s: refused %d\n", calls[k].name, refusal);
                 failed = 1;
             }
         }
     }
-    for (size_t k = 0; k < CALLS; k++) {
-        printf("stack of %s: %zu bytes\n", calls[k].name, most[k]);
-        if (most[k] > TOLD) failed = 1;
-    }
+    if (dup2(out, STDOUT_FILENO) < 0) abort();
+    for (size_t k = 0; k < CALLS; k++) printf("stack of %s: %zu bytes\n", calls[k].name, most[k]);
     return failed;
 }

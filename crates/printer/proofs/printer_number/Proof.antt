@@ -1,0 +1,31 @@
+-- Too short, or written.
+use native.Mathlib.Omega.{arith}
+use Rattle.transport.specs.Text.{digits}
+use Rattle.sections.specs.Fitting.{put-nothing, put-whole}
+use borrow.Author.Needs.{needs}
+use Rattle.printer.proofs.printer_number.Statement.{statement}
+use Rattle.printer.proofs.printer_number.Tie as tie
+
+digit-count-requires : tie.Need-digit-count-requires
+digit-count-requires c κs = search needs
+
+returns : tie.Need-returns
+returns c =
+    let a = c .before .before .before .args in
+    put-nothing (digits (a .n)) (a .out .now) (omega (arith, c .before .digit-count .ensures))
+
+write-number-requires : tie.Need-write-number-requires
+write-number-requires c κs = search needs
+
+same-length : tie.Need-same-length
+same-length c = search needs
+
+returns-2 : tie.Need-returns-2
+returns-2 c =
+    let h = c .before .before .before .before .before in
+    let a = h .before .before .args in
+    put-whole (digits (a .n)) (a .out .now) _ _ (omega (arith, h .digit-count .ensures)) (c .before .before .write-number .ensures)
+
+pub printer-number-spec : {M : Type 1} → statement M
+printer-number-spec =
+    tie.close (tie.spec digit-count-requires returns write-number-requires same-length returns-2)
