@@ -20,7 +20,7 @@ use Rattle.transport.specs.Text.{digits}
 use Rattle.sections.specs.Lines.{linesFrom, lines-nil, lines-row}
 
 -- The numbers in the line of the lane at a place, among n columns: its row and its column, both from 1, and its bags.
-abbrev laneNumbers : ℕ → ℕ → ℕ → List ℕ
+abbrev pub laneNumbers : ℕ → ℕ → ℕ → List ℕ
 laneNumbers n l bags = suc (l / n) ∷ suc (l % n) ∷ bags ∷ []
 
 -- Its line; none if it carries no bag.

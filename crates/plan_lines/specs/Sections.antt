@@ -2,9 +2,10 @@
 use mathlib.Core.Path.{_≡_}
 use mathlib.Core.List.{List, [], _∷_, _++_, flatMap, append-assoc, append-nil}
 use Prim.Native.String.{String}
-use Prim.Native.Nat.{ℕ, _*_, _≤_}
+use Prim.Native.Nat.{ℕ, _+_, _*_, _≤_}
+use native.Mathlib.Omega.{arith}
 use lib.IntN.{ℤ}
-use lib.ListN.{length}
+use lib.ListN.{length, length-append}
 use Rattle.plan_lines.specs.declared.plan_sections.Figures.{Figures}
 use Rattle.transport.specs.Sheet.{Sheet, roasteries, cafes}
 use Rattle.transport.specs.Text.{bytes, digits, wholeDigits, headLine, numberLine}
@@ -31,6 +32,17 @@ lanesText count n plan = bytes "lanes " ++ ended digits count 10 ++ usedText n p
 -- Each café has a price, and a column in the plan.
 unfoldable pub planSections : Figures → List ℤ → List ℤ → List ℕ → List ℕ
 planSections f u v plan = figuresText f ++ (pricesText u v ++ lanesText (f .used) (length v) plan)
+
+-- Its length, section by section.
+pub sections-length : (f : Figures) (u v : List ℤ) (plan : List ℕ) → length (planSections f u v plan) ≡
+    length (sectionText wholeDigits (bytes "total ") 1 1 (f .total ∷ []))
+    + length (sectionText digits (bytes "rounds ") 1 1 (f .rounds ∷ []))
+    + length (priceSection (bytes "roasteries ") u)
+    + length (priceSection (bytes "cafes ") v)
+    + length (bytes "lanes " ++ ended digits (f .used) 10)
+    + length (usedText (length v) plan (length plan))
+unfolding planSections figuresText pricesText lanesText
+sections-length f u v plan = simp length-append (omega arith)
 
 -- ---- of a solution
 

@@ -85,3 +85,21 @@ pub fn write_plan_sections(
     let count = figures.used;
     at + write_after_figures(count, u, v, plan, &mut out[at..])
 }
+
+// Its length.
+pub fn plan_sections_len(figures: Figures, u: &[i64], v: &[i64], plan: &[u64]) -> usize
+    requires { ⌜
+        (length (now u) ≤ maxSide) × (length (now v) ≤ maxSide) × (length (now plan) ≤ maxSide * maxSide) × (1 ≤ length (now v))
+        ⌝ }
+    ensures { λ r. ⌜ r ≡ length (planSections figures (now (u .entry)) (now (v .entry)) (now (plan .entry))) ⌝ }
+{
+    let total = [figures.total];
+    let rounds = [figures.rounds];
+    let count = figures.used;
+    wholes::whole_section_len(b"total ", 1, &total)
+        + section::section_len(b"rounds ", 1, &rounds)
+        + wholes::whole_section_len(b"roasteries ", u.len(), u)
+        + wholes::whole_section_len(b"cafes ", v.len(), v)
+        + section::head_len(b"lanes ", count)
+        + lanes::lanes_len(plan, v.len())
+}

@@ -156,7 +156,7 @@ module _ {S : Sheet} (ok : Accepted S) where
 -- `total 1`, LF, a minus, at most 14 digits and LF are 24 bytes; `rounds 1`, LF, at most 16 digits and LF are 26. The heads `roasteries` and `cafes`, with
 -- counts of at most two digits, are 14 and 9 bytes, and their lines, at most 64, have at most 10 bytes each. The head `lanes`, with a count of at most two
 -- digits, is 9 bytes, and its lines, at most 63, have at most 14 bytes each. In all that is 1,604.
-pub plan-length : (S : Sheet) → refusal (sheetTests S) ≡ none → length (planText S) ≤ maxPlanText
+plan-length : (S : Sheet) → refusal (sheetTests S) ≡ none → length (planText S) ≤ maxPlanText
 unfolding planText bytes maxSide maxCells maxPlanText
 plan-length S e =
     let ok = accepted S e in

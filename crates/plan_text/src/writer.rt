@@ -7,17 +7,16 @@ ghost use Rattle.transport.specs.PlanText.{writePlanCall};
 ghost use Rattle.transport.specs.Answers.{writeAnswer};
 use plan_lines::lanes::used_count;
 use plan_lines::plan_sections::Figures;
+use plan_lines::plan_sections::plan_sections_len;
 use plan_lines::plan_sections::write_plan_sections;
-use sections::section;
 use solve_call::solve;
 use transport::MAX_LANES;
-use transport::MAX_PLAN_TEXT;
 use transport::MAX_SIDE;
 use transport::SolveAnswer;
 use transport::WriteAnswer;
 
 // Write plan: the plan text of the solved sheet in the output, its length in the answer; or a refusal, as by write sheet, and the output is as it was. The
-// text is made in a list with room for the longest one, and copied if the output has room for it.
+// length is known before the first byte is written.
 pub fn write_plan(supply: &[u64], demand: &[u64], cost: &[i64], out: &mut [u8]) -> WriteAnswer
     ensures { λ r.
         let S = sheetOf (now (supply .entry)) (now (demand .entry)) (now (cost .entry)) in
@@ -42,12 +41,10 @@ pub fn write_plan(supply: &[u64], demand: &[u64], cost: &[i64], out: &mut [u8]) 
                 rounds,
                 used: used_count(&plan[..lanes]),
             };
-            let mut text = [0u8; MAX_PLAN_TEXT];
-            let len = write_plan_sections(figures, &u[..m], &v[..n], &plan[..lanes], &mut text);
-            if out.len() < len {
+            if out.len() < plan_sections_len(figures, &u[..m], &v[..n], &plan[..lanes]) {
                 return WriteAnswer::Refused(8);
             }
-            section::write_bytes(&text[..len], out);
+            let len = write_plan_sections(figures, &u[..m], &v[..n], &plan[..lanes], out);
             WriteAnswer::Written(len)
         }
     }

@@ -85,7 +85,7 @@ module _ {A : Type 0} (write : A → List ℕ) where
   unfolding numbersLength
   numbers-cons x xs = refl
 
-  length-lines : (width left : ℕ) (xs : List A) → length (linesFrom write width left xs) ≡ numbersLength write xs
+  pub length-lines : (width left : ℕ) (xs : List A) → length (linesFrom write width left xs) ≡ numbersLength write xs
   unfolding linesFrom numbersLength
   length-lines width left [] = refl
   length-lines width left (x ∷ xs) =

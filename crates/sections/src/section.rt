@@ -11,7 +11,7 @@ use crate::lines;
 use crate::number;
 
 // The length of numbers in lines: each with the byte that ends it.
-fn numbers_len(numbers: &[u64]) -> usize
+pub fn numbers_len(numbers: &[u64]) -> usize
     requires { ⌜ length (now numbers) ≤ 2 ^ 32 ⌝ }
     ensures { λ r. ⌜ (r ≡ numbersLength digits (now (numbers .entry))) × (r ≤ length (now (numbers .entry)) * 21) ⌝ }
 {
@@ -25,7 +25,7 @@ fn numbers_len(numbers: &[u64]) -> usize
 }
 
 // Copies bytes to the output.
-pub fn write_bytes(bytes: &[u8], out: &mut [u8]) -> usize
+fn write_bytes(bytes: &[u8], out: &mut [u8]) -> usize
     requires { ⌜ length (now bytes) ≤ length (now out) ⌝ }
     ensures { λ r. ⌜ (r ≡ length (now (bytes .entry))) × (now (out .exit) ≡ front (now (bytes .entry)) (now (out .entry))) ⌝ }
 {

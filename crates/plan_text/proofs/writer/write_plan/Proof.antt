@@ -1,4 +1,4 @@
--- Each way out is a case of the call; the sections that are written are those of what solve found, and no plan text is longer than their list.
+-- Each way out is a case of the call; the sections that are written are those of what solve found.
 use mathlib.Core.Path.{_≡_, sym, ap, _∙_}
 use mathlib.Core.List.{List}
 use Prim.Native.Nat.{ℕ, _*_, _≤_}
@@ -10,15 +10,14 @@ use lib.Seq.{length-take-le}
 use mir.Syntax.{w64}
 use mir.Val.{toZ, ofZ}
 use Rattle.transport.specs.Laws.RangeLaws.{back}
-use Rattle.transport.specs.Limits.{maxSources, maxSinks, maxSide, maxPlanText}
+use Rattle.transport.specs.Limits.{maxSources, maxSinks, maxSide}
 use Rattle.transport.specs.Sheet.{Sheet, roasteries, cafes, sheetOf}
 use Rattle.transport.specs.Laws.SheetLaws.{accepted}
 use Rattle.transport.specs.Statements.{Accepted}
 use Rattle.transport.specs.PlanText.{planText, writePlanCall}
-use Rattle.sections.specs.Front.{front-take}
 use Rattle.sections.specs.WriteCall.{wrote-check, wrote-short, wrote-given}
+use Rattle.plan_lines.specs.Lanes.{usedCount}
 use Rattle.plan_lines.specs.Sections.{planSections}
-use Rattle.plan_text.specs.Longest.{plan-length}
 use Rattle.plan_text.specs.Solved.{FoundPlan, found, found-sections, refused-check}
 use borrow.Author.Needs.{needs}
 use Rattle.plan_text.proofs.writer.write_plan.Statement.{statement}
@@ -42,7 +41,8 @@ enum-known-answer c = search needs
 enum-known-answer-2 : tie.Need-enum-known-answer-2
 enum-known-answer-2 c = search needs
 
--- From solve to the start, and from each step to the one before it: the answer of solve that was matched, the count of the lanes, and the text.
+-- From solve to the start, and from each step to the one before it: the answer of solve that was matched, the count of the lanes, the length of the text, and
+-- the text.
 abbrev solveStart : tie.After-solve → tie.Start
 solveStart c = c .before .before .before .before .before .before .before
 
@@ -52,8 +52,11 @@ solveOf c = c .before .before .before .before .before
 abbrev answerOf : tie.After-used-count → tie.After-answer2
 answerOf c = c .before .before .before
 
-abbrev countOf : tie.After-text → tie.After-used-count
+abbrev countOf : tie.After-plan-sections-len → tie.After-used-count
 countOf c = c .before .before .before .before
+
+abbrev lengthOf : tie.After-write-plan-sections-arg → tie.After-plan-sections-len
+lengthOf c = c .before .before .before .before .before
 
 abbrev startOf : tie.After-answer2 → tie.Start
 startOf c = solveStart (solveOf c)
@@ -95,11 +98,18 @@ module _ (c : tie.After-answer2) where
 total-kept : (c : tie.After-known-told2) → toZ w64 (ofZ w64 (total (c .before))) ≡ total (c .before)
 total-kept c = back w64 (total (c .before)) (search needs)
 
+-- The next needs hold whatever two sides the count of lanes is made of, so that a program that leaves out lanes is refused by the contract.
 mul-lanes : tie.Need-mul-lanes
-mul-lanes c = omega (arith, mul-le-mul (m-few (c .before)) (n-few (c .before)))
+mul-lanes c =
+    let p = m-few (c .before) in
+    let q = n-few (c .before) in
+    omega (arith, mul-le-mul p q, mul-le-mul p p)
 
 array-share-prefix-plan : tie.Need-array-share-prefix-plan
-array-share-prefix-plan c = omega (arith, mul-le-mul (m-few (c .before)) (n-few (c .before)))
+array-share-prefix-plan c =
+    let p = m-few (c .before) in
+    let q = n-few (c .before) in
+    omega (arith, mul-le-mul p q, mul-le-mul p p)
 
 slice-aggregate-used-count : tie.Need-slice-aggregate-used-count
 slice-aggregate-used-count c = sym (length-take-le _ _ (array-share-prefix-plan (c .before)))
@@ -107,13 +117,46 @@ slice-aggregate-used-count c = sym (length-take-le _ _ (array-share-prefix-plan 
 used-count-requires : tie.Need-used-count-requires
 used-count-requires c κs = search needs
 
--- The sections are the plan text.
+array-share-prefix-u : tie.Need-array-share-prefix-u
+array-share-prefix-u c = omega (arith, m-few (answerOf c))
+
+slice-aggregate-plan-sections-len : tie.Need-slice-aggregate-plan-sections-len
+slice-aggregate-plan-sections-len c = sym (length-take-le _ _ (array-share-prefix-u (c .before)))
+
+array-share-prefix-v : tie.Need-array-share-prefix-v
+array-share-prefix-v c = omega (arith, n-few (answerOf (c .before)))
+
+slice-aggregate-plan-sections-len-2 : tie.Need-slice-aggregate-plan-sections-len-2
+slice-aggregate-plan-sections-len-2 c = sym (length-take-le _ _ (array-share-prefix-v (c .before)))
+
+array-share-prefix-plan-2 : tie.Need-array-share-prefix-plan-2
+array-share-prefix-plan-2 c = array-share-prefix-plan (c .before .before .before .before)
+
+slice-aggregate-plan-sections-len-3 : tie.Need-slice-aggregate-plan-sections-len-3
+slice-aggregate-plan-sections-len-3 c = slice-aggregate-used-count (c .before .before .before .before)
+
+plan-sections-len-requires : tie.Need-plan-sections-len-requires
+unfolding maxSide
+plan-sections-len-requires c κs =
+    let a = answerOf (c .before .before .before) in
+    omega (
+      arith,
+      slice-aggregate-plan-sections-len (c .before .before),
+      slice-aggregate-plan-sections-len-2 (c .before),
+      slice-aggregate-plan-sections-len-3 c,
+      array-share-prefix-plan-2 (c .before),
+      m-few a,
+      n-few a,
+      n-some a,
+    )
+
+-- If the lanes are counted in the plan of the sheet, the sections are the plan text.
 module _ (c : tie.After-used-count) where
   abbrev plan : List ℕ
   plan = take (length (startOf (answerOf c) .args .supply .now) * length (startOf (answerOf c) .args .demand .now))
       (solveOf (answerOf c) .solve .last .1 .1 .1 .1 .1 .0)
 
-  the-text : planText (sheetAt (startOf (answerOf c)))
+  the-text : c .used-count .result ≡ usedCount plan (length plan) → planText (sheetAt (startOf (answerOf c)))
       ≡ planSections (record {
         total = toZ w64 (ofZ w64 (total (answerOf c)));
         rounds = made (answerOf c);
@@ -123,80 +166,40 @@ module _ (c : tie.After-used-count) where
       (take (length (startOf (answerOf c) .args .demand .now)) (solveOf (answerOf c) .solve .last .1 .1 .1 .1 .0))
       plan
   unfolding roasteries cafes
-  the-text = found-sections (plan-found (answerOf c)) _ _ (total-kept (c .before .before)) (c .used-count .ensures)
-
-  text-few : length (planText (sheetAt (startOf (answerOf c)))) ≤ 1604
-  unfolding maxPlanText
-  text-few = plan-length (sheetAt (startOf (answerOf c))) (plan-found (answerOf c) .passes)
-
-array-share-prefix-u : tie.Need-array-share-prefix-u
-array-share-prefix-u c = omega (arith, m-few (answerOf c))
-
-slice-aggregate-write-plan-sections : tie.Need-slice-aggregate-write-plan-sections
-slice-aggregate-write-plan-sections c = sym (length-take-le _ _ (array-share-prefix-u (c .before)))
-
-array-share-prefix-v : tie.Need-array-share-prefix-v
-array-share-prefix-v c = omega (arith, n-few (answerOf (c .before)))
-
-slice-aggregate-write-plan-sections-2 : tie.Need-slice-aggregate-write-plan-sections-2
-slice-aggregate-write-plan-sections-2 c = sym (length-take-le _ _ (array-share-prefix-v (c .before)))
-
-array-share-prefix-plan-2 : tie.Need-array-share-prefix-plan-2
-array-share-prefix-plan-2 c = array-share-prefix-plan (c .before .before .before .before)
-
-slice-aggregate-write-plan-sections-3 : tie.Need-slice-aggregate-write-plan-sections-3
-slice-aggregate-write-plan-sections-3 c = slice-aggregate-used-count (c .before .before .before .before)
-
-slice-aggregate-write-plan-sections-4 : tie.Need-slice-aggregate-write-plan-sections-4
-slice-aggregate-write-plan-sections-4 c = search needs
-
-write-plan-sections-requires : tie.Need-write-plan-sections-requires
-unfolding maxSide
-write-plan-sections-requires c κs =
-    let k = countOf c in
-    omega (
-      arith,
-      slice-aggregate-write-plan-sections-2 (c .before .before),
-      slice-aggregate-write-plan-sections-3 (c .before),
-      array-share-prefix-plan-2 (c .before .before),
-      n-some (answerOf k),
-      ap length (the-text k),
-      text-few k,
-    )
-
--- The list holds the plan text at its front.
-module _ (c : tie.After-write-plan-sections) where
-  abbrev counted : tie.After-used-count
-  counted = countOf (c .before)
-
-  abbrev began : tie.Start
-  began = startOf (answerOf counted)
-
-  abbrev text : List ℕ
-  text = planText (sheetAt began)
-
-  text-length : c .write-plan-sections .result ≡ length text
-  text-length = c .write-plan-sections .ensures .0 ∙ sym (ap length (the-text counted))
-
-  text-written : take (c .write-plan-sections .result) (c .write-plan-sections .last .1 .1 .1 .1 .0) ≡ text
-  text-written =
-      let e = c .write-plan-sections .ensures in
-      ap (take (c .write-plan-sections .result)) (e .1) ∙ front-take _ _ _ (e .0) ∙ sym (the-text counted)
+  the-text count = found-sections (plan-found (answerOf c)) _ _ (total-kept (c .before .before)) count
 
 returns : tie.Need-returns
 unfolding writePlanCall
 returns c =
-    let w = c .before .before in
-    wrote-short (sheetAt (began w)) (text w) (began w .args .out .now) (plan-found (answerOf (counted w)) .passes) (omega (arith, text-length w))
+    let k = countOf (c .before) in
+    let t = startOf (answerOf k) in
+    wrote-short (sheetAt t) (planText (sheetAt t)) (t .args .out .now) (plan-found (answerOf k) .passes)
+    (omega (arith, c .before .plan-sections-len .ensures, ap length (the-text k (k .used-count .ensures))))
 
-array-share-prefix-text : tie.Need-array-share-prefix-text
-array-share-prefix-text c = let w = c .before .before in omega (arith, text-length w, text-few (counted w))
+-- The lists are lent for the text as they were for its length.
+array-share-prefix-u-2 : tie.Need-array-share-prefix-u-2
+array-share-prefix-u-2 c = array-share-prefix-u (countOf (c .before))
 
-slice-aggregate-write-bytes : tie.Need-slice-aggregate-write-bytes
-slice-aggregate-write-bytes c = sym (length-take-le _ _ (array-share-prefix-text (c .before)))
+slice-aggregate-write-plan-sections : tie.Need-slice-aggregate-write-plan-sections
+slice-aggregate-write-plan-sections c = slice-aggregate-plan-sections-len (c .before .before .before .before .before)
 
-write-bytes-requires : tie.Need-write-bytes-requires
-write-bytes-requires c κs = omega (arith, slice-aggregate-write-bytes (c .before))
+array-share-prefix-v-2 : tie.Need-array-share-prefix-v-2
+array-share-prefix-v-2 c = array-share-prefix-v (c .before .before .before .before .before)
+
+slice-aggregate-write-plan-sections-2 : tie.Need-slice-aggregate-write-plan-sections-2
+slice-aggregate-write-plan-sections-2 c = slice-aggregate-plan-sections-len-2 (c .before .before .before .before .before)
+
+array-share-prefix-plan-3 : tie.Need-array-share-prefix-plan-3
+array-share-prefix-plan-3 c = array-share-prefix-plan-2 (c .before .before .before .before .before)
+
+slice-aggregate-write-plan-sections-3 : tie.Need-slice-aggregate-write-plan-sections-3
+slice-aggregate-write-plan-sections-3 c = slice-aggregate-plan-sections-len-3 (c .before .before .before .before .before)
+
+write-plan-sections-requires : tie.Need-write-plan-sections-requires
+write-plan-sections-requires c κs =
+    let l = lengthOf c in
+    let p = plan-sections-len-requires (l .before) (l .plan-sections-len .lifetimes) in
+    (p .2, p .3, search needs)
 
 returns-2 : tie.Need-returns-2
 unfolding writePlanCall maxSide
@@ -211,10 +214,14 @@ same-length c = search needs
 returns-3 : tie.Need-returns-3
 unfolding writePlanCall
 returns-3 c =
-    let b = c .before .before in
-    let w = b .before .before .before .before .before in
-    rw (b .write-bytes .ensures .1, text-written w, text-length w)
-    (wrote-given (sheetAt (began w)) (text w) (began w .args .out .now) (plan-found (answerOf (counted w)) .passes) (omega (arith, text-length w)))
+    let w = c .before .before in
+    let l = lengthOf (w .before) in
+    let k = countOf l in
+    let t = startOf (answerOf k) in
+    let text = the-text k (k .used-count .ensures) in
+    rw (w .write-plan-sections .ensures .0, w .write-plan-sections .ensures .1, ← text)
+    (wrote-given (sheetAt t) (planText (sheetAt t)) (t .args .out .now) (plan-found (answerOf k) .passes)
+    (omega (arith, l .plan-sections-len .ensures, ap length text, w .before .before .before .before .before .if1 .left)))
 
 pub write-plan-spec : {M : Type 1} → statement M
 write-plan-spec =
@@ -231,17 +238,20 @@ write-plan-spec =
     slice-aggregate-used-count
     used-count-requires
     array-share-prefix-u
-    slice-aggregate-write-plan-sections
+    slice-aggregate-plan-sections-len
     array-share-prefix-v
-    slice-aggregate-write-plan-sections-2
+    slice-aggregate-plan-sections-len-2
     array-share-prefix-plan-2
-    slice-aggregate-write-plan-sections-3
-    slice-aggregate-write-plan-sections-4
-    write-plan-sections-requires
+    slice-aggregate-plan-sections-len-3
+    plan-sections-len-requires
     returns
-    array-share-prefix-text
-    slice-aggregate-write-bytes
-    write-bytes-requires
+    array-share-prefix-u-2
+    slice-aggregate-write-plan-sections
+    array-share-prefix-v-2
+    slice-aggregate-write-plan-sections-2
+    array-share-prefix-plan-3
+    slice-aggregate-write-plan-sections-3
+    write-plan-sections-requires
     returns-2
     same-length
     returns-3)
