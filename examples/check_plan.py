@@ -35,8 +35,9 @@ def read_sheet(text):
     demand = sum(section(lines, "demand", range(1, 33)), [])
     cost = section(lines, "cost", [len(supply)], WHOLE, width=len(demand))
     require(list(lines) == [""], "the sheet does not end with the line end after its costs")
-    require(all(1 <= amount <= MOST for amount in supply + demand), "a supply or demand is outside the limits")
+    require(all(amount <= MOST for amount in supply + demand), "a supply or demand is outside the limits")
     require(all(-MOST <= price <= MOST for row in cost for price in row), "a cost is outside the limits")
+    require(sum(demand) > 0, "total demand is 0")
     return supply, demand, cost
 
 
@@ -56,6 +57,19 @@ def read_plan(text, m, n):
     return total, u, v, {(i - 1, j - 1): bags for i, j, bags in lanes}
 
 
+def check_prices_at_0(supply, demand, cost, u, v):
+    """A café that wants nothing has the greatest price that its lanes from roasteries with bags allow, and then a roastery that has nothing
+    the greatest that all its lanes allow; and where bags are kept, its price is not above that of the roasteries that keep them."""
+    left = [i for i, amount in enumerate(supply) if amount > 0]
+    for j in (j for j, amount in enumerate(demand) if amount == 0):
+        price = min(cost[i][j] - u[i] for i in left)
+        require(v[j] == price, f"café {j + 1} wants nothing, and its price is {v[j]} where {price} follows")
+    kept = [max(u[i] for i in left)] if sum(supply) > sum(demand) else []
+    for i in (i for i, amount in enumerate(supply) if amount == 0):
+        price = min([cost[i][j] - v[j] for j in range(len(demand))] + kept)
+        require(u[i] == price, f"roastery {i + 1} has nothing, and its price is {u[i]} where {price} follows")
+
+
 def check(sheet_text, plan_text):
     """Gives the total, or raises ValueError with what does not fit."""
     supply, demand, cost = read_sheet(sheet_text)
@@ -68,7 +82,8 @@ def check(sheet_text, plan_text):
         require(bags == amount, f"café {j + 1} has {amount} bags on the sheet and {bags} in the plan")
     paid = sum(bags * cost[i][j] for (i, j), bags in plan.items())
     require(paid == total, f"the bags cost {paid}, and the total is {total}")
-    require(u[0] == 0, f"the price of roastery 1 is {u[0]}")
+    first = next(i for i, amount in enumerate(supply) if amount > 0)
+    require(u[first] == 0, f"the price of roastery {first + 1} is {u[first]}")
     # Why the prices prove the plan least: no lane costs less than u + v, so any plan that meets the sheet, also in fractions, costs at least
     # the sum of bags times (u + v). By roastery and by café that is supply times u and demand times v, less the bags kept times u, which are
     # at most the surplus times the greatest u. So there is one number that no plan goes below. Ours pays just u + v wherever it carries a
@@ -79,6 +94,7 @@ def check(sheet_text, plan_text):
         require(over == 0 or (i, j) not in plan, f"lane {i + 1} {j + 1} carries bags and costs {over} more than its prices")
     for i, (bags, amount) in enumerate(zip(sent, supply)):
         require(bags == amount or u[i] == max(u), f"roastery {i + 1} keeps bags, and its price is {max(u) - u[i]} below the greatest")
+    check_prices_at_0(supply, demand, cost, u, v)
     return total
 
 

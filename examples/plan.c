@@ -14,7 +14,7 @@ enum { LONGEST_TEXT = 9756, MAX_LANES = PANEL_MAX_SIDE * PANEL_MAX_SIDE };
 static const char *const names[] = {
     [PANEL_SIDES] = "no roastery or café, or more than 32",
     [PANEL_COST_COUNT] = "the costs are not as many as the lanes",
-    [PANEL_AMOUNT] = "a supply or demand is outside 1 to 1,000,000",
+    [PANEL_AMOUNT] = "a supply or demand is above 1,000,000",
     [PANEL_COST] = "a cost is outside -1,000,000 to 1,000,000",
     [PANEL_LACKING] = "total demand is greater than total supply",
     [PANEL_FOREIGN_TABLEAU] = "the tableau does not belong to the sheet",
@@ -22,6 +22,7 @@ static const char *const names[] = {
     [PANEL_ROOM] = "a lent list is too short",
     [PANEL_NOT_SHEET_TEXT] = "not a sheet text",
     [PANEL_CROWDED] = "total supply is greater than total demand, with 32 cafés",
+    [PANEL_IDLE] = "total demand is 0",
 };
 
 int main(void) {

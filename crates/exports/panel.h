@@ -1,8 +1,8 @@
 /* The calls of the bag plan panel for programs in C and C++: link target/staticlib/libexports.a (rt staticlib exports). docs/EMBEDDING.md says how.
  *
  * A list is a pointer and a length. Rows (roasteries) and columns (cafés) count from 0; costs and plans are in sheet order, row by row. Amounts are in bags,
- * costs and prices in cents a bag; a lane that earns money has a cost below 0, and so may a whole plan. What each call gives is proved; that what is lent is
- * as follows, nothing checks:
+ * and 0 where a café is closed or a roastery has nothing; costs and prices are in cents a bag; a lane that earns money has a cost below 0, and so may a whole
+ * plan. What each call gives is proved; that what is lent is as follows, nothing checks:
  * - every list is readable, and every list that is not const writable, over its whole length, and aligned as its type is;
  * - no list that is not const overlaps another list of the same call;
  * - a list of length 0 may have any pointer that is aligned and not null.
@@ -23,14 +23,15 @@ enum panel_refusal {
     PANEL_DONE = 0,            /* it does not */
     PANEL_SIDES = 1,           /* no source or sink, or more than 32 */
     PANEL_COST_COUNT = 2,      /* the costs are not as many as the lanes */
-    PANEL_AMOUNT = 3,          /* a supply or demand is outside 1 to 1,000,000 */
+    PANEL_AMOUNT = 3,          /* a supply or demand is above 1,000,000 */
     PANEL_COST = 4,            /* a cost is outside −1,000,000 to 1,000,000 */
     PANEL_LACKING = 5,         /* total demand is greater than total supply */
     PANEL_FOREIGN_TABLEAU = 6, /* the tableau does not belong to the sheet */
     PANEL_UNFINISHED = 7,      /* the tableau is not finished */
     PANEL_ROOM = 8,            /* a lent list or output is too short */
     PANEL_NOT_SHEET_TEXT = 9,  /* the text is not a sheet text */
-    PANEL_CROWDED = 10         /* total supply is greater than total demand, and there are 32 sinks: no room for the extra café */
+    PANEL_CROWDED = 10,        /* total supply is greater than total demand, and there are 32 sinks: no room for the extra café */
+    PANEL_IDLE = 11            /* total demand is 0 */
 };
 
 enum { PANEL_MAX_SIDE = 32, PANEL_MAX_CELLS = 63 };
@@ -45,8 +46,9 @@ struct panel_cell {
     struct panel_pair amount;
 };
 
-/* A tableau that a call gives: its first `count` cells, in sheet order; the rest are zeros. Where there is a surplus, more supply than demand, an extra café
- * takes it at cost 0: it is column n, after the cafés of the sheet, and a tableau has m + n cells, not m + n − 1. Nothing but tableaux shows it.
+/* A tableau that a call gives: its first `count` cells, in sheet order; the rest are zeros. It covers the parties left, those whose amount is not 0, under
+ * their own numbers: rows and columns are those of the sheet, and there is one cell fewer than parties left. Where there is a surplus, more supply than demand,
+ * an extra café takes it at cost 0: it is column n, after the cafés of the sheet, and a party left. Nothing but tableaux shows it.
  * A call takes a tableau as a list of cells, which may be of any length and have any cells: where they are not those of a tableau that belongs to the sheet, it
  * refuses with 6. */
 struct panel_tableau {
@@ -61,7 +63,8 @@ struct panel_start_result {
     struct panel_tableau tableau;
 };
 
-/* The next tableau; or, where the one given is finished, no tableau but its prices, m in u and n in v; that of the extra café is not among them. */
+/* The next tableau; or, where the one given is finished, no tableau but its prices, m in u and n in v, also those of parties whose amount is 0; that of the
+ * extra café is not among them. */
 struct panel_round_result {
     uint8_t refusal;
     bool finished;

@@ -36,7 +36,8 @@ pub const MAX_PLAN_TEXT: usize = 1_604;
 pub enum Round {
     /// The next tableau.
     Next(Tableau),
-    /// The tableau is finished, and these are its prices: m in `u` and n in `v`, then zeros. The price of the extra café is not given.
+    /// The tableau is finished, and these are its prices: m in `u` and n in `v`, also those of parties whose amount is 0; then zeros. The price of the extra
+    /// café is not given.
     Finished {
         /// The prices of the roasteries.
         u: [i64; MAX_SIDE],
@@ -174,9 +175,9 @@ pub fn write_plan(supply: &[u64], demand: &[u64], cost: &[i64], out: &mut [u8]) 
 /// A sheet that is owned. It need not be within the limits: the calls check it. What supply is above demand stays at the roasteries.
 #[derive(Clone, Debug, Default, PartialEq, Eq)]
 pub struct Sheet {
-    /// The bags that each roastery has.
+    /// The bags that each roastery has; 0 where it has nothing.
     pub supply: Vec<u64>,
-    /// The bags that each café wants.
+    /// The bags that each café wants; 0 where it is closed.
     pub demand: Vec<u64>,
     /// Cents a bag for each lane, in sheet order; below 0 where a lane earns money.
     pub cost: Vec<i64>,

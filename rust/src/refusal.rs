@@ -8,7 +8,7 @@ pub enum Refusal {
     Sides,
     /// 2: the costs are not as many as the lanes.
     CostCount,
-    /// 3: a supply or demand is outside 1 to 1,000,000.
+    /// 3: a supply or demand is above 1,000,000.
     Amount,
     /// 4: a cost is outside −1,000,000 to 1,000,000.
     Cost,
@@ -27,10 +27,12 @@ pub enum Refusal {
     },
     /// 10: total supply is greater than total demand, and there are 32 cafés, so that a tableau has no room for the extra one.
     Crowded,
+    /// 11: total demand is 0.
+    Idle,
 }
 
 impl Refusal {
-    /// The number of the refusal, 1 to 10.
+    /// The number of the refusal, 1 to 11.
     pub fn number(self) -> u8 {
         match self {
             Refusal::Sides => 1,
@@ -43,6 +45,7 @@ impl Refusal {
             Refusal::Room => 8,
             Refusal::NotSheetText { .. } => 9,
             Refusal::Crowded => 10,
+            Refusal::Idle => 11,
         }
     }
 
@@ -60,6 +63,7 @@ impl Refusal {
             8 => Refusal::Room,
             9 => Refusal::NotSheetText { place },
             10 => Refusal::Crowded,
+            11 => Refusal::Idle,
             _ => unreachable!("no call refuses with {number}"),
         })
     }
@@ -70,7 +74,7 @@ impl fmt::Display for Refusal {
         match self {
             Refusal::Sides => write!(f, "no roastery or café, or more than {MAX_SIDE}"),
             Refusal::CostCount => write!(f, "the costs are not as many as the lanes"),
-            Refusal::Amount => write!(f, "a supply or demand is outside 1 to 1,000,000"),
+            Refusal::Amount => write!(f, "a supply or demand is above 1,000,000"),
             Refusal::Cost => write!(f, "a cost is outside -1,000,000 to 1,000,000"),
             Refusal::Lacking => write!(f, "total demand is greater than total supply"),
             Refusal::ForeignTableau => write!(f, "the tableau does not belong to the sheet"),
@@ -78,6 +82,7 @@ impl fmt::Display for Refusal {
             Refusal::Room => write!(f, "a lent list or output is too short"),
             Refusal::NotSheetText { place } => write!(f, "not a sheet text, at place {place}"),
             Refusal::Crowded => write!(f, "total supply is greater than total demand, with {MAX_SIDE} cafés"),
+            Refusal::Idle => write!(f, "total demand is 0"),
         }
     }
 }

@@ -11,7 +11,7 @@ pub struct Pair {
     pub e: i64,
 }
 
-/// A basic cell with its amount. Rows (roasteries) and columns (cafés) count from 0. Where there is a surplus, column n is the extra café's.
+/// A basic cell with its amount. Rows (roasteries) and columns (cafés) are those of the sheet, from 0. Where there is a surplus, column n is the extra café's.
 #[repr(C)]
 #[derive(Clone, Copy, Debug, Default, PartialEq, Eq)]
 pub struct Cell {
@@ -27,8 +27,9 @@ pub struct Cell {
 ///
 /// A call takes a tableau as any slice of cells, so that of a `Tableau` or one's own.
 ///
-/// Where supply is above demand, an extra café after those of the sheet takes the surplus at cost 0, and there is a cell more. It is in tableaux alone: prices,
-/// plans and texts are of the sheet.
+/// It covers the parties left, those whose amount is not 0, under their own numbers, with one cell fewer than these are. Where supply is above demand, an extra
+/// café after those of the sheet takes the surplus at cost 0, and is a party left. It is in tableaux alone: prices, plans and texts are of the sheet, and there
+/// parties whose amount is 0 stand too.
 ///
 /// ```
 /// let sheet = panel::Sheet { supply: vec![3, 4], demand: vec![5, 2], cost: vec![4, 1, 2, 6] };
@@ -44,6 +45,11 @@ pub struct Cell {
 /// let start = one_stays.start()?;
 /// assert_eq!((start.len(), start[1].col, start[1].amount), (2, 1, panel::Pair { q: 1, e: 1 }));
 /// assert_eq!(one_stays.settle(&start)?, [2]);
+///
+/// let one_closed = panel::Sheet { supply: vec![2], demand: vec![0, 2], cost: vec![7, 9] };
+/// let start = one_closed.start()?;
+/// assert_eq!((start.len(), start[0].col), (1, 1));
+/// assert_eq!(one_closed.settle(&start)?, [0, 2]);
 /// # Ok::<(), panel::Refusal>(())
 /// ```
 #[repr(C)]

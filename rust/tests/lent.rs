@@ -1,6 +1,9 @@
 //! Lent lists: what a call fills, what it leaves, and every refusal, by its number. `tableaux.rs` has 6.
 mod common;
-use common::{both_signs, both_signs_last, cell, dear, dear_last, earns, p1, p1_last, p3, p4, p5, p6, p7, p8, p9, sheet, wide, MARK, SIGNED_MARK};
+use common::{
+    both_signs, both_signs_last, cell, closed, closed_last, dear, dear_last, earns, first_empty, last_closed, p1, p1_last, p3, p4, p5, p6, p7, p8,
+    p9, sheet, wide, MARK, SIGNED_MARK,
+};
 use panel::*;
 
 const SUPPLY: [u64; 2] = [3, 4];
@@ -44,9 +47,9 @@ fn refused_2() {
 
 #[test]
 fn refused_3() {
-    all_refuse(&[0], &[2], &[0], Refusal::Amount);
-    all_refuse(&[3, 0], &[1, 2], &COST, Refusal::Amount);
-    all_refuse(&[0, 7], &DEMAND, &COST, Refusal::Amount);
+    all_refuse(&[1_000_001], &[2], &[0], Refusal::Amount);
+    all_refuse(&[3, 1_000_001], &[0, 0], &COST, Refusal::Amount);
+    all_refuse(&[1_000_001, 0], &DEMAND, &COST, Refusal::Amount);
     all_refuse(&SUPPLY, &[5, 1_000_001], &COST, Refusal::Amount);
     all_refuse(&[u64::MAX, 8], &DEMAND, &[i64::MAX; 4], Refusal::Amount);
 }
@@ -64,6 +67,8 @@ fn refused_4() {
 #[test]
 fn refused_5() {
     all_refuse(&[2], &[3], &[0], Refusal::Lacking);
+    all_refuse(&[0], &[2], &[0], Refusal::Lacking);
+    all_refuse(&[0, 6], &DEMAND, &COST, Refusal::Lacking);
     all_refuse(&SUPPLY, &[5, 3], &COST, Refusal::Lacking);
     all_refuse(&[3, 3], &DEMAND, &COST, Refusal::Lacking);
     all_refuse(&[31], &[1; 32], &[1; 32], Refusal::Lacking);
@@ -108,17 +113,18 @@ fn refused_9() {
     let mut read = |text: &[u8]| read_sheet(text, &mut supply, &mut demand, &mut cost);
     assert_eq!(read(b"supply 2\r\n"), Err(Refusal::NotSheetText { place: 8 }));
     assert_eq!(read(b"\xff"), Err(Refusal::NotSheetText { place: 0 }));
-    // 9 before 3, 4, 5 and 10, and these in this order.
-    let no_last_line_end = b"supply 1\n0\ndemand 1\n2\ncost 1\n1000001";
+    // 9 before 3, 4, 5, 10 and 11, and these in this order.
+    let no_last_line_end = b"supply 1\n0\ndemand 1\n1000001\ncost 1\n1000001";
     assert_eq!(read(no_last_line_end), Err(Refusal::NotSheetText { place: no_last_line_end.len() }));
-    assert_eq!(read(b"supply 1\n0\ndemand 1\n2\ncost 1\n1000001\n"), Err(Refusal::Amount));
+    assert_eq!(read(b"supply 1\n0\ndemand 1\n1000001\ncost 1\n1000001\n"), Err(Refusal::Amount));
     assert_eq!(read(b"supply 1\n1\ndemand 1\n2\ncost 1\n1000001\n"), Err(Refusal::Cost));
     assert_eq!(read(b"supply 1\n1\ndemand 1\n2\ncost 1\n-1000001\n"), Err(Refusal::Cost));
     assert_eq!(read(b"supply 1\n1\ndemand 1\n2\ncost 1\n1000000\n"), Err(Refusal::Lacking));
-    // 10 before 8.
-    let crowded = format!("supply 1\n33\ndemand 32\n{}cost 1\n0{}", "1\n".repeat(32), " 0".repeat(31));
+    // 10 before 11, and 11 before 8.
+    let crowded = format!("supply 1\n33\ndemand 32\n{}cost 1\n0{}", "0\n".repeat(32), " 0".repeat(31));
     assert_eq!(read(crowded.as_bytes()), Err(Refusal::NotSheetText { place: crowded.len() }));
     assert_eq!(read((crowded + "\n").as_bytes()), Err(Refusal::Crowded));
+    assert_eq!(read(b"supply 1\n9\ndemand 3\n0\n0\n0\ncost 1\n1 2 3\n"), Err(Refusal::Idle));
     assert_eq!((supply, demand, cost), ([MARK; 2], [MARK; 2], [SIGNED_MARK; 4]));
 }
 
@@ -132,6 +138,21 @@ fn refused_10() {
     all_refuse(&[1_000_001], &[1; 32], &[1_000_001; 32], Refusal::Amount);
     all_refuse(&[40], &[1; 32], &[1; 33], Refusal::CostCount);
     all_refuse(&[40], &[1; 33], &[1; 33], Refusal::Sides);
+    // A closed café takes its column all the same.
+    all_refuse(&[32], &[&[1; 31][..], &[0]].concat(), &[1; 32], Refusal::Crowded);
+    all_refuse(&[0, 1], &[0; 32], &[1; 64], Refusal::Crowded);
+}
+
+#[test]
+fn refused_11() {
+    all_refuse(&[0], &[0], &[0], Refusal::Idle);
+    all_refuse(&[2], &[0], &[0], Refusal::Idle);
+    all_refuse(&SUPPLY, &[0, 0], &COST, Refusal::Idle);
+    all_refuse(&[0; 32], &[0; 32], &[1_000_000; 1024], Refusal::Idle);
+    all_refuse(&[1_000_000; 32], &[0; 31], &[-1_000_000; 992], Refusal::Idle);
+    all_refuse(&SUPPLY, &[0, 0], &[4, 1, 2, 1_000_001], Refusal::Cost);
+    all_refuse(&[3, 1_000_001], &[0, 0], &COST, Refusal::Amount);
+    all_refuse(&SUPPLY, &[0, 0], &COST[..3], Refusal::CostCount);
 }
 
 #[test]
@@ -187,6 +208,10 @@ fn solve_fills_the_fronts() {
     solved(p8(), 0, 0, &[0], &[0], &[2]);
     solved(dear(), 8, 1, &[0, -4], &[5], &[1, 3]);
     solved(wide(40, 31), 31, 0, &[0], &[1; 31], &[1; 31]);
+    // Parties at 0 have a price, and lanes that carry nothing.
+    solved(closed(), 2_300, 1, &[-35, 0, -35], &[95, 70, 110], &[0, 0, 0, 12, 0, 1, 0, 0, 14]);
+    solved(first_empty(), 14, 1, &[-4, 0, -2], &[4, 1], &[0, 0, 1, 2, 4, 0]);
+    solved(last_closed(), 14, 1, &[0, -2], &[4, 1, 3], &[1, 2, 0, 4, 0, 0]);
     // A plan may earn money.
     solved(earns(), -14, 1, &[0, -6], &[1], &[1, 3]);
     solved(both_signs(), -3, 2, &[0, 3], &[-4, -3, -1], &[0, 0, 2, 1, 2, 0]);
@@ -194,7 +219,7 @@ fn solve_fills_the_fronts() {
 
 #[test]
 fn solve_with_a_short_list() {
-    for (sheet, all) in [(p1(), [3, 3, 5]), (dear(), [3, 2, 3])] {
+    for (sheet, all) in [(p1(), [3, 3, 5]), (dear(), [3, 2, 3]), (first_empty(), [2, 2, 3]), (last_closed(), [2, 2, 3])] {
         for less in [[2, 0, 0], [0, 2, 0], [0, 0, 2], all] {
             let (answer, u, v, plan) = solve_marked(&sheet, less);
             assert_eq!(answer, Err(Refusal::Room));
@@ -220,7 +245,10 @@ fn settle_with_marks() {
     assert_eq!(settled(dear(), &dear_last(), 3), (Ok(()), vec![1, 3, MARK]));
     assert_eq!(settled(dear(), &dear_last(), 2), (Ok(()), vec![1, 3]));
     assert_eq!(settled(dear(), &dear_last(), 1), (Err(Refusal::Room), vec![MARK; 1]));
+    assert_eq!(settled(closed(), &closed_last(), 10), (Ok(()), vec![0, 0, 0, 12, 0, 1, 0, 0, 14, MARK]));
+    assert_eq!(settled(closed(), &closed_last(), 8), (Err(Refusal::Room), vec![MARK; 8]));
     assert_eq!(settled(lacking, &p5(), 7), (Err(Refusal::Lacking), vec![MARK; 7]));
+    assert_eq!(settled(sheet(&[1, 3], &[0; 3], &[0; 6]), &p5(), 5), (Err(Refusal::Idle), vec![MARK; 5]));
     assert_eq!(settled(wide(40, 32), &p5(), 31), (Err(Refusal::Crowded), vec![MARK; 31]));
     assert_eq!(settled(p3(), &p9(), 5), (Err(Refusal::ForeignTableau), vec![MARK; 5]));
     let start = [cell(1, 1, 3, 1), cell(2, 1, 2, -1), cell(2, 2, 2, 2)];
@@ -230,10 +258,12 @@ fn settle_with_marks() {
 #[test]
 fn refusals_by_number_and_name() {
     use Refusal::*;
-    let all = [Sides, CostCount, Amount, Cost, Lacking, ForeignTableau, Unfinished, Room, NotSheetText { place: 38 }, Crowded];
-    assert!(all.iter().map(|r| r.number()).eq(1..=10));
+    let all = [Sides, CostCount, Amount, Cost, Lacking, ForeignTableau, Unfinished, Room, NotSheetText { place: 38 }, Crowded, Idle];
+    assert!(all.iter().map(|r| r.number()).eq(1..=11));
+    assert_eq!(Amount.to_string(), "a supply or demand is above 1,000,000");
     assert_eq!(Cost.to_string(), "a cost is outside -1,000,000 to 1,000,000");
     assert_eq!(Lacking.to_string(), "total demand is greater than total supply");
     assert_eq!(NotSheetText { place: 38 }.to_string(), "not a sheet text, at place 38");
     assert_eq!(Crowded.to_string(), "total supply is greater than total demand, with 32 cafés");
+    assert_eq!(Idle.to_string(), "total demand is 0");
 }

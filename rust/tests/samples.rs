@@ -1,8 +1,9 @@
-//! The sample sheets of paper 01, and for paper 02 some with a surplus (One) and some with costs below 0 (Two), through the owned calls.
+//! The sample sheets of paper 01, and for paper 02 some with a surplus (One), some with costs below 0 (Two) and some with parties at 0 (Four), through the
+//! owned calls.
 mod common;
 use common::{
-    both_signs, both_signs_last, cell, dear, dear_last, earns, finished, full, largest, largest_with_surplus, p1, p1_last, p3, p4, p5, p6, p7, p8,
-    p9, sheet, wide,
+    both_signs, both_signs_last, cell, closed, closed_last, dear, dear_last, earns, finished, first_empty, full, half_closed, largest,
+    largest_with_surplus, last_closed, p1, p1_last, p3, p4, p5, p6, p7, p8, p9, sheet, wide,
 };
 use panel::{Refusal, Round, Run, Sheet, Tableau};
 
@@ -104,7 +105,7 @@ fn solved(sheet: Sheet, cost: i64, rounds: u64, u: &[i64], v: &[i64], plan: &[u6
 fn p8_a_bag_stays_at_home_and_a_refused_sheet() {
     assert_eq!(*p8().start().unwrap(), [cell(1, 1, 2, 0), cell(1, 2, 1, 1)]);
     solved(p8(), 0, 0, &[0], &[0], &[2]);
-    assert_eq!(sheet(&[0], &[2], &[0]).solve(), Err(Refusal::Amount));
+    assert_eq!(sheet(&[0], &[2], &[0]).solve(), Err(Refusal::Lacking));
 }
 
 #[test]
@@ -187,6 +188,72 @@ fn the_least_cost_and_one_less() {
     }
 }
 
+/// The tableaux cover two roasteries, two cafés and the extra one, under their own numbers, with a mark for each of the two. A bag for café 2 would cost 70,
+/// and one at roastery 1 would save 35.
+#[test]
+fn an_empty_roastery_and_a_closed_cafe() {
+    let start = closed().start().unwrap();
+    assert_eq!(*start, [cell(2, 1, 12, 0), cell(2, 3, 8, 1), cell(3, 3, 7, -1), cell(3, 4, 7, 2)]);
+    let last = next(&closed(), &start);
+    assert_eq!(*last, closed_last());
+    assert_eq!(closed().round(&last), finished(&[-35, 0, -35], &[95, 70, 110]));
+    assert_eq!(closed().run(&start, 0), Ok(Run { finished: false, rounds: 0, tableau: start }));
+    assert_eq!(closed().run(&start, 9), Ok(Run { finished: true, rounds: 1, tableau: last }));
+    assert_eq!(closed().settle(&start), Err(Refusal::Unfinished));
+    assert_eq!(closed().settle(&last), Ok(vec![0, 0, 0, 12, 0, 1, 0, 0, 14]));
+    solved(closed(), 2_300, 1, &[-35, 0, -35], &[95, 70, 110], &[0, 0, 0, 12, 0, 1, 0, 0, 14]);
+    let with_a_bag = |roastery: u64, cafe: u64| sheet(&[roastery, 20, 14], &[12, cafe, 15], &closed().cost).solve().unwrap().cost;
+    assert_eq!((with_a_bag(0, 0), with_a_bag(0, 1), with_a_bag(1, 0)), (2_300, 2_370, 2_265));
+}
+
+/// The first roastery left has price 0, and without an extra café the last one left has the marks.
+#[test]
+fn the_first_roastery_empty_or_the_last_cafe_closed() {
+    let start = first_empty().start().unwrap();
+    assert_eq!(*start, [cell(2, 1, 3, 1), cell(3, 1, 2, -1), cell(3, 2, 2, 2)]);
+    let last = next(&first_empty(), &start);
+    assert_eq!(*last, [cell(2, 1, 1, -1), cell(2, 2, 2, 2), cell(3, 1, 4, 1)]);
+    assert_eq!(first_empty().round(&last), finished(&[-4, 0, -2], &[4, 1]));
+    solved(first_empty(), 14, 1, &[-4, 0, -2], &[4, 1], &[0, 0, 1, 2, 4, 0]);
+
+    assert_eq!(last_closed().start(), p1().start());
+    assert_eq!(*next(&last_closed(), &last_closed().start().unwrap()), p1_last());
+    assert_eq!(last_closed().round(&p1_last()), finished(&[0, -2], &[4, 1, 3]));
+    solved(last_closed(), 14, 1, &[0, -2], &[4, 1, 3], &[1, 2, 0, 4, 0, 0]);
+
+    // With a surplus the extra café stands after the closed one, and has the marks.
+    let with_surplus = sheet(&[3, 3], &[4, 0], &[5, 7, 1, -2]);
+    assert_eq!(*with_surplus.start().unwrap(), [cell(1, 1, 3, 1), cell(2, 1, 1, -1), cell(2, 3, 2, 2)]);
+    solved(with_surplus, 8, 1, &[0, -4], &[5, 2], &[1, 0, 3, 0]);
+}
+
+/// Cafés come first: the price of the empty roastery stands on that of the closed café.
+#[test]
+fn prices_of_struck_parties() {
+    solved(sheet(&[1, 0], &[1, 0], &[0, 5, 10, -3]), 0, 0, &[0, -8], &[0, 5], &[1, 0, 0, 0]);
+    let nine = [1, 2, 3, 4, 5, 6, 7, 8, 9];
+    let only_one_lane = |bags| [0, 0, 0, 0, bags, 0, 0, 0, 0];
+    let balanced = sheet(&[0, 5, 0], &[0, 5, 0], &nine);
+    assert_eq!(*balanced.start().unwrap(), [cell(2, 2, 5, 1)]);
+    solved(balanced, 25, 0, &[-3, 0, 3], &[4, 5, 6], &only_one_lane(5));
+    // So does the extra café: its price is 0, and no roastery's is greater.
+    let with_surplus = sheet(&[0, 5, 0], &[0, 3, 0], &nine);
+    assert_eq!(*with_surplus.start().unwrap(), [cell(2, 2, 3, 0), cell(2, 4, 2, 1)]);
+    solved(with_surplus, 15, 0, &[-3, 0, 0], &[4, 5, 6], &only_one_lane(3));
+}
+
+#[test]
+fn closed_cafes_at_the_limits() {
+    let one_closed = [&[1; 16][..], &[0], &[1; 15]].concat();
+    solved(sheet(&[31], &one_closed, &[1; 32]), 31, 0, &[0], &[1; 32], &one_closed);
+    assert_eq!(sheet(&[32], &one_closed, &[1; 32]).solve(), Err(Refusal::Crowded));
+    assert_eq!(sheet(&[1], &[0; 32], &[1; 32]).solve(), Err(Refusal::Crowded));
+    assert_eq!(sheet(&[0], &[0; 32], &[1; 32]).solve(), Err(Refusal::Idle));
+    assert_eq!(sheet(&[1], &[0; 31], &[1; 31]).solve(), Err(Refusal::Idle));
+    assert_eq!(half_closed().start().unwrap().len(), 31);
+    assert_eq!(half_closed().solve().unwrap().cost, 16_000_000_000_000);
+}
+
 #[test]
 fn p9_refused_tableaux() {
     assert_eq!(p3().round(&p9()), Err(Refusal::ForeignTableau));
@@ -234,7 +301,7 @@ fn small_stack() {
         assert_eq!(large.settle(&run.tableau).unwrap(), large.solve().unwrap().plan);
         assert_eq!(Sheet::read(large.text().unwrap().as_bytes()).unwrap().plan_text(), large.plan_text());
     };
-    for large in [largest(), largest_with_surplus()] {
+    for large in [largest(), largest_with_surplus(), half_closed()] {
         std::thread::Builder::new().stack_size(96 << 10).spawn(move || calls(large)).unwrap().join().unwrap();
     }
 }

@@ -1,8 +1,8 @@
 //! Tableaux as lent lists of cells: a list that is not a tableau of the sheet is refused with 6, after the sheet's own refusals and before 7 and 8.
 mod common;
 use common::{
-    both_signs, both_signs_last, cell, columns, dear, dear_last, finished, largest, largest_with_surplus, p1, p1_last, p3, p4, p5, p6, p8, p9, sheet,
-    wide, MARK,
+    both_signs, both_signs_last, cell, closed, closed_last, columns, dear, dear_last, finished, first_empty, half_closed, largest,
+    largest_with_surplus, last_closed, p1, p1_last, p3, p4, p5, p6, p8, p9, sheet, wide, MARK,
 };
 use panel::{round, run, settle, Cell, Pair, Refusal, Sheet, MAX_LANES};
 
@@ -26,7 +26,7 @@ fn foreign(sheet: &Sheet, cells: &[Cell]) {
     refused(sheet, cells, Refusal::ForeignTableau);
 }
 
-/// Sheets with a tableau that belongs to each: the paper's, starts of 1, 62 and 63 cells, and some with a column for the extra café.
+/// Sheets with a tableau that belongs to each: the paper's, starts of 1, 62 and 63 cells, some with a column for the extra café, and some with struck parties.
 fn belonging() -> Vec<(Sheet, Vec<Cell>)> {
     let started = |sheet: Sheet| {
         let cells = sheet.start().unwrap().to_vec();
@@ -36,6 +36,8 @@ fn belonging() -> Vec<(Sheet, Vec<Cell>)> {
     let mut all = vec![(p1(), p1_last().to_vec()), (p4(), p5().to_vec()), (dear(), dear_last().to_vec()), (both_signs(), both_signs_last().to_vec())];
     all.extend([p6(), p1(), p3(), p4(), sides_31_32, largest()].map(started));
     all.extend([p8(), dear(), wide(40, 31), largest_with_surplus()].map(started));
+    all.push((closed(), closed_last().to_vec()));
+    all.extend([closed(), first_empty(), last_closed(), half_closed()].map(started));
     all
 }
 
@@ -139,6 +141,31 @@ fn the_extra_cafe_misplaced() {
         foreign(&p8(), &[cell(1, 1, 2, 0), cell(1, column, 1, 1)]);
         foreign(&dear(), &[cell(1, 1, 3, 1), cell(2, 1, 1, -1), cell(2, column, 2, 2)]);
     }
+}
+
+/// A cell at a struck party; or the count, the numbers or the marks as if none were struck.
+#[test]
+fn struck_parties() {
+    let first = first_empty();
+    foreign(&first, &[cell(1, 1, 3, 1), cell(3, 1, 2, -1), cell(3, 2, 2, 2)]);
+    foreign(&first, &[cell(1, 1, 0, 1), cell(2, 1, 3, 1), cell(3, 1, 2, -2), cell(3, 2, 2, 3)]);
+    foreign(&first, &[cell(1, 1, 0, 0), cell(2, 1, 3, 1), cell(3, 1, 2, -1), cell(3, 2, 2, 2)]);
+    foreign(&first, &p1().start().unwrap());
+    foreign(&first, &p1_last());
+    foreign(&first, &[cell(2, 1, 3, 1), cell(3, 1, 2, -1), cell(3, 2, 2, 3)]);
+    foreign(&p1(), &first.start().unwrap());
+    let last = last_closed();
+    foreign(&last, &[cell(1, 1, 3, 1), cell(2, 1, 2, -1), cell(2, 3, 2, 2)]);
+    foreign(&last, &[cell(1, 1, 3, 1), cell(2, 1, 2, -1), cell(2, 2, 2, 0), cell(2, 3, 0, 2)]);
+    foreign(&last, &[cell(1, 1, 3, 1), cell(2, 1, 2, -1), cell(2, 2, 2, 2), cell(2, 3, 0, 0)]);
+    // The extra café keeps its number after all cafés of the sheet, and a mark for each of the two roasteries left.
+    let start = [cell(2, 1, 12, 0), cell(2, 3, 8, 1), cell(3, 3, 7, -1)];
+    for (column, marks) in [(2, 2), (3, 2), (4, 3), (4, 1), (5, 2)] {
+        foreign(&closed(), &[&start[..], &[cell(3, column, 7, marks)]].concat());
+    }
+    foreign(&closed(), &[cell(1, 1, 12, 0), cell(1, 2, 8, 1), cell(2, 2, 7, -1), cell(2, 3, 7, 2)]);
+    // A café left may not be taken for a closed one.
+    foreign(&sheet(&[3, 4], &[5, 1, 1], &[4, 1, 3, 2, 6, 9]), &p1_last());
 }
 
 #[test]
@@ -272,11 +299,12 @@ fn the_sheet_is_refused_first() {
         (sheet(&[], &[], &[]), Refusal::Sides),
         (sheet(&[0; 33], &[5, 2], &[]), Refusal::Sides),
         (sheet(&[0, 4], &[5, 2], &[4, 1, 2]), Refusal::CostCount),
-        (sheet(&[0, 4], &[5, 2], &[1_000_001; 4]), Refusal::Amount),
+        (sheet(&[0, 1_000_001], &[5, 2], &[1_000_001; 4]), Refusal::Amount),
         (sheet(&[3, 4], &[5, 3], &[1_000_001; 4]), Refusal::Cost),
         (sheet(&[3, 4], &[5, 3], &[-1_000_001; 4]), Refusal::Cost),
         (sheet(&[3, 4], &[5, 3], &[4, 1, 2, 6]), Refusal::Lacking),
         (wide(40, 32), Refusal::Crowded),
+        (sheet(&[3, 4], &[0, 0], &[4, 1, 2, 6]), Refusal::Idle),
     ] {
         lists.iter().for_each(|cells| refused(&sheet, cells, refusal));
     }

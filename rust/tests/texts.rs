@@ -1,6 +1,6 @@
 //! Sheet texts: there and back, the places of those that are none, and those of refused sheets.
 mod common;
-use common::{both_signs, earns, full, p1, p8, sheet, wide, MARK, SIGNED_MARK};
+use common::{both_signs, closed, earns, full, p1, p8, sheet, wide, MARK, SIGNED_MARK};
 use panel::{read_sheet, Refusal, Sheet, MAX_SHEET_TEXT};
 
 const WORKED: &str = include_str!("../../examples/worked.sheet");
@@ -28,6 +28,17 @@ fn there_and_back_with_a_surplus() {
     assert_eq!(p8().text().unwrap(), one_bag_stays);
     assert_eq!(p8().plan_text().unwrap(), "total 1\n0\nrounds 1\n0\nroasteries 1\n0\ncafes 1\n0\nlanes 1\n1 1 2\n");
     assert_eq!(Sheet::read(wide(40, 31).text().unwrap().as_bytes()), Ok(wide(40, 31)));
+}
+
+/// Parties at 0 stand in both texts, and their lanes in none.
+#[test]
+fn there_and_back_with_parties_at_0() {
+    let (text, plan) = (include_str!("../../examples/closed.sheet"), include_str!("../../examples/closed.plan"));
+    assert_eq!(Sheet::read(text.as_bytes()), Ok(closed()));
+    assert_eq!((closed().text().unwrap(), closed().plan_text().unwrap()), (text.to_string(), plan.to_string()));
+    for (zero, place) in [("00\n", 10), ("01\n", 10), ("-0\n", 9)] {
+        assert_eq!(Sheet::read(format!("supply 1\n{zero}").as_bytes()), Err(Refusal::NotSheetText { place }), "{zero:?}");
+    }
 }
 
 /// The total and the prices may have a minus, and so may the costs.
@@ -105,7 +116,10 @@ fn places_of_texts_that_are_none() {
 #[test]
 fn texts_of_refused_sheets() {
     for (text, refusal) in [
-        ("supply 1\n0\ndemand 1\n2\ncost 1\n0\n", Refusal::Amount),
+        ("supply 1\n0\ndemand 1\n2\ncost 1\n0\n", Refusal::Lacking),
+        ("supply 1\n2\ndemand 1\n0\ncost 1\n0\n", Refusal::Idle),
+        ("supply 1\n0\ndemand 1\n0\ncost 1\n0\n", Refusal::Idle),
+        ("supply 1\n1000001\ndemand 1\n0\ncost 1\n0\n", Refusal::Amount),
         ("supply 1\n1\ndemand 1\n1000001\ncost 1\n0\n", Refusal::Amount),
         ("supply 1\n1\ndemand 1\n1\ncost 1\n1000001\n", Refusal::Cost),
         (&text_of_a_cost("-1000001\n"), Refusal::Cost),

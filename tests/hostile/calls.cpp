@@ -41,6 +41,7 @@ void Holder::note(const Known &known, const Call &call, const Outcome &outcome) 
     else if (call.entry == Entry::round || call.entry == Entry::run) tally.count(outcome.fields[1].value ? "finished" : "unfinished");
     else tally.count("done");
     tally.count("with a surplus", refusal == no_refusal && surplus(known.sheet) > 0);
+    tally.count("with parties at 0", refusal == no_refusal && has_struck(known.sheet));
     bool has_plan = call.entry == Entry::settle || call.entry == Entry::solve || call.entry == Entry::write_plan;
     if (refusal == no_refusal && has_plan) tally.count("plans searched", has_few_plans(known.sheet));
     if (call.entry == Entry::run || call.entry == Entry::solve) tally.note_most("most rounds", outcome.fields[2].value);
@@ -223,12 +224,14 @@ static void hold_changed_lists(Holder &holder, const std::vector<ChangeLists> &c
 
 template <ChangeLists change> static void changed_lists_case(Holder &holder) { hold_changed_lists(holder, {change}, 1); }
 
-static void many_faults_case(Holder &holder) { hold_changed_lists(holder, {change_sizes, change_numbers, change_totals}, 2 + holder.dice.below(4)); }
+static void many_faults_case(Holder &holder) {
+    hold_changed_lists(holder, {change_sizes, change_numbers, close_parties, change_totals}, 2 + holder.dice.below(4));
+}
 
 // ---- cells that are no tableau
 
-static void hold_changed_tableaux(Holder &holder, const std::vector<Change> &changes, size_t count) {
-    Known known(any_accepted_sheet(holder.dice));
+static void hold_changed_tableaux_of(Holder &holder, const Sheet &sheet, const std::vector<Change> &changes, size_t count) {
+    Known known(sheet);
     Tableau tableau = any_tableau(holder.dice, known);
     for (int turn = 0; turn < 6; turn++) {
         Cells cells = cells_of(tableau);
@@ -237,7 +240,18 @@ static void hold_changed_tableaux(Holder &holder, const std::vector<Change> &cha
     }
 }
 
+static void hold_changed_tableaux(Holder &holder, const std::vector<Change> &changes, size_t count) {
+    hold_changed_tableaux_of(holder, any_accepted_sheet(holder.dice), changes, count);
+}
+
 template <Change change> static void changed_tableau_case(Holder &holder) { hold_changed_tableaux(holder, {change}, 1); }
+
+// Of sheets that have struck parties.
+static void changed_parties_case(Holder &holder) {
+    Sheet sheet = any_accepted_sheet(holder.dice);
+    while (!has_struck(sheet)) sheet = any_accepted_sheet(holder.dice);
+    hold_changed_tableaux_of(holder, sheet, {change_parties}, 1);
+}
 
 // Pairs cannot be shifted once the cells are no tableau.
 static void many_changes_case(Holder &holder) {
@@ -266,11 +280,13 @@ static const std::vector<CallKind> call_kinds = {
     {"read sheet from texts with a minus", minus_text_case},
     {"lists of other sizes", changed_lists_case<change_sizes>},
     {"lists of other numbers", changed_lists_case<change_numbers>},
+    {"lists with parties at 0", changed_lists_case<close_parties>},
     {"lists of other totals", changed_lists_case<change_totals>},
     {"lists with several faults", many_faults_case},
     {"tableaux of other counts", changed_tableau_case<change_count>},
     {"tableaux with cells off the sheet", changed_tableau_case<put_off_sheet>},
     {"tableaux with another last column", changed_tableau_case<change_last_column>},
+    {"tableaux with other parties", changed_parties_case},
     {"tableaux in other orders", changed_tableau_case<change_order>},
     {"tableaux with other amounts", changed_tableau_case<change_amounts>},
     {"tableaux with shifted pairs", changed_tableau_case<shift_pairs>},

@@ -77,6 +77,25 @@ void change_numbers(Dice &dice, Lists &lists) {
     }
 }
 
+// ---- parties at 0
+
+void close_parties(Dice &dice, Lists &lists) {
+    Numbers &list = dice.once_in(3) ? lists.supply : lists.demand;
+    if (list.empty()) return;
+    uint64_t &one = dice.one_of(list);
+    switch (dice.below(4)) {
+    case 0: one = 0; return;
+    case 1: {
+        uint64_t bags = one;
+        std::fill(list.begin(), list.end(), 0);
+        one = bags;
+        return;
+    }
+    case 2: std::fill(lists.supply.begin(), lists.supply.end(), 0); [[fallthrough]];
+    default: std::fill(lists.demand.begin(), lists.demand.end(), 0);
+    }
+}
+
 // ---- totals
 
 // Takes from one what another gets, so that the total stays, perhaps modulo 2^64.

@@ -8,6 +8,8 @@
 void change_sizes(Dice &dice, Lists &lists);
 // Supplies, demands and costs at and beyond the limits, up to the ends of 64 bits.
 void change_numbers(Dice &dice, Lists &lists);
+// Parties at 0: one, all but one of a side, all cafés, or all.
+void close_parties(Dice &dice, Lists &lists);
 // Totals that differ, or that are equal only if they wrap around; also with as many cafés as there may be, or one more or less.
 void change_totals(Dice &dice, Lists &lists);
 

@@ -2,6 +2,7 @@
 
 #include <algorithm>
 #include <cstdlib>
+#include <functional>
 
 // ---- bags
 
@@ -23,17 +24,23 @@ static void balance(Dice &dice, Sheet &sheet) {
     }
 }
 
-// Gives one roastery or each up to `top` units more, or as many bags as it may have. A balanced sheet then has a surplus, unless they had as many before.
+// Gives one roastery that has bags or each such up to `top` units more, or as many bags as it may have. A balanced sheet then has a surplus, unless they had
+// as many before.
 static void add_surplus(Dice &dice, Sheet &sheet, Whole top, Whole unit) {
-    auto raise = [&](Whole &bags, Whole units) { bags = std::min(bags + units * unit, most); };
+    std::vector<Whole *> left;
+    for (Whole &bags : sheet.supply)
+        if (bags > 0) left.push_back(&bags);
+    auto raise = [&](Whole *bags, Whole units) { *bags = std::min(*bags + units * unit, most); };
     switch (dice.below(6)) {
-    case 0: return sheet.supply.assign(sheet.m(), most);
-    case 1: dice.one_of(sheet.supply) = most; return;
-    case 2: return raise(dice.one_of(sheet.supply), 1);
-    case 3: return raise(sheet.supply.back(), dice.between(1, top));
+    case 0:
+        for (Whole *bags : left) *bags = most;
+        return;
+    case 1: *dice.one_of(left) = most; return;
+    case 2: return raise(dice.one_of(left), 1);
+    case 3: return raise(left.back(), dice.between(1, top));
     default:
-        raise(dice.one_of(sheet.supply), 1);
-        for (Whole &bags : sheet.supply) raise(bags, dice.between(0, top));
+        raise(dice.one_of(left), 1);
+        for (Whole *bags : left) raise(bags, dice.between(0, top));
     }
 }
 
@@ -42,10 +49,36 @@ static void perhaps_add_surplus(Dice &dice, Sheet &sheet, Whole top, Whole unit)
     if (sheet.n() < full && dice.once_in(2)) add_surplus(dice, sheet, top, unit);
 }
 
+// Some of so many parties, at least one: two in three, few, or all but the first or the last.
+static std::vector<size_t> some_of(Dice &dice, size_t count) {
+    size_t way = dice.below(6);
+    std::vector<size_t> some;
+    for (size_t k = 0; k < count; k++) {
+        bool stays = way == 0 ? k > 0 : way == 1 ? k + 1 < count : way == 2 ? dice.once_in(4) : !dice.once_in(3);
+        if (stays) some.push_back(k);
+    }
+    if (some.empty()) some.push_back(dice.below(count));
+    return some;
+}
+
+// Gives bags to all parties of the sheet, or in half of the sheets to some, as to a sheet of their own, and none to the others.
+static void give_bags(Dice &dice, Sheet &sheet, const std::function<void(Sheet &)> &give) {
+    if (dice.once_in(2)) return give(sheet);
+    std::vector<size_t> rows = some_of(dice, sheet.m()), cols = some_of(dice, sheet.n());
+    Sheet left = blank(rows.size(), cols.size());
+    give(left);
+    sheet.supply.assign(sheet.m(), 0);
+    sheet.demand.assign(sheet.n(), 0);
+    for (size_t k = 0; k < rows.size(); k++) sheet.supply[rows[k]] = left.supply[k];
+    for (size_t k = 0; k < cols.size(); k++) sheet.demand[cols[k]] = left.demand[k];
+}
+
 static void random_bags(Dice &dice, Sheet &sheet, Whole top) {
-    for (Whole &bags : sheet.supply) bags = dice.between(1, top);
-    for (Whole &bags : sheet.demand) bags = dice.between(1, top);
-    balance(dice, sheet);
+    give_bags(dice, sheet, [&](Sheet &left) {
+        for (Whole &bags : left.supply) bags = dice.between(1, top);
+        for (Whole &bags : left.demand) bags = dice.between(1, top);
+        balance(dice, left);
+    });
     perhaps_add_surplus(dice, sheet, top, 1);
 }
 
@@ -68,11 +101,13 @@ static void cut_bar(Dice &dice, List &parts, size_t units, Whole unit) {
 
 // Few units in all, so that many sums of first supplies are sums of first demands too.
 static void tied_bags(Dice &dice, Sheet &sheet) {
-    size_t parties = std::max(sheet.m(), sheet.n());
-    size_t units = parties + dice.below(parties + 1);
     Whole unit = dice.one_of({1, 7, most / 64});
-    cut_bar(dice, sheet.supply, units, unit);
-    cut_bar(dice, sheet.demand, units, unit);
+    give_bags(dice, sheet, [&](Sheet &left) {
+        size_t parties = std::max(left.m(), left.n());
+        size_t units = parties + dice.below(parties + 1);
+        cut_bar(dice, left.supply, units, unit);
+        cut_bar(dice, left.demand, units, unit);
+    });
     perhaps_add_surplus(dice, sheet, 2, unit);
 }
 
@@ -216,7 +251,7 @@ Sheet full_sheet(Dice &dice) {
     return filled(dice, blank(full, n));
 }
 
-// ---- sheets to refuse by 3, 4, 5 or 10, or just not
+// ---- sheets to refuse by 3, 4, 5, 10 or 11, or just not
 
 // With a surplus 31 cafés are the most, and 32 are too many.
 Sheet sheet_of_many_cafes(Dice &dice) {
@@ -229,7 +264,18 @@ Sheet sheet_of_many_cafes(Dice &dice) {
 Sheet unequal_sheet(Dice &dice) {
     Sheet sheet = any_sheet(dice);
     Whole &bags = dice.one_of(dice.once_in(2) ? sheet.supply : sheet.demand);
-    bags = dice.one_of({std::min(bags + 1, most), std::max<Whole>(bags - 1, 1), dice.between(1, most)});
+    bags = dice.one_of({std::min(bags + 1, most), std::max<Whole>(bags - 1, 0), dice.between(0, most)});
+    return sheet;
+}
+
+// No café wants a bag, or one wants a single one; roasteries have what they had, nothing, or a single bag.
+Sheet sheet_of_closed_cafes(Dice &dice) {
+    Sheet sheet = dice.once_in(2) ? sheet_of_many_cafes(dice) : any_sheet(dice);
+    sheet.demand.assign(sheet.n(), 0);
+    if (dice.once_in(3)) dice.one_of(sheet.demand) = 1;
+    if (dice.once_in(2)) return sheet;
+    sheet.supply.assign(sheet.m(), 0);
+    if (dice.once_in(2)) dice.one_of(sheet.supply) = 1;
     return sheet;
 }
 

@@ -14,7 +14,7 @@ Sheet filled(Dice &dice, Sheet sheet);
 // Up to `top` in size: none below 0, none above 0, or of both signs.
 void random_costs(Dice &dice, Sheet &sheet, Whole top);
 
-// Balanced or with a surplus, and accepted.
+// Balanced or with a surplus, with parties at 0 or without, and accepted.
 Sheet any_sheet(Dice &dice);
 Sheet small_sheet(Dice &dice);
 Sheet sheet_of_ties(Dice &dice);
@@ -25,9 +25,10 @@ Sheet sheet_of_large_numbers(Dice &dice);
 Sheet narrow_sheet(Dice &dice);
 Sheet full_sheet(Dice &dice);
 
-// To refuse by 3, 4, 5 or 10, or just not.
+// To refuse by 3, 4, 5, 10 or 11, or just not.
 Sheet unequal_sheet(Dice &dice);
 Sheet sheet_of_many_cafes(Dice &dice);
+Sheet sheet_of_closed_cafes(Dice &dice);
 Sheet sheet_at_the_limits(Dice &dice);
 
 #endif

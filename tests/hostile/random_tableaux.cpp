@@ -4,13 +4,6 @@
 
 // ---- tableaux that belong
 
-static std::vector<Lane> lanes_of(const Sheet &sheet) {
-    std::vector<Lane> lanes;
-    for (size_t i = 0; i < sheet.m(); i++)
-        for (size_t j = 0; j < sheet.n(); j++) lanes.push_back({i, j});
-    return lanes;
-}
-
 static std::vector<Lane> without_basic(std::vector<Lane> lanes, const Tableau &tableau) {
     auto is_basic = [&](Lane lane) { return tableau.count(lane) > 0; };
     lanes.erase(std::remove_if(lanes.begin(), lanes.end(), is_basic), lanes.end());
@@ -26,11 +19,11 @@ static Tableau wandered_on(Dice &dice, const Sheet &sheet, const std::vector<Lan
     return tableau;
 }
 
-Tableau wandered(Dice &dice, const Sheet &sheet, Tableau tableau, size_t rounds) { return wandered_on(dice, sheet, lanes_of(sheet), tableau, rounds); }
+Tableau wandered(Dice &dice, const Sheet &sheet, Tableau tableau, size_t rounds) { return wandered_on(dice, sheet, lanes_left(sheet), tableau, rounds); }
 
 Tableau wandered_among_finished(Dice &dice, const Sheet &sheet, const Prices &prices, Tableau tableau, size_t rounds) {
     std::vector<Lane> tight;
-    for (Lane lane : lanes_of(sheet))
+    for (Lane lane : lanes_left(sheet))
         if (prices.reduced(sheet, lane) == 0) tight.push_back(lane);
     return wandered_on(dice, sheet, tight, tableau, rounds);
 }
@@ -38,7 +31,7 @@ Tableau wandered_among_finished(Dice &dice, const Sheet &sheet, const Prices &pr
 // ---- trees
 
 static std::vector<Lane> random_spanning_lanes(Dice &dice, const Sheet &sheet) {
-    std::vector<Lane> lanes = lanes_of(sheet), kept;
+    std::vector<Lane> lanes = lanes_left(sheet), kept;
     for (size_t k = lanes.size(); k > 1; k--) std::swap(lanes[k - 1], lanes[dice.below(k)]);
     Parts parts(sheet);
     for (Lane lane : lanes)
@@ -156,16 +149,24 @@ static void start_without_last_column(const Sheet &sheet, Cells &cells) {
     Sheet other = {sheet.supply, List(sheet.demand.begin(), sheet.demand.end() - 1), {}};
     for (const Cell &cell : cells)
         if (cell.col + 1 == sheet.n()) other.supply[cell.row] -= cell.amount.first;
-    if (other.n() > 0) cells = cells_of(start(other));
+    if (total(other.demand) > 0) cells = cells_of(start(other));
 }
 
-// The start if one café more took a part of what the last one takes, or only the marks.
+// The number of the last of those left.
+static size_t last_left(const List &amounts) {
+    size_t last = amounts.size() - 1;
+    while (amounts[last] == 0) last--;
+    return last;
+}
+
+// The start if one café more took a part of what the last one left takes, or only the marks.
 static void start_with_one_column_more(Dice &dice, const Sheet &sheet, Cells &cells) {
-    Sheet other = sheet;
-    Whole bags = dice.once_in(2) ? 0 : dice.between(0, sheet.demand.back() - 1);
-    other.demand.back() -= bags;
-    other.demand.push_back(bags);
-    cells = cells_of(start(other));
+    std::vector<Amount> wanted = paired_demands(sheet);
+    Amount &last = wanted[last_left(sheet.demand)];
+    Amount taken = {dice.once_in(2) ? 0 : dice.between(0, last.first - 1), last.second};
+    last = difference(last, taken);
+    wanted.push_back(taken);
+    cells = cells_of(north_west(paired_supplies(sheet), wanted));
 }
 
 // The pairs if the marks were another café's.
@@ -173,8 +174,7 @@ static void give_marks_to_other(Dice &dice, const Sheet &sheet, Cells &cells) {
     std::vector<Lane> lanes;
     for (const Cell &cell : cells) lanes.push_back({cell.row, cell.col});
     std::vector<Amount> wanted = paired_demands(sheet);
-    wanted.back().second = 0;
-    wanted[sheet.n() - 1 - std::min<size_t>(1 + dice.below(2), sheet.n() - 1)].second = (Whole)sheet.m();
+    std::swap(wanted[last_left(sheet.demand)].second, wanted[sheet.n() - 1 - std::min<size_t>(1 + dice.below(2), sheet.n() - 1)].second);
     cells = carried_on(lanes, paired_supplies(sheet), wanted);
 }
 
@@ -196,6 +196,115 @@ void change_last_column(Dice &dice, const Sheet &sheet, Cells &cells) {
     case 3: return give_marks_to_other(dice, sheet, cells);
     case 4: return put_last_column_first(sheet, cells);
     default: return put_last_column_at(sheet, cells, dice.one_of<size_t>({sheet.n(), 31, 32, 63, 64}));
+    }
+}
+
+// ---- parties
+
+// The numbers of those left, or of those struck.
+static std::vector<size_t> numbers_of(const List &amounts, bool left) {
+    std::vector<size_t> numbers;
+    for (size_t k = 0; k < amounts.size(); k++)
+        if ((amounts[k] > 0) == left) numbers.push_back(k);
+    return numbers;
+}
+
+// The number of a party of the side: of a struck one if there is any.
+static size_t any_struck(Dice &dice, const List &amounts) {
+    std::vector<size_t> struck = numbers_of(amounts, false);
+    return struck.empty() ? dice.below(amounts.size()) : dice.one_of(struck);
+}
+
+// One cell, or all cells of its party.
+static void move_to_struck(Dice &dice, const Sheet &sheet, Cells &cells, bool all) {
+    Cell from = dice.one_of(cells);
+    bool row = dice.once_in(2);
+    size_t to = any_struck(dice, row ? sheet.supply : sheet.demand);
+    for (Cell &cell : cells) {
+        bool moves = all ? (row ? cell.row == from.row : cell.col == from.col) : cell.row == from.row && cell.col == from.col;
+        if (moves) (row ? cell.row : cell.col) = to;
+    }
+    std::sort(cells.begin(), cells.end(), is_before);
+}
+
+// The numbers that the parties left have among themselves, on one side or on both.
+static void number_among_left(Dice &dice, const Sheet &sheet, Cells &cells) {
+    auto number = [](const List &amounts, size_t own) {
+        std::vector<size_t> left = numbers_of(amounts, true);
+        return (size_t)(std::lower_bound(left.begin(), left.end(), own) - left.begin());
+    };
+    size_t sides = dice.below(3);
+    for (Cell &cell : cells) {
+        if (sides != 0) cell.row = number(sheet.supply, cell.row);
+        if (sides != 1) cell.col = number(sheet.demand, cell.col);
+    }
+}
+
+// A cell for each struck party, so that there are as many cells as if none were struck; or for some.
+static void add_cells_of_struck(Dice &dice, const Sheet &sheet, Cells &cells) {
+    bool all = !dice.once_in(3);
+    Amount amount = dice.one_of({nothing, Amount{0, 1}});
+    for (size_t row : numbers_of(sheet.supply, false))
+        if (all || dice.once_in(2)) cells.push_back({row, dice.once_in(2) ? last_left(sheet.demand) : dice.below(sheet.n()), amount});
+    for (size_t col : numbers_of(sheet.demand, false))
+        if (all || dice.once_in(2)) cells.push_back({dice.once_in(2) ? last_left(sheet.supply) : dice.below(sheet.m()), col, amount});
+    std::sort(cells.begin(), cells.end(), is_before);
+}
+
+// The start if struck roasteries had a mark too, and the last café left, or the last one, as many more.
+static void start_with_all_marks(Dice &dice, const Sheet &sheet, Cells &cells) {
+    std::vector<Amount> left = paired_supplies(sheet), wanted = paired_demands(sheet);
+    for (Amount &supply : left) supply.second = 1;
+    Amount &last = wanted[last_left(sheet.demand)];
+    last.second = (Whole)sheet.m();
+    if (dice.once_in(2)) std::swap(last.second, wanted.back().second);
+    cells = cells_of(north_west(left, wanted));
+}
+
+// The marks of struck roasteries on a cell of the last café left.
+static void count_all_marks(const Sheet &sheet, Cells &cells) {
+    for (Cell &cell : cells) {
+        if (cell.col != last_left(sheet.demand)) continue;
+        cell.amount.second += (Whole)numbers_of(sheet.supply, false).size();
+        return;
+    }
+}
+
+// The start if the last café had the marks, be it struck or not.
+static void give_marks_to_last(const Sheet &sheet, Cells &cells) {
+    std::vector<Amount> wanted = paired_demands(sheet);
+    std::swap(wanted[last_left(sheet.demand)].second, wanted.back().second);
+    cells = cells_of(north_west(paired_supplies(sheet), wanted));
+}
+
+static void drop_party(Dice &dice, Cells &cells) {
+    Cell of = dice.one_of(cells);
+    bool row = dice.once_in(2);
+    auto is_dropped = [&](const Cell &cell) { return row ? cell.row == of.row : cell.col == of.col; };
+    cells.erase(std::remove_if(cells.begin(), cells.end(), is_dropped), cells.end());
+}
+
+// The start if a struck party had bags, and one left so many fewer.
+static void start_of_other_left(Dice &dice, const Sheet &sheet, Cells &cells) {
+    Sheet other = sheet;
+    List &list = dice.once_in(2) ? other.supply : other.demand;
+    Whole &from = list[last_left(list)], bags = dice.between(1, from);
+    from -= bags;
+    list[any_struck(dice, list)] += bags;
+    cells = cells_of(start(other));
+}
+
+void change_parties(Dice &dice, const Sheet &sheet, Cells &cells) {
+    switch (dice.below(9)) {
+    case 0: return move_to_struck(dice, sheet, cells, false);
+    case 1: return move_to_struck(dice, sheet, cells, true);
+    case 2: return number_among_left(dice, sheet, cells);
+    case 3: return add_cells_of_struck(dice, sheet, cells);
+    case 4: return start_with_all_marks(dice, sheet, cells);
+    case 5: return count_all_marks(sheet, cells);
+    case 6: return give_marks_to_last(sheet, cells);
+    case 7: return drop_party(dice, cells);
+    default: return start_of_other_left(dice, sheet, cells);
     }
 }
 
@@ -254,7 +363,7 @@ static void shift_in_line(Dice &dice, Cells &cells) {
 // A round in which another cell leaves than the smallest on a minus cell, or none: all adds up, but a pair is not above (0, 0) or there is a cell too many.
 static void enter_badly(Dice &dice, const Sheet &sheet, Cells &cells) {
     Tableau before = tableau_of(cells), after = before;
-    std::vector<Lane> open = without_basic(lanes_of(sheet), before);
+    std::vector<Lane> open = without_basic(lanes_left(sheet), before);
     if (open.empty()) return;
     Lane entering = dice.one_of(open);
     Amount step = make_round(sheet, after, entering);

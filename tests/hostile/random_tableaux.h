@@ -19,6 +19,8 @@ void change_order(Dice &dice, const Sheet &sheet, Cells &cells);
 void change_amounts(Dice &dice, const Sheet &sheet, Cells &cells);
 // As if the extra café were missing, one more were there, or it stood elsewhere.
 void change_last_column(Dice &dice, const Sheet &sheet, Cells &cells);
+// As if struck parties were left, or others were struck; under other numbers, or with other marks.
+void change_parties(Dice &dice, const Sheet &sheet, Cells &cells);
 // Pairs that add up, or nearly so.
 void shift_pairs(Dice &dice, const Sheet &sheet, Cells &cells);
 // Cells by chance.

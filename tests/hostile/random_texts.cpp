@@ -226,6 +226,7 @@ const std::vector<TextKind> text_kinds = {
     {"full sheets", text_of<full_sheet>},
     {"unequal sheets", text_of<unequal_sheet>},
     {"sheets of 31 or 32 cafés", text_of<sheet_of_many_cafes>},
+    {"sheets of closed cafés", text_of<sheet_of_closed_cafes>},
     {"sheets at the limits", text_of<sheet_at_the_limits>},
     {"cut texts", cut_text},
     {"spliced texts", spliced_text},

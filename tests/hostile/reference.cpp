@@ -29,6 +29,26 @@ Sheet extended(const Sheet &sheet) {
     return with_extra;
 }
 
+static bool is_left(Whole amount) { return amount > 0; }
+
+bool has_struck(const Sheet &sheet) {
+    return !std::all_of(sheet.supply.begin(), sheet.supply.end(), is_left) || !std::all_of(sheet.demand.begin(), sheet.demand.end(), is_left);
+}
+
+static size_t count_left(const List &amounts) { return (size_t)std::count_if(amounts.begin(), amounts.end(), is_left); }
+
+static size_t parties_left(const Sheet &sheet) { return count_left(sheet.supply) + count_left(sheet.demand); }
+
+static bool joins_parties_left(const Sheet &sheet, Lane lane) { return is_left(sheet.supply[lane.first]) && is_left(sheet.demand[lane.second]); }
+
+std::vector<Lane> lanes_left(const Sheet &sheet) {
+    std::vector<Lane> lanes;
+    for (size_t i = 0; i < sheet.m(); i++)
+        for (size_t j = 0; j < sheet.n(); j++)
+            if (joins_parties_left(sheet, {i, j})) lanes.push_back({i, j});
+    return lanes;
+}
+
 Lists lists_of(const Sheet &sheet) {
     Lists lists = {Numbers(sheet.supply.begin(), sheet.supply.end()), Numbers(sheet.demand.begin(), sheet.demand.end()), {}};
     for (const List &row : sheet.cost) lists.cost.insert(lists.cost.end(), row.begin(), row.end());
@@ -48,11 +68,12 @@ template <class Number> static bool any_outside(const std::vector<Number> &list,
 }
 
 static int refusal_of_numbers(const Lists &lists) {
-    if (any_outside<uint64_t>(lists.supply, 1, most) || any_outside<uint64_t>(lists.demand, 1, most)) return 3;
+    if (any_outside<uint64_t>(lists.supply, 0, most) || any_outside<uint64_t>(lists.demand, 0, most)) return 3;
     if (any_outside(lists.cost, -most, most)) return 4;
     auto sum = [](const Numbers &list) { return std::accumulate(list.begin(), list.end(), uint64_t{0}); };
     if (sum(lists.supply) < sum(lists.demand)) return 5;
     if (sum(lists.supply) > sum(lists.demand) && lists.demand.size() == most_parties) return 10;
+    if (sum(lists.demand) == 0) return 11;
     return no_refusal;
 }
 
@@ -166,21 +187,20 @@ std::string sheet_text(const Sheet &sheet) {
 
 // ---- rounds
 
-static const Amount nothing = {0, 0};
-
 Amount sum(Amount a, Amount b) { return {a.first + b.first, a.second + b.second}; }
 Amount difference(Amount a, Amount b) { return {a.first - b.first, a.second - b.second}; }
 
 std::vector<Amount> paired_supplies(const Sheet &sheet) {
     std::vector<Amount> paired;
-    for (Whole bags : sheet.supply) paired.push_back({bags, 1});
+    for (Whole bags : sheet.supply) paired.push_back(is_left(bags) ? Amount{bags, 1} : nothing);
     return paired;
 }
 
 std::vector<Amount> paired_demands(const Sheet &sheet) {
     std::vector<Amount> paired;
     for (Whole bags : sheet.demand) paired.push_back({bags, 0});
-    paired.back().second = (Whole)sheet.m();
+    auto last = std::find_if(paired.rbegin(), paired.rend(), [](Amount amount) { return is_left(amount.first); });
+    last->second = (Whole)count_left(sheet.supply);
     return paired;
 }
 
@@ -225,44 +245,63 @@ bool Parts::join(Lane lane) {
     return one != other;
 }
 
-// A cell whose ends are in one part closes a loop. Each other leaves a part fewer, so that m + n - 1 of them leave one.
+// A cell whose ends are in one part closes a loop. Each other leaves a part fewer, so that one cell fewer than parties left leaves these in one.
 static bool join_all_without_loop(const Sheet &sheet, const Cells &cells) {
     Parts parts(sheet);
     for (const Cell &cell : cells)
         if (!parts.join({cell.row, cell.col})) return false;
-    return cells.size() == sheet.m() + sheet.n() - 1;
+    return cells.size() + 1 == parties_left(sheet);
 }
 
 bool belongs(const Sheet &sheet, const Cells &cells) {
-    auto is_on_sheet = [&](const Cell &cell) { return cell.row < sheet.m() && cell.col < sheet.n(); };
+    auto is_covered = [&](const Cell &cell) { return cell.row < sheet.m() && cell.col < sheet.n() && joins_parties_left(sheet, {cell.row, cell.col}); };
     auto is_above_nothing = [](const Cell &cell) { return cell.amount > nothing; };
-    if (cells.size() != sheet.m() + sheet.n() - 1 || !are_in_sheet_order(cells)) return false;
-    if (!std::all_of(cells.begin(), cells.end(), is_on_sheet) || !std::all_of(cells.begin(), cells.end(), is_above_nothing)) return false;
+    if (cells.size() + 1 != parties_left(sheet) || !are_in_sheet_order(cells)) return false;
+    if (!std::all_of(cells.begin(), cells.end(), is_covered) || !std::all_of(cells.begin(), cells.end(), is_above_nothing)) return false;
     return add_up(sheet, cells) && join_all_without_loop(sheet, cells);
 }
 
-Tableau start(const Sheet &sheet) {
-    std::vector<Amount> left = paired_supplies(sheet), wanted = paired_demands(sheet);
+Tableau north_west(std::vector<Amount> left, std::vector<Amount> wanted) {
     Tableau tableau;
-    for (size_t i = 0, j = 0; i < sheet.m() && j < sheet.n();) {
-        Amount put = std::min(left[i], wanted[j]);
-        claim(put > nothing, "both are empty together at the last cell only");
-        tableau[{i, j}] = put;
-        left[i] = difference(left[i], put);
-        wanted[j] = difference(wanted[j], put);
-        if (left[i] == nothing) i++;
-        else j++;
+    for (size_t i = 0, j = 0; i < left.size() && j < wanted.size();) {
+        if (left[i] == nothing) {
+            i++;
+        } else if (wanted[j] == nothing) {
+            j++;
+        } else {
+            Amount put = std::min(left[i], wanted[j]);
+            tableau[{i, j}] = put;
+            left[i] = difference(left[i], put);
+            wanted[j] = difference(wanted[j], put);
+        }
     }
-    claim(tableau.size() == sheet.m() + sheet.n() - 1, "the start has m + n - 1 cells");
     return tableau;
 }
 
-// Goes over the basic cells again and again, until all prices are known.
+Tableau start(const Sheet &sheet) {
+    Tableau tableau = north_west(paired_supplies(sheet), paired_demands(sheet));
+    claim(tableau.size() + 1 == parties_left(sheet), "both are empty together at the last cell only");
+    return tableau;
+}
+
+using PricesSoFar = std::vector<std::optional<Whole>>;
+
+// A struck café's price is the least cost - u over the roasteries left; then a struck roastery's is the least cost - v over all cafés.
+static void add_prices_of_struck(const Sheet &sheet, PricesSoFar &u, PricesSoFar &v) {
+    auto lower = [](std::optional<Whole> &price, Whole other) { price = std::min(price.value_or(other), other); };
+    for (size_t j = 0; j < sheet.n(); j++)
+        for (size_t i = 0; !is_left(sheet.demand[j]) && i < sheet.m(); i++)
+            if (is_left(sheet.supply[i])) lower(v[j], sheet.cost[i][j] - *u[i]);
+    for (size_t i = 0; i < sheet.m(); i++)
+        for (size_t j = 0; !is_left(sheet.supply[i]) && j < sheet.n(); j++) lower(u[i], sheet.cost[i][j] - *v[j]);
+}
+
+// Goes over the basic cells again and again, until the prices of all parties left are known.
 Prices prices(const Sheet &sheet, const Tableau &tableau) {
-    std::vector<std::optional<Whole>> u(sheet.m()), v(sheet.n());
-    u[0] = 0;
-    for (size_t known = 1, before = 0; known < sheet.m() + sheet.n();) {
-        claim(known > before, "the basic cells join all roasteries and cafés");
+    PricesSoFar u(sheet.m()), v(sheet.n());
+    u[(size_t)(std::find_if(sheet.supply.begin(), sheet.supply.end(), is_left) - sheet.supply.begin())] = 0;
+    for (size_t known = 1, before = 0; known < parties_left(sheet);) {
+        claim(known > before, "the basic cells join all parties left");
         before = known;
         for (const auto &cell : tableau) {
             auto [i, j] = cell.first;
@@ -272,6 +311,7 @@ Prices prices(const Sheet &sheet, const Tableau &tableau) {
             known++;
         }
     }
+    add_prices_of_struck(sheet, u, v);
     Prices found;
     for (auto price : u) found.u.push_back(*price);
     for (auto price : v) found.v.push_back(*price);
@@ -282,11 +322,8 @@ Prices prices(const Sheet &sheet, const Tableau &tableau) {
 }
 
 Lane least_lane(const Sheet &sheet, const Prices &prices) {
-    Lane least = {0, 0};
-    for (size_t i = 0; i < sheet.m(); i++)
-        for (size_t j = 0; j < sheet.n(); j++)
-            if (prices.reduced(sheet, {i, j}) < prices.reduced(sheet, least)) least = {i, j};
-    return least;
+    std::vector<Lane> lanes = lanes_left(sheet);
+    return *std::min_element(lanes.begin(), lanes.end(), [&](Lane one, Lane other) { return prices.reduced(sheet, one) < prices.reduced(sheet, other); });
 }
 
 using Test = std::function<bool(Lane)>;
@@ -377,13 +414,12 @@ static void fill(const Sheet &sheet, const Prices &prices, Grid &bags, Lane lane
     }
 }
 
-// The lanes of the extra café only give and take, and are dropped at the end.
+// The lanes of the extra café only give and take, and are dropped at the end. Those of struck parties carry nothing.
 Grid settled_plan(const Sheet &sheet, const Prices &prices, const Tableau &tableau) {
     Sheet extended = ::extended(sheet);
     Grid bags = bags_of(extended, tableau);
-    for (size_t i = 0; i < sheet.m(); i++)
-        for (size_t j = 0; j < sheet.n(); j++)
-            if (prices.reduced(extended, {i, j}) == 0) fill(extended, prices, bags, {i, j});
+    for (Lane lane : lanes_left(sheet))
+        if (prices.reduced(extended, lane) == 0) fill(extended, prices, bags, lane);
     for (List &row : bags) row.resize(sheet.n());
     return bags;
 }
@@ -436,7 +472,7 @@ static void claim_meets(const Sheet &sheet, const Grid &plan) {
 }
 
 // By the prices that are given: without that of the extra café, w. Its lanes cost 0, so no u + w is above 0, and a roastery that keeps bags has u + w = 0: no
-// other has a greater u.
+// other has a greater u. All this holds of struck parties too.
 static void claim_least(const Sheet &sheet, const Prices &prices, const Grid &plan) {
     Whole greatest = *std::max_element(prices.u.begin(), prices.u.end());
     for (size_t i = 0; i < sheet.m(); i++) {

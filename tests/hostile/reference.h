@@ -1,5 +1,5 @@
-// What the program has to print for any input, and what the calls have to give, found in the plainest way from the words of paper 01 and of paper 02, One and
-// Two. Shares nothing with the panel's code.
+// What the program has to print for any input, and what the calls have to give, found in the plainest way from the words of paper 01 and of paper 02, One, Two
+// and Four. Shares nothing with the panel's code: all parties keep their own numbers throughout, and struck ones are passed over.
 #ifndef REFERENCE_H
 #define REFERENCE_H
 
@@ -29,6 +29,8 @@ Whole surplus(const Sheet &sheet);
 // The sheet that tableaux are of: where there is a surplus, an extra café, the last one, takes it at cost 0. All that follows about tableaux and prices is said
 // of sheets that are extended.
 Sheet extended(const Sheet &sheet);
+// Whether some party has an amount of 0, and so is struck.
+bool has_struck(const Sheet &sheet);
 
 // A sheet as it is lent: lists of any length, with any numbers.
 using Numbers = std::vector<uint64_t>;
@@ -70,6 +72,7 @@ std::string sheet_text(const Sheet &sheet);
 using Lane = std::pair<size_t, size_t>;
 // Bags and marks. Amounts compare by bags first.
 using Amount = std::pair<Whole, Whole>;
+const Amount nothing = {0, 0};
 // The basic cells, in sheet order.
 using Tableau = std::map<Lane, Amount>;
 
@@ -79,6 +82,9 @@ struct Prices {
 };
 
 Amount sum(Amount a, Amount b), difference(Amount a, Amount b);
+
+// The lanes between two parties left, in sheet order.
+std::vector<Lane> lanes_left(const Sheet &sheet);
 
 // The roasteries and cafés in parts. At first each is a part of its own.
 class Parts {
@@ -105,10 +111,13 @@ bool belongs(const Sheet &sheet, const Cells &cells);
 Tableau tableau_of(const Cells &cells);
 
 Tableau start(const Sheet &sheet);
-// What a supply or demand becomes in the tableau.
+// From the north-west corner on, passing over parties that have nothing.
+Tableau north_west(std::vector<Amount> left, std::vector<Amount> wanted);
+// What a supply or demand becomes in the tableau; nothing if its party is struck.
 std::vector<Amount> paired_supplies(const Sheet &sheet), paired_demands(const Sheet &sheet);
+// Those of struck parties too.
 Prices prices(const Sheet &sheet, const Tableau &tableau);
-// The lane of least reduced cost, the first in sheet order.
+// The lane between parties left of least reduced cost, the first in sheet order.
 Lane least_lane(const Sheet &sheet, const Prices &prices);
 // Makes a round, and gives its step.
 Amount make_round(const Sheet &sheet, Tableau &tableau, Lane entering);

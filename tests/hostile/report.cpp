@@ -46,7 +46,7 @@ std::string Tally::told() const {
         if (count > 0) line += (line.empty() ? "" : ", ") + what + " " + std::to_string(count);
     };
     for (const auto &[what, count] : counts) add(what, count);
-    for (size_t number = 1; number < 11; number++) add("refused " + std::to_string(number) + ":", refusals[number]);
+    for (size_t number = 1; number < std::size(refusals); number++) add("refused " + std::to_string(number) + ":", refusals[number]);
     add("DIFFER", differ);
     return line;
 }

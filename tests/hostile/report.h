@@ -19,7 +19,7 @@ std::string escaped(const std::string &bytes);
 // What the cases of a kind were, so that a run tells what it has seen.
 class Tally {
     std::vector<std::pair<std::string, uint64_t>> counts;
-    uint64_t refusals[11] = {};
+    uint64_t refusals[12] = {};
 
     uint64_t &count_of(const std::string &what);
 

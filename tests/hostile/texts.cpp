@@ -1,9 +1,11 @@
-// Holds a program to the reference: to the samples of paper 01, to sheets with a surplus and to costs below 0, and then to COUNT texts that are made from a
-// seed, of each kind in turn. A kind of text is one test. A case that differs is told in full; with its number as FIRST and a count of 1 it runs alone.
+// Holds a program to the reference: to the samples of paper 01, to sheets with a surplus, to costs below 0 and to parties at 0, and then to COUNT texts that
+// are made from a seed, of each kind in turn. A kind of text is one test. A case that differs is told in full; with its number as FIRST and a count of 1 it
+// runs alone.
 #include "program.h"
 #include "random_texts.h"
 #include "report.h"
 
+#include <algorithm>
 #include <cstdio>
 #include <exception>
 #include <stdexcept>
@@ -30,7 +32,7 @@ static bool agrees(const std::string &program, const std::string &name, const st
     return false;
 }
 
-// ---- the samples of paper 01, and for paper 02 sheets with a surplus (One) and with costs below 0 (Two)
+// ---- the samples of paper 01, and for paper 02 sheets with a surplus (One), with costs below 0 (Two) and with parties at 0 (Four)
 
 struct Sample {
     const char *name;
@@ -47,19 +49,31 @@ static const Sheet extra_first = {{1, 2}, {1, 1}, {{2, 2}, {0, 1}}};
 static const Sheet extra_later = {{1, 3}, {2, 1}, {{3, 0}, {2, 0}}};
 static const Sheet earns = {{3, 3}, {4}, {{1}, {-5}}};
 static const Sheet both_signs = {{2, 3}, {1, 2, 2}, {{-1, 0, -1}, {-1, 0, 2}}};
+static const Sheet closed = {{0, 20, 14}, {12, 0, 15}, {{60, 45, 90}, {95, 70, 110}, {130, 80, 75}}};
+static const Sheet first_empty = {{0, 3, 4}, {5, 2}, {{7, -3}, {4, 1}, {2, 6}}};
+static const Sheet last_closed = {{3, 4}, {5, 2, 0}, {{4, 1, 3}, {2, 6, 9}}};
+static const Sheet last_closed_with_surplus = {{3, 3}, {4, 0}, {{5, 7}, {1, -2}}};
+static const Sheet both_struck = {{1, 0}, {1, 0}, {{0, 5}, {10, -3}}};
+
+// Of nine lanes one alone joins parties left.
+static Sheet one_lane_left(Whole supply, Whole demand) { return {{0, supply, 0}, {0, demand, 0}, {{1, 2, 3}, {4, 5, 6}, {7, 8, 9}}}; }
 
 static std::string single(Whole supply, Whole demand, Whole cost) { return sheet_text({{supply}, {demand}, {{cost}}}); }
 
-// One roastery, and cafés that want a bag each, at 1 cent.
-static std::string wide(Whole supply, size_t cafes) { return sheet_text({{supply}, List(cafes, 1), {List(cafes, 1)}}); }
+// One roastery, and cafés that want a bag each, at 1 cent; but so many, from the first on, are closed.
+static std::string wide(Whole supply, size_t cafes, size_t closed_ones = 0) {
+    List demand(cafes, 1);
+    std::fill_n(demand.begin(), closed_ones, 0);
+    return sheet_text({{supply}, demand, {List(cafes, 1)}});
+}
 
-static std::string wide_plan(size_t cafes) {
-    std::string count = std::to_string(cafes), prices, lanes;
+static std::string wide_plan(size_t cafes, size_t closed_ones = 0) {
+    std::string count = std::to_string(cafes - closed_ones), prices, lanes;
     for (size_t cafe = 1; cafe <= cafes; cafe++) {
         prices += "1\n";
-        lanes += "1 " + std::to_string(cafe) + " 1\n";
+        if (cafe > closed_ones) lanes += "1 " + std::to_string(cafe) + " 1\n";
     }
-    return "total 1\n" + count + "\nrounds 1\n0\nroasteries 1\n0\ncafes " + count + "\n" + prices + "lanes " + count + "\n" + lanes;
+    return "total 1\n" + count + "\nrounds 1\n0\nroasteries 1\n0\ncafes " + std::to_string(cafes) + "\n" + prices + "lanes " + count + "\n" + lanes;
 }
 
 // The fullest sheet, all lanes at one cost, and its plan.
@@ -88,7 +102,7 @@ static const std::vector<Sample> samples = {
      "total 1\n1000000000000\nrounds 1\n0\nroasteries 1\n0\ncafes 1\n1000000\nlanes 1\n1 1 1000000\n"},
     {"P7, dearer", single(1'000'000, 1'000'000, 1'000'001), "refused 4\n"},
     {"P8, supply 3", single(3, 2, 0), "total 1\n0\nrounds 1\n0\nroasteries 1\n0\ncafes 1\n0\nlanes 1\n1 1 2\n"},
-    {"P8, supply 0", single(0, 2, 0), "refused 3\n"},
+    {"P8, supply 0", single(0, 2, 0), "refused 5\n"},
     {"the empty text", "", "refused 9 0\n"},
     {"supply 33", "supply 33", "refused 9 8\n"},
     {"supply 01", "supply 01", "refused 9 7\n"},
@@ -125,6 +139,30 @@ static const std::vector<Sample> samples = {
     {"a count with a minus", "supply -1\n", "refused 9 7\n"},
     {"a supply with a minus", "supply 1\n-2\n", "refused 9 9\n"},
     {"a demand with a minus", "supply 1\n2\ndemand 1\n-2\n", "refused 9 20\n"},
+    {"an empty roastery and a closed café", sheet_text(closed),
+     "total 1\n2300\nrounds 1\n1\nroasteries 3\n-35\n0\n-35\ncafes 3\n95\n70\n110\nlanes 3\n2 1 12\n2 3 1\n3 3 14\n"},
+    {"the first roastery empty", sheet_text(first_empty),
+     "total 1\n14\nrounds 1\n1\nroasteries 3\n-4\n0\n-2\ncafes 2\n4\n1\nlanes 3\n2 1 1\n2 2 2\n3 1 4\n"},
+    {"the last café closed", sheet_text(last_closed),
+     "total 1\n14\nrounds 1\n1\nroasteries 2\n0\n-2\ncafes 3\n4\n1\n3\nlanes 3\n1 1 1\n1 2 2\n2 1 4\n"},
+    {"the last café closed, and a surplus", sheet_text(last_closed_with_surplus),
+     "total 1\n8\nrounds 1\n1\nroasteries 2\n0\n-4\ncafes 2\n5\n2\nlanes 2\n1 1 1\n2 1 3\n"},
+    {"the price of a struck roastery from that of a struck café", sheet_text(both_struck),
+     "total 1\n0\nrounds 1\n0\nroasteries 2\n0\n-8\ncafes 2\n0\n5\nlanes 1\n1 1 1\n"},
+    {"one lane left", sheet_text(one_lane_left(5, 5)), "total 1\n25\nrounds 1\n0\nroasteries 3\n-3\n0\n3\ncafes 3\n4\n5\n6\nlanes 1\n2 2 5\n"},
+    {"one lane left, and a surplus", sheet_text(one_lane_left(5, 3)),
+     "total 1\n15\nrounds 1\n0\nroasteries 3\n-3\n0\n0\ncafes 3\n4\n5\n6\nlanes 1\n2 2 3\n"},
+    {"one lane left, and too few bags", sheet_text(one_lane_left(3, 5)), "refused 5\n"},
+    {"no demand", single(2, 0, 0), "refused 11\n"},
+    {"nothing at all", single(0, 0, 0), "refused 11\n"},
+    {"nothing on any side", sheet_text(one_lane_left(0, 0)), "refused 11\n"},
+    {"no demand, and a supply above the limit", single(1'000'001, 0, 0), "refused 3\n"},
+    {"no demand, and a cost above the limit", single(2, 0, 1'000'001), "refused 4\n"},
+    {"32 cafés, one of them closed", wide(31, 32, 1), wide_plan(32, 1)},
+    {"32 cafés, one of them closed, and a surplus", wide(32, 32, 1), "refused 10\n"},
+    {"32 closed cafés and a supply", wide(1, 32, 32), "refused 10\n"},
+    {"32 closed cafés and no supply", wide(0, 32, 32), "refused 11\n"},
+    {"31 closed cafés and a supply", wide(1, 31, 31), "refused 11\n"},
 };
 
 static bool samples_are_met(const std::string &program) {
@@ -200,6 +238,21 @@ static bool meets_falling_costs() {
            cost_of(both_signs, {{1, 1, 0}, {0, 1, 2}}) == 3 && cost_of(both_signs, {{1, 0, 1}, {0, 2, 1}}) == 0;
 }
 
+// The tableau covers the parties left, under their own numbers: two roasteries, two cafés and the extra one, which has a mark for each of the two.
+static bool meets_struck_parties() {
+    Sheet extended = ::extended(closed);
+    Tableau tableau = start(extended);
+    Lane lane = least_lane(extended, prices(extended, tableau));
+    bool met = tableau == Tableau{{{1, 0}, {12, 0}}, {{1, 2}, {8, 1}}, {{2, 2}, {7, -1}}, {{2, 3}, {7, 2}}} && belongs(extended, cells_of(tableau));
+    met &= lane == Lane{1, 3} && make_round(extended, tableau, lane) == Amount{7, 2};
+    met &= tableau == Tableau{{{1, 0}, {12, 0}}, {{1, 2}, {1, -1}}, {{1, 3}, {7, 2}}, {{2, 2}, {14, 1}}} && belongs(extended, cells_of(tableau));
+    // Without the extra café the last one left has the marks.
+    met &= start(last_closed) == Tableau{{{0, 0}, {3, 1}}, {{1, 0}, {2, -1}}, {{1, 1}, {2, 2}}};
+    // A cell at a struck party, or under the number among those left, does not belong.
+    met &= !belongs(last_closed, {{0, 0, {3, 1}}, {1, 0, {2, -1}}, {1, 2, {2, 2}}}) && !belongs(first_empty, cells_of(start(sheet1)));
+    return met && start(first_empty) == Tableau{{{1, 0}, {3, 1}}, {{2, 0}, {2, -1}}, {{2, 1}, {2, 2}}};
+}
+
 // The first lane of the least reduced cost enters, of the extra café or not.
 static bool meets_entering_lane(const Sheet &sheet, Lane lane, Lane other) {
     Sheet extended = ::extended(sheet);
@@ -210,7 +263,7 @@ static bool meets_entering_lane(const Sheet &sheet, Lane lane, Lane other) {
 static void test_samples(const std::string &program) {
     test("the papers' samples, by the program and by the reference", samples_are_met(program));
     bool met = meets_first_round() && meets_allowances() && meets_tied_start() && meets_small_step() && meets_other_end() && meets_extra_cafe() &&
-               meets_falling_costs();
+               meets_falling_costs() && meets_struck_parties();
     met &= meets_entering_lane(extra_first, {0, 2}, {1, 0}) && meets_entering_lane(extra_later, {0, 1}, {0, 2});
     test("the papers' tableaux, by the reference", met);
 }
@@ -227,6 +280,7 @@ static void note(Tally &tally, const std::string &text, const std::string &expec
     }
     tally.count("plans");
     tally.count("with a surplus", surplus(reading.sheet) > 0);
+    tally.count("with parties at 0", has_struck(reading.sheet));
     tally.count("plans searched", has_few_plans(reading.sheet));
     long long cost = 0, rounds = 0;
     if (std::sscanf(expected.c_str(), "total 1 %lld rounds 1 %lld", &cost, &rounds) != 2) return;

@@ -93,8 +93,9 @@ static size_t stack_of(void (*make)(void)) {
     return STACK - kept;
 }
 
-/* The largest sheet, with costs from -`top` to `top` and bags up to `bags`: balanced, or without its last café and so with a surplus. */
-static void make_sheet(uint32_t top, uint32_t bags, int surplus) {
+/* The largest sheet, with costs from -`top` to `top` and bags up to `bags`: balanced, or without its last café and so with a surplus; perhaps with parties
+ * at 0. */
+static void make_sheet(uint32_t top, uint32_t bags, int surplus, int zeros) {
     uint32_t seed = 1;
     cafes = surplus ? SIDE - 1 : SIDE;
     for (size_t k = 0; k < LANES; k++) {
@@ -103,7 +104,7 @@ static void make_sheet(uint32_t top, uint32_t bags, int surplus) {
     }
     for (size_t k = 0; k < SIDE; k++) {
         seed = seed * 1664525u + 1013904223u;
-        supply[k] = demand[SIDE - 1 - k] = 1 + (seed >> 8) % bags;
+        supply[k] = demand[SIDE - 1 - k] = zeros && k % 4 == 1 ? 0 : 1 + (seed >> 8) % bags;
     }
 }
 
@@ -126,8 +127,8 @@ int main(void) {
     static const uint32_t tops[] = {1000000, 1000, 3, 0}, bags[] = {1000000, 1000, 5, 1};
     size_t most[CALLS] = {0};
     int failed = 0;
-    for (size_t s = 0; s < 2 * sizeof tops / sizeof *tops; s++) {
-        make_sheet(tops[s / 2], bags[s / 2], s % 2);
+    for (size_t s = 0; s < 4 * sizeof tops / sizeof *tops; s++) {
+        make_sheet(tops[s / 4], bags[s / 4], s % 2, s / 2 % 2);
         size_t empty = stack_of(nothing);
         for (size_t k = 0; k < CALLS; k++) {
             lend_streams();

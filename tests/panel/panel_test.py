@@ -1,6 +1,6 @@
 """Holds the program to stored texts, to a search through all plans, and to plans that prove themselves, on balanced sheets and on
-sheets with a surplus, with costs of both signs; and its reading and writing to docs/FORMATS.md. The variable PANEL may name another
-program to hold to them.
+sheets with a surplus, with costs of both signs, with parties at 0 and without; and its reading and writing to docs/FORMATS.md. The
+variable PANEL may name another program to hold to them.
 
 P2, P5 and P9 of paper 01 speak of run and settle on tableaux, which no text can ask for: rust/tests has them.
 """
@@ -143,6 +143,29 @@ def with_surplus(rng, sheet, bags):
     return [min(have + got, MOST) for have, got in zip(supply, more)], demand, cost
 
 
+def with_zeros(rng, sheet, m, n):
+    """The sheet with parties at 0 between its own, so that there are m roasteries and n cafés."""
+    supply, demand, cost = list(sheet[0]), list(sheet[1]), [list(row) for row in sheet[2]]
+    low, high = min(sum(cost, [])), max(sum(cost, []))
+    while len(supply) < m:
+        i = rng.randint(0, len(supply))
+        supply.insert(i, 0)
+        cost.insert(i, [rng.randint(low, high) for _ in demand])
+    while len(demand) < n:
+        j = rng.randint(0, len(demand))
+        demand.insert(j, 0)
+        for row in cost:
+            row.insert(j, rng.randint(low, high))
+    return supply, demand, cost
+
+
+def with_some_zeros(rng, sheet):
+    """Up to two at each side, but one in all."""
+    m, n = len(sheet[0]), len(sheet[1])
+    more = rng.choice([(0, 1), (1, 0), (1, 1), (2, 1), (1, 2), (2, 2)])
+    return with_zeros(rng, sheet, m + more[0], n + more[1])
+
+
 def row_plans(left, wanted, spare):
     """All ways to send what is left to cafés that want so much, where so many bags may be kept."""
     if not wanted:
@@ -240,8 +263,10 @@ def hold_small_sheets(name, count, make):
 
 
 def small_sheets():
-    hold_small_sheets("in balance", 400, lambda rng, sheet, bags: sheet)
-    hold_small_sheets("with a surplus", 400, with_surplus)
+    hold_small_sheets("in balance", 300, lambda rng, sheet, bags: sheet)
+    hold_small_sheets("with a surplus", 300, with_surplus)
+    hold_small_sheets("in balance with zeros", 200, lambda rng, sheet, bags: with_some_zeros(rng, sheet))
+    hold_small_sheets("with a surplus and zeros", 200, lambda rng, sheet, bags: with_some_zeros(rng, with_surplus(rng, sheet, bags)))
 
 
 def hold_large_sheet(name, sheet):
@@ -259,6 +284,12 @@ def large_sheets():
         hold_large_sheet(f"large sheet {k}, {about}", random_sheet(rng, 32, 32, bags, low, high))
         sheet = with_surplus(rng, random_sheet(rng, 32, 31, bags, low, high), 16 * bags)
         hold_large_sheet(f"large sheet {k} with a surplus, {about}", sheet)
+        thin = random_sheet(rng, rng.randint(1, 31), rng.randint(1, 31), bags, low, high)
+        if k % 2 == 0:
+            hold_large_sheet(f"large sheet {k} with zeros, {about}", with_zeros(rng, thin, 32, 32))
+        else:
+            sheet = with_zeros(rng, with_surplus(rng, thin, 16 * bags), 32, 31)
+            hold_large_sheet(f"large sheet {k} with a surplus and zeros, {about}", sheet)
 
 
 def full_sheet(cost):
@@ -348,6 +379,8 @@ def script_with_status():
         test("script on a plan that earns: 0", run([script], sheet_text([3], [2], [[-1]]))[2] == 0)
         test("script on more demand than supply: 1", run([script], sheet_text([2], [3], [[0]])) == (b"refused 5\n", b"", 1))
         test("script on 32 cafés and a surplus: 1", run([script], sheet_text([33], [1] * 32, [[0] * 32])) == (b"refused 10\n", b"", 1))
+        test("script on a closed café: 0", run([script], sheet_text([3], [2, 0], [[-1, 1]]))[2] == 0)
+        test("script on closed cafés alone: 1", run([script], sheet_text([3], [0], [[0]])) == (b"refused 11\n", b"", 1))
         test("script on an empty text: 1", run([script], b"") == (b"refused 9 0\n", b"", 1))
         test("script on a directory: 2", run_on_directory(script) == (b"", CANNOT_READ, 2))
         test("script with its input closed: 2", run_with_closed(script, "<&-") == (b"", CANNOT_READ, 2))
@@ -486,9 +519,53 @@ def wrong_plans_that_earn():
         test(f"check_plan on a cost {cost.decode()}: {what}", what == expected)
 
 
+def wrong_plans_with_zeros():
+    """check_plan names what is wrong with the prices and lanes of parties at 0. In the example closed these are the first roastery and the
+    second café, and the second roastery keeps seven bags."""
+    sheet = (EXAMPLES / "closed.sheet").read_bytes()
+    lanes = {(2, 1): 12, (2, 3): 1, (3, 3): 14}
+
+    def said(total=2_300, u=(-35, 0, -35), v=(95, 70, 110), bags=()):
+        return what_is_wrong(sheet, plan_text(total, 1, u, v, with_bags(lanes, bags)))
+
+    cases = [
+        ("unedited", said(), None),
+        ("a bag from the empty roastery", said(bags={(1, 1): 1, (2, 1): 11}), "roastery 1 has 0 bags on the sheet and 1 in the plan"),
+        ("a bag to the closed café", said(bags={(2, 2): 1}), "café 2 has 0 bags on the sheet and 1 in the plan"),
+        ("prices from the first roastery on", said(u=(0, 35, 0), v=(60, 35, 75)), "the price of roastery 2 is 35"),
+        ("a price of the empty roastery that is too high", said(u=(-34, 0, -35)), "lane 1 1 costs 1 less than its prices"),
+        ("one that is too low", said(u=(-36, 0, -35)), "roastery 1 has nothing, and its price is -36 where -35 follows"),
+        ("none at all", said(u=(0, 0, -35)), "lane 1 1 costs 35 less than its prices"),
+        ("a price of the closed café that is too high", said(v=(95, 71, 110)), "lane 2 2 costs 1 less than its prices"),
+        ("one that is too low, too", said(v=(95, 69, 110)), "café 2 wants nothing, and its price is 69 where 70 follows"),
+        ("none at all, too", said(v=(95, 0, 110)), "café 2 wants nothing, and its price is 0 where 70 follows"),
+        ("the other roastery keeps bags", said(2_545, bags={(2, 3): 8, (3, 3): 7}), "roastery 3 keeps bags, and its price is 35 below the greatest"),
+    ]
+    for name, what, expected in cases:
+        test(f"check_plan with zeros, {name}: {what}", what == expected)
+    # The empty roasteries are priced by their lanes to closed cafés too, and by what bags are worth that are kept.
+    cafe_first = sheet_text([1, 0], [1, 0], [[0, 5], [10, -3]])
+    for u, v, expected in (
+        ([0, -8], [0, 5], None),
+        ([0, 10], [0, -13], "café 2 wants nothing, and its price is -13 where 5 follows"),
+        ([0, 10], [0, 5], "lane 2 2 costs 18 less than its prices"),
+    ):
+        what = what_is_wrong(cafe_first, plan_text(0, 0, u, v, [(1, 1, 1)]))
+        test(f"check_plan with zeros, prices {u} and {v}: {what}", what == expected)
+    for kept, price, expected in (
+        (0, 3, None),
+        (0, 0, "roastery 2 has nothing, and its price is 0 where 3 follows"),
+        (1, 0, None),
+        (1, 3, "roastery 1 keeps bags, and its price is 3 below the greatest"),
+        (1, -1, "roastery 2 has nothing, and its price is -1 where 0 follows"),
+    ):
+        what = what_is_wrong(sheet_text([2 + kept, 0], [2], [[1], [4]]), plan_text(2, 0, [0, price], [1], [(1, 1, 2)]))
+        test(f"check_plan with zeros, {kept} bags kept and a price of {price}: {what}", what == expected)
+
+
 def main():
     groups = [stored_cases, every_place, every_minus, small_sheets, large_sheets, totals, long_texts, bytes_read, slow_input, failing_streams]
-    groups += [script_with_status, examples, wrong_plans, wrong_plans_with_surplus, wrong_plans_that_earn]
+    groups += [script_with_status, examples, wrong_plans, wrong_plans_with_surplus, wrong_plans_that_earn, wrong_plans_with_zeros]
     if not os.access(PANEL, os.X_OK):
         print(f"no program {os.path.relpath(PANEL, ROOT)}: build it first")
         groups = []

@@ -1,5 +1,5 @@
 // Holds solve to answers found another way: small sheets to a search through all plans and to rounds made in the plainest way, large sheets to such rounds and
-// to a certificate; and refusals. All on balanced sheets and on sheets with a surplus, with costs of both signs.
+// to a certificate; and refusals. All on balanced sheets and on sheets with a surplus, with costs of both signs, with and without parties at 0.
 #include "../../crates/exports/panel.h"
 #include "../sheets.h"
 
@@ -53,6 +53,32 @@ static int64_t cost_of(const Sheet &s, const Numbers &plan) {
 static uint64_t total(const Numbers &list) { return std::accumulate(list.begin(), list.end(), uint64_t{0}); }
 
 static uint64_t surplus(const Sheet &s) { return total(s.supply) - total(s.demand); }
+
+// The numbers of the parties left, those whose amount is not 0. The others are struck before the start.
+static std::vector<size_t> left_of(const Numbers &amounts) {
+    std::vector<size_t> left;
+    for (size_t k = 0; k < amounts.size(); k++)
+        if (amounts[k] > 0) left.push_back(k);
+    return left;
+}
+
+// The numbers in these places.
+template <class Number> static std::vector<Number> chosen(const std::vector<Number> &list, const std::vector<size_t> &places) {
+    std::vector<Number> few;
+    for (size_t place : places) few.push_back(list[place]);
+    return few;
+}
+
+// Of numbers for all lanes, those for the lanes between parties left.
+template <class Number> static std::vector<Number> chosen_lanes(const Sheet &s, const std::vector<Number> &list) {
+    std::vector<size_t> lanes;
+    for (size_t i : left_of(s.supply))
+        for (size_t j : left_of(s.demand)) lanes.push_back(i * s.n() + j);
+    return chosen(list, lanes);
+}
+
+// The sheet of the parties left, numbered among themselves.
+static Sheet struck(const Sheet &s) { return {chosen(s.supply, left_of(s.supply)), chosen(s.demand, left_of(s.demand)), chosen_lanes(s, s.cost)}; }
 
 // The bags that a roastery does not send.
 static uint64_t kept(const Sheet &s, const Numbers &plan, size_t i) {
@@ -197,9 +223,28 @@ static uint64_t rounds_of_tableaux(const Sheet &s, Whole &u, Whole &v) {
     }
 }
 
-// Those of the extended sheet, without the price of the extra café.
+// The prices at their own numbers; then a struck café's, the least cost - u over the roasteries left; then a struck roastery's, the least cost - v over all
+// cafés.
+static void price_all(const Sheet &s, const Whole &u_left, const Whole &v_left, Whole &u, Whole &v) {
+    std::vector<size_t> rows = left_of(s.supply), cols = left_of(s.demand);
+    u.assign(s.m(), INT64_MAX);
+    v.assign(s.n(), INT64_MAX);
+    for (size_t k = 0; k < rows.size(); k++) u[rows[k]] = u_left[k];
+    for (size_t k = 0; k < cols.size(); k++) v[cols[k]] = v_left[k];
+    for (size_t j = 0; j < s.n(); j++)
+        if (s.demand[j] == 0)
+            for (size_t i : rows) v[j] = std::min(v[j], s.cost[i * s.n() + j] - u[i]);
+    for (size_t i = 0; i < s.m(); i++)
+        if (s.supply[i] == 0)
+            for (size_t j = 0; j < s.n(); j++) u[i] = std::min(u[i], s.cost[i * s.n() + j] - v[j]);
+}
+
+// The rounds of the parties left, of the extended sheet, and all prices but that of the extra café.
 static uint64_t plain_rounds(const Sheet &s, Whole &u, Whole &v) {
-    uint64_t rounds = rounds_of_tableaux(extended(s), u, v);
+    Sheet e = extended(s);
+    Whole u_left, v_left;
+    uint64_t rounds = rounds_of_tableaux(struck(e), u_left, v_left);
+    price_all(e, u_left, v_left, u, v);
     v.resize(s.n());
     return rounds;
 }
@@ -234,7 +279,14 @@ static bool priced(const Sheet &s, const Answer &a) {
         }
         if (kept(s, a.plan, i) > 0 && a.u[i] != greatest(a.u)) return false;
     }
-    return a.u[0] == 0;
+    return a.u[left_of(s.supply)[0]] == 0;
+}
+
+// The answer for the sheet of the parties left is the same on these.
+static bool stands_without_struck(const Sheet &s, const Answer &a) {
+    Answer b = solve(struck(s), 0);
+    return b.refused == 0 && b.cost == a.cost && b.rounds == a.rounds && b.u == chosen(a.u, left_of(s.supply)) && b.v == chosen(a.v, left_of(s.demand)) &&
+           b.plan == chosen_lanes(s, a.plan);
 }
 
 // The answer as one for the extended sheet: what is kept goes to the extra café, at the price that fits.
@@ -302,20 +354,43 @@ static Costs any_costs(std::mt19937_64 &rng) {
     return all[rng() % all.size()];
 }
 
-static Sheet random_sheet(std::mt19937_64 &rng, bool surplus, size_t m, size_t n, uint64_t bags) {
-    Costs costs = any_costs(rng);
-    Sheet s = random_sheet(rng, m, n, bags, costs.low, costs.high);
-    for (int64_t &cost : s.cost)
-        if (costs.ends) cost = rng() % 2 == 0 ? costs.low : costs.high;
-    return surplus ? with_surplus(rng, s, bags) : s;
+// What sheets a test is about.
+struct Kind {
+    std::string name;
+    bool surplus, zeros;
+};
+
+// How many of so many parties are left: two in three or so, or one.
+static size_t some_left(std::mt19937_64 &rng, size_t count) {
+    size_t left = 0;
+    if (rng() % 8 != 0)
+        for (size_t k = 0; k < count; k++) left += rng() % 3 != 0;
+    return std::max<size_t>(left, 1);
 }
 
-static void small_sheets(const std::string &sheets, bool surplus) {
+// The amounts in their order, with zeros between them, so that they are so many.
+static Numbers scattered(std::mt19937_64 &rng, Numbers amounts, size_t count) {
+    while (amounts.size() < count) amounts.insert(amounts.begin() + (long)(rng() % (amounts.size() + 1)), 0);
+    return amounts;
+}
+
+static Sheet random_sheet(std::mt19937_64 &rng, const Kind &kind, size_t m, size_t n, uint64_t bags) {
+    Costs costs = any_costs(rng);
+    Sheet s = kind.zeros ? random_sheet(rng, some_left(rng, m), some_left(rng, n), bags, 0, 0) : random_sheet(rng, m, n, bags, 0, 0);
+    if (kind.surplus) s = with_surplus(rng, s, bags);
+    s = {scattered(rng, s.supply, m), scattered(rng, s.demand, n), {}};
+    for (size_t k = 0; k < m * n; k++)
+        s.cost.push_back(costs.ends ? (rng() % 2 == 0 ? costs.low : costs.high) : costs.low + (int64_t)(rng() % (uint64_t)(costs.high - costs.low + 1)));
+    return s;
+}
+
+static void small_sheets(const Kind &kind) {
+    const std::string sheets = "3,000 small sheets " + kind.name;
     std::mt19937_64 rng(11);
-    bool plans = true, costs = true, rounds = true, prices = true, kept = true;
+    bool plans = true, costs = true, rounds = true, prices = true, kept = true, left = true;
     for (int k = 0; k < 3000; k++) {
         size_t m = 1 + rng() % 4, n = 1 + rng() % 4;
-        Sheet s = random_sheet(rng, surplus, m, n, m * n > 9 ? 3 : 5);
+        Sheet s = random_sheet(rng, kind, m, n, m * n > 9 ? 3 : 5);
         Answer a = solve(s, rng() % 3);
         Numbers best = best_plan(s);
         Whole u, v;
@@ -324,32 +399,37 @@ static void small_sheets(const std::string &sheets, bool surplus) {
         rounds &= a.rounds == plain_rounds(s, u, v);
         prices &= a.u == u && a.v == v;
         kept &= a.rest_kept;
+        left &= !kind.zeros || stands_without_struck(s, a);
     }
     test(sheets + ": the plan is the one that a search through all plans finds", plans);
     test(sheets + ": the cost is that plan's", costs);
     test(sheets + ": the rounds are those of the plainest way", rounds);
     test(sheets + ": so are the prices", prices);
     test(sheets + ": places past the result are as they were", kept);
+    if (kind.zeros) test(sheets + ": without the parties at 0 all else is the same", left);
 }
 
-static void large_sheets(const std::string &sheets, bool surplus) {
+static void large_sheets(const Kind &kind) {
+    const std::string sheets = "300 large sheets " + kind.name;
     std::mt19937_64 rng(13);
-    bool least = true, first = true, rounds = true, kept = true;
+    bool least = true, first = true, rounds = true, kept = true, left = true;
     for (int k = 0; k < 300; k++) {
         const uint64_t bags[] = {1, 2, 5, 1000};
-        size_t m = 1 + rng() % 32, n = 1 + rng() % (surplus ? 31 : 32);
-        Sheet s = random_sheet(rng, surplus, m, n, bags[rng() % 4]);
+        size_t m = 1 + rng() % 32, n = 1 + rng() % (kind.surplus ? 31 : 32);
+        Sheet s = random_sheet(rng, kind, m, n, bags[rng() % 4]);
         Answer a = solve(s, 2);
         Whole u, v;
         least &= a.refused == 0 && meets(s, a.plan) && priced(s, a) && a.cost == cost_of(s, a.plan);
         first &= settled(extended(s), extended(s, a));
         rounds &= a.rounds == plain_rounds(s, u, v) && a.u == u && a.v == v;
         kept &= a.rest_kept;
+        left &= !kind.zeros || stands_without_struck(s, a);
     }
     test(sheets + ": the plan meets the sheet, and prices show that none costs less", least);
     test(sheets + ": on no lane more can be carried by moving later ones", first);
     test(sheets + ": the rounds and the prices are those of the plainest way", rounds);
     test(sheets + ": places past the result are as they were", kept);
+    if (kind.zeros) test(sheets + ": without the parties at 0 all else is the same", left);
 }
 
 // A call that is refused by `number`, and changes nothing.
@@ -368,7 +448,6 @@ static void refusals() {
     refused("33 sinks: 1", 1, {{33}, Numbers(33, 1), Whole(33, 0)}, 64, 64, 2048);
     refused("a cost too few: 2", 2, {{3, 4}, {5, 2}, {4, 1, 2}}, 2, 2, 4);
     refused("a cost too many: 2", 2, {{3, 4}, {5, 2}, {4, 1, 2, 6, 6}}, 2, 2, 4);
-    refused("a supply of 0: 3", 3, {{0}, {2}, {1}}, 1, 1, 1);
     refused("a supply of 1,000,001: 3", 3, {{1000001}, {1000001}, {1}}, 1, 1, 1);
     refused("a demand of 2^64 - 1: 3", 3, {{1}, {UINT64_MAX}, {1}}, 1, 1, 1);
     for (int64_t cost : {top + 1, -top - 1, (int64_t)UINT32_MAX, INT64_MIN, INT64_MIN + 1, INT64_MAX}) {
@@ -376,6 +455,7 @@ static void refusals() {
         refused("a last cost of " + std::to_string(cost) + ": 4", 4, {{3, 4}, {5, 2}, {-4, 1, -2, cost}}, 2, 2, 4);
     }
     refused("more demand than supply: 5", 5, {{2}, {3}, {0}}, 1, 1, 1);
+    refused("a supply of 0: 5", 5, {{0}, {2}, {0}}, 1, 1, 1);
     refused("more demand than supply before short lists: 5", 5, {{2}, {3}, {0}}, 0, 0, 0);
     refused("more demand than supply with 32 sinks: 5", 5, {{31}, Numbers(32, 1), Whole(32, 1)}, 1, 32, 32);
     refused("a surplus and 32 sinks: 10", 10, {{40}, Numbers(32, 1), Whole(32, 1)}, 1, 32, 32);
@@ -383,6 +463,20 @@ static void refusals() {
     refused("a surplus and 32 sinks before short lists: 10", 10, {{40}, Numbers(32, 1), Whole(32, 1)}, 0, 0, 0);
     refused("a supply of 1,000,001 before a surplus and 32 sinks: 3", 3, {{1000001}, Numbers(32, 1), Whole(32, 1)}, 1, 32, 32);
     refused("a cost of -1,000,001 before a surplus and 32 sinks: 4", 4, {{40}, Numbers(32, 1), Whole(32, -1000001)}, 1, 32, 32);
+    Numbers one_closed(32, 1);
+    one_closed[16] = 0;
+    refused("32 sinks, one of them closed, and a surplus: 10", 10, {{32}, one_closed, Whole(32, 1)}, 1, 32, 32);
+    refused("32 closed sinks and a supply: 10", 10, {{1}, Numbers(32, 0), Whole(32, 1)}, 1, 32, 32);
+    refused("32 closed sinks and no supply: 11", 11, {{0}, Numbers(32, 0), Whole(32, 1)}, 1, 32, 32);
+    refused("31 closed sinks and a supply: 11", 11, {{1}, Numbers(31, 0), Whole(31, 1)}, 1, 31, 31);
+    refused("nothing at all: 11", 11, {{0, 0}, {0, 0}, {4, 1, 2, 6}}, 2, 2, 4);
+    refused("a demand of 0: 11", 11, {{2}, {0}, {0}}, 1, 1, 1);
+    refused("a demand of 0 before short lists: 11", 11, {{2}, {0}, {0}}, 0, 0, 0);
+    refused("a cost of 1,000,001 before a demand of 0: 4", 4, {{2}, {0}, {1000001}}, 1, 1, 1);
+    refused("a supply of 1,000,001 before a demand of 0: 3", 3, {{1000001}, {0}, {0}}, 1, 1, 1);
+    refused("a closed sink, and v with room for the rest alone: 8", 8, {{2}, {2, 0}, {1, 1}}, 1, 1, 2);
+    refused("an empty source, and u with room for the rest alone: 8", 8, {{0, 2}, {2}, {1, 1}}, 1, 1, 2);
+    refused("a closed sink, and a plan with room for the rest alone: 8", 8, {{2}, {2, 0}, {1, 1}}, 1, 2, 1);
     refused("a surplus, and v too short: 8", 8, {{3}, {2}, {0}}, 1, 0, 1);
     refused("u too short: 8", 8, worked, 1, 2, 4);
     refused("v too short: 8", 8, worked, 2, 1, 4);
@@ -432,15 +526,32 @@ static void samples_with_earnings() {
     solved("bags that earn alike: the first lane carries all it can", {{3, 3}, {4}, {-2, -2}}, -8, 0, {0, 0}, {-2}, {3, 1});
 }
 
+static void samples_with_zeros() {
+    solved("the first source empty", {{0, 3, 4}, {5, 2}, {7, -3, 4, 1, 2, 6}}, 14, 1, {-4, 0, -2}, {4, 1}, {0, 0, 1, 2, 4, 0});
+    solved("the last sink closed", {{3, 4}, {5, 2, 0}, {4, 1, 3, 2, 6, 9}}, 14, 1, {0, -2}, {4, 1, 3}, {1, 2, 0, 4, 0, 0});
+    solved("the last sink closed, and a surplus", {{3, 3}, {4, 0}, {5, 7, 1, -2}}, 8, 1, {0, -4}, {5, 2}, {1, 0, 3, 0});
+    solved("an empty source priced by a closed sink", {{1, 0}, {1, 0}, {0, 5, 10, -3}}, 0, 0, {0, -8}, {0, 5}, {1, 0, 0, 0});
+    Whole nine = {1, 2, 3, 4, 5, 6, 7, 8, 9};
+    solved("one lane left", {{0, 5, 0}, {0, 5, 0}, nine}, 25, 0, {-3, 0, 3}, {4, 5, 6}, {0, 0, 0, 0, 5, 0, 0, 0, 0});
+    solved("one lane left, and empty sources priced by the extra café", {{0, 5, 0}, {0, 3, 0}, nine}, 15, 0, {-3, 0, 0}, {4, 5, 6},
+           {0, 0, 0, 0, 3, 0, 0, 0, 0});
+    Numbers one_closed(32, 1);
+    one_closed[16] = 0;
+    solved("32 sinks, one of them closed", {{31}, one_closed, Whole(32, 1)}, 31, 0, {0}, Whole(32, 1), one_closed);
+}
+
 int main() {
-    small_sheets("3,000 small balanced sheets", false);
-    small_sheets("3,000 small sheets with a surplus", true);
-    large_sheets("300 large balanced sheets", false);
-    large_sheets("300 large sheets with a surplus", true);
+    const Kind kinds[] = {
+        {"in balance", false, false}, {"with a surplus", true, false}, {"in balance with zeros", false, true}, {"with a surplus and zeros", true, true}};
+    for (const Kind &kind : kinds) {
+        small_sheets(kind);
+        large_sheets(kind);
+    }
     refusals();
     samples();
     samples_with_surplus();
     samples_with_earnings();
+    samples_with_zeros();
     std::printf("%d passed, %d failed\n", passed, failed);
     return failed == 0 ? 0 : 1;
 }

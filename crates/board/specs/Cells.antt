@@ -1,9 +1,9 @@
 -- The cells of a tableau's array.
 use Prim.Native.Nat.{ℕ, suc, _<_, _≤_}
 use native.Mathlib.Omega.{arith}
-use mathlib.Core.Path.{_≡_, refl, sym, _∙_}
-use mathlib.Core.List.{List, _∷_, map}
-use lib.ListN.{length, drop, getD, length-map}
+use mathlib.Core.Path.{_≡_, refl, _∙_}
+use mathlib.Core.List.{_∷_}
+use lib.ListN.{length, drop, getD}
 use lib.Seq.{drop-cons, getD-take, length-take-le}
 use Rattle.transport.specs.Limits.{maxSide, maxCells}
 use Rattle.transport.specs.Tableau.{noCell, cellsOf}
@@ -17,10 +17,6 @@ cellRoom = 63
 pub cellRoom-is : cellRoom ≡ maxCells
 unfolding maxCells maxSide
 cellRoom-is = refl
-
--- The logic says how long an array of structs is by the list of its elements' bytes.
-pub long : (A B : Type 0) (f : A → B) (xs : List A) (n : ℕ) → length (map f xs) ≡ n → length xs ≡ n
-long A B f xs n e = sym (length-map xs f) ∙ e
 
 module _ (t : Tableau) where
   pub length-cells : t .count ≤ length (t .cells) → length (cellsOf t) ≡ t .count

@@ -1,2 +1,4 @@
 pub mod Filling
 pub mod Corner
+pub mod PriceLists
+pub mod Prices

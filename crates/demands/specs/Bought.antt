@@ -15,7 +15,7 @@ use Rattle.transport.specs.Limits.{maxSide}
 use Rattle.transport.specs.Sheet.{Sheet, roasteries, cafes}
 use Rattle.transport.specs.Calls.{Answer, refused, given, refusedBy, lentAfter, Solution, solveCall}
 use Rattle.transport.specs.Answers.{solveAnswer}
-use Rattle.transport.specs.Statements.{WithinLimits, Balanced, Lacking, Crowded, Best, BestExactly, LongEnough, Bought}
+use Rattle.transport.specs.Statements.{WithinLimits, Balanced, Lacking, Crowded, Idle, Best, BestExactly, LongEnough, Bought}
 use Rattle.transport.specs.Laws.CallLaws.{Fills}
 use Rattle.reduction.specs.Balanced.{best-exactly}
 use Rattle.demands.specs.Demand3.{Solved, demand3, solve-fills}
@@ -44,26 +44,32 @@ gives-best S a plan h =
     let front = lent-filled (λ s. s .plan) s (roasteries S * cafes S) (h .best .meets .quantities) plan in
     (s .cost, s .rounds, rw (h .answered), rw (h .answered, front) (h .best))
 
--- The sheets that are refused are lacking or crowded, since all others are solved; and each of the two has its number.
+-- The sheets that are refused are lacking, crowded or idle, since all others are solved; and each of the three has its number.
 refuses-exactly : (S : Sheet) (a : Answer Solution)
-    → (¬ Lacking S → ¬ Crowded S → Solved S a) × (Lacking S → a ≡ refusedBy 5) × (Crowded S → a ≡ refusedBy 10)
-    → (k : ℕ) → (solveAnswer a ≡ SolveAnswer.Refused k) ↔ ((k ≡ 5) × Lacking S) ⊎ ((k ≡ 10) × Crowded S)
+    → (¬ Lacking S → ¬ Crowded S → ¬ Idle S → Solved S a)
+    × (Lacking S → a ≡ refusedBy 5)
+    × (Crowded S → a ≡ refusedBy 10)
+    × (Idle S → ¬ Crowded S → a ≡ refusedBy 11)
+    → (k : ℕ) → (solveAnswer a ≡ SolveAnswer.Refused k) ↔ ((k ≡ 5) × Lacking S) ⊎ ((k ≡ 10) × Crowded S) ⊎ ((k ≡ 11) × Idle S × ¬ Crowded S)
 unfolding solveAnswer refusedBy
-refuses-exactly S a h k = (λ e. there e (decLt (total (S .supply)) (total (S .demand))) crowded-dec, back)
+refuses-exactly S a h k = (λ e. there e (decLt (total (S .supply)) (total (S .demand))) crowded-dec (ℕ-discrete (total (S .demand)) 0), back)
   where
     crowded-dec : Dec (Crowded S)
     crowded-dec = by-cases (decLt (total (S .demand)) (total (S .supply)))
         (λ l. by-cases (ℕ-discrete (cafes S) maxSide) (λ e. yes (l, e)) (λ e. no (λ c. e (c .1))))
         (λ l. no (λ c. l (c .0)))
 
-    there : solveAnswer a ≡ SolveAnswer.Refused k → Dec (Lacking S) → Dec (Crowded S) → ((k ≡ 5) × Lacking S) ⊎ ((k ≡ 10) × Crowded S)
-    there e (yes l) d = let five : k ≡ 5 = cc (e, ap solveAnswer (h .1 l)) in inl (five, l)
-    there e (no l) (yes c) = let ten : k ≡ 10 = cc (e, ap solveAnswer (h .2 c)) in inr (ten, c)
-    there e (no l) (no c) = absurd (solved≢refused (sym (ap solveAnswer (h .0 l c .answered)) ∙ e))
+    there : solveAnswer a ≡ SolveAnswer.Refused k → Dec (Lacking S) → Dec (Crowded S) → Dec (Idle S)
+        → ((k ≡ 5) × Lacking S) ⊎ ((k ≡ 10) × Crowded S) ⊎ ((k ≡ 11) × Idle S × ¬ Crowded S)
+    there e (yes l) d i = let five : k ≡ 5 = cc (e, ap solveAnswer (h .1 l)) in inl (five, l)
+    there e (no l) (yes c) i = let ten : k ≡ 10 = cc (e, ap solveAnswer (h .2 c)) in inr (inl (ten, c))
+    there e (no l) (no c) (yes i) = let eleven : k ≡ 11 = cc (e, ap solveAnswer (h .3 i c)) in inr (inr (eleven, i, c))
+    there e (no l) (no c) (no i) = absurd (solved≢refused (sym (ap solveAnswer (h .0 l c i .answered)) ∙ e))
 
-    back : ((k ≡ 5) × Lacking S) ⊎ ((k ≡ 10) × Crowded S) → solveAnswer a ≡ SolveAnswer.Refused k
+    back : ((k ≡ 5) × Lacking S) ⊎ ((k ≡ 10) × Crowded S) ⊎ ((k ≡ 11) × Idle S × ¬ Crowded S) → solveAnswer a ≡ SolveAnswer.Refused k
     back (inl (five, l)) = rw (h .1 l, five)
-    back (inr (ten, c)) = rw (h .2 c, ten)
+    back (inr (inl (ten, c))) = rw (h .2 c, ten)
+    back (inr (inr (eleven, i, c))) = rw (h .3 i c, eleven)
 
 leaves-all : (a : Answer Solution) (u v : List ℤ) (plan : List ℕ) (k : ℕ) → solveAnswer a ≡ SolveAnswer.Refused k
     → (lentAfter (λ s. s .u) a u ≡ u) × (lentAfter (λ s. s .v) a v ≡ v) × (lentAfter (λ s. s .plan) a plan ≡ plan)
@@ -99,19 +105,19 @@ bought S r u v plan uAfter vAfter planAfter answered uHeld vHeld planHeld =
     let d = demand3 S (length u) (length v) (length plan) in
     rw (answered, uHeld, vHeld, planHeld)
     (record {
-      solved = λ w l enough room. gives-best S a plan (d w l .0 enough room);
+      solved = λ w l enough room wanting. gives-best S a plan (d w l .0 enough room wanting);
       refuses = λ w l. refuses-exactly S a (d w l);
       unchanged = leaves-all a u v plan;
       rest = leaves-rest S a u v plan (solve-fills S (length u) (length v) (length plan));
     })
 
--- On balanced sheets this is what was bought before One: solve gives a plan that is best in 01's own words, and refuses none of them.
+-- On balanced sheets that want anything this is what was bought before One: solve gives a plan that is best in 01's own words, and refuses none of them.
 pub bought-balanced : {S : Sheet} {r : SolveAnswer} {u v : List ℤ} {plan : List ℕ} {uAfter vAfter : List ℤ} {planAfter : List ℕ}
-    → Bought S r u v plan uAfter vAfter planAfter → WithinLimits S → LongEnough S (length u) (length v) (length plan) → Balanced S
+    → Bought S r u v plan uAfter vAfter planAfter → WithinLimits S → LongEnough S (length u) (length v) (length plan) → Balanced S → ¬ Idle S
     → ((cost : ℤ) × (rounds : ℕ) × (r ≡ SolveAnswer.Solved cost rounds) × BestExactly S (take (roasteries S * cafes S) planAfter) cost)
     × ((k : ℕ) → ¬ (r ≡ SolveAnswer.Refused k))
-bought-balanced {S} {planAfter} b w l e =
-    let (cost, rounds, solved, best) = b .solved w l (λ lacking. omega arith) (λ crowded. omega (arith, crowded .0)) in (
+bought-balanced {S} {planAfter} b w l e wanting =
+    let (cost, rounds, solved, best) = b .solved w l (λ lacking. omega arith) (λ crowded. omega (arith, crowded .0)) wanting in (
       (cost, rounds, solved, best-exactly e (take (roasteries S * cafes S) planAfter) cost .0 best),
       λ k refused. solved≢refused (sym solved ∙ refused),
     )

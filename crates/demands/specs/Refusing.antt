@@ -1,15 +1,16 @@
--- Demand 3, last sentence (02, One): of sheets within the limits, with lists long enough, solve refuses exactly the lacking and the crowded ones.
+-- Demand 3, last sentence (02, One and Four): of sheets within the limits, with lists long enough, solve refuses exactly the lacking, the crowded and the idle
+-- ones.
 use mathlib.Core.Path.{_≡_, _∙_}
 use mathlib.Core.Bool.{Bool, false, _||_}
 use mathlib.Core.List.{[], _∷_, _++_}
 use Prim.Native.Nat.{ℕ, _*_}
 use native.Mathlib.Omega.{arith}
 use borrow.Author.Tests.{le-ltb}
-use Rattle.transport.specs.Sheet.{Sheet, roasteries, cafes, lacking, crowded, sheetTests, refusal}
-use Rattle.transport.specs.Laws.SheetLaws.{refusal-yes, refusal-no, lacking-yes, lacking-no, crowded-yes, limits-left, accepted-left}
+use Rattle.transport.specs.Sheet.{Sheet, roasteries, cafes, lacking, crowded, idle, sheetTests, refusal}
+use Rattle.transport.specs.Laws.SheetLaws.{refusal-yes, refusal-no, lacking-yes, lacking-no, crowded-yes, crowded-no, idle-yes, limits-left, accepted-left}
 use Rattle.transport.specs.Calls.{given, refusedBy, tooShort, solution, solveCall}
 use Rattle.transport.specs.Laws.CallLaws.{unless-given, unless-refused}
-use Rattle.transport.specs.Statements.{WithinLimits, Lacking, Crowded, LongEnough}
+use Rattle.transport.specs.Statements.{WithinLimits, Lacking, Crowded, Idle, LongEnough}
 
 module _ (S : Sheet) (a b c : ℕ) (w : WithinLimits S) (r : LongEnough S a b c) where
   abbrev last : Bool × ℕ
@@ -23,18 +24,27 @@ module _ (S : Sheet) (a b c : ℕ) (w : WithinLimits S) (r : LongEnough S a b c)
   pub solve-lacking : Lacking S → solveCall S a b c ≡ refusedBy 5
   unfolding solveCall lacking
   solve-lacking l = unless-refused (sheetTests S ++ (last ∷ [])) (solution S) 5
-      (limits-left w (last ∷ []) ∙ refusal-yes (lacking S) (crowded S ∷ last ∷ []) (lacking-yes S l))
+      (limits-left w (last ∷ []) ∙ refusal-yes (lacking S) (crowded S ∷ idle S ∷ last ∷ []) (lacking-yes S l))
 
   -- more than is wanted, and no room for an extra café: refused by 10
   pub solve-crowded : Crowded S → solveCall S a b c ≡ refusedBy 10
   unfolding solveCall crowded
   solve-crowded (l, e) = unless-refused (sheetTests S ++ (last ∷ [])) (solution S) 10
       (limits-left w (last ∷ [])
-      ∙ refusal-no (lacking S) (crowded S ∷ last ∷ []) (lacking-no S (λ h. omega arith))
-      ∙ refusal-yes (crowded S) (last ∷ []) (crowded-yes S (l, e)))
+      ∙ refusal-no (lacking S) (crowded S ∷ idle S ∷ last ∷ []) (lacking-no S (λ h. omega arith))
+      ∙ refusal-yes (crowded S) (idle S ∷ last ∷ []) (crowded-yes S (l, e)))
 
-  -- neither: solved
-  pub solve-gives : ¬ Lacking S → ¬ Crowded S → solveCall S a b c ≡ given (solution S)
+  -- nothing is wanted, and it is not crowded: refused by 11
+  pub solve-idle : Idle S → ¬ Crowded S → solveCall S a b c ≡ refusedBy 11
+  unfolding solveCall idle
+  solve-idle e room = unless-refused (sheetTests S ++ (last ∷ [])) (solution S) 11
+      (limits-left w (last ∷ [])
+      ∙ refusal-no (lacking S) (crowded S ∷ idle S ∷ last ∷ []) (lacking-no S (λ h. omega arith))
+      ∙ refusal-no (crowded S) (idle S ∷ last ∷ []) (crowded-no S room)
+      ∙ refusal-yes (idle S) (last ∷ []) (idle-yes S e))
+
+  -- none of these: solved
+  pub solve-gives : ¬ Lacking S → ¬ Crowded S → ¬ Idle S → solveCall S a b c ≡ given (solution S)
   unfolding solveCall refusal
-  solve-gives enough room = unless-given (sheetTests S ++ (last ∷ [])) (solution S)
-      (accepted-left (record { limits = w; enough = enough; room = room }) (last ∷ []) ∙ refusal-no last [] long)
+  solve-gives enough room wanting = unless-given (sheetTests S ++ (last ∷ [])) (solution S)
+      (accepted-left (record { limits = w; enough = enough; room = room; wanting = wanting }) (last ∷ []) ∙ refusal-no last [] long)

@@ -7,27 +7,29 @@ use mathlib.Core.Path.{_≡_, refl, ap, sym, _∙_}
 use mathlib.Core.Bool.{Bool, true, false}
 use mathlib.Core.Option.{Option, none, some}
 use mathlib.Core.List.{List, _++_}
-use Prim.Native.Nat.{ℕ, _+_, _*_, _<_}
-use native.Mathlib.Omega.{arith}
+use Prim.Native.Nat.{ℕ, _+_, _*_, _≤_, _<_}
 use lib.IntN.{ℤ, pos}
 use lib.ListN.{length, take}
 use lib.Seq.{take-at, take-append-seam}
 use Rattle.transport.specs.declared.Cell.{Cell}
 use Rattle.transport.specs.declared.Tableau.{Tableau}
-use Rattle.transport.specs.Lists.{atZ, padded}
+use Rattle.transport.specs.Lists.{at, atZ, padded}
 use Rattle.transport.specs.Laws.ListLaws.{length-table, getD-table}
-use Rattle.transport.specs.Problem.{sources, sinks}
-use Rattle.transport.specs.Calls.{solutionFrom, Answer, given, refusedBy, unless, lentAfter, tableauTests, startCall, roundCall, runCall, settleCall, solution}
-use Rattle.transport.specs.Calls.{solveCall, cafePrices, round}
 use Rattle.transport.specs.Sheet.{roasteries, cafes, Sheet, sheetTests, refusal}
 use Rattle.transport.specs.Extended.{wanted, extended}
-use Rattle.transport.specs.Laws.ExtendedLaws.{width-low}
-use Rattle.transport.specs.Laws.SheetLaws.{refusal-stands}
-use Rattle.transport.specs.Laws.Sound.{accepted-sound}
+use Rattle.transport.specs.Problem.{sources, sinks}
+use Rattle.transport.specs.Parties.{among, rowsLeft, columnsLeft, problemOf}
+use Rattle.transport.specs.OwnNumbers.{own, rowPrice, columnPrice, cafePrice, roasteryPrice, roasteryPrices, cafePrices}
 use Rattle.transport.specs.Tableau.{cellsOf, tableauOf, start}
 use Rattle.transport.specs.Potential.{potential, sourcePrices, sinkPrices, isFinished}
-use Rattle.transport.specs.Round.{Run, run}
+use Rattle.transport.specs.Round.{Run}
 use Rattle.transport.specs.Plan.{settled}
+use Rattle.transport.specs.Calls.{Answer, given, refusedBy, unless, lentAfter, tableauTests, inside, startCall, round, roundCall, runFrom, runCall}
+use Rattle.transport.specs.Calls.{settleCall, solutionFrom, solution, solveCall}
+use Rattle.transport.specs.Laws.SheetLaws.{refusal-stands}
+use Rattle.transport.specs.Laws.ExtendedLaws.{wanted-at}
+use Rattle.transport.specs.Laws.PartiesLaws.{left-yes, among-left, struck-sources, struck-sinks}
+use Rattle.transport.specs.Laws.Sound.{accepted-sound}
 use Rattle.transport.specs.Laws.CallLaws.{some≢none, unless-given, unless-refused, unless-given-iff}
 use Rattle.transport.specs.SheetText.{Reading, stuck, got, sheetReader, sheetText, writeSheetCall, readWith, readTests, readSheetCall}
 use Rattle.transport.specs.PlanText.{planText, writePlanCall}
@@ -35,6 +37,7 @@ use Rattle.transport.specs.Answers.{startAnswer, startSays, prices, roundAnswer
 use Rattle.transport.specs.Answers.{solveAnswer, solveSays, readAnswer, readSays, writeAnswer, writeSays}
 use Rattle.grammar.specs.Place.{reader-iff}
 use Rattle.grammar.specs.SheetCalls.{read-got, read-stuck}
+use Rattle.reduction.specs.Reduction.{among-wanted}
 use Rattle.demands.specs.Demand3.{settled-length, solve-fills}
 use Rattle.demands.specs.Bought.{lent-filled}
 
@@ -59,28 +62,43 @@ prices-front : (u : List ℤ) (n : ℕ) → length u ≡ n → take n (prices u)
 unfolding prices padded
 prices-front u n e = take-at u _ n e
 
--- The prices v that are given are those of the first columns of the extended problem, one for each café.
-pub shown-prices : (S : Sheet) (T : List Cell) (j : ℕ) → j < cafes S → atZ (cafePrices S T) j ≡ atZ (sinkPrices (extended S) T) j
-unfolding atZ cafePrices sinkPrices extended sources sinks roasteries
-shown-prices S T j l =
-    getD-table price (cafes S) j (pos 0) l ∙ sym (getD-table price (length (wanted S)) j (pos 0) (omega (arith, width-low S)))
-  where
-    price : ℕ → ℤ
-    price j = potential (extended S) T (roasteries S + j)
+-- Of the prices that are given, those of parties left are the ones of the problem of these, under their numbers among those left.
+module _ (S : Sheet) (T : List Cell) where
+  pub shown-u : (i : ℕ) → i < roasteries S → 1 ≤ at (S .supply) i
+      → atZ (roasteryPrices S T) i ≡ atZ (sourcePrices (problemOf S) T) (among (S .supply) i)
+  unfolding atZ roasteryPrices roasteryPrice rowPrice sourcePrices problemOf extended rowsLeft
+  shown-u i l has =
+      let number : among (S .supply) i < sources (problemOf S) = rw (struck-sources (extended S)) (among-left (S .supply) i has .inside) in
+      getD-table (roasteryPrice (extended S) T) (roasteries S) i (pos 0) l
+      ∙ (rw (left-yes (S .supply) i has))
+      ∙ sym (getD-table (potential (problemOf S) T) (sources (problemOf S)) (among (S .supply) i) (pos 0) number)
+
+  pub shown-v : (j : ℕ) → j < cafes S → 1 ≤ at (S .demand) j
+      → atZ (cafePrices S T) j ≡ atZ (sinkPrices (problemOf S) T) (among (S .demand) j)
+  unfolding atZ cafePrices cafePrice columnPrice sinkPrices problemOf extended columnsLeft
+  shown-v j h wants =
+      let wants : 1 ≤ at (wanted S) j = rw (wanted-at S j h) wants in
+      let number : among (wanted S) j < sinks (problemOf S) = rw (struck-sinks (extended S)) (among-left (wanted S) j wants .inside) in
+      getD-table (cafePrice (extended S) T) (cafes S) j (pos 0) h
+      ∙ (rw (left-yes (wanted S) j wants))
+      ∙ sym (getD-table (λ j. potential (problemOf S) T (sources (problemOf S) + j)) (sinks (problemOf S)) (among (wanted S) j) (pos 0) number)
+      ∙ rw (among-wanted S j h)
 
 pub start-says : (S : Sheet) → startSays (startAnswer (startCall S)) ≡ startCall S
 unfolding startCall startAnswer startSays refusedBy
-start-says S = unless-says (λ a. startSays (startAnswer a)) (sheetTests S) (start (extended S)) (λ k. refl) (λ e. ap given (cells-of (start (extended S))))
+start-says S =
+    let T = own (extended S) (start (problemOf S)) in
+    unless-says (λ a. startSays (startAnswer a)) (sheetTests S) T (λ k. refl) (λ e. ap given (cells-of T))
 
 round-back : (S : Sheet) (T : List Cell) → roundSays (roasteries S) (cafes S) (roundAnswer (given (round S T))) ≡ given (round S T)
-unfolding round roundAnswer roundSays sourcePrices cafePrices extended sources roasteries
-round-back S T = go (isFinished (extended S) T) refl
+unfolding round roundAnswer roundSays roasteryPrices cafePrices
+round-back S T = go (isFinished (problemOf S) T) refl
   where
-    go : (b : Bool) → isFinished (extended S) T ≡ b → roundSays (roasteries S) (cafes S) (roundAnswer (given (round S T))) ≡ given (round S T)
+    go : (b : Bool) → isFinished (problemOf S) T ≡ b → roundSays (roasteries S) (cafes S) (roundAnswer (given (round S T))) ≡ given (round S T)
     go true e = rw (
       e,
       round,
-      prices-front (sourcePrices (extended S) T) (roasteries S) (length-table _ (roasteries S)),
+      prices-front (roasteryPrices S T) (roasteries S) (length-table _ (roasteries S)),
       prices-front (cafePrices S T) (cafes S) (length-table _ (cafes S)),
     )
     go false e = rw (e, round, cells-of)
@@ -88,8 +106,8 @@ round-back S T = go (isFinished (extended S) T) refl
 pub round-says : (S : Sheet) (t : Tableau) → roundSays (roasteries S) (cafes S) (roundAnswer (roundCall S t)) ≡ roundCall S t
 unfolding roundCall roundAnswer roundSays refusedBy
 round-says S t =
-    unless-says (λ a. roundSays (roasteries S) (cafes S) (roundAnswer a)) (tableauTests S t) (round S (cellsOf t)) (λ k. refl)
-    (λ e. round-back S (cellsOf t))
+    unless-says (λ a. roundSays (roasteries S) (cafes S) (roundAnswer a)) (tableauTests S t) (round S (inside S t)) (λ k. refl)
+    (λ e. round-back S (inside S t))
 
 run-back : (r : Run) → runSays (runAnswer (given r)) ≡ given r
 unfolding runOutcome runAnswer runSays
@@ -103,8 +121,8 @@ run-back r = go (r .finished)
 pub run-says : (S : Sheet) (t : Tableau) (allowance : ℕ) → runSays (runAnswer (runCall S t allowance)) ≡ runCall S t allowance
 unfolding runCall runAnswer runSays refusedBy
 run-says S t allowance =
-    unless-says (λ a. runSays (runAnswer a)) (tableauTests S t) (run (extended S) allowance (cellsOf t)) (λ k. refl)
-    (λ e. run-back (run (extended S) allowance (cellsOf t)))
+    unless-says (λ a. runSays (runAnswer a)) (tableauTests S t) (runFrom S allowance (inside S t)) (λ k. refl)
+    (λ e. run-back (runFrom S allowance (inside S t)))
 
 -- ---- plans
 

@@ -14,7 +14,7 @@ use Rattle.transport.specs.Laws.RangeLaws.{abs-between}
 use Rattle.transport.specs.Laws.SheetLaws.{true-within, refusal-no, refusal-clear, accepted, passes}
 use Rattle.transport.specs.Statements.{Accepted, HasText}
 
--- A sheet that has a text is accepted exactly if 3, 4, 5 and 10 do not refuse it.
+-- A sheet that has a text is accepted exactly if 3, 4, 5, 10 and 11 do not refuse it.
 pub text-accepted : (S : Sheet) → HasText S → (refusal (numberTests S) ≡ none) ↔ Accepted S
 unfolding sheetTests badSides badLength
 text-accepted S h = (

@@ -9,20 +9,21 @@ use native.Mathlib.Nat.{mul-le-mul-right}
 use borrow.Author.Tests.{eq-eqb}
 use lib.IntN.{ℤ, natAbs}
 use lib.ListN.{length, take, length-append, length-take}
-use Rattle.transport.specs.declared.Cell.{Cell}
 use Rattle.transport.specs.Lists.{table, below, grid}
 use Rattle.transport.specs.Laws.ListLaws.{length-table, table-member, flatMap-member, keep-member}
-use Rattle.transport.specs.Limits.{maxSide, maxAmount, maxCells, maxText, maxPlanText}
+use Rattle.transport.specs.Limits.{maxSide, maxAmount, maxCells, maxText, maxPlanText, costAbove}
 use Rattle.transport.specs.Sheet.{Sheet, roasteries, cafes, numberTests, sheetTests, refusal}
 use Rattle.transport.specs.Extended.{extended}
-use Rattle.transport.specs.Problem.{Lane, lanes, place, sources}
+use Rattle.transport.specs.Parties.{problemOf}
+use Rattle.transport.specs.OwnNumbers.{roasteryPrices, cafePrices}
+use Rattle.transport.specs.Problem.{Lane, lanes, place, sinks}
 use Rattle.transport.specs.Laws.SheetLaws.{accepted}
+use Rattle.transport.specs.Laws.ExtendedLaws.{width-low}
 use Rattle.transport.specs.Laws.Sound.{sound, sources-room, sinks-room}
-use Rattle.transport.specs.Statements.{Accepted, HasText, Belongs}
-use Rattle.transport.specs.Calls.{cafePrices, solutionFrom, solution}
+use Rattle.transport.specs.Statements.{Accepted, HasText}
+use Rattle.transport.specs.Calls.{solutionFrom, solution}
 use Rattle.transport.specs.Laws.ProblemLaws.{lane, place-below}
 use Rattle.transport.specs.Tableau.{start}
-use Rattle.transport.specs.Potential.{potential, sourcePrices}
 use Rattle.transport.specs.Round.{roundBound}
 use Rattle.transport.specs.Text.{bytes, digits, headLine, rowLine}
 use Rattle.transport.specs.SheetText.{Reading, stuck, got, sheetReader}
@@ -33,13 +34,13 @@ use Rattle.grammar.specs.Digits.{digits-length}
 use Rattle.grammar.specs.Longest.{line-length, lines-length, side-length, whole-length}
 use Rattle.grammar.specs.Place.{reader-iff}
 use Rattle.sections.specs.Lines.{ended, length-ended}
-use Rattle.tableaux.specs.Belonging.{fits-of, spans-of}
-use Rattle.tableaux.specs.Potentials.{price-size, price-limit}
+use Rattle.tableaux.specs.Potentials.{price-limit}
 use Rattle.tableaux.specs.Running.{run-rounds}
 use Rattle.tableaux.specs.Ending.{roundBound-most}
 use Rattle.reduction.specs.Totals.{total-size, total-limit}
 use Rattle.demands.specs.Demand3.{solution-finished, solution-best}
 use Rattle.demands.specs.FewLanes.{few-lanes}
+use Rattle.demands.specs.GivenPrices.{roastery-size, cafe-size}
 use Rattle.solving.specs.Cost.{meets-small}
 use Rattle.plan_text.specs.Shown.{sheetShown, shown-plan, shown-refusal, check-number, printed-place, printed-sheet}
 
@@ -81,34 +82,31 @@ module _ {S : Sheet} (ok : Accepted S) where
   -- No more rounds are made than solve allows, whose bound has 16 digits.
   rounds-most : solution S .rounds < 10 ^ 16
   unfolding solution solutionFrom
-  rounds-most = let P = extended S in omega (arith, run-rounds P (roundBound P) (start P), roundBound-most (sound ok))
+  rounds-most = let P = problemOf S in omega (arith, run-rounds P (roundBound P) (start P), roundBound-most (sound ok))
 
   -- ---- the prices
 
   -- A minus, at most 8 digits and LF.
-  price-line : {T : List Cell} → Belongs (extended S) T → (k : ℕ) → length (wholeLine (potential (extended S) T k)) ≤ 10
-  price-line {T} w k =
-      let small = price-size (extended S) (sound ok) T (fits-of (sound ok) w) (spans-of (sound ok) w) k in
-      whole-line-length 7 (potential (extended S) T k) (omega (arith, small, price-limit))
-
-  prices-length : {T : List Cell} → Belongs (extended S) T → (count : ℕ) → count ≤ maxSide → (node : ℕ → ℕ)
-      → length (flatMap wholeLine (table count (λ k. potential (extended S) T (node k)))) ≤ maxSide * 10
-  prices-length {T} w count few node =
-      let prices : List ℤ = table count (λ k. potential (extended S) T (node k)) in
-      let line : (z : ℤ) → List·Memᴰ z prices → length (wholeLine z) ≤ 10 =
-      λ z m. let (k, p, e) = table-member count (λ k. potential (extended S) T (node k)) m in rw e (price-line w (node k))
+  prices-length : (count : ℕ) → count ≤ maxSide → (price : ℕ → ℤ) → ((k : ℕ) → k < count → natAbs (price k) ≤ maxCells * costAbove)
+      → length (flatMap wholeLine (table count price)) ≤ maxSide * 10
+  prices-length count few price small =
+      let line : (z : ℤ) → List·Memᴰ z (table count price) → length (wholeLine z) ≤ 10 =
+      λ z m. let (k, p, e) = table-member count price m in rw e (whole-line-length 7 (price k) (omega (arith, small k p, price-limit)))
       in
-      members-length wholeLine 10 maxSide prices (omega (arith, length-table (λ k. potential (extended S) T (node k)) count)) line
+      members-length wholeLine 10 maxSide (table count price) (omega (arith, length-table price count)) line
 
   u-length : length (flatMap wholeLine (solution S .u)) ≤ maxSide * 10
-  unfolding sourcePrices extended sources roasteries
-  u-length = let last = solution-finished S (sound ok) in rw (last .u) (prices-length (last .belongs) (roasteries S) (sound ok .sourcesHigh) (λ k. k))
+  unfolding roasteryPrices
+  u-length =
+      let last = solution-finished S (sound ok) in
+      rw (last .u) (prices-length (roasteries S) (omega (arith, ok .limits .roasteriesHigh, sources-room)) _ (roastery-size ok (last .belongs)))
 
   v-length : length (flatMap wholeLine (solution S .v)) ≤ maxSide * 10
-  unfolding cafePrices
+  unfolding cafePrices extended sinks
   v-length =
       let last = solution-finished S (sound ok) in
-      rw (last .v) (prices-length (last .belongs) (cafes S) (omega (arith, ok .limits .cafesHigh, sinks-room)) (λ j. roasteries S + j))
+      rw (last .v)
+      (prices-length (cafes S) (omega (arith, ok .limits .cafesHigh, sinks-room)) _ (λ j l. cafe-size ok (last .belongs) j (omega (arith, width-low S))))
 
   -- ---- the lanes
 
@@ -183,7 +181,7 @@ unfolding roasteries cafes
 text-numbers S h = sheet-numbers S (h .sides .0) (h .sides .1) (eq-eqb _ _ (h .lengths))
 
 -- `refused `, a number of at most two digits and LF.
-refused-length : (k : ℕ) → k ≤ 10 → length (bytes "refused " ++ ended digits k 10) ≤ 11
+refused-length : (k : ℕ) → k ≤ 11 → length (bytes "refused " ++ ended digits k 10) ≤ 11
 unfolding bytes
 refused-length k p = omega (arith, length-append (bytes "refused ") (ended digits k 10), length-ended digits k 10, digits-length 1 k .1 (omega arith))
 

@@ -12,7 +12,7 @@ use lib.Seq.{take-all}
 use borrow.Author.Tests.{eq-eqb}
 use Rattle.transport.specs.declared.WriteAnswer.the-variants.{Written, Refused}
 use Rattle.transport.specs.Limits.{maxSources, maxSinks, maxText}
-use Rattle.transport.specs.Sheet.{Sheet, sheetTests, numberTests, badSides, badLength, badAmount, badCost, lacking, crowded, refusal}
+use Rattle.transport.specs.Sheet.{Sheet, sheetTests, numberTests, badSides, badLength, badAmount, badCost, lacking, crowded, idle, refusal}
 use Rattle.transport.specs.Laws.SheetLaws.{true-within, refusal-yes, refusal-no}
 use Rattle.transport.specs.Calls.{Answer, given, refusedBy, lentAfter}
 use Rattle.transport.specs.Laws.CallLaws.{some≢none, unless-given, unless-refused}
@@ -65,10 +65,10 @@ refusal-number Good (t ∷ ts) e k h = go (t .0) refl (refusal-number Good ts (e
     go true p rest = let same : some (t .1) ≡ some k = sym (refusal-yes t ts p) ∙ h in let n : t .1 ≡ k = cc in rw (← n) (e .0)
     go false p rest = rest (sym (refusal-no t ts p) ∙ h)
 
--- The sheet check has no number above 10, and not 8.
-pub check-number : (S : Sheet) (k : ℕ) → refusal (sheetTests S) ≡ some k → (k ≤ 10) × (k ≡ 8 → ⊥)
-unfolding sheetTests numberTests badSides badLength badAmount badCost lacking crowded
-check-number S k = refusal-number (λ n. (n ≤ 10) × (n ≡ 8 → ⊥)) (sheetTests S) (
+-- The sheet check has no number above 11, and not 8.
+pub check-number : (S : Sheet) (k : ℕ) → refusal (sheetTests S) ≡ some k → (k ≤ 11) × (k ≡ 8 → ⊥)
+unfolding sheetTests numberTests badSides badLength badAmount badCost lacking crowded idle
+check-number S k = refusal-number (λ n. (n ≤ 11) × (n ≡ 8 → ⊥)) (sheetTests S) (
   (omega arith, λ e. omega arith),
   (
     (omega arith, λ e. omega arith),
@@ -78,7 +78,10 @@ check-number S k = refusal-number (λ n. (n ≤ 10) × (n ≡ 8 → ⊥)) (sheet
         (omega arith, λ e. omega arith),
         (
           (omega arith, λ e. omega arith),
-          ((omega arith, λ e. omega arith), tt),
+          (
+            (omega arith, λ e. omega arith),
+            ((omega arith, λ e. omega arith), tt),
+          ),
         ),
       ),
     ),

@@ -1,73 +1,90 @@
--- The costs of a sheet, spread by column with the stride of the arrays: while they are filled in, and for a problem.
+-- The costs of a sheet's lanes between parties left, spread by column with the stride of the arrays: while they are filled in, and for a problem.
 use Prim.Native.Nat.{ℕ, _+_, _*_, _<_, _≤_}
 use native.Mathlib.Omega.{arith}
+use native.Mathlib.Nat.{mul-le-mul}
 use native.Mathlib.Decide.{decLt, ℕ-discrete}
-use mathlib.Core.Path.{_≡_, refl, sym, _∙_}
+use mathlib.Core.Path.{_≡_, refl, sym, ap, _∙_}
 use mathlib.Core.Logic.{by-cases}
-use mathlib.Core.List.{List}
+use mathlib.Core.List.{List, [], _∷_, _++_}
 use lib.IntN.{ℤ, pos, natAbs}
-use lib.ListN.{length, getD, set, replicate, length-set}
-use lib.Seq.{getD-set-same, getD-set-other}
+use lib.ListN.{length, getD, set, replicate, length-set, length-append, List·getD-append}
+use lib.Seq.{getD-set-same, getD-set-other, getD-at}
 use Rattle.transport.specs.Limits.{maxCost, costAbove}
-use Rattle.transport.specs.Lists.{atZ}
+use Rattle.transport.specs.Lists.{at, atZ}
 use Rattle.transport.specs.Problem.{Problem, sources, sinks, place, laneCost}
 use Rattle.transport.specs.Sheet.{Sheet, roasteries, cafes}
-use Rattle.transport.specs.Extended.{extended}
-use Rattle.transport.specs.Laws.ProblemLaws.{lane}
-use Rattle.transport.specs.Laws.ExtendedLaws.{cost-cafe, cost-extra, laneCost-at}
+use Rattle.transport.specs.Extended.{wanted, costAt, extended}
+use Rattle.transport.specs.Parties.{left, rowsLeft, columnsLeft, problemOf}
+use Rattle.transport.specs.Laws.ProblemLaws.{lane, place-below}
+use Rattle.transport.specs.Laws.ExtendedLaws.{Extra, without, with, extra, cost-cafe, cost-extra, laneCost-at}
+use Rattle.transport.specs.Laws.PartiesLaws.{left-at, length-left, left-append, struck-sources, struck-sinks, struck-lane}
 use Rattle.transport.specs.Laws.RangeLaws.{abs-between}
 use Rattle.transport.specs.Laws.Sound.{sources-room, sinks-room}
 use Rattle.transport.specs.Statements.{Accepted}
 use Rattle.tree.specs.Layout.{stride, stride-is, laneRoom, getD-all}
 
--- ---- filled in
+-- ---- what is filled in
 
--- The costs of m rows and n columns lie by column, the columns after them are all 0, and no number in the array is greater in size than a cost can be.
-pub record Spread (cost : List ℤ) (m n : ℕ) (out : List ℤ) : Type 0 where
-  pub lanes : (i j : ℕ) → i < m → j < n → getD out (j * stride + i) (pos 0) ≡ atZ cost (place n i j)
-  pub beyond : (i j : ℕ) → i < stride → n ≤ j → getD out (j * stride + i) (pos 0) ≡ pos 0
+-- The own numbers of the roasteries left, the rows, and of the cafés left, the columns, lead to costs of the list, of so many cafés; and all fit.
+pub record Spreadable (cost : List ℤ) (cafes : ℕ) (rows cols : List ℕ) : Type 0 where
+  pub rowsFew : length rows ≤ stride
+  pub colsFew : length cols ≤ stride
+  pub firsts : (i : ℕ) → i < length rows → at rows i * cafes ≤ laneRoom
+  pub inside : (i j : ℕ) → i < length rows → j < length cols → place cafes (at rows i) (at cols j) < length cost
+  pub small : (k : ℕ) → natAbs (atZ cost k) ≤ maxCost
+
+-- The costs of these rows and columns lie by column, the columns after them are all 0, and no number in the array is greater in size than a cost can be.
+pub record Spread (cost : List ℤ) (cafes : ℕ) (rows cols : List ℕ) (out : List ℤ) : Type 0 where
+  pub long : length out ≡ laneRoom
+  pub lanes : (i j : ℕ) → i < length rows → j < length cols → getD out (j * stride + i) (pos 0) ≡ atZ cost (place cafes (at rows i) (at cols j))
+  pub beyond : (i j : ℕ) → i < stride → length cols ≤ j → getD out (j * stride + i) (pos 0) ≡ pos 0
   pub small : (l : ℕ) → natAbs (getD out l (pos 0)) ≤ maxCost
 
--- The rows before i are filled in, and of row i the columns before j. In the columns after n the array is as it was before.
-pub record Part (cost : List ℤ) (n : ℕ) (before : List ℤ) (i j : ℕ) (out : List ℤ) : Type 0 where
+-- ---- filled in, row by row
+
+-- The lane of row i and column j costs c i j. The rows before i are filled in, and of row i the columns before j. In the columns after n the array is as it was
+-- before.
+pub record Part (c : ℕ → ℕ → ℤ) (n : ℕ) (before : List ℤ) (i j : ℕ) (out : List ℤ) : Type 0 where
   pub long : length out ≡ laneRoom
-  pub lanes : (h k : ℕ) → h * stride + k < i * stride + j → k < n → getD out (k * stride + h) (pos 0) ≡ atZ cost (place n h k)
+  pub lanes : (h k : ℕ) → h * stride + k < i * stride + j → k < n → getD out (k * stride + h) (pos 0) ≡ c h k
   pub kept : (h k : ℕ) → h < stride → n ≤ k → getD out (k * stride + h) (pos 0) ≡ getD before (k * stride + h) (pos 0)
   pub small : ((l : ℕ) → natAbs (getD before l (pos 0)) ≤ maxCost) → (l : ℕ) → natAbs (getD out l (pos 0)) ≤ maxCost
 
-module _ (cost : List ℤ) (n : ℕ) (before : List ℤ) where
-  pub part-none : length before ≡ laneRoom → Part cost n before 0 0 before
+module _ (c : ℕ → ℕ → ℤ) (n : ℕ) (before : List ℤ) where
+  pub part-none : length before ≡ laneRoom → Part c n before 0 0 before
   part-none e = record { long = e; lanes = λ h k l r. absurd (omega arith); kept = λ h k l r. refl; small = λ s. s }
 
-  module _ (i j : ℕ) (out : List ℤ) (p : Part cost n before i j out) (low : n ≤ stride) where
-    pub part-one : i < stride → j < n → natAbs (atZ cost (place n i j)) ≤ maxCost
-        → Part cost n before i (j + 1) (set out (j * stride + i) (atZ cost (place n i j)))
+  module _ (i j : ℕ) (out : List ℤ) (p : Part c n before i j out) (low : n ≤ stride) where
+    pub part-one : i < stride → j < n → natAbs (c i j) ≤ maxCost → Part c n before i (j + 1) (set out (j * stride + i) (c i j))
     part-one l r q = record {
       long = simp length-set (p .long);
       lanes = λ h k s t. by-cases (decLt (h * stride + k) (i * stride + j))
-          (λ u. getD-set-other out (j * stride + i) (k * stride + h) x (pos 0) (λ e. absurd (omega arith)) ∙ p .lanes h k u t)
+          (λ u. getD-set-other out (j * stride + i) (k * stride + h) (c i j) (pos 0) (λ e. absurd (omega arith)) ∙ p .lanes h k u t)
           (λ u.
           let a : h ≡ i = omega arith in
           let b : k ≡ j = omega arith in
           rw (a, b) here);
-      kept = λ h k s t. getD-set-other out (j * stride + i) (k * stride + h) x (pos 0) (λ e. absurd (omega arith)) ∙ p .kept h k s t;
+      kept = λ h k s t. getD-set-other out (j * stride + i) (k * stride + h) (c i j) (pos 0) (λ e. absurd (omega arith)) ∙ p .kept h k s t;
       small = λ f s. by-cases (ℕ-discrete s (j * stride + i))
           (λ e. rw (e, here) q)
-          (λ d. rw (getD-set-other out (j * stride + i) s x (pos 0) d) (p .small f s));
+          (λ d. rw (getD-set-other out (j * stride + i) s (c i j) (pos 0) d) (p .small f s));
     }
       where
-        x : ℤ
-        x = atZ cost (place n i j)
+        here : getD (set out (j * stride + i) (c i j)) (j * stride + i) (pos 0) ≡ c i j
+        here = getD-set-same out (j * stride + i) (c i j) (pos 0) (omega (arith, p .long))
 
-        here : getD (set out (j * stride + i) (atZ cost (place n i j))) (j * stride + i) (pos 0) ≡ atZ cost (place n i j)
-        here = getD-set-same out (j * stride + i) (atZ cost (place n i j)) (pos 0) (omega (arith, p .long))
-
-    pub part-row : n ≤ j → Part cost n before (i + 1) 0 out
+    pub part-row : n ≤ j → Part c n before (i + 1) 0 out
     part-row r = record { long = p .long; lanes = λ h k s t. p .lanes h k (omega arith) t; kept = p .kept; small = p .small }
 
+-- The cost of the lane between row i and column j, under their own numbers.
+abbrev pub ownCost : List ℤ → ℕ → List ℕ → List ℕ → ℕ → ℕ → ℤ
+ownCost cost cafes rows cols i j = atZ cost (place cafes (at rows i) (at cols j))
+
 -- Over zeros.
-pub part-all : (cost : List ℤ) (n i : ℕ) (out : List ℤ) → n ≤ stride → Part cost n (replicate laneRoom (pos 0)) i 0 out → Spread cost i n out
-part-all cost n i out low p = record {
+pub part-all : (cost : List ℤ) (cafes : ℕ) (rows cols : List ℕ) (i : ℕ) (out : List ℤ) → length cols ≤ stride → i ≡ length rows
+    → Part (ownCost cost cafes rows cols) (length cols) (replicate laneRoom (pos 0)) i 0 out → Spread cost cafes rows cols out
+part-all cost cafes rows cols i out low all p = record {
+  long = p .long;
   lanes = λ h k s t. p .lanes h k (omega arith) t;
   beyond = λ h k s t. p .kept h k s t ∙ getD-all laneRoom (k * stride + h) (pos 0);
   small = p .small (λ l. rw (getD-all laneRoom l (pos 0)) (omega arith));
@@ -80,25 +97,67 @@ pub record Costed (P : Problem) (cost : List ℤ) : Type 0 where
   pub lanes : (i j : ℕ) → i < sources P → j < sinks P → getD cost (j * stride + i) (pos 0) ≡ laneCost P (lane i j)
   pub small : (l : ℕ) → natAbs (getD cost l (pos 0)) ≤ costAbove
 
--- The costs of a sheet are those of its extended problem: the extra café's lanes cost nothing.
-pub spread-costed : (S : Sheet) {out : List ℤ} → roasteries S ≤ stride → Spread (S .cost) (roasteries S) (cafes S) out → Costed (extended S) out
-unfolding extended sources sinks roasteries costAbove
-spread-costed S {out} few p = record { lanes = lanes; small = p .small }
-  where
-    lanes : (i j : ℕ) → i < sources (extended S) → j < sinks (extended S) → getD out (j * stride + i) (pos 0) ≡ laneCost (extended S) (lane i j)
-    lanes i j hi hj = by-cases (decLt j (cafes S))
-        (λ h. p .lanes i j hi h ∙ sym (laneCost-at S i j hi hj ∙ cost-cafe S i j h))
-        (λ h. p .beyond i j (omega arith) (omega arith) ∙ sym (laneCost-at S i j hi hj ∙ cost-extra S i j (omega arith)))
-
 -- The costs of an accepted sheet can be spread.
-pub spreadable : {S : Sheet} → Accepted S
-    → (length (S .supply) ≤ stride) × (length (S .demand) ≤ stride) × (length (S .cost) ≡ length (S .supply) * length (S .demand))
-    × ((k : ℕ) → natAbs (atZ (S .cost) k) ≤ maxCost)
-unfolding roasteries cafes
-spreadable ok =
-    let w = ok .limits in (
-      omega (arith, w .roasteriesHigh, sources-room, stride-is),
-      omega (arith, w .cafesHigh, sinks-room, stride-is),
-      w .costLength,
-      λ k. abs-between (w .costLow k) (w .costHigh k),
-    )
+pub spreadable : {S : Sheet} → Accepted S → Spreadable (S .cost) (cafes S) (rowsLeft (extended S)) (left (S .demand))
+unfolding roasteries cafes rowsLeft extended
+spreadable {S} ok =
+    let w = ok .limits in
+    let row : (i : ℕ) → i < length (left (S .supply)) → at (left (S .supply)) i < length (S .supply) = λ i l. left-at (S .supply) i l .0 in
+    record {
+      rowsFew = omega (arith, length-left (S .supply), w .roasteriesHigh, sources-room, stride-is);
+      colsFew = omega (arith, length-left (S .demand), w .cafesHigh, sinks-room, stride-is);
+      firsts = λ i l.
+          let low : at (left (S .supply)) i ≤ stride = omega (arith, row i l, w .roasteriesHigh, sources-room, stride-is) in
+          let few : length (S .demand) ≤ stride = omega (arith, w .cafesHigh, sinks-room, stride-is) in
+          mul-le-mul low few;
+      inside = λ i j l h. omega (
+        arith,
+        w .costLength,
+        place-below (length (S .supply)) (length (S .demand)) (at (left (S .supply)) i) (at (left (S .demand)) j) (row i l) (left-at (S .demand) j h .0),
+      );
+      small = λ k. abs-between (w .costLow k) (w .costHigh k);
+    }
+
+module _ (S : Sheet) where
+  -- The columns left are the cafés left, and after them the extra café, where there is one.
+  data Column (j : ℕ) : Type 0 where
+    cafe : j < length (left (S .demand)) → at (left (wanted S)) j ≡ at (left (S .demand)) j → Column j
+    home : length (left (S .demand)) ≤ j → at (left (wanted S)) j ≡ cafes S → Column j
+
+  column : (j : ℕ) → j < length (left (wanted S)) → Column j
+  unfolding at cafes
+  column j l = go (extra S)
+    where
+      go : Extra S → Column j
+      go (without z e) = cafe (rw e at l) (rw e)
+      go (with z e) =
+          let more : left (wanted S) ≡ left (S .demand) ++ (length (S .demand) ∷ []) = ap left e ∙ left-append (S .demand) _ z in
+          let here : at (left (wanted S)) j ≡ getD (left (S .demand) ++ (length (S .demand) ∷ [])) j 0 = ap (λ (t : List ℕ). getD t j 0) more in
+          by-cases (decLt j (length (left (S .demand))))
+          (λ h. cafe h (here ∙ List·getD-append (left (S .demand)) (length (S .demand) ∷ []) 0 j h))
+          (λ h.
+          let last : length (left (S .demand)) ≡ j = omega (arith, ap length more, length-append (left (S .demand)) (length (S .demand) ∷ [])) in
+          home (omega arith) (here ∙ getD-at (left (S .demand)) (length (S .demand)) [] 0 j last))
+
+  -- What a lane between parties left costs, under their own numbers.
+  own-lane : (i j : ℕ) → i < length (left (S .supply)) → j < length (left (wanted S))
+      → laneCost (problemOf S) (lane i j) ≡ costAt S (at (left (S .supply)) i) (at (left (wanted S)) j)
+  unfolding problemOf extended rowsLeft columnsLeft roasteries
+  own-lane i j l h = struck-lane (extended S) i j l h ∙ laneCost-at S _ _ (left-at (S .supply) i l .0) (left-at (wanted S) j h .0)
+
+-- Then they are those of the problem behind the sheet: the extra café's lanes cost nothing.
+pub spread-costed : {S : Sheet} → Accepted S → {out : List ℤ} → Spread (S .cost) (cafes S) (rowsLeft (extended S)) (left (S .demand)) out
+    → Costed (problemOf S) out
+unfolding problemOf extended rowsLeft columnsLeft costAbove cafes
+spread-costed {S} ok {out} p = record { lanes = lanes; small = p .small }
+  where
+    at-column : (i j : ℕ) → i < length (left (S .supply)) → Column S j
+        → getD out (j * stride + i) (pos 0) ≡ costAt S (at (left (S .supply)) i) (at (left (wanted S)) j)
+    at-column i j l (cafe h e) = p .lanes i j l h ∙ rw e (sym (cost-cafe S _ _ (left-at (S .demand) j h .0)))
+    at-column i j l (home h e) = p .beyond i j (omega (arith, spreadable ok .rowsFew)) h ∙ rw e (sym (cost-extra S _ _ (omega arith)))
+
+    lanes : (i j : ℕ) → i < sources (problemOf S) → j < sinks (problemOf S) → getD out (j * stride + i) (pos 0) ≡ laneCost (problemOf S) (lane i j)
+    lanes i j hi hj =
+        let l : i < length (left (S .supply)) = omega (arith, hi, struck-sources (extended S)) in
+        let h : j < length (left (wanted S)) = omega (arith, hj, struck-sinks (extended S)) in
+        at-column i j l (column S j h) ∙ sym (own-lane S i j l h)

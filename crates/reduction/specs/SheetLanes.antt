@@ -96,17 +96,17 @@ module _ (S : Sheet) where
 -- ---- the first lane where two plans differ
 
 -- Among however many columns, a place is earlier exactly if its row is, or if its row is the same and its column is earlier.
-abbrev Earlier : ℕ → ℕ → ℕ → ℕ → Type 0
+abbrev pub Earlier : ℕ → ℕ → ℕ → ℕ → Type 0
 Earlier h k i j = (h < i) ⊎ ((h ≡ i) × (k < j))
 
 module _ (n h k i j : ℕ) where
-  place-earlier : j < n → place n h k < place n i j → Earlier h k i j
+  pub place-earlier : j < n → place n h k < place n i j → Earlier h k i j
   unfolding place
   place-earlier p l = by-cases (decLt h i) inl (λ c. inr (by-cases (decLt i h)
       (λ d. absurd (omega (arith, mul-le-mul-right n d)))
       (λ d. let e : h ≡ i = omega arith in (e, omega (arith, ap (λ (t : ℕ). t * n) e)))))
 
-  earlier-place : k < n → Earlier h k i j → place n h k < place n i j
+  pub earlier-place : k < n → Earlier h k i j → place n h k < place n i j
   unfolding place
   earlier-place p r = ⊎-elim (λ l. omega (arith, mul-le-mul-right n l)) (λ (e, l). omega (arith, ap (λ (t : ℕ). t * n) e)) r
 

@@ -11,12 +11,11 @@ use Rattle.transport.specs.Lists.{at, atZ, sumTo, sumZ, total}
 use Rattle.transport.specs.Limits.{maxSide, maxAmount, maxBags, maxCost}
 use Rattle.transport.specs.Problem.{place}
 use Rattle.transport.specs.Sheet.{Sheet, roasteries, cafes}
-use Rattle.transport.specs.Extended.{extended}
 use Rattle.transport.specs.Plan.{planCost}
 use Rattle.transport.specs.Statements.{Accepted, Meets}
 use Rattle.transport.specs.Laws.ListLaws.{sumTo-runs, total-nil, total-cons}
 use Rattle.transport.specs.Laws.RangeLaws.{abs-between, abs-sum}
-use Rattle.transport.specs.Laws.Sound.{sound}
+use Rattle.transport.specs.Laws.Sound.{bags-of}
 use Rattle.transport.specs.Laws.Largest.{largest}
 use Rattle.reduction.specs.Extending.{all-sent}
 
@@ -28,14 +27,14 @@ all-carried S Q enough meets = sumTo-runs (roasteries S) (cafes S) (at Q) ∙ al
 -- No bag costs more than maxCost in size, and no sheet has more than maxBags of them: so the total of a plan is at most their product in size,
 -- whatever its sign.
 pub total-size : {S : Sheet} → Accepted S → {Q : List ℕ} → Meets S 1 Q → natAbs (planCost S Q) ≤ maxBags * maxCost
-unfolding planCost extended
+unfolding planCost
 total-size {S} ok {Q} meets =
     let enough : total (S .demand) ≤ total (S .supply) = omega (arith, ok .enough) in
     omega (
       arith,
       abs-sum (roasteries S * cafes S) maxCost (at Q) (atZ (S .cost)) (λ l. abs-between (ok .limits .costLow l) (ok .limits .costHigh l)),
       ap (λ (t : ℕ). maxCost * t) (all-carried S Q enough meets),
-      mul-le-mul-left maxCost (sound ok .bags),
+      mul-le-mul-left maxCost (bags-of ok),
       mul-le-mul-left maxCost enough,
     )
 

@@ -1,11 +1,11 @@
 // Round: the next tableau of a sheet, or the prices of a finished one.
 use board::gather;
-use dealing::prices::side_prices;
+use dealing::prices::write_prices;
 use dealing::tableau;
-use pricing::costs::spread_costs;
+use loading::load_sheet;
+use numbering::own_tableau;
 use rounds::round::make_round;
 use sheet::SheetCheck;
-use sheet::extended::extend_demands;
 use transport::MAX_SIDE;
 use transport::RoundAnswer;
 use transport::RoundOutcome;
@@ -14,14 +14,13 @@ use tree::LANES;
 use tree::NODES;
 use tree::Price;
 ghost use mathlib.Core.Path.{_≡_};
-ghost use Prim.Native.Nat.{ℕ, _+_, _<_, _≤_};
-ghost use lib.IntN.{pos, natAbs};
-ghost use lib.ListN.{getD};
+ghost use mathlib.Core.List.{List};
 ghost use Rattle.transport.specs.Sheet.{sheetOf};
-ghost use Rattle.transport.specs.Lists.{table};
+ghost use Rattle.transport.specs.declared.Cell.{Cell};
+ghost use Rattle.transport.specs.OwnNumbers.{roasteryPrices, cafePrices};
 ghost use Rattle.transport.specs.Calls.{given, refusedBy, finished, roundCall};
 ghost use Rattle.transport.specs.Answers.{roundAnswer};
-ghost use Rattle.tree.specs.Layout.{stride, maxPotential};
+ghost use Rattle.dealing.specs.Prices.{NodesPriced};
 
 fn refused_round(number: u8) -> RoundAnswer
     ensures { λ r. ⌜ r ≡ roundAnswer (refusedBy number) ⌝ }
@@ -34,19 +33,31 @@ fn refused_round(number: u8) -> RoundAnswer
     }
 }
 
-// The answer for a finished tableau: the prices of m roasteries and n cafés. That of an extra café, which stands after them, is not given.
-fn finished_round(price: &[Price; NODES], m: usize, n: usize) -> RoundAnswer
-    requires { ⌜ (m ≤ stride) × (n ≤ stride) × ((k : ℕ) → k < m + n → natAbs (getD (now price) k (pos 0)) ≤ maxPotential) ⌝ }
+// The answer for a finished tableau: the prices of all parties. `rows` and `cols` have the own numbers of those left, whose prices are given.
+fn finished_round(
+    supply: &[u64],
+    demand: &[u64],
+    cost: &[i64],
+    rows: &[usize],
+    cols: &[usize],
+    price: &[Price; NODES],
+) -> RoundAnswer
+    requires { ⌜ ((T : List Cell) × NodesPriced (sheetOf (now supply) (now demand) (now cost)) T (now rows) (now cols) (now price)) ⌝ }
     ensures { λ r.
-        let u = table m (λ k. getD (now (price .entry)) (0 + k) (pos 0)) in
-        let v = table n (λ k. getD (now (price .entry)) (m + k) (pos 0)) in
-        ⌜ r ≡ roundAnswer (given (finished u v)) ⌝ }
+        let S = sheetOf (now (supply .entry)) (now (demand .entry)) (now (cost .entry)) in
+        ⌜
+        ((T : List Cell) → NodesPriced S T (now (rows .entry)) (now (cols .entry)) (now (price .entry))
+        → r ≡ roundAnswer (given (finished (roasteryPrices S T) (cafePrices S T))))
+        ⌝ }
 {
+    let mut u = [0i64; MAX_SIDE];
+    let mut v = [0i64; MAX_SIDE];
+    write_prices(supply, demand, cost, rows, cols, price, &mut u, &mut v);
     RoundAnswer {
         outcome: RoundOutcome::Finished,
         tableau: tableau::empty_tableau(),
-        u: side_prices(price, 0, m),
-        v: side_prices(price, m, n),
+        u,
+        v,
     }
 }
 
@@ -56,42 +67,42 @@ pub fn round(supply: &[u64], demand: &[u64], cost: &[i64], t: Tableau) -> RoundA
         let S = sheetOf (now (supply .entry)) (now (demand .entry)) (now (cost .entry)) in
         ⌜ r ≡ roundAnswer (roundCall S t) ⌝ }
 {
-    let check = sheet::check_sheet(supply, demand, cost);
-    if let SheetCheck::Refused(number) = check {
-        return refused_round(number);
-    }
-    let m = supply.len();
-    let mut columns = [0u64; MAX_SIDE];
-    let n = extend_demands(supply, demand, &mut columns);
     let mut q = [0i64; LANES];
     let mut e = [0i64; LANES];
+    let mut lane_cost: [Price; LANES] = [0; LANES];
     let mut leaf = [0usize; NODES];
     let mut other = [0usize; NODES];
     let mut lane = [0usize; NODES];
-    if !belonging::load(
+    let loading = load_sheet(
         supply,
-        &columns[..n],
+        demand,
+        cost,
         t,
         &mut q,
         &mut e,
+        &mut lane_cost,
         &mut leaf,
         &mut other,
         &mut lane,
-    ) {
-        return refused_round(6);
+    );
+    let check = loading.check;
+    if let SheetCheck::Refused(number) = check {
+        return refused_round(number);
     }
-    let mut lane_cost: [Price; LANES] = [0; LANES];
-    spread_costs(cost, m, demand.len(), &mut lane_cost);
+    let rows = loading.rows;
+    let cols = loading.cols;
+    let m = loading.parties.rows;
+    let n = loading.parties.columns;
     let turn = make_round(&mut q, &mut e, &lane_cost, &leaf, &other, &mut lane, m, n);
     let finished = turn.finished;
-    let price = turn.price;
     if finished {
-        return finished_round(&price, m, demand.len());
+        return finished_round(supply, demand, cost, &rows[..m], &cols[..n], &turn.price);
     }
     let next = gather::gather(&lane, &q, &e, m, n);
+    let own = own_tableau(next, &rows[..m], &cols[..n]);
     RoundAnswer {
         outcome: RoundOutcome::Moved,
-        tableau: next,
+        tableau: own,
         u: [0; MAX_SIDE],
         v: [0; MAX_SIDE],
     }

@@ -1,26 +1,21 @@
 -- How rounds begin: a tableau laid out over arrays, with the costs of its problem by column, becomes what a run keeps. What one round gives.
 use Prim.Native.Nat.{ℕ, _+_, _-_, _<_, _≤_}
 use native.Mathlib.Omega.{arith}
-use mathlib.Core.Path.{_≡_, refl, _∙_}
+use mathlib.Core.Path.{_≡_, _∙_}
 use mathlib.Core.Bool.{Bool, true, cond}
 use mathlib.Core.List.{List, List·Memᴰ}
-use lib.Dec.{eqb}
 use lib.IntN.{ℤ, pos}
-use lib.ListN.{length, take, getD}
+use lib.ListN.{length, getD}
 use Rattle.integers.specs.Bridge.{z-eq}
 use Rattle.transport.specs.Problem.{Problem, sources, sinks, Lane, laneCost}
-use Rattle.transport.specs.Laws.ListLaws.{and-right}
-use Rattle.transport.specs.Laws.Sound.{Sound, sound}
-use Rattle.transport.specs.Sheet.{Sheet, roasteries, cafes}
-use Rattle.transport.specs.Extended.{extended}
-use Rattle.transport.specs.Tableau.{basisOf, basisSize, cellsOf}
+use Rattle.transport.specs.Laws.Sound.{Sound}
+use Rattle.transport.specs.Tableau.{basisOf}
 use Rattle.transport.specs.Leaf.{strikes}
-use Rattle.transport.specs.Belonging.{spans, cellsBelong, belongs}
+use Rattle.transport.specs.Belonging.{spans, cellsBelong}
 use Rattle.transport.specs.Potential.{potential, isFinished, potentialBy}
 use Rattle.transport.specs.Round.{next}
-use Rattle.transport.specs.Statements.{Accepted, Belongs}
+use Rattle.transport.specs.Statements.{Belongs}
 use Rattle.transport.specs.declared.Cell.{Cell}
-use Rattle.transport.specs.declared.Tableau.{Tableau}
 use Rattle.tableaux.specs.Lanes.{Fits}
 use Rattle.tableaux.specs.Striking.{step-of, leaf-below}
 use Rattle.tableaux.specs.Potentials.{potential-off, potential-root, potential-tight, potential-only, potential-any}
@@ -29,8 +24,7 @@ use Rattle.tree.specs.Layout.{nodeRoom, costOf, strikesOf, StrikesInRoom}
 use Rattle.tree.specs.Strikes.{strikes-room}
 use Rattle.cuts.specs.Planting.{Tree}
 use Rattle.board.specs.Arrays.{Sides, sound-sides, Loaded, Board}
-use Rattle.sheet.specs.Columns.{Columns, columns-lent}
-use Rattle.pricing.specs.Costs.{Spread, Costed, spread-costed, spreadable}
+use Rattle.pricing.specs.Costs.{Costed}
 use Rattle.pricing.specs.Slacks.{InRange, Slacks}
 use Rattle.rounds.specs.Kept.{Prices, Kept, in-range}
 
@@ -98,23 +92,6 @@ module _ {P : Problem} {T : List Cell} {q e cost : List ℤ} {leaf other tree : 
 
       pub begun-kept : {slack : List ℤ} → Slacks cost price m n slack → Kept P T q e cost price slack sub path tree m n
       begun-kept s = record { board = begun-board grown; costs = d .costs; prices = begun-prices; slacks = s }
-
--- A tableau that was loaded, of an accepted sheet, whose columns were written and lent, and whose costs are spread.
-pub begun-loaded : (S : Sheet) (t : Tableau) {n : ℕ} {columns : List ℕ} {q e cost : List ℤ} {leaf other tree : List ℕ} → Accepted S → Columns S n columns
-    → Spread (S .cost) (length (S .supply)) (length (S .demand)) cost → belongs (extended S) t ≡ true
-    → Loaded (length (S .supply)) (length (take n columns)) (cellsOf t) q e leaf other tree
-    → Begun (extended S) (cellsOf t) q e cost leaf other tree (length (S .supply)) n
-unfolding extended sources sinks roasteries cafes belongs
-begun-loaded S t ok w spread own h =
-    let P = extended S in
-    record {
-      sound = sound ok;
-      rows = refl;
-      columns = w .count;
-      belongs = and-right (eqb (t .count) (basisSize (sources P) (sinks P))) (cellsBelong P (cellsOf t)) own;
-      costs = spread-costed S (spreadable ok .0) spread;
-      loaded = rw (columns-lent w) h;
-    }
 
 -- Whether T is finished. The arrays hold the tableau H, with its prices.
 pub record Verdict (P : Problem) (T H : List Cell) (q e price : List ℤ) (tree : List ℕ) (m n : ℕ) (finished : Bool) : Type 0 where

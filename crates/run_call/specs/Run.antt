@@ -9,11 +9,12 @@ use Rattle.transport.specs.declared.Cell.{Cell}
 use Rattle.transport.specs.declared.Tableau.{Tableau}
 use Rattle.transport.specs.Sheet.{Sheet, sheetTests, refusal}
 use Rattle.transport.specs.Extended.{extended}
-use Rattle.transport.specs.Tableau.{cellsOf, tableauOf, noTableau}
-use Rattle.transport.specs.Belonging.{belongs}
-use Rattle.transport.specs.Round.{Run, run}
-use Rattle.transport.specs.Calls.{given, refusedBy, tableauTests, runCall}
-use Rattle.transport.specs.Laws.CallLaws.{unless-before, unless-last, unless-none}
+use Rattle.transport.specs.Parties.{problemOf}
+use Rattle.transport.specs.OwnNumbers.{own, belongsTo}
+use Rattle.transport.specs.Tableau.{tableauOf, noTableau}
+use Rattle.transport.specs.Round.{run}
+use Rattle.transport.specs.Calls.{given, refusedBy, tableauTests, inside, runFrom, runCall}
+use Rattle.transport.specs.Laws.CallLaws.{unless-given, unless-refused}
 use Rattle.transport.specs.Answers.{runAnswer, runOutcome}
 
 pub answer-finished : (T : List Cell) (made : ℕ) {t : Tableau} → t ≡ tableauOf T
@@ -26,24 +27,24 @@ pub answer-spent : (T : List Cell) (made : ℕ) {t : Tableau} → t ≡ tableauO
 unfolding runAnswer runOutcome
 answer-spent T made e = rw e
 
--- The run is what its parts say.
-pub run-is : (R : Run) {done : Bool} {made : ℕ} → R .finished ≡ done → R .rounds ≡ made
-    → record { finished = done; tableau = R .tableau; rounds = made } ≡ R
-run-is R d k = rw (← d, ← k)
+-- The run is what its parts say, under the parties' own numbers.
+pub run-is : (S : Sheet) (allowance : ℕ) (T : List Cell) {done : Bool} {made : ℕ}
+    → let r = run (problemOf S) allowance T in
+    r .finished ≡ done → r .rounds ≡ made
+    → record { finished = done; tableau = own (extended S) (r .tableau); rounds = made } ≡ runFrom S allowance T
+unfolding runFrom
+run-is S allowance T d k = rw (← d, ← k)
 
 pub run-refused : (k : ℕ) → record { outcome = RunOutcome.Refused k; tableau = noTableau } ≡ runAnswer (refusedBy k)
 unfolding runAnswer refusedBy
 run-refused k = refl
 
+-- What the call gives, by what its tests refuse.
 module _ (S : Sheet) (t : Tableau) (allowance : ℕ) where
-  pub run-early : (k : ℕ) → refusal (sheetTests S) ≡ some k → runCall S t allowance ≡ refusedBy k
-  unfolding runCall tableauTests
-  run-early k e = unless-before (sheetTests S) (not (belongs (extended S) t)) 6 (run (extended S) allowance (cellsOf t)) k e
+  pub run-refuses : (k : ℕ) → refusal (tableauTests S t) ≡ some k → runCall S t allowance ≡ refusedBy k
+  unfolding runCall
+  run-refuses k e = unless-refused (tableauTests S t) (runFrom S allowance (inside S t)) k e
 
-  pub run-astray : refusal (sheetTests S) ≡ none → belongs (extended S) t ≡ false → runCall S t allowance ≡ refusedBy 6
-  unfolding runCall tableauTests
-  run-astray e w = unless-last (sheetTests S) (not (belongs (extended S) t)) 6 (run (extended S) allowance (cellsOf t)) e (ap not w)
-
-  pub run-given : refusal (sheetTests S) ≡ none → belongs (extended S) t ≡ true → runCall S t allowance ≡ given (run (extended S) allowance (cellsOf t))
-  unfolding runCall tableauTests
-  run-given e w = unless-none (sheetTests S) (not (belongs (extended S) t)) 6 (run (extended S) allowance (cellsOf t)) e (ap not w)
+  pub run-given : refusal (tableauTests S t) ≡ none → runCall S t allowance ≡ given (runFrom S allowance (inside S t))
+  unfolding runCall
+  run-given e = unless-given (tableauTests S t) (runFrom S allowance (inside S t)) e

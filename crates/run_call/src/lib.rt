@@ -1,10 +1,10 @@
 // Run: rounds within an allowance.
 use board::gather::gather;
 use dealing::tableau;
-use pricing::costs::spread_costs;
+use loading::load_sheet;
+use numbering::own_tableau;
 use runs::run::make_run;
 use sheet::SheetCheck;
-use sheet::extended::extend_demands;
 use transport::MAX_SIDE;
 use transport::RunAnswer;
 use transport::RunOutcome;
@@ -54,32 +54,32 @@ pub fn run(supply: &[u64], demand: &[u64], cost: &[i64], t: Tableau, allowance: 
         let S = sheetOf (now (supply .entry)) (now (demand .entry)) (now (cost .entry)) in
         ⌜ r ≡ runAnswer (runCall S t allowance) ⌝ }
 {
-    let check = sheet::check_sheet(supply, demand, cost);
-    if let SheetCheck::Refused(number) = check {
-        return refused_run(number);
-    }
-    let m = supply.len();
-    let mut columns = [0u64; MAX_SIDE];
-    let n = extend_demands(supply, demand, &mut columns);
     let mut q = [0i64; LANES];
     let mut e = [0i64; LANES];
+    let mut lane_cost: [Price; LANES] = [0; LANES];
     let mut leaf = [0usize; NODES];
     let mut other = [0usize; NODES];
     let mut lane = [0usize; NODES];
-    if !belonging::load(
+    let loading = load_sheet(
         supply,
-        &columns[..n],
+        demand,
+        cost,
         t,
         &mut q,
         &mut e,
+        &mut lane_cost,
         &mut leaf,
         &mut other,
         &mut lane,
-    ) {
-        return refused_run(6);
+    );
+    let check = loading.check;
+    if let SheetCheck::Refused(number) = check {
+        return refused_run(number);
     }
-    let mut lane_cost: [Price; LANES] = [0; LANES];
-    spread_costs(cost, m, demand.len(), &mut lane_cost);
+    let rows = loading.rows;
+    let cols = loading.cols;
+    let m = loading.parties.rows;
+    let n = loading.parties.columns;
     let within = allowance as u64;
     let end = make_run(
         &mut q,
@@ -92,5 +92,6 @@ pub fn run(supply: &[u64], demand: &[u64], cost: &[i64], t: Tableau, allowance: 
         n,
         within,
     );
-    ended_run(end.finished, end.made, gather(&lane, &q, &e, m, n))
+    let own = own_tableau(gather(&lane, &q, &e, m, n), &rows[..m], &cols[..n]);
+    ended_run(end.finished, end.made, own)
 }

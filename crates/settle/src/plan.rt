@@ -1,21 +1,47 @@
 // The plan that the bags of a tableau make.
 use transport::MAX_SIDE;
 use tree::LANES;
-ghost use Prim.Native.Nat.{_*_, _≤_};
+ghost use mathlib.Core.Path.{_≡_};
+ghost use mathlib.Core.Bool.{Bool, true};
+ghost use Prim.Native.Nat.{_<_};
 ghost use lib.ListN.{length};
-ghost use Rattle.tree.specs.Layout.{stride};
-ghost use Rattle.settle.specs.Plan.{NoDebt, Written};
+ghost use Rattle.transport.specs.Lists.{at};
+ghost use Rattle.settle.specs.Plan.{Storable, Stored};
 
-// Writes the bags of m rows and n columns in sheet order, and leaves the rest of the list as it is.
-pub fn store_plan(q: &[i64; LANES], plan: &mut [u64], m: usize, n: usize)
-    requires { ⌜ (m ≤ stride) × (n ≤ stride) × (m * n ≤ length (now plan)) × NoDebt m n (now q) ⌝ }
-    ensures { λ _. ⌜ Written n (now (q .entry)) (m * n) (now (plan .entry)) (now (plan .exit)) ⌝ }
+// The own number of column j. Where all columns are left it is j: told so, a loop over a row copies the row.
+fn own_column(cols: &[usize], all: bool, j: usize) -> usize
+    requires { ⌜ (j < length (now cols)) × (all ≡ true → at (now cols) j ≡ j) ⌝ }
+    ensures { λ r. ⌜ r ≡ at (now (cols .entry)) j ⌝ }
 {
+    if all { j } else { cols[j] }
+}
+
+// Writes a plan of m × n lanes in sheet order, and leaves the rest of the list as it is: the bags of the rows and columns whose own numbers `rows` and `cols`
+// have, and nothing on all other lanes.
+pub fn store_plan(
+    q: &[i64; LANES],
+    rows: &[usize],
+    cols: &[usize],
+    m: usize,
+    n: usize,
+    plan: &mut [u64],
+)
+    requires { ⌜ Storable (now q) (now rows) (now cols) m n (now plan) ⌝ }
+    ensures { λ _. ⌜ Stored (now (q .entry)) (now (rows .entry)) (now (cols .entry)) m n (now (plan .entry)) (now (plan .exit)) ⌝ }
+{
+    let mut l = 0;
+    while l < m * n {
+        plan[l] = 0;
+        l += 1;
+    }
+    let all = cols.len() == n;
     let mut i = 0;
-    while i < m {
+    while i < rows.len() {
+        let first = rows[i] * n;
         let mut j = 0;
-        while j < n {
-            plan[i * n + j] = q[i * MAX_SIDE + j] as u64;
+        while j < cols.len() {
+            let col = own_column(cols, all, j);
+            plan[first + col] = q[i * MAX_SIDE + j] as u64;
             j += 1;
         }
         i += 1;

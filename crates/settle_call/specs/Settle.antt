@@ -7,14 +7,14 @@ use Prim.Native.Nat.{ℕ, _*_, _<_, _≤_}
 use lib.ListN.{drop}
 use Rattle.transport.specs.Sheet.{Sheet, roasteries, cafes, sheetTests, refusal}
 use Rattle.transport.specs.Extended.{extended}
+use Rattle.transport.specs.Parties.{problemOf}
 use Rattle.transport.specs.Statements.{Accepted}
 use Rattle.transport.specs.Laws.Sound.{sound}
 use Rattle.transport.specs.Laws.SheetLaws.{refusal-yes, refusal-no, refusal-pass, refusal-stands}
-use Rattle.transport.specs.Tableau.{cellsOf}
-use Rattle.transport.specs.Belonging.{belongs}
+use Rattle.transport.specs.OwnNumbers.{belongsTo}
 use Rattle.transport.specs.Potential.{isFinished}
 use Rattle.transport.specs.Plan.{settled}
-use Rattle.transport.specs.Calls.{refusedBy, lentAfter, tableauTests, tooShort, settleCall}
+use Rattle.transport.specs.Calls.{refusedBy, lentAfter, tableauTests, inside, tooShort, settleCall}
 use Rattle.transport.specs.Laws.CallLaws.{unless-given, unless-refused, refusal-last, short-yes, short-no}
 use Rattle.transport.specs.Answers.{settleAnswer}
 use Rattle.transport.specs.declared.Tableau.{Tableau}
@@ -23,39 +23,31 @@ use Rattle.demands.specs.Demand3.{settled-length}
 
 module _ (S : Sheet) (t : Tableau) (room : ℕ) where
   abbrev late : List (Bool × ℕ)
-  late = (not (isFinished (extended S) (cellsOf t)), 7) ∷ (tooShort room (roasteries S * cafes S), 8) ∷ []
+  late = (not (isFinished (problemOf S) (inside S t)), 7) ∷ (tooShort room (roasteries S * cafes S), 8) ∷ []
 
   abbrev tests : List (Bool × ℕ)
   tests = tableauTests S t ++ late
 
-  pub sheet-refuses : (k : ℕ) → refusal (sheetTests S) ≡ some k → refusal tests ≡ some k
-  unfolding tableauTests
-  sheet-refuses k e = refusal-stands (tableauTests S t) late k (refusal-stands (sheetTests S) ((not (belongs (extended S) t), 6) ∷ []) k e)
+  pub front-refuses : (k : ℕ) → refusal (tableauTests S t) ≡ some k → refusal tests ≡ some k
+  front-refuses k e = refusal-stands (tableauTests S t) late k e
 
-  module _ (e : refusal (sheetTests S) ≡ none) where
-    pub tableau-refuses : belongs (extended S) t ≡ false → refusal tests ≡ some 6
-    unfolding tableauTests
-    tableau-refuses b = refusal-stands (tableauTests S t) late 6 (refusal-pass (sheetTests S) ((not (belongs (extended S) t), 6) ∷ []) e
-        ∙ refusal-yes (not (belongs (extended S) t), 6) [] (rw b))
+  module _ (e : refusal (tableauTests S t) ≡ none) where
+    passes : refusal tests ≡ refusal late
+    passes = refusal-pass (tableauTests S t) late e
 
-    module _ (b : belongs (extended S) t ≡ true) where
-      passes : refusal tests ≡ refusal late
-      unfolding tableauTests
-      passes = refusal-pass (tableauTests S t) late (refusal-last (sheetTests S) (not (belongs (extended S) t), 6) .1 (e, rw b))
+    pub unfinished-refuses : isFinished (problemOf S) (inside S t) ≡ false → refusal tests ≡ some 7
+    unfinished-refuses f = passes ∙ refusal-yes (not (isFinished (problemOf S) (inside S t)), 7) ((tooShort room (roasteries S * cafes S), 8) ∷ []) (rw f)
 
-      pub unfinished-refuses : isFinished (extended S) (cellsOf t) ≡ false → refusal tests ≡ some 7
-      unfinished-refuses f = passes ∙ refusal-yes (not (isFinished (extended S) (cellsOf t)), 7) ((tooShort room (roasteries S * cafes S), 8) ∷ []) (rw f)
+    module _ (f : isFinished (problemOf S) (inside S t) ≡ true) where
+      last : refusal tests ≡ refusal ((tooShort room (roasteries S * cafes S), 8) ∷ [])
+      last = passes ∙ refusal-no (not (isFinished (problemOf S) (inside S t)), 7) ((tooShort room (roasteries S * cafes S), 8) ∷ []) (rw f)
 
-      module _ (f : isFinished (extended S) (cellsOf t) ≡ true) where
-        last : refusal tests ≡ refusal ((tooShort room (roasteries S * cafes S), 8) ∷ [])
-        last = passes ∙ refusal-no (not (isFinished (extended S) (cellsOf t)), 7) ((tooShort room (roasteries S * cafes S), 8) ∷ []) (rw f)
+      pub short-refuses : room < roasteries S * cafes S → refusal tests ≡ some 8
+      short-refuses l = last ∙ refusal-yes (tooShort room (roasteries S * cafes S), 8) [] (short-yes room (roasteries S * cafes S) l)
 
-        pub short-refuses : room < roasteries S * cafes S → refusal tests ≡ some 8
-        short-refuses l = last ∙ refusal-yes (tooShort room (roasteries S * cafes S), 8) [] (short-yes room (roasteries S * cafes S) l)
-
-        pub none-refuses : roasteries S * cafes S ≤ room → refusal tests ≡ none
-        unfolding refusal
-        none-refuses l = last ∙ refusal-no (tooShort room (roasteries S * cafes S), 8) [] (short-no room (roasteries S * cafes S) l)
+      pub none-refuses : roasteries S * cafes S ≤ room → refusal tests ≡ none
+      unfolding refusal
+      none-refuses l = last ∙ refusal-no (tooShort room (roasteries S * cafes S), 8) [] (short-no room (roasteries S * cafes S) l)
 
   -- Refused: the list is as it was.
   pub settle-refused : (old : List ℕ) (k : ℕ) → refusal tests ≡ some k

@@ -1,9 +1,8 @@
 // Settle: from a finished tableau of a sheet to its settled plan.
-use board::gather::draw;
-use pricing::costs;
+use loading::load_sheet;
 use rounds::round::is_finished;
+use settle::plan::store_plan;
 use sheet::SheetCheck;
-use sheet::extended::extend_demands;
 use solving::finished::settle_board;
 use transport::MAX_SIDE;
 use transport::SettleAnswer;
@@ -31,43 +30,42 @@ pub fn settle(
         let a = settleCall S t (length (now (plan .entry))) in
         ⌜ (r ≡ settleAnswer a) × (now (plan .exit) ≡ lentAfter (λ x. x) a (now (plan .entry))) ⌝ }
 {
-    let check = sheet::check_sheet(supply, demand, cost);
-    if let SheetCheck::Refused(number) = check {
-        return SettleAnswer::Refused(number);
-    }
-    let m = supply.len();
-    let mut columns = [0u64; MAX_SIDE];
-    let n = extend_demands(supply, demand, &mut columns);
     let mut q = [0i64; LANES];
     let mut e = [0i64; LANES];
+    let mut lane_cost: [Price; LANES] = [0; LANES];
     let mut leaf = [0usize; NODES];
     let mut other = [0usize; NODES];
     let mut lane = [0usize; NODES];
-    if !belonging::load(
+    let loading = load_sheet(
         supply,
-        &columns[..n],
+        demand,
+        cost,
         t,
         &mut q,
         &mut e,
+        &mut lane_cost,
         &mut leaf,
         &mut other,
         &mut lane,
-    ) {
-        return SettleAnswer::Refused(6);
+    );
+    let check = loading.check;
+    if let SheetCheck::Refused(number) = check {
+        return SettleAnswer::Refused(number);
     }
-    let mut lane_cost: [Price; LANES] = [0; LANES];
+    let rows = loading.rows;
+    let cols = loading.cols;
+    let m = loading.parties.rows;
+    let n = loading.parties.columns;
     let mut price: [Price; NODES] = [0; NODES];
-    costs::spread_costs(cost, m, demand.len(), &mut lane_cost);
     if !is_finished(&lane_cost, &leaf, &other, &lane, m, n, &mut price) {
         return SettleAnswer::Refused(7);
     }
-    // A name of its own from here on, so that a program that wants room for the extra column too is an operand away.
     let cafes = demand.len();
-    if plan.len() < m * cafes {
+    if plan.len() < supply.len() * cafes {
         return SettleAnswer::Refused(8);
     }
-    let mut adj = [0u64; NODES];
-    draw(&lane, m, m + n - 1, &mut adj);
-    settle_board(&adj, &mut q, &lane_cost, &price, plan, m, n, cafes);
+    settle_board(&lane, &mut q, &lane_cost, &price, m, n);
+    let served = loading.parties.cafes;
+    store_plan(&q, &rows[..m], &cols[..served], supply.len(), cafes, plan);
     SettleAnswer::Settled
 }

@@ -1,4 +1,4 @@
 pub mod Check
-pub mod Columns
+pub mod Parties
 pub mod Laws
 pub mod Refusals

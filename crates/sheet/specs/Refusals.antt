@@ -8,18 +8,18 @@ use native.Mathlib.Nat.{mul-le-mul}
 use lib.Dec.{eqb}
 use lib.IntN.{pos, negℤ}
 use lib.ListN.{length}
-use Rattle.transport.specs.Lists.{all, within, withinZ}
+use Rattle.transport.specs.Lists.{all, atMost, within, withinZ}
 use Rattle.transport.specs.Limits.{maxSources, maxSinks, maxAmount, maxCost}
-use Rattle.transport.specs.Sheet.{Sheet, roasteries, cafes, badSides, badLength, badAmount, badCost, lacking, crowded, numberTests, sheetTests, refusal}
-use Rattle.transport.specs.Statements.{WithinLimits, Lacking, Crowded}
-use Rattle.transport.specs.Laws.SheetLaws.{lacking-yes, lacking-no, crowded-yes, crowded-no}
+use Rattle.transport.specs.Sheet.{Sheet, roasteries, cafes, badSides, badLength, badAmount, badCost, lacking, crowded, idle, numberTests, sheetTests, refusal}
+use Rattle.transport.specs.Statements.{WithinLimits, Lacking, Crowded, Idle}
+use Rattle.transport.specs.Laws.SheetLaws.{lacking-yes, lacking-no, crowded-yes, crowded-no, idle-yes, idle-no}
 
 module _ (S : Sheet) where
   abbrev supplies : Bool
-  supplies = all (within 1 maxAmount) (S .supply)
+  supplies = all (atMost maxAmount) (S .supply)
 
   abbrev demands : Bool
-  demands = all (within 1 maxAmount) (S .demand)
+  demands = all (atMost maxAmount) (S .demand)
 
   abbrev costs : Bool
   costs = all (withinZ (negℤ (pos maxCost)) (pos maxCost)) (S .cost)
@@ -46,9 +46,13 @@ module _ (S : Sheet) where
     unfolding refusal numberTests badAmount badCost lacking crowded
     refused-crowded (l, n) = rw (s, d, c, lacking-no S (λ b. absurd (omega arith)), crowded-yes S (l, n))
 
-    pub numbers-accepted : ¬ Lacking S → ¬ Crowded S → refusal (numberTests S) ≡ none
-    unfolding refusal numberTests badAmount badCost lacking crowded
-    numbers-accepted l n = rw (s, d, c, lacking-no S l, crowded-no S n)
+    pub refused-idle : ¬ Lacking S → ¬ Crowded S → Idle S → refusal (numberTests S) ≡ some 11
+    unfolding refusal numberTests badAmount badCost lacking crowded idle
+    refused-idle l n i = rw (s, d, c, lacking-no S l, crowded-no S n, idle-yes S i)
+
+    pub numbers-accepted : ¬ Lacking S → ¬ Crowded S → ¬ Idle S → refusal (numberTests S) ≡ none
+    unfolding refusal numberTests badAmount badCost lacking crowded idle
+    numbers-accepted l n i = rw (s, d, c, lacking-no S l, crowded-no S n, idle-no S i)
 
   pub refused-sources : within 1 maxSources (length (S .supply)) ≡ false → refusal (sheetTests S) ≡ some 1
   unfolding refusal sheetTests badSides roasteries

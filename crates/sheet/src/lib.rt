@@ -1,10 +1,10 @@
-// The sheet check, part of every call that takes a sheet as lists: refusals 1 to 5 and 10, of several the first.
+// The sheet check, part of every call that takes a sheet as lists: refusals 1 to 5, 10 and 11, of several the first.
 ghost use mathlib.Core.Path.{_≡_};
 ghost use mathlib.Core.Bool.{true};
 ghost use Prim.Native.Nat.{_≤_};
 ghost use lib.IntN.{pos, negℤ};
 ghost use lib.ListN.{length};
-ghost use Rattle.transport.specs.Lists.{all, within, withinZ, total};
+ghost use Rattle.transport.specs.Lists.{all, atMost, within, withinZ, total};
 ghost use Rattle.transport.specs.Limits.{maxSide, maxAmount, maxCost};
 ghost use Rattle.transport.specs.Sheet.{refusal, numberTests, sheetTests, sheetOf};
 ghost use Rattle.sheet.specs.Check.{checkAnswer};
@@ -14,8 +14,8 @@ use transport::MAX_SIDE;
 use transport::MAX_SINKS;
 use transport::MAX_SOURCES;
 
-pub mod extended;
 pub mod lists;
+pub mod parties;
 
 pub enum SheetCheck {
     Accepted,
@@ -29,17 +29,13 @@ fn side_fits(count: usize, most: usize) -> bool
     1 <= count && count <= most
 }
 
-// Whether every amount is within `low` to `high`.
-fn all_within(amounts: &[u64], low: u64, high: u64) -> bool
-    ensures { λ r. ⌜ r ≡ all (within low high) (now (amounts .entry)) ⌝ }
+// Whether no amount is above its limit.
+fn amounts_within(amounts: &[u64]) -> bool
+    ensures { λ r. ⌜ r ≡ all (atMost maxAmount) (now (amounts .entry)) ⌝ }
 {
     let mut i: usize = 0;
     while i < amounts.len() {
-        let x = amounts[i];
-        if x < low {
-            return false;
-        }
-        if high < x {
+        if MAX_AMOUNT < amounts[i] {
             return false;
         }
         i += 1;
@@ -67,7 +63,7 @@ fn costs_within(costs: &[i64]) -> bool
 
 // The total of supplies or demands that are within their limits, so that it fits.
 fn total_of(amounts: &[u64]) -> u64
-    requires { ⌜ (length (now amounts) ≤ maxSide) × (all (within 1 maxAmount) (now amounts) ≡ true) ⌝ }
+    requires { ⌜ (length (now amounts) ≤ maxSide) × (all (atMost maxAmount) (now amounts) ≡ true) ⌝ }
     ensures { λ r. ⌜ r ≡ total (now (amounts .entry)) ⌝ }
 {
     let mut sum: u64 = 0;
@@ -79,17 +75,17 @@ fn total_of(amounts: &[u64]) -> u64
     sum
 }
 
-// Refusals 3, 4, 5 and 10 of a sheet whose sides are within their limits. A total is taken once its parts are known to be.
+// Refusals 3, 4, 5, 10 and 11 of a sheet whose sides are within their limits. A total is taken once its parts are known to be.
 pub fn check_numbers(supply: &[u64], demand: &[u64], cost: &[i64]) -> SheetCheck
     requires { ⌜ (length (now supply) ≤ maxSide) × (length (now demand) ≤ maxSide) ⌝ }
     ensures { λ r.
         let S = sheetOf (now (supply .entry)) (now (demand .entry)) (now (cost .entry)) in
         ⌜ r ≡ checkAnswer (refusal (numberTests S)) ⌝ }
 {
-    if !all_within(supply, 1, MAX_AMOUNT) {
+    if !amounts_within(supply) {
         return SheetCheck::Refused(3);
     }
-    if !all_within(demand, 1, MAX_AMOUNT) {
+    if !amounts_within(demand) {
         return SheetCheck::Refused(3);
     }
     if !costs_within(cost) {
@@ -100,11 +96,15 @@ pub fn check_numbers(supply: &[u64], demand: &[u64], cost: &[i64]) -> SheetCheck
     let lacking = supply_total < demand_total;
     // What is not wanted goes to an extra café in the tableau, for which there must be a column.
     let crowded = supply_total != demand_total && demand.len() == MAX_SIDE;
+    let idle = demand_total == 0;
     if lacking {
         return SheetCheck::Refused(5);
     }
     if crowded {
         return SheetCheck::Refused(10);
+    }
+    if idle {
+        return SheetCheck::Refused(11);
     }
     SheetCheck::Accepted
 }

@@ -44,7 +44,7 @@ fn store_costs(from: &[i64], list: &mut [i64], wanted: bool)
     }
 }
 
-// A sheet that was read goes to the lent lists, unless 3, 4, 5, 10 or 8 refuses it.
+// A sheet that was read goes to the lent lists, unless 3, 4, 5, 10, 11 or 8 refuses it.
 pub(crate) fn store_sheet(
     sheet_supply: &[u64],
     sheet_demand: &[u64],

@@ -1,30 +1,25 @@
--- The board of a finished tableau: from it settling starts, and what it ends with is the settled plan.
+-- The board of a finished tableau: from it settling starts, and what it ends with are the bags of the optimal plan.
 use mathlib.Core.Path.{_≡_, sym, _∙_}
 use mathlib.Core.Logic.{_↔_, by-cases}
 use mathlib.Core.Bool.{true, false≢true}
-use mathlib.Core.List.{List, _++_}
+use mathlib.Core.List.{List}
 use Prim.Native.Nat.{ℕ, _+_, _*_, _-_, _<_, _≤_}
 use native.Mathlib.Omega.{arith}
 use native.Mathlib.Decide.{decLt}
 use lib.IntN.{ℤ, pos}
-use lib.ListN.{length, getD, drop}
+use lib.ListN.{getD}
 use Rattle.integers.specs.Integer.{_≈_, nat}
 use Rattle.integers.specs.IntegerLaws.{⊗-cong}
 use Rattle.network.specs.Flow.{Plan, Tight}
 use Rattle.network.specs.FlowLaws.{flow-cong, flow-on, plan-on}
 use Rattle.network.specs.Settling.{DecidedTo, decided-start, decided-on, decided-other}
-use Rattle.transport.specs.Lists.{at, table, grid}
-use Rattle.transport.specs.Laws.ListLaws.{length-table, getD-table}
-use Rattle.transport.specs.Problem.{Problem, sources, sinks, place}
-use Rattle.transport.specs.Laws.ProblemLaws.{place-below, grid-is}
+use Rattle.transport.specs.Lists.{table}
+use Rattle.transport.specs.Laws.ListLaws.{length-table}
+use Rattle.transport.specs.Problem.{Problem, sources, sinks}
 use Rattle.transport.specs.Laws.Sound.{Sound, supply-most}
-use Rattle.transport.specs.Sheet.{Sheet, roasteries, cafes}
-use Rattle.transport.specs.Extended.{wanted, extended}
-use Rattle.transport.specs.Laws.ExtendedLaws.{width-low}
 use Rattle.transport.specs.Amount.{nothing}
 use Rattle.transport.specs.Belonging.{cellsBelong}
 use Rattle.transport.specs.Potential.{potential, isFinished}
-use Rattle.transport.specs.Plan.{settled}
 use Rattle.transport.specs.Statements.{Basic, Belongs}
 use Rattle.transport.specs.declared.Cell.{Cell}
 use Rattle.tableaux.specs.View.{amount-none}
@@ -34,15 +29,14 @@ use Rattle.tableaux.specs.PlanView.{carried, supplies, demands, costs}
 use Rattle.tableaux.specs.ProblemPlans.{flowCost, Optimal}
 use Rattle.tableaux.specs.Least.{rowPotential, columnPotential, finished-feasible}
 use Rattle.optimality.specs.Settling.{tight-lanes, settling-start, basics-single, decided-optimal}
-use Rattle.reduction.specs.Reduction.{sheetPlan, optimal-settled}
 use Rattle.board.specs.Held.{Held, row-basic, basic-row}
-use Rattle.board.specs.Arrays.{Board}
 use Rattle.board.specs.Drawing.{Redrawn, board-held}
 use Rattle.pricing.specs.Costs.{Costed}
+use Rattle.rounds.specs.Begun.{Judged}
 use Rattle.augment.specs.Bags.{laneBags, InMask, OnBasics}
 use Rattle.settle.specs.Rows.{Settleable}
 use Rattle.settle.specs.Tight.{Ranged, TightLanes, tight-same, tight-ranged}
-use Rattle.settle.specs.Plan.{bagsIn, bagsIn-place, NoDebt, Written, debtless, plan-carries}
+use Rattle.settle.specs.Plan.{bagsIn, NoDebt, debtless, plan-carries}
 
 -- The tableau T of the problem P is finished. The arrays hold it, with the masks of its basic lanes, the costs lie by column, and the prices are its own.
 pub record Finished (P : Problem) (T : List Cell) (adj : List ℕ) (q e cost price : List ℤ) (m n : ℕ) : Type 0 where
@@ -55,19 +49,18 @@ pub record Finished (P : Problem) (T : List Cell) (adj : List ℕ) (q e cost pri
   pub done : isFinished P T ≡ true
   pub prices : (k : ℕ) → k < m + n → getD price k (pos 0) ≡ potential P T k
 
--- From the board of a finished tableau, when its masks are drawn.
-pub board-finished : {P : Problem} {T : List Cell} {q e cost : List ℤ} {sub path lanes adj : List ℕ} {m n : ℕ} (price : List ℤ)
-    → Board P T q e sub path lanes m n → Costed P cost → Redrawn m lanes (m + n - 1) adj → isFinished P T ≡ true
-    → ((k : ℕ) → k < m + n → getD price k (pos 0) ≡ potential P T k) → Finished P T adj q e cost price m n
-board-finished price b costs w done prices = record {
-  sound = b .sound;
-  rows = b .rows;
-  columns = b .columns;
-  belongs = b .belongs;
+-- Once the masks of its basic lanes are drawn.
+pub judged-finished : {P : Problem} {T : List Cell} {q e cost price : List ℤ} {lanes adj : List ℕ} {m n : ℕ} → Judged P T q e price lanes m n true
+    → Costed P cost → Redrawn m lanes (m + n - 1) adj → Finished P T adj q e cost price m n
+judged-finished j costs w = record {
+  sound = j .board .sound;
+  rows = j .board .rows;
+  columns = j .board .columns;
+  belongs = j .board .belongs;
   costs = costs;
-  held = board-held b w;
-  done = done;
-  prices = prices;
+  held = board-held (j .board) w;
+  done = j .done;
+  prices = j .prices;
 }
 
 module _ {P : Problem} {T : List Cell} {adj : List ℕ} {q e cost price : List ℤ} {m n : ℕ} (f : Finished P T adj q e cost price m n) where
@@ -131,9 +124,6 @@ module _ {P : Problem} {T : List Cell} {adj : List ℕ} {q e cost price : List �
     -- ---- where it ends
 
     module _ (q′ : List ℤ) (d : DecidedTo m n (supplies P) (demands P) (InMask masks) (m * n) (laneBags q′)) where
-      pub settled-debtless : {k : ℕ} → k ≤ n → NoDebt m k q′
-      settled-debtless low i j hi hj = debtless q′ (d .nonneg) i j hi (omega arith)
-
       abbrev plan : List ℕ
       plan = table (m * n) (bagsIn n q′)
 
@@ -150,26 +140,14 @@ module _ {P : Problem} {T : List Cell} {adj : List ℕ} {q e cost price : List �
           (decided-optimal P (rowPotential P T) (columnPotential P T) (finished-feasible P T (f .done)) _
           (length-table (bagsIn (sinks P) q′) (sources P * sinks P)) d)
 
--- ---- what it ends with, for a sheet
+-- The bags on the lanes of m rows and n columns are those of the problem's optimal plan.
+pub record SettledBags (P : Problem) (m n : ℕ) (q : List ℤ) : Type 0 where
+  pub rows : m ≡ sources P
+  pub columns : n ≡ sinks P
+  pub noDebt : NoDebt m n q
+  pub optimal : let x = table (m * n) (bagsIn n q) in Optimal P x (flowCost P x)
 
--- Of the plan that the bags of n columns make, what the first k columns carry.
-bags-front : (m n k : ℕ) (q : List ℤ) → k ≤ n → grid m k (λ i j. at (table (m * n) (bagsIn n q)) (place n i j)) ≡ table (m * k) (bagsIn k q)
-unfolding at place
-bags-front m n k q low = grid-is k _ m (table (m * k) (bagsIn k q)) 0 (length-table (bagsIn k q) (m * k)) (λ i j l h.
-    let wide : j < n = omega arith in
-    getD-table (bagsIn n q) (m * n) (place n i j) 0 (place-below m n i j l wide)
-    ∙ bagsIn-place n i j q wide
-    ∙ sym (getD-table (bagsIn k q) (m * k) (place k i j) 0 (place-below m k i j l h) ∙ bagsIn-place k i j q h))
-
--- The bags on the sheet's lanes are its settled plan.
-module _ (S : Sheet) {T : List Cell} {adj : List ℕ} {q e cost price : List ℤ} {m n : ℕ} (f : Finished (extended S) T adj q e cost price m n)
-    {masks : List ℕ} (t : TightLanes cost price m n m masks) (q′ : List ℤ)
-    (d : DecidedTo m n (supplies (extended S)) (demands (extended S)) (InMask masks) (m * n) (laneBags q′)) where
-  settled-bags : settled S ≡ table (m * cafes S) (bagsIn (cafes S) q′)
-  unfolding sheetPlan extended sources sinks roasteries
-  settled-bags =
-      optimal-settled S (table (m * n) (bagsIn n q′)) _ (f .sound) (settled-optimal f t q′ d)
-      ∙ rw (f .rows, f .columns) (bags-front (roasteries S) (length (wanted S)) (cafes S) q′ (width-low S))
-
-  pub settled-written : {k : ℕ} {old new : List ℕ} → cafes S ≡ k → Written k q′ (m * k) old new → new ≡ settled S ++ drop (m * k) old
-  settled-written e w = w .is ∙ rw (settled-bags, e)
+pub settled-bags : {P : Problem} {T : List Cell} {adj : List ℕ} {q e cost price : List ℤ} {m n : ℕ} → Finished P T adj q e cost price m n
+    → {masks : List ℕ} → TightLanes cost price m n m masks → (q′ : List ℤ)
+    → DecidedTo m n (supplies P) (demands P) (InMask masks) (m * n) (laneBags q′) → SettledBags P m n q′
+settled-bags f t q′ d = record { rows = f .rows; columns = f .columns; noDebt = debtless q′ (d .nonneg); optimal = settled-optimal f t q′ d }

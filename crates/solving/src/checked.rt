@@ -1,12 +1,12 @@
 // A sheet that passed its check, solved from its first tableau on.
 use crate::finished::settle_board;
-use board::gather::draw;
 use board::spread::lay_out;
 use dealing::corner::first_tableau;
 use dealing::prices::write_prices;
 use pricing::costs::spread_costs;
 use runs::run::finish;
-use sheet::extended::extend_demands;
+use settle::plan::store_plan;
+use sheet::parties::number_parties;
 use transport::MAX_SIDE;
 use tree::LANES;
 use tree::NODES;
@@ -15,41 +15,38 @@ ghost use Prim.Native.Nat.{_*_, _≤_};
 ghost use mathlib.Core.Path.{_≡_};
 ghost use lib.ListN.{length};
 ghost use Rattle.transport.specs.Sheet.{sheetOf};
-ghost use Rattle.transport.specs.Extended.{extended};
-ghost use Rattle.transport.specs.Tableau.{start};
+ghost use Rattle.transport.specs.Problem.{Problem};
+ghost use Rattle.transport.specs.Laws.Sound.{Sound};
 ghost use Rattle.transport.specs.Statements.{Accepted};
-ghost use Rattle.tree.specs.Layout.{nodeRoom};
-ghost use Rattle.rounds.specs.Begun.{Begun};
-ghost use Rattle.solving.specs.Stored.{SolveStored};
+ghost use Rattle.pricing.specs.Costs.{Costed};
+ghost use Rattle.solving.specs.Stored.{ProblemSolved, SolveStored};
 
-// Lays the first tableau of a sheet that passed its check out over the arrays, with the sheet's costs by column; gives how many columns the tableau has.
-fn begin_sheet(
-    supply: &[u64],
-    demand: &[u64],
-    cost: &[i64],
-    spread: &mut [Price; LANES],
+// Solves the problem of the parties left, whose costs lie by column, from its first tableau on: the rounds made. The bags of its settled plan then lie on
+// their lanes, with the prices of the finished tableau.
+fn solve_problem(
+    supplies: &[u64],
+    demands: &[u64],
+    cost: &[Price; LANES],
     q: &mut [i64; LANES],
-    e: &mut [i64; LANES],
-    leaf: &mut [usize; NODES],
-    other: &mut [usize; NODES],
-    lane: &mut [usize; NODES],
-) -> usize
-    requires { ⌜ Accepted (sheetOf (now supply) (now demand) (now cost)) ⌝ }
-    requires { ⌜ (length (now leaf) ≡ nodeRoom) × (length (now other) ≡ nodeRoom) × (length (now lane) ≡ nodeRoom) ⌝ }
-    ensures { λ r.
-        let S = sheetOf (now (supply .entry)) (now (demand .entry)) (now (cost .entry)) in
-        ⌜
-        Begun (extended S) (start (extended S)) (now (q .exit)) (now (e .exit)) (now (spread .exit))
-        (now (leaf .exit)) (now (other .exit)) (now (lane .exit)) (length (now (supply .entry))) r
+    price: &mut [Price; NODES],
+) -> u64
+    requires { ⌜ ((P : Problem) × Sound P × (now supplies ≡ P .supply) × (now demands ≡ P .demand) × Costed P (now cost)) ⌝ }
+    ensures { λ r. ⌜
+        ((P : Problem) → Sound P → now (supplies .entry) ≡ P .supply → now (demands .entry) ≡ P .demand → Costed P (now (cost .entry))
+        → ProblemSolved P r (now (q .exit)) (now (price .exit)))
         ⌝ }
 {
-    let m = supply.len();
-    let mut columns = [0u64; MAX_SIDE];
-    let n = extend_demands(supply, demand, &mut columns);
-    let first = first_tableau(supply, &columns[..n]);
-    lay_out(first, m, n, q, e, leaf, other, lane);
-    spread_costs(cost, m, demand.len(), spread);
-    n
+    let m = supplies.len();
+    let n = demands.len();
+    let mut e = [0i64; LANES];
+    let mut leaf = [0usize; NODES];
+    let mut other = [0usize; NODES];
+    let mut lane = [0usize; NODES];
+    let first = first_tableau(supplies, demands);
+    lay_out(first, m, n, q, &mut e, &mut leaf, &mut other, &mut lane);
+    let rounds = finish(q, &mut e, cost, &leaf, &other, &mut lane, m, n, price);
+    settle_board(&lane, q, cost, price, m, n);
+    rounds
 }
 
 // Solves a sheet that passed its check, from its first tableau on: the rounds made. Prices and plan then stand in their lists.
@@ -71,41 +68,34 @@ pub fn solve_checked(
         let S = sheetOf (now (supply .entry)) (now (demand .entry)) (now (cost .entry)) in
         ⌜ SolveStored S r (now (u .entry)) (now (u .exit)) (now (v .entry)) (now (v .exit)) (now (plan .entry)) (now (plan .exit)) ⌝ }
 {
-    let m = supply.len();
-    let cafes = demand.len();
-    let mut lane_cost: [Price; LANES] = [0; LANES];
-    let mut q = [0i64; LANES];
-    let mut e = [0i64; LANES];
-    let mut leaf = [0usize; NODES];
-    let mut other = [0usize; NODES];
-    let mut lane = [0usize; NODES];
-    let n = begin_sheet(
+    let mut supplies = [0u64; MAX_SIDE];
+    let mut demands = [0u64; MAX_SIDE];
+    let mut rows = [0usize; MAX_SIDE];
+    let mut cols = [0usize; MAX_SIDE];
+    let parties = number_parties(
         supply,
         demand,
-        cost,
-        &mut lane_cost,
-        &mut q,
-        &mut e,
-        &mut leaf,
-        &mut other,
-        &mut lane,
+        &mut supplies,
+        &mut demands,
+        &mut rows,
+        &mut cols,
     );
+    let m = parties.rows;
+    let n = parties.columns;
+    let served = parties.cafes;
+    let cafes = demand.len();
+    let mut lane_cost: [Price; LANES] = [0; LANES];
+    spread_costs(cost, cafes, &rows[..m], &cols[..served], &mut lane_cost);
+    let mut q = [0i64; LANES];
     let mut price: [Price; NODES] = [0; NODES];
-    let rounds = finish(
-        &mut q,
-        &mut e,
+    let rounds = solve_problem(
+        &supplies[..m],
+        &demands[..n],
         &lane_cost,
-        &leaf,
-        &other,
-        &mut lane,
-        m,
-        n,
+        &mut q,
         &mut price,
     );
-    write_prices(&price, 0, m, u);
-    write_prices(&price, m, cafes, v);
-    let mut adj = [0u64; NODES];
-    draw(&lane, m, m + n - 1, &mut adj);
-    settle_board(&adj, &mut q, &lane_cost, &price, plan, m, n, cafes);
+    write_prices(supply, demand, cost, &rows[..m], &cols[..n], &price, u, v);
+    store_plan(&q, &rows[..m], &cols[..served], supply.len(), cafes, plan);
     rounds
 }

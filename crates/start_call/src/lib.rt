@@ -5,8 +5,9 @@ ghost use Rattle.transport.specs.Calls.{startCall};
 ghost use Rattle.transport.specs.Answers.{startAnswer};
 use dealing::corner::first_tableau;
 use dealing::tableau::empty_tableau;
+use numbering::own_tableau;
 use sheet::SheetCheck;
-use sheet::extended::extend_demands;
+use sheet::parties::number_parties;
 use transport::MAX_SIDE;
 use transport::StartAnswer;
 use transport::StartOutcome;
@@ -24,10 +25,25 @@ pub fn start(supply: &[u64], demand: &[u64], cost: &[i64]) -> StartAnswer
             tableau: empty_tableau(),
         };
     }
-    let mut columns = [0u64; MAX_SIDE];
-    let n = extend_demands(supply, demand, &mut columns);
+    let mut supplies = [0u64; MAX_SIDE];
+    let mut demands = [0u64; MAX_SIDE];
+    let mut rows = [0usize; MAX_SIDE];
+    let mut cols = [0usize; MAX_SIDE];
+    let parties = number_parties(
+        supply,
+        demand,
+        &mut supplies,
+        &mut demands,
+        &mut rows,
+        &mut cols,
+    );
+    let m = parties.rows;
+    let n = parties.columns;
+    let first = first_tableau(&supplies[..m], &demands[..n]);
+    // A name of its own, so that a program that forgets the parties' own numbers is an operand away.
+    let own = own_tableau(first, &rows[..m], &cols[..n]);
     StartAnswer {
         outcome: StartOutcome::Started,
-        tableau: first_tableau(supply, &columns[..n]),
+        tableau: own,
     }
 }

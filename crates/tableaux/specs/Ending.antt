@@ -127,7 +127,7 @@ module _ {P : Problem} (ok : Sound P) where
   after-belongs (suc k) T w h = after-belongs k (next P T) (next-belongs w (h 0 (omega arith))) (λ g l. h (suc g) (omega arith))
 
   -- .. and so the last tableau of every run does.
-  run-belongs : (k : ℕ) (T : List Cell) → Belongs P T → Belongs P (run P k T .tableau)
+  pub run-belongs : (k : ℕ) (T : List Cell) → Belongs P T → Belongs P (run P k T .tableau)
   run-belongs k T w = ⊎-elim
       (λ (h, l, r). rw (run-reached P h k T l r) (after-belongs h T w (r .before)))
       (λ none. rw (run-spent P k T none) (after-belongs k T w (λ h l. none h (omega arith))))

@@ -119,7 +119,7 @@ module _ {m n : ℕ} {B : List Lane} (p : 1 ≤ m) (h : Fits m n B) (e : spans m
   potential-any {ss} w = potential-only (potentialBy cost ss) (potential-off cost ss 0 (root-no-leaf (w .peels))) (struck-tight w cost)
 
   -- After m + n − 1 assignments none passes m + n − 1 times the greatest cost.
-  potential-size : (C : ℕ) → ((l : Lane) → List·Memᴰ l B → natAbs (cost l) ≤ C) → (k : ℕ) → natAbs (solution k) ≤ basisSize m n * C
+  pub potential-size : (C : ℕ) → ((l : Lane) → List·Memᴰ l B → natAbs (cost l) ≤ C) → (k : ℕ) → natAbs (solution k) ≤ basisSize m n * C
   unfolding basisSize
   potential-size C c k =
       let count : length (strikes m n B) ≡ m + n - 1 = omega (arith, struck-of p h e .size) in

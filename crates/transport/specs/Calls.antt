@@ -1,18 +1,19 @@
--- What each call on tableaux and plans gives, or why it refuses (paper 01, "Calls and their refusals"; paper 02, One: a tableau is of the extended
--- problem, with the extra café as its last column; prices and plans are of the sheet alone). The calls on texts stand in SheetText and PlanText.
+-- What each call on tableaux and plans gives, or why it refuses (paper 01, "Calls and their refusals"; paper 02, One and Four: rounds are of the problem of the
+-- parties left, an extra café among them; tableaux that are given and taken have the parties' own numbers; prices and plans are of the sheet alone). The calls
+-- on texts stand in SheetText and PlanText.
 use mathlib.Core.Bool.{Bool, true, false, not, _||_}
 use mathlib.Core.List.{List, [], _∷_, _++_}
 use mathlib.Core.Option.{Option, none, some}
-use Prim.Native.Nat.{ℕ, _+_, _*_}
+use Prim.Native.Nat.{ℕ, _*_}
 use lib.Dec.{ltb}
 use lib.IntN.{ℤ}
 use lib.ListN.{length, drop}
-use Rattle.transport.specs.Lists.{table}
 use Rattle.transport.specs.Sheet.{Sheet, roasteries, cafes, sheetTests, refusal}
 use Rattle.transport.specs.Extended.{extended}
+use Rattle.transport.specs.Parties.{problemOf}
 use Rattle.transport.specs.Tableau.{Cell, Tableau, cellsOf, start}
-use Rattle.transport.specs.Belonging.{belongs}
-use Rattle.transport.specs.Potential.{potential, sourcePrices, isFinished}
+use Rattle.transport.specs.OwnNumbers.{own, renumbered, belongsTo, roasteryPrices, cafePrices}
+use Rattle.transport.specs.Potential.{isFinished}
 use Rattle.transport.specs.Round.{next, Run, run, roundBound}
 use Rattle.transport.specs.Plan.{planCost, settled}
 
@@ -41,20 +42,20 @@ unfoldable pub lentAfter : {A B : Type 0} → (A → List B) → Answer A → Li
 lentAfter part (refused r) old = old
 lentAfter part (given x) old = part x ++ drop (length (part x)) old
 
--- 6: the tableau doesn't belong to the sheet, that is, to its extended problem.
+-- 6: the tableau doesn't belong to the sheet.
 unfoldable pub tableauTests : Sheet → Tableau → List (Bool × ℕ)
-tableauTests S t = sheetTests S ++ ((not (belongs (extended S) t), 6) ∷ [])
+tableauTests S t = sheetTests S ++ ((not (belongsTo (extended S) t), 6) ∷ [])
+
+-- Inside a call: the tableau of the parties left that a caller handed over.
+unfoldable pub inside : Sheet → Tableau → List Cell
+inside S t = renumbered (extended S) (cellsOf t)
 
 -- 8: a lent list, or the output, is too short.
 unfoldable pub tooShort : ℕ → ℕ → Bool
 tooShort room needed = ltb room needed
 
 unfoldable pub startCall : Sheet → Answer (List Cell)
-startCall S = unless (sheetTests S) (start (extended S))
-
--- The prices v that are given: those of the cafés of the sheet, without the extra one.
-unfoldable pub cafePrices : Sheet → List Cell → List ℤ
-cafePrices S T = table (cafes S) (λ j. potential (extended S) T (roasteries S + j))
+startCall S = unless (sheetTests S) (own (extended S) (start (problemOf S)))
 
 -- A round gives the next tableau, or `finished` with the prices u and v.
 pub data Round : Type 0 where
@@ -62,23 +63,29 @@ pub data Round : Type 0 where
   moved : List Cell → Round
 
 unfoldable pub round : Sheet → List Cell → Round
-round S T = elim (isFinished (extended S) T) [
-  | true ↦ finished (sourcePrices (extended S) T) (cafePrices S T)
-  | false ↦ moved (next (extended S) T)
+round S T = elim (isFinished (problemOf S) T) [
+  | true ↦ finished (roasteryPrices S T) (cafePrices S T)
+  | false ↦ moved (own (extended S) (next (problemOf S) T))
 ]
 
 unfoldable pub roundCall : Sheet → Tableau → Answer Round
-roundCall S t = unless (tableauTests S t) (round S (cellsOf t))
+roundCall S t = unless (tableauTests S t) (round S (inside S t))
+
+-- A run, its last tableau under the parties' own numbers.
+unfoldable pub runFrom : Sheet → ℕ → List Cell → Run
+runFrom S allowance T =
+    let r = run (problemOf S) allowance T in
+    record { finished = r .finished; tableau = own (extended S) (r .tableau); rounds = r .rounds }
 
 unfoldable pub runCall : Sheet → Tableau → ℕ → Answer Run
-runCall S t allowance = unless (tableauTests S t) (run (extended S) allowance (cellsOf t))
+runCall S t allowance = unless (tableauTests S t) (runFrom S allowance (inside S t))
 
 -- 7: the tableau is not finished. `room` is the length of the lent list.
 unfoldable pub settleCall : Sheet → Tableau → ℕ → Answer (List ℕ)
 settleCall S t room =
     unless
     (tableauTests S t
-    ++ ((not (isFinished (extended S) (cellsOf t)), 7)
+    ++ ((not (isFinished (problemOf S) (inside S t)), 7)
     ∷ (tooShort room (roasteries S * cafes S), 8)
     ∷ []))
     (settled S)
@@ -91,22 +98,22 @@ pub record Solution : Type 0 where
   pub v : List ℤ
   pub plan : List ℕ
 
--- From a tableau on ..
+-- From a tableau of the parties left on ..
 unfoldable pub solutionFrom : Sheet → List Cell → Solution
 solutionFrom S T =
-    let r = run (extended S) (roundBound (extended S)) T in
+    let r = run (problemOf S) (roundBound (problemOf S)) T in
     let x = settled S in
     record {
       cost = planCost S x;
       rounds = r .rounds;
-      u = sourcePrices (extended S) (r .tableau);
+      u = roasteryPrices S (r .tableau);
       v = cafePrices S (r .tableau);
       plan = x;
     }
 
 -- .. and from the start.
 unfoldable pub solution : Sheet → Solution
-solution S = solutionFrom S (start (extended S))
+solution S = solutionFrom S (start (problemOf S))
 
 -- The rooms are the lengths of the lent lists for u, v and the plan.
 unfoldable pub solveCall : Sheet → ℕ → ℕ → ℕ → Answer Solution

@@ -1,4 +1,4 @@
--- The balanced problem behind a sheet (paper 02, One): in a tableau an extra last café takes what supply is above demand, at cost 0, and stands at the end of
+-- The extended problem of a sheet (paper 02, One): in a tableau an extra last café takes what supply is above demand, at cost 0, and stands at the end of
 -- each row. A sheet of equal totals has no extra café.
 use mathlib.Core.Bool.{cond}
 use mathlib.Core.List.{List, [], _∷_, _++_}

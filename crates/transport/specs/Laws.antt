@@ -6,6 +6,8 @@ pub mod ProblemLaws
 pub mod RoundLaws
 pub mod SheetLaws
 pub mod ExtendedLaws
+pub mod PartiesLaws
+pub mod OwnLaws
 pub mod Sound
 pub mod CallLaws
 pub mod PlanLaws

@@ -3,11 +3,13 @@ pub mod Limits
 pub mod Problem
 pub mod Sheet
 pub mod Extended
+pub mod Parties
 pub mod Amount
 pub mod Tableau
 pub mod Leaf
 pub mod Belonging
 pub mod Potential
+pub mod OwnNumbers
 pub mod Round
 pub mod Plan
 pub mod Calls

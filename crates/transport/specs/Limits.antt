@@ -13,7 +13,7 @@ maxSinks = 32
 unfoldable pub maxSide : ℕ
 maxSide = 32
 
--- A supply or demand: 1 to 1,000,000 bags.
+-- A supply or demand: 0 to 1,000,000 bags (02, Four).
 unfoldable pub maxAmount : ℕ
 maxAmount = 1_000_000
 

@@ -4,7 +4,7 @@ use mathlib.Core.List.{List, [], _∷_, _++_, flatMap}
 use Prim.Native.Nat.{ℕ, zero, suc, _+_, _-_}
 use lib.Dec.{leb}
 use lib.IntN.{ℤ, pos, _+ℤ_}
-use lib.Signed.{leZ}
+use lib.Signed.{leZ, ltZ}
 use lib.ListN.{length, getD, replicate}
 
 module _ {A : Type 0} where
@@ -69,6 +69,13 @@ atZ xs k = getD xs k (pos 0)
 
 unfoldable pub total : List ℕ → ℕ
 total xs = sumTo (length xs) (at xs)
+
+-- The least number of a list that is not empty.
+unfoldable pub leastOf : List ℤ → ℤ
+leastOf zs = firstLeast ltZ (pos 0) zs
+
+unfoldable pub atMost : ℕ → ℕ → Bool
+atMost high x = leb x high
 
 unfoldable pub within : ℕ → ℕ → ℕ → Bool
 within low high x = leb low x && leb x high

@@ -1,4 +1,4 @@
--- The samples of paper 01, P1 to P9, its text samples and its worked text, those of paper 02, One to Three, and a sample for each trap that these leave open,
+-- The samples of paper 01, P1 to P9, its text samples and its worked text, those of paper 02, One to Four, and a sample for each trap that these leave open,
 -- as one theorem over the definitions.
 mod Open
 use mathlib.Core.Path.{_≡_, refl}
@@ -136,6 +136,39 @@ readCost c = readSheetCall (withCost c) 32 32 1024
 abbrev stuckAt : ℕ → Answer Sheet
 stuckAt p = refused (record { number = 9; position = some p })
 
+-- Four: P1's sheet with a closed café between its two ..
+abbrev sheetClosed : Sheet
+sheetClosed = record { supply = 3 ∷ 4 ∷ []; demand = 5 ∷ 0 ∷ 2 ∷ []; cost = priced (4 ∷ 7 ∷ 1 ∷ 2 ∷ 3 ∷ 6 ∷ []) }
+
+abbrev startClosed : List Cell
+startClosed = cell 1 1 (pos 3) (pos 1) ∷ cell 2 1 (pos 2) (negsuc 0) ∷ cell 2 3 (pos 2) (pos 2) ∷ []
+
+abbrev nextClosed : List Cell
+nextClosed = cell 1 1 (pos 1) (negsuc 0) ∷ cell 1 3 (pos 2) (pos 2) ∷ cell 2 1 (pos 4) (pos 1) ∷ []
+
+-- .. with an empty first roastery too, from which the closed café would be the cheapest ..
+abbrev sheetEmpty : Sheet
+sheetEmpty = record { supply = 0 ∷ 3 ∷ 4 ∷ []; demand = 5 ∷ 0 ∷ 2 ∷ []; cost = priced (9 ∷ 1 ∷ 9 ∷ 4 ∷ 7 ∷ 1 ∷ 2 ∷ 3 ∷ 6 ∷ []) }
+
+-- .. with the last café closed ..
+abbrev sheetLastClosed : Sheet
+sheetLastClosed = record { supply = 3 ∷ 4 ∷ []; demand = 5 ∷ 2 ∷ 0 ∷ []; cost = priced (4 ∷ 1 ∷ 5 ∷ 2 ∷ 6 ∷ 8 ∷ []) }
+
+-- .. sheetDear with its last café closed, and with its first roastery empty ..
+abbrev sheetDearClosed : Sheet
+sheetDearClosed = record { supply = 3 ∷ 3 ∷ []; demand = 4 ∷ 0 ∷ []; cost = priced (5 ∷ 2 ∷ 1 ∷ 2 ∷ []) }
+
+abbrev sheetDearEmpty : Sheet
+sheetDearEmpty = record { supply = 0 ∷ 3 ∷ 3 ∷ []; demand = 4 ∷ []; cost = priced (9 ∷ 5 ∷ 1 ∷ []) }
+
+-- .. all closed but one lane ..
+abbrev sheetOneLeft : Sheet
+sheetOneLeft = record { supply = 0 ∷ 2 ∷ 0 ∷ []; demand = 0 ∷ 2 ∷ []; cost = priced (1 ∷ 2 ∷ 3 ∷ 4 ∷ 5 ∷ 6 ∷ []) }
+
+-- .. and one roastery with so many bags, 31 cafés with one bag each, and a closed one.
+abbrev sheetWideClosed : ℕ → Sheet
+sheetWideClosed s = record { supply = s ∷ []; demand = replicate 31 1 ++ (0 ∷ []); cost = replicate 32 (pos 1) }
+
 abbrev samples : List Sample
 samples =
     -- P1
@@ -161,9 +194,9 @@ samples =
     -- P7
     ∷ (solveCall (oneLane 1_000_000 1_000_000 (pos 1_000_000)) 1 1 1 is given (record { cost = pos 1_000_000_000_000; rounds = 0; u = pos 0 ∷ []; v = pos 1_000_000 ∷ []; plan = 1_000_000 ∷ [] }))
     ∷ (solveCall (oneLane 1_000_000 1_000_000 (pos 1_000_001)) 1 1 1 is refusedBy 4)
-    -- P8: the first sheet is accepted since One
+    -- P8: the first sheet is accepted since One, and the second lacks bags since Four
     ∷ (solveCall (oneLane 3 2 (pos 0)) 1 1 1 is given (record { cost = pos 0; rounds = 0; u = pos 0 ∷ []; v = pos 0 ∷ []; plan = 2 ∷ [] }))
-    ∷ (solveCall (oneLane 0 2 (pos 0)) 1 1 1 is refusedBy 3)
+    ∷ (solveCall (oneLane 0 2 (pos 0)) 1 1 1 is refusedBy 5)
     -- P9
     ∷ (roundCall sheet3 (tableauOf (cell 1 1 (pos 5) (pos 0) ∷ cell 1 2 (pos 0) (pos 0) ∷ cell 2 2 (pos 5) (pos 1) ∷ [])) is refusedBy 6)
     ∷ (settleCall sheet1 (tableauOf start1) 4 is refusedBy 7)
@@ -237,6 +270,37 @@ samples =
     ∷ (wholeLine (belowZero 9_223_372_036_854_775_808) is bytes "-9223372036854775808\n")
     ∷ (wholeLine (pos 9_223_372_036_854_775_807) is bytes "9223372036854775807\n")
     ∷ (numberLine 18_446_744_073_709_551_615 is bytes "18446744073709551615\n")
+    -- Four: tableaux have the parties' own numbers, and a closed café its price: 7 − 0 or 3 + 2
+    ∷ (startCall sheetClosed is given startClosed)
+    ∷ (roundCall sheetClosed (tableauOf startClosed) is given (moved nextClosed))
+    ∷ (roundCall sheetClosed (tableauOf nextClosed) is given (finished (pos 0 ∷ negsuc 1 ∷ []) (pos 4 ∷ pos 5 ∷ pos 1 ∷ [])))
+    ∷ (runCall sheetClosed (tableauOf startClosed) 1 is given (record { finished = true; tableau = nextClosed; rounds = 1 }))
+    ∷ (settleCall sheetClosed (tableauOf nextClosed) 6 is given (1 ∷ 0 ∷ 2 ∷ 4 ∷ 0 ∷ 0 ∷ []))
+    ∷ (solveCall sheetClosed 2 3 6 is given (record { cost = pos 14; rounds = 1; u = pos 0 ∷ negsuc 1 ∷ []; v = pos 4 ∷ pos 5 ∷ pos 1 ∷ []; plan = 1 ∷ 0 ∷ 2 ∷ 4 ∷ 0 ∷ 0 ∷ [] }))
+    ∷ (printed (bytes "supply 2\n3\n4\ndemand 3\n5\n0\n2\ncost 2\n4 7 1\n2 3 6\n") is bytes "total 1\n14\nrounds 1\n1\nroasteries 2\n0\n-2\ncafes 3\n4\n5\n1\nlanes 3\n1 1 1\n1 3 2\n2 1 4\n")
+    -- a cell at a closed café, P1's numbers, or a cell more: 6
+    ∷ (roundCall sheetClosed (tableauOf (cell 1 1 (pos 3) (pos 1) ∷ cell 2 1 (pos 2) (negsuc 0) ∷ cell 2 2 (pos 2) (pos 2) ∷ [])) is refusedBy 6)
+    ∷ (roundCall sheetClosed (tableauOf (startClosed ++ (cell 3 3 (pos 1) (pos 0) ∷ []))) is refusedBy 6)
+    -- the first roastery left has price 0; the empty one's is the least over all cafés: 9 − 4, 1 − 5 at the closed one, or 9 − 1
+    ∷ (startCall sheetEmpty is given (cell 2 1 (pos 3) (pos 1) ∷ cell 3 1 (pos 2) (negsuc 0) ∷ cell 3 3 (pos 2) (pos 2) ∷ []))
+    ∷ (solveCall sheetEmpty 3 3 9 is given (record { cost = pos 14; rounds = 1; u = belowZero 4 ∷ pos 0 ∷ belowZero 2 ∷ []; v = pos 4 ∷ pos 5 ∷ pos 1 ∷ []; plan = 0 ∷ 0 ∷ 0 ∷ 1 ∷ 0 ∷ 2 ∷ 4 ∷ 0 ∷ 0 ∷ [] }))
+    -- the marks of the last café left; those of the extra café, which stays the last column; its price in the empty roastery's: 9 − 5, or 0 − 0
+    ∷ (startCall sheetLastClosed is given start1)
+    ∷ (solveCall sheetLastClosed 2 3 6 is given (record { cost = pos 14; rounds = 1; u = pos 0 ∷ negsuc 1 ∷ []; v = pos 4 ∷ pos 1 ∷ pos 5 ∷ []; plan = 1 ∷ 2 ∷ 0 ∷ 4 ∷ 0 ∷ 0 ∷ [] }))
+    ∷ (startCall sheetDearClosed is given (cell 1 1 (pos 3) (pos 1) ∷ cell 2 1 (pos 1) (negsuc 0) ∷ cell 2 3 (pos 2) (pos 2) ∷ []))
+    ∷ (solveCall sheetDearClosed 2 2 4 is given (record { cost = pos 8; rounds = 1; u = pos 0 ∷ negsuc 3 ∷ []; v = pos 5 ∷ pos 2 ∷ []; plan = 1 ∷ 0 ∷ 3 ∷ 0 ∷ [] }))
+    ∷ (solveCall sheetDearEmpty 3 1 3 is given (record { cost = pos 8; rounds = 1; u = pos 0 ∷ pos 0 ∷ negsuc 3 ∷ []; v = pos 5 ∷ []; plan = 0 ∷ 1 ∷ 3 ∷ [] }))
+    -- one lane left, and nobody
+    ∷ (startCall sheetOneLeft is given (cell 2 2 (pos 2) (pos 1) ∷ []))
+    ∷ (solveCall sheetOneLeft 3 2 6 is given (record { cost = pos 8; rounds = 0; u = belowZero 2 ∷ pos 0 ∷ pos 2 ∷ []; v = pos 3 ∷ pos 4 ∷ []; plan = 0 ∷ 0 ∷ 0 ∷ 2 ∷ 0 ∷ 0 ∷ [] }))
+    ∷ (solveCall (oneLane 0 0 (pos 0)) 1 1 1 is refusedBy 11)
+    ∷ (solveCall (oneLane 3 0 (pos 0)) 1 1 1 is refusedBy 11)
+    ∷ (readSheetCall (bytes "supply 1\n3\ndemand 1\n0\ncost 1\n7\n") 1 1 1 is refusedBy 11)
+    ∷ (printed (bytes "supply 1\n0\ndemand 1\n0\ncost 1\n7\n") is bytes "refused 11\n")
+    ∷ (solveCall (oneLane 1_000_001 0 (pos 0)) 1 1 1 is refusedBy 3)
+    -- 10 counts closed cafés, and comes before 11
+    ∷ (solveCall (sheetWideClosed 40) 1 32 32 is refusedBy 10)
+    ∷ (solveCall (record { supply = 1 ∷ []; demand = replicate 32 0; cost = replicate 32 (pos 0) }) 1 32 32 is refusedBy 10)
     -- traps: the least reduced cost enters, and not the first negative one; a count beyond the array does not belong
     ∷ (entering (extended sheet10) (start (extended sheet10)) is lane 1 3)
     ∷ (roundCall sheet1 (record { cells = tableauOf start1 .cells; count = 64 }) is refusedBy 6)
@@ -244,4 +308,4 @@ samples =
 
 pub samples-hold : Hold samples
 unfolding opened
-samples-hold = (refl, (refl, (refl, (refl, (refl, (refl, (refl, (refl, (refl, (refl, (refl, (refl, (refl, (refl, (refl, (refl, (refl, (refl, (refl, (refl, (refl, (refl, (refl, (refl, (refl, (refl, (refl, (refl, (refl, (refl, (refl, (refl, (refl, (refl, (refl, (refl, (refl, (refl, (refl, (refl, (refl, (refl, (refl, (refl, (refl, (refl, (refl, (refl, (refl, (refl, (refl, (refl, (refl, (refl, (refl, (refl, (refl, (refl, (refl, (refl, (refl, (refl, (refl, (refl, (refl, (refl, (refl, (refl, (refl, (refl, (refl, (refl, (refl, (refl, (refl, (refl, (refl, (refl, (refl, (refl, (refl, (refl, (refl, tt)))))))))))))))))))))))))))))))))))))))))))))))))))))))))))))))))))))))))))))))))))
+samples-hold = (refl, (refl, (refl, (refl, (refl, (refl, (refl, (refl, (refl, (refl, (refl, (refl, (refl, (refl, (refl, (refl, (refl, (refl, (refl, (refl, (refl, (refl, (refl, (refl, (refl, (refl, (refl, (refl, (refl, (refl, (refl, (refl, (refl, (refl, (refl, (refl, (refl, (refl, (refl, (refl, (refl, (refl, (refl, (refl, (refl, (refl, (refl, (refl, (refl, (refl, (refl, (refl, (refl, (refl, (refl, (refl, (refl, (refl, (refl, (refl, (refl, (refl, (refl, (refl, (refl, (refl, (refl, (refl, (refl, (refl, (refl, (refl, (refl, (refl, (refl, (refl, (refl, (refl, (refl, (refl, (refl, (refl, (refl, (refl, (refl, (refl, (refl, (refl, (refl, (refl, (refl, (refl, (refl, (refl, (refl, (refl, (refl, (refl, (refl, (refl, (refl, (refl, (refl, (refl, (refl, (refl, (refl, (refl, tt))))))))))))))))))))))))))))))))))))))))))))))))))))))))))))))))))))))))))))))))))))))))))))))))))))))))))))

@@ -1,4 +1,4 @@
--- The sheet and the sheet check (paper 01, "The sheet", and the second paragraph of "Calls and their refusals"; paper 02, One and Two).
+-- The sheet and the sheet check (paper 01, "The sheet", and the second paragraph of "Calls and their refusals"; paper 02, One, Two and Four).
 use mathlib.Core.Bool.{Bool, true, false, not, _&&_}
 use mathlib.Core.List.{List, [], _∷_}
 use mathlib.Core.Option.{Option, none, some}
@@ -6,11 +6,11 @@ use Prim.Native.Nat.{ℕ, _*_}
 use lib.Dec.{eqb, ltb}
 use lib.IntN.{ℤ, pos, negℤ}
 use lib.ListN.{length}
-use Rattle.transport.specs.Lists.{all, total, within, withinZ}
+use Rattle.transport.specs.Lists.{all, total, atMost, within, withinZ}
 use Rattle.transport.specs.Limits.{maxSources, maxSinks, maxSide, maxAmount, maxCost}
 
 -- What a customer hands in: a supply for each roastery, a demand for each café, both in bags, and a cost for each lane, in cents a bag and in sheet order.
--- A lane that earns money has a negative cost (02, Two).
+-- A lane that earns money has a negative cost (02, Two), and whoever has or wants nothing an amount of 0 (02, Four).
 pub record Sheet : Type 0 where
   pub supply : List ℕ
   pub demand : List ℕ
@@ -38,9 +38,9 @@ badSides S = (not (within 1 maxSources (roasteries S) && within 1 maxSinks (cafe
 unfoldable pub badLength : Sheet → Bool × ℕ
 badLength S = (not (eqb (length (S .cost)) (roasteries S * cafes S)), 2)
 
--- 3: some supply or demand is outside 1 to 1,000,000.
+-- 3 (02, Four): some supply or demand is above 1,000,000.
 unfoldable pub badAmount : Sheet → Bool × ℕ
-badAmount S = (not (all (within 1 maxAmount) (S .supply) && all (within 1 maxAmount) (S .demand)), 3)
+badAmount S = (not (all (atMost maxAmount) (S .supply) && all (atMost maxAmount) (S .demand)), 3)
 
 -- 4 (02, Two): some cost is outside −1,000,000 to 1,000,000.
 unfoldable pub badCost : Sheet → Bool × ℕ
@@ -54,9 +54,13 @@ lacking S = (ltb (total (S .supply)) (total (S .demand)), 5)
 unfoldable pub crowded : Sheet → Bool × ℕ
 crowded S = (ltb (total (S .demand)) (total (S .supply)) && eqb (cafes S) maxSide, 10)
 
--- 3, 4, 5 and 10, which a sheet read from a text is still tested for.
+-- 11 (02, Four): total demand is 0.
+unfoldable pub idle : Sheet → Bool × ℕ
+idle S = (eqb (total (S .demand)) 0, 11)
+
+-- 3, 4, 5, 10 and 11, which a sheet read from a text is still tested for.
 unfoldable pub numberTests : Sheet → List (Bool × ℕ)
-numberTests S = badAmount S ∷ badCost S ∷ lacking S ∷ crowded S ∷ []
+numberTests S = badAmount S ∷ badCost S ∷ lacking S ∷ crowded S ∷ idle S ∷ []
 
 unfoldable pub sheetTests : Sheet → List (Bool × ℕ)
 sheetTests S = badSides S ∷ badLength S ∷ numberTests S

@@ -8,12 +8,15 @@
 --   MeetsExactly             on a balanced sheet exactly the plans that meet it: reduction/Balanced.meets-exactly
 --   Belongs                  exactly the cells that the test lets pass: tableaux/Belonging.belongs-iff
 --                            the start, and the next tableau: tableaux/Starting.start-belongs, tableaux/Ending.next-belongs
+--   BelongsTo                exactly the cells under own numbers that the test of the calls lets pass: reduction/OwnBelonging.belongsTo-iff
+--                            the start and the next tableau as calls give them: reduction/OwnBelonging.start-belongsTo, next-belongsTo
 --   OnlyPrices               the definition's potentials, and the prices that calls give: tableaux/Prices.only-prices, listed-prices
 --   OneLoop                  the definition's signs: tableaux/Loop.one-loop
 --   OneStep                  the definition's leaving cell: tableaux/Pivoting.one-step
 --   FirstFinished            there is one, from the start on: tableaux/Ending.start-ends
 --   Best                     the definition's solution: demands/Demand3.solution-best
 --   Certified                the definition's solution, by the prices that calls give: demands/Certificate.solution-certified
+--   PricesWithin             the prices that calls give, of any tableau that belongs: demands/GivenPrices.given-within
 --   RunOf                    the definition's run: tableaux/Running.run-of
 --   FromFirstFinished        the definition's solution: demands/Demand3.solution-finished
 --   Bought                   stands in the contract of solve; by demands/Bought.bought
@@ -25,7 +28,7 @@ use mathlib.Core.Path.{_≡_}
 use mathlib.Core.Logic.{_↔_, _⊎_}
 use mathlib.Core.Bool.{Bool, true, false, cond}
 use mathlib.Core.List.{List, [], _∷_, map, List·Memᴰ}
-use Prim.Native.Nat.{ℕ, zero, suc, _*_, _^_, _≤_, _<_}
+use Prim.Native.Nat.{ℕ, zero, suc, _+_, _*_, _^_, _≤_, _<_}
 use lib.IntN.{ℤ, pos, negsuc, natAbs, negℤ, _+ℤ_, _*ℤ_}
 use lib.Signed.{_≤ℤ_}
 use lib.ListN.{length, take, drop, getD}
@@ -35,15 +38,16 @@ use Rattle.transport.specs.Lists.{sumTo, at, atZ, total, within}
 use Rattle.transport.specs.Limits.{maxSources, maxSinks, maxSide, maxAmount, maxCost, maxDigits}
 use Rattle.transport.specs.Problem.{Problem, sources, sinks, Lane, place, laneCost}
 use Rattle.transport.specs.Sheet.{Sheet, roasteries, cafes}
-use Rattle.transport.specs.Extended.{extended}
+use Rattle.transport.specs.Parties.{rowsLeft, columnsLeft, problemOf}
 use Rattle.transport.specs.Amount.{less, nothing, pairedSupply, pairedDemand}
 use Rattle.transport.specs.Tableau.{Cell, noCell, basisSize, laneOf, basisOf, sameLane, start}
 use Rattle.transport.specs.Leaf.{strikes}
 use Rattle.transport.specs.Belonging.{rowTotal, columnTotal}
-use Rattle.transport.specs.Potential.{sourcePrices, isFinished}
+use Rattle.transport.specs.Potential.{isFinished}
+use Rattle.transport.specs.OwnNumbers.{roasteryPrices, cafePrices}
 use Rattle.transport.specs.Round.{sign, leaving, next, Run}
 use Rattle.transport.specs.Plan.{planCost}
-use Rattle.transport.specs.Calls.{Answer, given, cafePrices, Solution}
+use Rattle.transport.specs.Calls.{Answer, given, Solution}
 use Rattle.transport.specs.SheetText.{sheetText}
 
 -- ---- sheets
@@ -55,9 +59,7 @@ pub record WithinLimits (S : Sheet) : Type 0 where
   pub cafesLow : 1 ≤ cafes S
   pub cafesHigh : cafes S ≤ maxSinks
   pub costLength : length (S .cost) ≡ roasteries S * cafes S
-  pub supplyLow : (i : ℕ) → i < roasteries S → 1 ≤ at (S .supply) i
   pub supplyHigh : (i : ℕ) → at (S .supply) i ≤ maxAmount
-  pub demandLow : (j : ℕ) → j < cafes S → 1 ≤ at (S .demand) j
   pub demandHigh : (j : ℕ) → at (S .demand) j ≤ maxAmount
   pub costLow : (l : ℕ) → negℤ (pos maxCost) ≤ℤ atZ (S .cost) l
   pub costHigh : (l : ℕ) → atZ (S .cost) l ≤ℤ pos maxCost
@@ -74,11 +76,16 @@ Lacking S = total (S .supply) < total (S .demand)
 abbrev pub Crowded : Sheet → Type 0
 Crowded S = (total (S .demand) < total (S .supply)) × (cafes S ≡ maxSide)
 
+-- Nothing is wanted (the sheets of 11, but for those that are crowded too).
+abbrev pub Idle : Sheet → Type 0
+Idle S = total (S .demand) ≡ 0
+
 -- The sheet passes the sheet check.
 pub record Accepted (S : Sheet) : Type 0 where
   pub limits : WithinLimits S
   pub enough : ¬ Lacking S
   pub room : ¬ Crowded S
+  pub wanting : ¬ Idle S
 
 -- ---- plans (01, "The sheet"; 02, One)
 
@@ -134,6 +141,36 @@ pub record Belongs (P : Problem) (cells : List Cell) : Type 1 where
   pub above : (k : ℕ) → k < length cells → less nothing (getD cells k noCell .amount) ≡ true
   pub rows : (i : ℕ) → i < sources P → rowTotal cells i ≡ pairedSupply P i
   pub columns : (j : ℕ) → j < sinks P → columnTotal cells j ≡ pairedDemand P j
+
+-- ---- belonging with struck parties (02, Four)
+
+-- The party with this own number is left: it is on its side, and its amount is not 0.
+abbrev pub Left : List ℕ → ℕ → Type 0
+Left amounts k = (k < length amounts) × ¬ (at amounts k ≡ 0)
+
+-- The cells join all parties left: a split of these with no cell across leaves one side empty.
+abbrev pub JoinedLeft : Problem → List Cell → Type 0
+JoinedLeft E cells = (A B : ℕ → Bool) → ((i j : ℕ) → Basic cells i j → A i ≡ B j) → (p : ℕ) → Left (E .supply) p → A p ≡ true
+    → ((i : ℕ) → Left (E .supply) i → A i ≡ true) × ((j : ℕ) → Left (E .demand) j → B j ≡ true)
+
+-- The last column left: the extra café where there is one, and else the last café left.
+pub record LastLeft (E : Problem) (j : ℕ) : Type 0 where
+  pub left : Left (E .demand) j
+  pub last : (h : ℕ) → Left (E .demand) h → h ≤ j
+
+-- The cells belong to the extended problem of a sheet, under the parties' own numbers: one cell fewer than parties left, each between two of these; they join
+-- all parties left, and the marks of the last demand count the roasteries left.
+pub record BelongsTo (E : Problem) (cells : List Cell) : Type 0 where
+  pub count : suc (length cells) ≡ length (rowsLeft E) + length (columnsLeft E)
+  pub covered : (k : ℕ) → k < length cells → Left (E .supply) (getD cells k noCell .row) × Left (E .demand) (getD cells k noCell .col)
+  pub order : (k : ℕ) → suc k < length cells
+      → place (sinks E) (getD cells k noCell .row) (getD cells k noCell .col)
+      < place (sinks E) (getD cells (suc k) noCell .row) (getD cells (suc k) noCell .col)
+  pub joined : JoinedLeft E cells
+  pub above : (k : ℕ) → k < length cells → less nothing (getD cells k noCell .amount) ≡ true
+  pub rows : (i : ℕ) → Left (E .supply) i → rowTotal cells i ≡ record { q = pos (at (E .supply) i); e = pos 1 }
+  pub columns : (j : ℕ) → Left (E .demand) j → ¬ LastLeft E j → columnTotal cells j ≡ record { q = pos (at (E .demand) j); e = pos 0 }
+  pub lastColumn : (j : ℕ) → LastLeft E j → columnTotal cells j ≡ record { q = pos (at (E .demand) j); e = pos (length (rowsLeft E)) }
 
 -- ---- prices (01, "Prices and rounds")
 
@@ -238,15 +275,20 @@ pub record BestExactly (S : Sheet) (plan : List ℕ) (cost : ℤ) : Type 0 where
   pub first : (k : ℕ) (Q : List ℕ) → 1 ≤ k → MeetsExactly S k Q → planCost S Q ≡ (pos k *ℤ cost)
       → (l : ℕ) → FirstDifference (scaled k plan) Q l → at Q l < at (scaled k plan) l
 
--- ---- prices that prove a plan (02, One)
+-- ---- prices that prove a plan (02, One and Four)
 
--- Prices by roastery and by café from which anyone can tell that no plan costs less: no lane costs less than the two of its ends, a lane that carries bags
--- costs just them, and where a roastery keeps bags no other has a greater price.
+-- Prices by roastery and by café, struck ones among them, from which anyone can tell that no plan costs less: no lane costs less than the two of its ends, a
+-- lane that carries bags costs just them, and where a roastery keeps bags no other has a greater price.
 pub record Certified (S : Sheet) (u v : ℕ → ℤ) (plan : List ℕ) : Type 0 where
   pub lanes : (i j : ℕ) → i < roasteries S → j < cafes S → (u i +ℤ v j) ≤ℤ atZ (S .cost) (place (cafes S) i j)
   pub used : (i j : ℕ) → i < roasteries S → j < cafes S → 1 ≤ at plan (place (cafes S) i j) → u i +ℤ v j ≡ atZ (S .cost) (place (cafes S) i j)
   pub kept : (i : ℕ) → i < roasteries S → sumTo (cafes S) (λ j. at plan (place (cafes S) i j)) < at (S .supply) i
       → (h : ℕ) → h < roasteries S → u h ≤ℤ u i
+
+-- No price passes 63,000,000 in size (01, "Prices and rounds"), no struck party's either.
+pub record PricesWithin (S : Sheet) (u v : ℕ → ℤ) : Type 0 where
+  pub rows : (i : ℕ) → i < roasteries S → natAbs (u i) ≤ 63_000_000
+  pub columns : (j : ℕ) → j < cafes S → natAbs (v j) ≤ 63_000_000
 
 -- ---- run and solve (01, "Calls and their refusals")
 
@@ -260,13 +302,13 @@ pub record RunOf (P : Problem) (allowance : ℕ) (cells : List Cell) (r : Run) :
   pub done : (k : ℕ) → k ≤ allowance → FirstFinished P cells k → r ≡ record { finished = true; tableau = after P k cells; rounds = k }
   pub spent : Unfinished P cells allowance → r ≡ record { finished = false; tableau = after P allowance cells; rounds = allowance }
 
--- Solve counts its rounds from the start, and shows the prices of the first finished tableau, but for the extra café's. That tableau belongs to the extended
--- problem.
+-- Solve counts its rounds from the start, and shows the prices of the first finished tableau, with those of struck parties and without the extra café's. That
+-- tableau belongs to the problem of the parties left.
 pub record FromFirstFinished (S : Sheet) (s : Solution) : Type 1 where
-  pub reached : FirstFinished (extended S) (start (extended S)) (s .rounds)
-  pub belongs : Belongs (extended S) (after (extended S) (s .rounds) (start (extended S)))
-  pub u : s .u ≡ sourcePrices (extended S) (after (extended S) (s .rounds) (start (extended S)))
-  pub v : s .v ≡ cafePrices S (after (extended S) (s .rounds) (start (extended S)))
+  pub reached : FirstFinished (problemOf S) (start (problemOf S)) (s .rounds)
+  pub belongs : Belongs (problemOf S) (after (problemOf S) (s .rounds) (start (problemOf S)))
+  pub u : s .u ≡ roasteryPrices S (after (problemOf S) (s .rounds) (start (problemOf S)))
+  pub v : s .v ≡ cafePrices S (after (problemOf S) (s .rounds) (start (problemOf S)))
 
 -- The lists lent to solve are long enough for m and n prices and m × n quantities.
 pub record LongEnough (S : Sheet) (uRoom vRoom planRoom : ℕ) : Type 0 where
@@ -276,13 +318,14 @@ pub record LongEnough (S : Sheet) (uRoom vRoom planRoom : ℕ) : Type 0 where
 
 -- What is bought of each call of solve: r is its answer; the lent lists hold u, v and plan before it, and uAfter, vAfter and planAfter after it.
 pub record Bought (S : Sheet) (r : SolveAnswer) (u v : List ℤ) (plan : List ℕ) (uAfter vAfter : List ℤ) (planAfter : List ℕ) : Type 0 where
-  -- Demand 3 (02, One): for every sheet within the limits that is neither lacking nor crowded, with lists long enough, solve gives a plan, and it is best at
-  -- the cost shown.
-  pub solved : WithinLimits S → LongEnough S (length u) (length v) (length plan) → ¬ Lacking S → ¬ Crowded S
+  -- Demand 3 (02, One and Four): for every sheet within the limits that is neither lacking nor crowded nor idle, with lists long enough, solve gives a plan,
+  -- and it is best at the cost shown.
+  pub solved : WithinLimits S → LongEnough S (length u) (length v) (length plan) → ¬ Lacking S → ¬ Crowded S → ¬ Idle S
       → (cost : ℤ) × (rounds : ℕ) × (r ≡ SolveAnswer.Solved cost rounds) × Best S (take (roasteries S * cafes S) planAfter) cost
-  -- Demand 3 (02, One): of sheets within the limits, with lists long enough, solve refuses exactly the lacking and the crowded ones, by 5 and by 10.
+  -- Demand 3 (02, One and Four): of sheets within the limits, with lists long enough, solve refuses exactly the lacking, the crowded and the idle ones, by 5,
+  -- by 10 and by 11, of which a sheet that is both crowded and idle gets 10.
   pub refuses : WithinLimits S → LongEnough S (length u) (length v) (length plan)
-      → (k : ℕ) → (r ≡ SolveAnswer.Refused k) ↔ ((k ≡ 5) × Lacking S) ⊎ ((k ≡ 10) × Crowded S)
+      → (k : ℕ) → (r ≡ SolveAnswer.Refused k) ↔ ((k ≡ 5) × Lacking S) ⊎ ((k ≡ 10) × Crowded S) ⊎ ((k ≡ 11) × Idle S × ¬ Crowded S)
   -- Demand 1: a refusal alters no byte of lent memory.
   pub unchanged : (k : ℕ) → r ≡ SolveAnswer.Refused k → (uAfter ≡ u) × (vAfter ≡ v) × (planAfter ≡ plan)
   -- Paper 01: on success a lent list changes only in the places that the result fills.

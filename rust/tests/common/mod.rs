@@ -100,6 +100,32 @@ pub fn both_signs_last() -> [Cell; 4] {
     [cell(1, 3, 2, 1), cell(2, 1, 1, 0), cell(2, 2, 2, 0), cell(2, 3, 0, 1)]
 }
 
+/// The first roastery has nothing and the second café is closed, and there is a surplus of seven bags.
+pub fn closed() -> Sheet {
+    sheet(&[0, 20, 14], &[12, 0, 15], &[60, 45, 90, 95, 70, 110, 130, 80, 75])
+}
+
+/// The tableau that a round on its start gives: it is finished. The fourth column is the extra café's.
+pub fn closed_last() -> [Cell; 4] {
+    [cell(2, 1, 12, 0), cell(2, 3, 1, -1), cell(2, 4, 7, 2), cell(3, 3, 14, 1)]
+}
+
+/// P1's sheet after a roastery that has nothing.
+pub fn first_empty() -> Sheet {
+    sheet(&[0, 3, 4], &[5, 2], &[7, -3, 4, 1, 2, 6])
+}
+
+/// P1's sheet before a café that is closed.
+pub fn last_closed() -> Sheet {
+    sheet(&[3, 4], &[5, 2, 0], &[4, 1, 3, 2, 6, 9])
+}
+
+/// The largest sheet, but the first of each two roasteries has nothing, and the second of each two cafés is closed.
+pub fn half_closed() -> Sheet {
+    let halves = |first: u64, second: u64| [first, second].repeat(MAX_SIDE / 2);
+    Sheet { supply: halves(0, 1_000_000), demand: halves(1_000_000, 0), ..largest() }
+}
+
 /// How many columns a tableau of the sheet has: with a surplus, one for the extra café.
 pub fn columns(sheet: &Sheet) -> usize {
     let surplus = sheet.supply.iter().sum::<u64>() > sheet.demand.iter().sum();

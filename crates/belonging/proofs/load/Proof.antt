@@ -7,7 +7,8 @@ use borrow.Author.Needs.{needs}
 use borrow.Author.Tests.{not-true, not-false}
 use lib.ListN.{length}
 use Rattle.transport.specs.Tableau.{cellsOf, basisSize}
-use Rattle.board.specs.Cells.{cellRoom, long, length-cells}
+use Rattle.transport.specs.Laws.ListLaws.{length-mapped}
+use Rattle.board.specs.Cells.{cellRoom, length-cells}
 use Rattle.board.specs.CellTests.{cellsFit}
 use Rattle.board.specs.Arrays.{Sides}
 use Rattle.belonging.specs.Spread.{list-sides, struck-apart, struck-spans, Balancing, fit-inside, fit-distinct, other-count, other-cells, belongs-whole}
@@ -30,7 +31,7 @@ unfolding basisSize
 counted c = c .if1 .left
 
 roomy : (c : tie.After-struct-known) → length (c .before .before .before .args .t .cells) ≡ cellRoom
-roomy c = search (needs, long)
+roomy c = search (needs, length-mapped)
 
 few : (c : tie.Else1) → c .before .before .before .before .args .t .count ≤ cellRoom
 unfolding basisSize

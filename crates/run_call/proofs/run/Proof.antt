@@ -1,161 +1,110 @@
 -- `run_call::run` meets its contract: each way out is a case of the call.
-use native.Mathlib.Omega.{arith}
 use mathlib.Core.Path.{_≡_, refl, sym, ap, _∙_}
-use mathlib.Core.Bool.{true}
 use mathlib.Core.Option.{none}
 use borrow.Author.Needs.{needs}
-use borrow.Author.Tests.{not-true, not-false}
-use lib.ListN.{length}
-use Rattle.transport.specs.Limits.{maxSide}
-use Rattle.transport.specs.Laws.Sound.{sound}
-use Rattle.transport.specs.Sheet.{Sheet, refusal, sheetTests, sheetOf}
-use Rattle.transport.specs.Extended.{extended}
-use Rattle.transport.specs.Statements.{Accepted}
-use Rattle.transport.specs.Laws.SheetLaws.{accepted}
-use Rattle.transport.specs.Tableau.{cellsOf}
-use Rattle.transport.specs.Belonging.{belongs}
-use Rattle.transport.specs.Round.{run}
-use Rattle.transport.specs.Calls.{given}
+use Rattle.transport.specs.Sheet.{Sheet, refusal, sheetOf}
+use Rattle.transport.specs.Tableau.{tableauOf}
+use Rattle.transport.specs.Calls.{given, tableauTests, inside}
 use Rattle.transport.specs.Answers.{runAnswer}
+use Rattle.transport.specs.declared.Tableau.{Tableau}
 use Rattle.sheet.specs.Check.{accepted-none, refused-some}
-use Rattle.sheet.specs.Columns.{Columns, columns-lent, columns-problem}
-use Rattle.pricing.specs.Costs.{spreadable}
-use Rattle.rounds.specs.Begun.{Begun, begun-loaded}
-use Rattle.run_call.specs.Run.{run-early, run-astray, run-given, run-is}
+use Rattle.sheet.specs.Parties.{rows-lent, columns-lent}
+use Rattle.numbering.specs.Lent.{own-within, own-lent}
+use Rattle.board.specs.Drawing.{board-belongs}
+use Rattle.loading.specs.Loading.{Admitted}
+use Rattle.run_call.specs.Run.{run-refuses, run-given, run-is}
 use Rattle.run_call.proofs.run.Statement.{statement}
 use Rattle.run_call.proofs.run.Tie as tie
 
-abbrev sheetAt : (c : tie.Start) → Sheet
-sheetAt c = sheetOf (c .args .supply .now) (c .args .demand .now) (c .args .cost .now)
+abbrev sheetAt : tie.Start → Sheet
+sheetAt s = sheetOf (s .args .supply .now) (s .args .demand .now) (s .args .cost .now)
 
-abbrev checkedFrom : tie.After-check-sheet → tie.Start
-checkedFrom c = c .before .before .before
+abbrev start : tie.After-load-sheet → tie.Start
+start l = l .before .before .before .before .before .before .before .before .before
+
+abbrev sheetOn : tie.After-load-sheet → Sheet
+sheetOn l = sheetAt (start l)
+
+abbrev tableau : tie.After-load-sheet → Tableau
+tableau l = start l .args .t
 
 returns : tie.Need-returns
 returns c =
-    let k = c .before .before .before .before in
-    let s = checkedFrom k in
+    let l = c .before .before .before .before in
     c .refused-run .ensures
-    ∙ ap runAnswer (sym (run-early (sheetAt s) (s .args .t) (s .args .allowance) _
-    (refused-some _ _ (sym (k .check-sheet .ensures) ∙ c .before .before .check .given .1))))
+    ∙ ap runAnswer (sym (run-refuses (sheetOn l) (tableau l) (start l .args .allowance) _
+    (refused-some _ _ (sym (l .load-sheet .ensures .0) ∙ c .before .before .check .given .1))))
 
-abbrev startOf : tie.After-enum-told → tie.Start
-startOf c = checkedFrom (c .before .before)
+-- ---- nothing is refused
 
-passed : (c : tie.After-enum-told) → refusal (sheetTests (sheetAt (startOf c))) ≡ none
-passed c = accepted-none _ (sym (c .before .before .check-sheet .ensures) ∙ c .enum-told .given .1)
+abbrev loaded : tie.After-enum-told → tie.After-load-sheet
+loaded c = c .before .before
 
-okAt : (c : tie.After-enum-told) → Accepted (sheetAt (startOf c))
-okAt c = accepted (sheetAt (startOf c)) (passed c)
+passed : (c : tie.After-enum-told) → refusal (tableauTests (sheetOn (loaded c)) (tableau (loaded c))) ≡ none
+passed c = accepted-none _ (sym (loaded c .load-sheet .ensures .0) ∙ c .enum-told .given .1)
 
--- ---- the columns of the tableau
-
-extend-demands-requires : tie.Need-extend-demands-requires
-unfolding maxSide
-extend-demands-requires c κs = ((_, okAt (c .before)), omega arith)
-
-abbrev told : tie.After-extend-demands → tie.After-enum-told
-told x = x .before .before
-
-columns : (x : tie.After-extend-demands) → Columns (sheetAt (startOf (told x))) (x .extend-demands .result) (x .extend-demands .last .1 .1 .0)
-columns x = x .extend-demands .ensures (startOf (told x) .args .cost .now)
-
--- ---- whether the tableau belongs to the sheet
-
-load-requires : tie.Need-load-requires
-load-requires c κs =
-    let x = c .before .before .before .before .before .before .before in
-    ((extended (sheetAt (startOf (told x))) .cost, rw (columns-problem (columns x)) (sound (okAt (told x)))), (refl, refl, refl))
-
-abbrev extendedAt : tie.After-load → tie.After-extend-demands
-extendedAt a = a .before .before .before .before .before .before .before .before
-
-abbrev startAt : tie.After-load → tie.Start
-startAt a = startOf (told (extendedAt a))
-
-belongs-is : (a : tie.After-load) → a .load .result ≡ belongs (extended (sheetAt (startAt a))) (startAt a .args .t)
-belongs-is a = rw (columns-problem (columns (extendedAt a))) at (a .load .ensures .0 (extended (sheetAt (startAt a)) .cost))
-
-returns-2 : tie.Need-returns-2
-returns-2 c =
-    let a = c .before .before in
-    let s = startAt a in
-    c .refused-run2 .ensures
-    ∙ ap runAnswer (sym (run-astray (sheetAt s) (s .args .t) (s .args .allowance) (passed (told (extendedAt a)))
-    (sym (belongs-is a) ∙ not-true _ (c .before .if1 .taken))))
-
--- ---- the tableau belongs to the sheet
-
-abbrev startBefore : tie.Else1 → tie.Start
-startBefore c = startAt (c .before)
-
-within : (c : tie.Else1) → belongs (extended (sheetAt (startBefore c))) (startBefore c .args .t) ≡ true
-within c = sym (belongs-is (c .before)) ∙ not-false _ (c .if1 .left)
-
-spread-costs-requires : tie.Need-spread-costs-requires
-spread-costs-requires c κs = spreadable (okAt (told (extendedAt (c .before .before))))
-
-abbrev elseAt : tie.After-spread-costs → tie.Else1
-elseAt p = p .before .before
-
-begun : (p : tie.After-spread-costs)
-    → let c = elseAt p in
-    let s = startBefore c in
-    let l = c .before .load .last .1 .1 .1 in
-    Begun (extended (sheetAt s)) (cellsOf (s .args .t)) (l .0) (l .1 .0) (p .spread-costs .last .1 .1 .1 .0) (l .1 .1 .0) (l .1 .1 .1 .0) (l .1 .1 .1 .1 .0)
-    (length (s .args .supply .now)) (extendedAt (c .before) .extend-demands .result)
-begun p =
-    let c = elseAt p in
-    let S = sheetAt (startBefore c) in
-    let x = extendedAt (c .before) in
-    begun-loaded S (startBefore c .args .t) (okAt (told x)) (columns x) (p .spread-costs .ensures) (within c)
-    (c .before .load .ensures .1 (not-false _ (c .if1 .left)))
-
-abbrev spreadAt : tie.After-make-run → tie.After-spread-costs
-spreadAt c = c .before .before .before .before .before .before .before
+admitted : (c : tie.After-enum-told)
+    → let l = loaded c in
+    let r = l .load-sheet .result in
+    let a = l .load-sheet .last .1 .1 .1 .1 in
+    Admitted (sheetOn l) (tableau l) (r .parties) (r .rows) (r .cols)
+    (a .0) (a .1 .0) (a .1 .1 .0) (a .1 .1 .1 .0) (a .1 .1 .1 .1 .0) (a .1 .1 .1 .1 .1 .0)
+admitted c = loaded c .load-sheet .ensures .1 (passed c)
 
 make-run-requires : tie.Need-make-run-requires
-make-run-requires c κs = (_, _, begun (c .before .before .before .before .before .before))
+make-run-requires c κs = (_, _, admitted (c .before .before .before .before .before .before .before .before) .begun)
 
 -- ---- the answer is made of what the run gives, whatever its allowance
+
+abbrev toldAt : tie.After-make-run → tie.After-enum-told
+toldAt a = a .before .before .before .before .before .before .before .before .before
 
 gather-requires : tie.Need-gather-requires
 gather-requires c κs =
     let a = c .before .before .before in
-    let r = a .make-run .ensures _ _ (begun (spreadAt a)) in
+    let r = a .make-run .ensures _ _ (admitted (toldAt a) .begun) in
     (_, _, r .sub, r .path, r .board)
 
-returns-3 : tie.Need-returns-3
-returns-3 c =
-    let g = c .before in
-    let a = g .before .before .before .before in
-    let d = elseAt (spreadAt a) in
-    let s = startBefore d in
-    let S = sheetAt s in
-    let t = s .args .t in
-    let r = a .make-run .ensures _ _ (begun (spreadAt a)) in
-    c .ended-run .ensures _ (g .gather .ensures _ _ _ _ (r .board))
-    ∙ ap runAnswer (ap given (run-is (run (extended S) (s .args .allowance) (cellsOf t)) (r .done) (r .rounds))
-    ∙ sym (run-given S t (s .args .allowance) (passed (told (extendedAt (d .before)))) (within d)))
+abbrev ranBefore : tie.After-gather → tie.After-make-run
+ranBefore g = g .before .before .before .before
+
+own-tableau-requires : tie.Need-own-tableau-requires
+own-tableau-requires c κs =
+    let g = c .before .before in
+    let a = ranBefore g in
+    let w = admitted (toldAt a) in
+    let r = a .make-run .ensures _ _ (w .begun) in
+    (_, g .gather .ensures _ _ _ _ (r .board), own-within (w .accepted) (w .parties) (board-belongs (r .board)))
+
+returns-2 : tie.Need-returns-2
+returns-2 c =
+    let o = c .before in
+    let g = o .before .before .before in
+    let a = ranBefore g in
+    let k = toldAt a in
+    let l = loaded k in
+    let S = sheetOn l in
+    let allowance = start l .args .allowance in
+    let w = admitted k in
+    let r = a .make-run .ensures _ _ (w .begun) in
+    c .ended-run .ensures _ (o .own-tableau .ensures _ (g .gather .ensures _ _ _ _ (r .board)) ∙ ap tableauOf (own-lent (w .accepted) (w .parties) _))
+    ∙ ap runAnswer (ap given (run-is S allowance (inside S (tableau l)) (r .done) (r .rounds)) ∙ sym (run-given S (tableau l) allowance (passed k)))
 
 pub run-spec : {M : Type 1} → statement M
 run-spec =
     tie.close
     (tie.spec
-    (λ c κs. tt)
+    (λ c κs. (refl, refl, refl))
     (λ c. search needs)
     (λ c κs. tt)
     returns
     (λ c. search needs)
-    (λ c. search needs)
-    extend-demands-requires
-    (λ c. columns (c .before) .room)
-    (λ c. columns-lent (columns (c .before .before)))
-    load-requires
-    (λ c κs. tt)
-    returns-2
-    spread-costs-requires
     make-run-requires
     gather-requires
+    (λ c. admitted (toldAt (ranBefore c)) .parties .rowsRoom)
+    (λ c. rows-lent (admitted (toldAt (ranBefore (c .before))) .parties))
+    (λ c. admitted (toldAt (ranBefore (c .before))) .parties .colsRoom)
+    (λ c. columns-lent (admitted (toldAt (ranBefore (c .before .before))) .parties))
+    own-tableau-requires
     (λ c κs. tt)
-    returns-3)
+    returns-2)

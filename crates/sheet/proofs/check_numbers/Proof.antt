@@ -7,48 +7,44 @@ use Prim.Native.Nat.{_≤_}
 use native.Mathlib.Omega.{arith}
 use lib.Dec.{ltb}
 use lib.IntN.{pos, negℤ}
-use borrow.Author.Tests.{not-true, not-false, eqb-true, eq-eqb, ltb-true, ltb-false}
-use Rattle.transport.specs.Lists.{all, within, withinZ, total}
+use borrow.Author.Tests.{not-true, not-false, eqb-true, eqb-false, eq-eqb, ltb-true, ltb-false}
+use Rattle.transport.specs.Lists.{all, atMost, withinZ, total}
 use Rattle.transport.specs.Limits.{maxSide, maxAmount, maxCost}
 use Rattle.transport.specs.Sheet.{Sheet, cafes, sheetOf, refusal, numberTests}
-use Rattle.transport.specs.Statements.{Lacking, Crowded}
+use Rattle.transport.specs.Statements.{Lacking, Crowded, Idle}
 use Rattle.sheet.specs.Check.{check-none, check-some}
-use Rattle.sheet.specs.Refusals.{refused-supply, refused-demand, refused-cost, refused-lacking, refused-crowded, numbers-accepted}
+use Rattle.sheet.specs.Refusals.{refused-supply, refused-demand, refused-cost, refused-lacking, refused-crowded, refused-idle, numbers-accepted}
 use borrow.Author.Needs.{needs}
 use Rattle.sheet.proofs.check_numbers.Statement.{statement}
 use Rattle.sheet.proofs.check_numbers.Tie as tie
 
-supplies-fit : (c : tie.Else1) → all (within 1 maxAmount) (c .before .before .before .before .args .supply .now) ≡ true
-unfolding maxAmount
-supplies-fit c = sym (c .before .all-within .ensures) ∙ not-false _ (c .if1 .left)
+supplies-fit : (c : tie.Else1) → all (atMost maxAmount) (c .before .before .before .before .args .supply .now) ≡ true
+supplies-fit c = sym (c .before .amounts-within .ensures) ∙ not-false _ (c .if1 .left)
 
-demands-fit : (c : tie.Else2) → all (within 1 maxAmount) (c .before .before .before .before .before .before .args .demand .now) ≡ true
-unfolding maxAmount
-demands-fit c = sym (c .before .all-within2 .ensures) ∙ not-false _ (c .if2 .left)
+demands-fit : (c : tie.Else2) → all (atMost maxAmount) (c .before .before .before .before .before .before .args .demand .now) ≡ true
+demands-fit c = sym (c .before .amounts-within2 .ensures) ∙ not-false _ (c .if2 .left)
 
 costs-fit : (c : tie.Else3)
     → all (withinZ (negℤ (pos maxCost)) (pos maxCost)) (c .before .before .before .before .before .before .before .before .args .cost .now) ≡ true
 costs-fit c = sym (c .before .costs-within .ensures) ∙ not-false _ (c .if3 .left)
 
-all-within-requires : tie.Need-all-within-requires
-all-within-requires c κs = search needs
+amounts-within-requires : tie.Need-amounts-within-requires
+amounts-within-requires c κs = search needs
 
 returns : tie.Need-returns
-unfolding maxAmount
 returns c =
     let a = c .before .before .before .before .args in
     let S = sheetOf (a .supply .now) (a .demand .now) (a .cost .now) in
-    rw (refused-supply S (sym (c .before .all-within .ensures) ∙ not-true _ (c .if1 .taken)), check-some)
+    rw (refused-supply S (sym (c .before .amounts-within .ensures) ∙ not-true _ (c .if1 .taken)), check-some)
 
-all-within-requires-2 : tie.Need-all-within-requires-2
-all-within-requires-2 c κs = search needs
+amounts-within-requires-2 : tie.Need-amounts-within-requires-2
+amounts-within-requires-2 c κs = search needs
 
 returns-2 : tie.Need-returns-2
-unfolding maxAmount
 returns-2 c =
     let a = c .before .before .before .before .before .before .args in
     let S = sheetOf (a .supply .now) (a .demand .now) (a .cost .now) in
-    rw (refused-demand S (supplies-fit (c .before .before)) (sym (c .before .all-within2 .ensures) ∙ not-true _ (c .if2 .taken)), check-some)
+    rw (refused-demand S (supplies-fit (c .before .before)) (sym (c .before .amounts-within2 .ensures) ∙ not-true _ (c .if2 .taken)), check-some)
 
 costs-within-requires : tie.Need-costs-within-requires
 costs-within-requires c κs = search needs
@@ -104,7 +100,10 @@ module _ (c : tie.After-total-of2) where
   crowds : Crowded (sheetAt c) → refusal (numberTests (sheetAt c)) ≡ some 10
   crowds = refused-crowded (sheetAt c) (supplies-fit (numbers .before .before .before .before)) (demands-fit (numbers .before .before)) (costs-fit numbers)
 
-  fits : ¬ Lacking (sheetAt c) → ¬ Crowded (sheetAt c) → refusal (numberTests (sheetAt c)) ≡ none
+  idles : ¬ Lacking (sheetAt c) → ¬ Crowded (sheetAt c) → Idle (sheetAt c) → refusal (numberTests (sheetAt c)) ≡ some 11
+  idles = refused-idle (sheetAt c) (supplies-fit (numbers .before .before .before .before)) (demands-fit (numbers .before .before)) (costs-fit numbers)
+
+  fits : ¬ Lacking (sheetAt c) → ¬ Crowded (sheetAt c) → ¬ Idle (sheetAt c) → refusal (numberTests (sheetAt c)) ≡ none
   fits = numbers-accepted (sheetAt c) (supplies-fit (numbers .before .before .before .before)) (demands-fit (numbers .before .before)) (costs-fit numbers)
 
 returns-4 : tie.Need-returns-4
@@ -131,23 +130,32 @@ crowded-is c =
 returns-5 : tie.Need-returns-5
 returns-5 c = let e = c .before in rw (crowds (e .before .before) (crowded-is e .0 (c .if6 .taken)), check-some)
 
+-- The sheet is neither lacking nor crowded: what is left is whether it is idle.
+not-lacking : (c : tie.Else6) → ¬ Lacking (sheetAt (c .before .before .before))
+not-lacking c l = omega (arith, long (c .before .before .before) (c .before .if5 .left))
+
+not-crowded : (c : tie.Else6) → ¬ Crowded (sheetAt (c .before .before .before))
+not-crowded c n = true≢false (sym (crowded-is (c .before) .1 n) ∙ c .if6 .left)
+
 returns-6 : tie.Need-returns-6
 returns-6 c =
     let e = c .before in
-    let t = e .before .before in
-    rw (
-      fits t (λ l. absurd (omega (arith, long t (e .if5 .left))))
-          (λ n. true≢false (sym (crowded-is e .1 n) ∙ c .if6 .left)),
-      check-none,
-    )
+    let t = e .before .before .before in
+    rw (idles t (not-lacking e) (not-crowded e) (sym (demand-sum t) ∙ eqb-true _ _ (c .if7 .taken)), check-some)
+
+returns-7 : tie.Need-returns-7
+returns-7 c =
+    let e = c .before in
+    let t = e .before .before .before in
+    rw (fits t (not-lacking e) (not-crowded e) (λ i. eqb-false _ _ (c .if7 .left) (demand-sum t ∙ i)), check-none)
 
 pub check-numbers-spec : {M : Type 1} → statement M
 check-numbers-spec =
     tie.close
     (tie.spec
-    all-within-requires
+    amounts-within-requires
     returns
-    all-within-requires-2
+    amounts-within-requires-2
     returns-2
     costs-within-requires
     returns-3
@@ -155,4 +163,5 @@ check-numbers-spec =
     total-of-requires-2
     returns-4
     returns-5
-    returns-6)
+    returns-6
+    returns-7)

@@ -7,7 +7,7 @@ use lib.ListN.{length, getD}
 use Rattle.transport.specs.Lists.{sumTo, at, total}
 use Rattle.transport.specs.Limits.{maxSide, maxAmount}
 use Rattle.transport.specs.Laws.ListLaws.{sumTo-zero, sumTo-one}
-use Rattle.transport.specs.Laws.SheetLaws.{all-within-high}
+use Rattle.transport.specs.Laws.SheetLaws.{all-most}
 use Rattle.sheet.proofs.total_of.Statement.{statement}
 use Rattle.sheet.proofs.total_of.Tie as tie
 
@@ -28,7 +28,7 @@ shared-slice-read-sum c = search needs
 
 small : (c : tie.In-loop Inv-loop μ-loop) → getD (c .before .before .args .amounts .now) (c .before .loop .i) 0 ≤ maxAmount
 unfolding at
-small c = all-within-high 1 maxAmount (c .before .before .args .amounts .now) (c .before .before .pre .1) (c .before .loop .i)
+small c = all-most maxAmount (c .before .before .args .amounts .now) (c .before .before .pre .1) (c .before .loop .i)
 
 add-sum : tie.Need-add-sum Inv-loop μ-loop
 unfolding maxSide maxAmount

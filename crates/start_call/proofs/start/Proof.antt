@@ -1,31 +1,24 @@
--- Each way out is a case of the call; the first tableau is the start of the extended problem, whatever its costs.
+-- Each way out is a case of the call; the first tableau is the start of the problem of the parties left, whatever its costs, under their own numbers.
 use mathlib.Core.Path.{_≡_, sym, _∙_}
 use mathlib.Core.Option.{none}
-use native.Mathlib.Omega.{arith}
-use Rattle.transport.specs.Limits.{maxSide}
-use Rattle.transport.specs.Laws.Sound.{accepted-sound}
-use Rattle.transport.specs.Sheet.{Sheet, refusal, sheetTests, sheetOf}
-use Rattle.transport.specs.Extended.{extended}
-use Rattle.transport.specs.Laws.SheetLaws.{accepted}
-use Rattle.sheet.specs.Check.{accepted-none, refused-some}
-use Rattle.sheet.specs.Columns.{Columns, columns-lent}
-use Rattle.dealing.specs.Corner.{sound-costless, sound-turned, start-costless}
-use Rattle.start_call.specs.Start.{start-refused, start-given}
 use borrow.Author.Needs.{needs}
+use Rattle.transport.specs.Laws.Sound.{sound}
+use Rattle.transport.specs.Sheet.{Sheet, refusal, sheetTests, sheetOf}
+use Rattle.transport.specs.Parties.{problemOf}
+use Rattle.transport.specs.Tableau.{tableauOf, start}
+use Rattle.transport.specs.Statements.{Accepted}
+use Rattle.transport.specs.Laws.SheetLaws.{accepted}
+use Rattle.tableaux.specs.Starting.{start-belongs}
+use Rattle.sheet.specs.Check.{accepted-none, refused-some}
+use Rattle.sheet.specs.Parties.{PartiesOf, supplies-lent, demands-lent, rows-lent, columns-lent}
+use Rattle.dealing.specs.Corner.{sound-costless, sound-turned, start-costless}
+use Rattle.numbering.specs.Lent.{own-within, own-lent}
+use Rattle.start_call.specs.Start.{start-refused, start-given}
 use Rattle.start_call.proofs.start.Statement.{statement}
 use Rattle.start_call.proofs.start.Tie as tie
 
 abbrev sheetAt : (c : tie.Start) → Sheet
 sheetAt c = sheetOf (c .args .supply .now) (c .args .demand .now) (c .args .cost .now)
-
-check-sheet-requires : tie.Need-check-sheet-requires
-check-sheet-requires c κs = search needs
-
-enum-known-check : tie.Need-enum-known-check
-enum-known-check c = search needs
-
-empty-tableau-requires : tie.Need-empty-tableau-requires
-empty-tableau-requires c κs = search needs
 
 returns : tie.Need-returns
 returns c =
@@ -33,53 +26,79 @@ returns c =
     (start-refused (sheetAt (c .before .before .before .before .before .before .before)) _
     (refused-some _ _ (sym (c .before .before .before .before .check-sheet .ensures) ∙ c .before .before .check .given .1)))
 
-enum-told : tie.Need-enum-told
-enum-told c = search needs
-
 abbrev toldAt : tie.After-enum-told → Sheet
 toldAt c = sheetAt (c .before .before .before .before .before)
 
 passed : (c : tie.After-enum-told) → refusal (sheetTests (toldAt c)) ≡ none
 passed c = accepted-none _ (sym (c .before .before .check-sheet .ensures) ∙ c .enum-told .given .1)
 
-extend-demands-requires : tie.Need-extend-demands-requires
-unfolding maxSide
-extend-demands-requires c κs = ((_, accepted (toldAt (c .before)) (passed (c .before))), omega arith)
+number-parties-requires : tie.Need-number-parties-requires
+number-parties-requires c κs = let told = c .before .before .before .before in (_, accepted (toldAt told) (passed told))
 
-abbrev told : tie.After-extend-demands → tie.After-enum-told
-told c = c .before .before
+-- ---- the parties are numbered
 
-columns : (c : tie.After-extend-demands) → Columns (toldAt (told c)) (c .extend-demands .result) (c .extend-demands .last .1 .1 .0)
-columns c = c .extend-demands .ensures (toldAt (told c) .cost)
+abbrev toldBefore : tie.After-number-parties → tie.After-enum-told
+toldBefore p = p .before .before .before .before .before
 
--- This holds whichever side comes first: a program that changes them (must-fail/sides_changed) fails only where it returns.
+abbrev sheetOn : tie.After-number-parties → Sheet
+sheetOn p = toldAt (toldBefore p)
+
+ok : (p : tie.After-number-parties) → Accepted (sheetOn p)
+ok p = accepted (sheetOn p) (passed (toldBefore p))
+
+parties : (p : tie.After-number-parties)
+    → let l = p .number-parties .last .1 .1 in
+    PartiesOf (sheetOn p) (p .number-parties .result) (l .0) (l .1 .0) (l .1 .1 .0) (l .1 .1 .1 .0)
+parties p = p .number-parties .ensures (sheetOn p .cost)
+
+-- This holds whichever side comes first: a program that changes them (must-fail/sides_changed) fails where its tableau gets own numbers.
 first-tableau-requires : tie.Need-first-tableau-requires
-unfolding extended
 first-tableau-requires c κs =
-    let x = c .before .before in
-    let S = toldAt (told x) in
-    let ok = accepted-sound S (passed (told x)) in
-    rw (columns x .front) (search (needs, sound-costless (extended S) ok, sound-turned (extended S) ok))
+    let p = c .before .before in
+    let P = problemOf (sheetOn p) in
+    rw (parties p .supplies, parties p .demands) (search (needs, sound-costless P (sound (ok p)), sound-turned P (sound (ok p))))
+
+-- ---- and the first tableau is made
+
+abbrev partiesBefore : tie.After-first-tableau → tie.After-number-parties
+partiesBefore f = f .before .before .before
+
+first : (f : tie.After-first-tableau) → f .first-tableau .result ≡ tableauOf (start (problemOf (sheetOn (partiesBefore f))))
+first f =
+    let h = parties (partiesBefore f) in
+    f .first-tableau .ensures ∙ rw (h .supplies, h .demands, start-costless (problemOf (sheetOn (partiesBefore f))))
+
+own-tableau-requires : tie.Need-own-tableau-requires
+own-tableau-requires c κs =
+    let f = c .before .before in
+    let p = partiesBefore f in
+    (_, first f, own-within (ok p) (parties p) (start-belongs (problemOf (sheetOn p)) (sound (ok p))))
 
 returns-2 : tie.Need-returns-2
-unfolding extended
 returns-2 c =
-    let x = c .before .before .before in
-    let S = toldAt (told x) in
-    rw (c .first-tableau .ensures, columns x .front, start-costless (extended S)) (start-given S (passed (told x)))
+    let f = c .before .before .before in
+    let p = partiesBefore f in
+    let S = sheetOn p in
+    rw (c .own-tableau .ensures _ (first f), own-lent (ok p) (parties p)) (start-given S (passed (toldBefore p)))
 
 pub start-spec : {M : Type 1} → statement M
 start-spec =
     tie.close
     (tie.spec
-    check-sheet-requires
-    enum-known-check
-    empty-tableau-requires
-    returns
-    enum-told
+    (λ c κs. search needs)
     (λ c. search needs)
-    extend-demands-requires
-    (λ c. columns (c .before) .room)
-    (λ c. columns-lent (columns (c .before .before)))
+    (λ c κs. search needs)
+    returns
+    (λ c. search needs)
+    number-parties-requires
+    (λ c. parties c .suppliesRoom)
+    (λ c. supplies-lent (parties (c .before)))
+    (λ c. parties (c .before) .demandsRoom)
+    (λ c. demands-lent (parties (c .before .before)))
     first-tableau-requires
+    (λ c. parties (partiesBefore c) .rowsRoom)
+    (λ c. rows-lent (parties (partiesBefore (c .before))))
+    (λ c. parties (partiesBefore (c .before)) .colsRoom)
+    (λ c. columns-lent (parties (partiesBefore (c .before .before))))
+    own-tableau-requires
     returns-2)

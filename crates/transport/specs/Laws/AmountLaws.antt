@@ -1,12 +1,15 @@
 -- The laws of paired amounts: what the tests of whole numbers and of pairs say, and that pairs are strictly ordered.
-use Prim.Native.Nat.{ℕ, suc, _+_, _<_, _≤_}
+use Prim.Native.Nat.{ℕ, suc, _+_, _≤_, _<_}
 use native.Mathlib.Omega.{arith}
 use mathlib.Core.Path.{_≡_, refl, sym, ap, _∙_}
 use mathlib.Core.Bool.{Bool, true, false, _&&_, _||_, true≢false, false≢true, not}
+use mathlib.Core.List.{List, List·Memᴰ}
 use lib.IntN.{ℤ, pos, negsuc}
-use lib.Signed.{ltZ}
+use lib.Signed.{ltZ, _≤ℤ_, ltZ-no}
+use lib.ListN.{length}
 use borrow.Author.Tests.{ltb-true, ltb-false, lt-ltb, le-ltb, eqb-true, eq-eqb}
-use Rattle.transport.specs.Laws.ListLaws.{and-left, and-right, StrictWeak}
+use Rattle.transport.specs.Laws.ListLaws.{member-at, member-place, and-left, and-right, StrictWeak, firstLeast-is}
+use Rattle.transport.specs.Lists.{leastOf}
 use Rattle.transport.specs.Amount.{Pair, eqZ, less, same}
 
 -- ---- whole numbers
@@ -70,6 +73,19 @@ ltZ-tie (pos a) (pos b) p q = ap pos (omega (arith, ltb-false a b p, ltb-false b
 ltZ-tie (pos a) (negsuc b) p q = absurd (true≢false q)
 ltZ-tie (negsuc a) (pos b) p q = absurd (true≢false p)
 ltZ-tie (negsuc a) (negsuc b) p q = ap negsuc (omega (arith, ltb-false a b q, ltb-false b a p))
+
+-- The least number of a list is one of its numbers, and none is less.
+pub leastOf-member : (zs : List ℤ) → 1 ≤ length zs → List·Memᴰ (leastOf zs) zs
+unfolding leastOf
+leastOf-member zs filled = let (k, f) = firstLeast-is ltZ ltZ-weak (pos 0) zs filled in rw (← f .stands) (member-at zs (pos 0) k (f .inside))
+
+pub leastOf-least : {zs : List ℤ} {z : ℤ} → List·Memᴰ z zs → leastOf zs ≤ℤ z
+unfolding leastOf
+leastOf-least {zs} {z} m =
+    let (h, l, e) = member-place (pos 0) m in
+    let (k, f) = firstLeast-is ltZ ltZ-weak (pos 0) zs (omega arith) in
+    let above : ltZ z (leastOf zs) ≡ false = ap (λ (t : ℤ). ltZ t (leastOf zs)) (sym e) ∙ f .least h l in
+    ltZ-no (rw above tt)
 
 -- ---- less: by q first, then by e
 

@@ -7,10 +7,11 @@ use native.Mathlib.Decide.{decLt}
 use lib.IntN.{ℤ, pos, negℤ}
 use lib.Signed.{_≤ℤ_, leZ-yes}
 use lib.ListN.{length, getD, replicate, length-replicate, getD-replicate, List·getD-eq-default}
-use Rattle.transport.specs.Lists.{at, atZ}
+use Rattle.transport.specs.Lists.{at, atZ, total}
 use Rattle.transport.specs.Limits.{maxSources, maxSinks, maxSide, maxAmount, maxCost}
 use Rattle.transport.specs.Sheet.{Sheet, roasteries, cafes}
 use Rattle.transport.specs.Statements.{WithinLimits, Accepted}
+use Rattle.transport.specs.Laws.ListLaws.{sumTo-each}
 
 unfoldable pub largest : ℤ → Sheet
 largest c = record { supply = replicate maxSide maxAmount; demand = replicate maxSide maxAmount; cost = replicate (maxSide * maxSide) c }
@@ -31,15 +32,19 @@ some-bags = omega arith
 
 -- The sheet check accepts it at every cost within the limits.
 pub largest-accepted : (c : ℤ) → negℤ (pos maxCost) ≤ℤ c → c ≤ℤ pos maxCost → Accepted (largest c)
-unfolding largest roasteries cafes at atZ maxCost
+unfolding largest roasteries cafes at atZ total maxCost
 largest-accepted c low high =
     let sides = side-limits in
     let count : length (replicate maxSide maxAmount) ≡ maxSide = length-replicate maxSide maxAmount in
-    let least : (k : ℕ) → k < length (replicate maxSide maxAmount) → 1 ≤ getD (replicate maxSide maxAmount) k 0 =
-    λ k h. rw (getD-replicate maxSide k maxAmount 0 (omega arith)) some-bags
-    in
     let most : (k : ℕ) → getD (replicate maxSide maxAmount) k 0 ≤ maxAmount =
     replicate-each (λ a. a ≤ maxAmount) maxSide maxAmount 0 (omega arith) (omega arith)
+    in
+    let some : maxAmount ≤ total (replicate maxSide maxAmount) =
+    omega (
+      arith,
+      getD-replicate maxSide 0 maxAmount 0 (sides .0),
+      sumTo-each (length (replicate maxSide maxAmount)) (at (replicate maxSide maxAmount)) 0 (omega arith),
+    )
     in
     let limits : WithinLimits (largest c) = record {
       roasteriesLow = omega arith;
@@ -47,11 +52,9 @@ largest-accepted c low high =
       cafesLow = omega arith;
       cafesHigh = omega arith;
       costLength = rw count (length-replicate (maxSide * maxSide) c);
-      supplyLow = least;
       supplyHigh = most;
-      demandLow = least;
       demandHigh = most;
       costLow = replicate-each (λ z. negℤ (pos maxCost) ≤ℤ z) (maxSide * maxSide) c (pos 0) low (leZ-yes tt);
       costHigh = replicate-each (λ z. z ≤ℤ pos maxCost) (maxSide * maxSide) c (pos 0) high (leZ-yes tt);
     } in
-    record { limits = limits; enough = λ lacking. omega arith; room = λ crowded. omega (arith, crowded .0) }
+    record { limits = limits; enough = λ lacking. omega arith; room = λ crowded. omega (arith, crowded .0); wanting = λ idle. omega (arith, some, some-bags) }

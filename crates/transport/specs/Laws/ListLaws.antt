@@ -5,12 +5,12 @@ use native.Mathlib.Numerals.{add-one}
 use native.Mathlib.Nat.{eq-or-lt-of-le, mul-add, add-suc, add-zero, suc-mul, zero-mul}
 use native.Mathlib.Decide.{decLt}
 use mathlib.Core.Path.{_≡_, refl, sym, ap, _∙_}
-use mathlib.Core.Logic.{⊎-elim, _⊎_, inl, inr}
+use mathlib.Core.Logic.{⊎-elim, _⊎_, inl, inr, by-cases}
 use mathlib.Core.Bool.{Bool, true, false, _&&_, cond, true≢false, false≢true}
 use mathlib.Core.List.{List, [], _∷_, _++_, map, flatMap, append-assoc, append-nil, List·Memᴰ, List·Memᴰ·head, List·Memᴰ·tail, List·Memᴰ·not-nil}
 use mathlib.Core.List.{List·Memᴰ·cases-cons, List·Memᴰ·append-cases, Memᴰ·append-left, Memᴰ·append-right}
-use lib.ListN.{length, drop, getD, set, length-append, List·getD-append, List·getD-eq-default}
-use lib.Seq.{drop-cons, set-at, getD-at, getD-append-add, ext-getD}
+use lib.ListN.{length, drop, getD, set, length-append, length-drop, length-map, List·getD-append, List·getD-eq-default}
+use lib.Seq.{drop-cons, set-at, getD-at, getD-drop, getD-append-add, ext-getD}
 use lib.IntN.{ℤ, pos, _+ℤ_}
 use Rattle.transport.specs.Lists.{all, keep, leastFrom, firstLeast, table, below, sumTo, sumZ, at, atZ, total}
 
@@ -75,7 +75,9 @@ getD-map f [] k d e l = absurd (omega arith)
 getD-map f (x ∷ xs) zero d e l = refl
 getD-map f (x ∷ xs) (suc k) d e l = getD-map f xs k d e (omega arith)
 
--- ---- below
+-- The logic says how long an array of structs is by the list of its elements' bytes.
+pub length-mapped : (A B : Type 0) (f : A → B) (xs : List A) (n : ℕ) → length (map f xs) ≡ n → length xs ≡ n
+length-mapped A B f xs n e = sym (length-map xs f) ∙ e
 
 -- ---- members: an element of a list, and the place where it stands
 
@@ -129,6 +131,17 @@ module _ {A : Type 0} where
 
 pub getD-append-at : {A : Type 0} (xs ys : List A) (n k : ℕ) (d : A) → length xs ≡ n → getD (xs ++ ys) (n + k) d ≡ getD ys k d
 getD-append-at xs ys n k d e = rw (← e) (getD-append-add xs ys k d)
+
+-- A list that has the first n elements from f, and else those of xs, is xs with n places filled.
+pub filled-is : {A : Type 0} (f : ℕ → A) (xs ys : List A) (n : ℕ) (d : A) → n ≤ length xs → length ys ≡ length xs
+    → ((k : ℕ) → k < n → getD ys k d ≡ f k) → ((k : ℕ) → n ≤ k → getD ys k d ≡ getD xs k d) → ys ≡ table n f ++ drop n xs
+filled-is f xs ys n d l long front rest = ext-getD d ys (table n f ++ drop n xs)
+    (omega (arith, length-append (table n f) (drop n xs), length-table f n, length-drop n xs))
+    (λ k b. by-cases (decLt k n)
+    (λ p. front k p ∙ sym (List·getD-append (table n f) (drop n xs) d k (omega (arith, length-table f n)) ∙ getD-table f n k d p))
+    (λ p.
+    let there : n + (k - n) ≡ k = omega arith in
+    rest k (omega arith) ∙ rw (← there) (sym (getD-append-at (table n f) (drop n xs) n (k - n) d (length-table f n) ∙ getD-drop n xs (k - n) d))))
 
 pub flatMap-append : {A B : Type 0} (f : A → List B) (xs ys : List A) → flatMap f (xs ++ ys) ≡ flatMap f xs ++ flatMap f ys
 unfolding flatMap
@@ -418,6 +431,18 @@ module _ {A : Type 0} (less : A → A → Bool) where
       go (yes l) q = absurd (later d xs r s k h f g l)
       go (no l) (yes q) = absurd (later d xs s r h k g f q)
       go (no l) (no q) = omega arith
+
+  leastFrom-more : (x y : A) (xs : List A) → leastFrom less x (xs ++ (y ∷ [])) ≡ cond (less y (leastFrom less x xs)) y (leastFrom less x xs)
+  unfolding leastFrom
+  leastFrom-more x y [] = refl
+  leastFrom-more x y (z ∷ xs) = leastFrom-more (cond (less z x) z x) y xs
+
+  -- One element more, at the end, is the first least one if it is less than that of the others.
+  pub firstLeast-more : (d y : A) (xs : List A) → 1 ≤ length xs
+      → firstLeast less d (xs ++ (y ∷ [])) ≡ cond (less y (firstLeast less d xs)) y (firstLeast less d xs)
+  unfolding firstLeast
+  firstLeast-more d y [] l = absurd (omega arith)
+  firstLeast-more d y (x ∷ xs) l = leastFrom-more x y xs
 
   module _ (w : StrictWeak less) where
     -- x is put in front of a list whose first element is less ..

@@ -11,10 +11,11 @@ use lib.IntN.{ℤ, pos, negsuc, negℤ}
 use lib.Signed.{leZ, ltZ, _≤ℤ_, leZ-yes}
 use lib.ListN.{length, getD}
 use borrow.Author.Tests.{leb-true, le-leb, lt-leb, eqb-true, eq-eqb, ne-eqb, le-ltb, lt-ltb, ltb-true, ltb-false, not-false}
-use Rattle.transport.specs.Lists.{all, at, atZ, total, within, withinZ}
+use Rattle.transport.specs.Lists.{all, at, atZ, total, atMost, within, withinZ}
 use Rattle.transport.specs.Limits.{maxSources, maxSinks, maxSide, maxAmount, maxCost}
-use Rattle.transport.specs.Sheet.{Sheet, roasteries, cafes, badSides, badLength, badAmount, badCost, lacking, crowded, numberTests, sheetTests, refusal}
-use Rattle.transport.specs.Statements.{WithinLimits, Lacking, Crowded, Accepted}
+use Rattle.transport.specs.Sheet.{Sheet, roasteries, cafes, badSides, badLength, badAmount, badCost, lacking, crowded, idle}
+use Rattle.transport.specs.Sheet.{numberTests, sheetTests, refusal}
+use Rattle.transport.specs.Statements.{WithinLimits, Lacking, Crowded, Idle, Accepted}
 use Rattle.transport.specs.Laws.ListLaws.{and-left, and-right, all-at, all-of, at-past, atZ-past}
 
 -- ---- refusal
@@ -107,18 +108,18 @@ withinZ-tests low high z = rw (le-lt low z, le-lt z high)
     le-lt (negsuc a) (pos b) = refl
     le-lt (negsuc a) (negsuc b) = nat b a (ltb a b) refl
 
--- Every number of the list is within the bounds.
-all-within-low : (low high : ℕ) (xs : List ℕ) → all (within low high) xs ≡ true → (k : ℕ) → k < length xs → low ≤ at xs k
-unfolding at
-all-within-low low high xs e k l = within-true low high _ (all-at (within low high) xs 0 k e l) .0
-
-pub all-within-high : (low high : ℕ) (xs : List ℕ) → all (within low high) xs ≡ true → (k : ℕ) → at xs k ≤ high
-unfolding at
-all-within-high low high xs e k = go (decLt k (length xs))
+-- No number of the list is above the bound.
+pub all-most : (high : ℕ) (xs : List ℕ) → all (atMost high) xs ≡ true → (k : ℕ) → at xs k ≤ high
+unfolding at atMost
+all-most high xs e k = go (decLt k (length xs))
   where
     go : Dec (k < length xs) → getD xs k 0 ≤ high
-    go (yes l) = within-true low high _ (all-at (within low high) xs 0 k e l) .1
+    go (yes l) = leb-true _ high (all-at (atMost high) xs 0 k e l)
     go (no l) = omega (arith, at-past xs k (omega arith))
+
+most-all : (high : ℕ) (xs : List ℕ) → ((k : ℕ) → at xs k ≤ high) → all (atMost high) xs ≡ true
+unfolding at atMost
+most-all high xs most = all-of (atMost high) xs 0 (λ k l. le-leb _ high (most k))
 
 -- Beyond the list stands 0, which is within bounds that have it between them.
 all-withinZ-at : (low high : ℤ) (zs : List ℤ) → low ≤ℤ pos 0 → pos 0 ≤ℤ high → all (withinZ low high) zs ≡ true
@@ -134,23 +135,19 @@ within-limits : (S : Sheet) → badSides S .0 ≡ false → badLength S .0 ≡ f
 unfolding badSides badLength badAmount badCost roasteries cafes maxCost
 within-limits S sides lengths amounts costs =
     let sides : within 1 maxSources (roasteries S) && within 1 maxSinks (cafes S) ≡ true = not-false _ sides in
-    let amounts : all (within 1 maxAmount) (S .supply) && all (within 1 maxAmount) (S .demand) ≡ true = not-false _ amounts in
+    let amounts : all (atMost maxAmount) (S .supply) && all (atMost maxAmount) (S .demand) ≡ true = not-false _ amounts in
     let costs : all (withinZ (negℤ (pos maxCost)) (pos maxCost)) (S .cost) ≡ true = not-false _ costs in
     let costs = all-withinZ-at (negℤ (pos maxCost)) (pos maxCost) (S .cost) (leZ-yes tt) (leZ-yes tt) costs in
     let rows = within-true 1 maxSources (roasteries S) (and-left _ (within 1 maxSinks (cafes S)) sides) in
     let columns = within-true 1 maxSinks (cafes S) (and-right (within 1 maxSources (roasteries S)) _ sides) in
-    let supplies : all (within 1 maxAmount) (S .supply) ≡ true = and-left _ (all (within 1 maxAmount) (S .demand)) amounts in
-    let demands : all (within 1 maxAmount) (S .demand) ≡ true = and-right (all (within 1 maxAmount) (S .supply)) _ amounts in
     record {
       roasteriesLow = rows .0;
       roasteriesHigh = rows .1;
       cafesLow = columns .0;
       cafesHigh = columns .1;
       costLength = eqb-true _ _ (not-false _ lengths);
-      supplyLow = all-within-low 1 maxAmount (S .supply) supplies;
-      supplyHigh = all-within-high 1 maxAmount (S .supply) supplies;
-      demandLow = all-within-low 1 maxAmount (S .demand) demands;
-      demandHigh = all-within-high 1 maxAmount (S .demand) demands;
+      supplyHigh = all-most maxAmount (S .supply) (and-left _ (all (atMost maxAmount) (S .demand)) amounts);
+      demandHigh = all-most maxAmount (S .demand) (and-right (all (atMost maxAmount) (S .supply)) _ amounts);
       costLow = λ l. costs l .0;
       costHigh = λ l. costs l .1;
     }
@@ -162,33 +159,27 @@ record Passes (S : Sheet) : Type 0 where
   amounts : badAmount S .0 ≡ false
   costs : badCost S .0 ≡ false
 
-all-within : (low high : ℕ) (xs : List ℕ) → ((k : ℕ) → k < length xs → low ≤ at xs k) → ((k : ℕ) → at xs k ≤ high) → all (within low high) xs ≡ true
-unfolding at
-all-within low high xs p q = all-of (within low high) xs 0 (λ k l. true-within low high _ (p k l) (q k))
-
 all-withinZ : (low high : ℤ) (zs : List ℤ) → ((k : ℕ) → (low ≤ℤ atZ zs k) × (atZ zs k ≤ℤ high)) → all (withinZ low high) zs ≡ true
 unfolding atZ
 all-withinZ low high zs h = all-of (withinZ low high) zs (pos 0) (λ k l. true-withinZ low high _ (h k .0) (h k .1))
 
 module _ {S : Sheet} (h : WithinLimits S) where
-  pub supplies-within : all (within 1 maxAmount) (S .supply) ≡ true
-  unfolding roasteries
-  supplies-within = all-within 1 maxAmount (S .supply) (h .supplyLow) (h .supplyHigh)
+  pub supplies-most : all (atMost maxAmount) (S .supply) ≡ true
+  supplies-most = most-all maxAmount (S .supply) (h .supplyHigh)
 
-  pub demands-within : all (within 1 maxAmount) (S .demand) ≡ true
-  unfolding cafes
-  demands-within = all-within 1 maxAmount (S .demand) (h .demandLow) (h .demandHigh)
+  pub demands-most : all (atMost maxAmount) (S .demand) ≡ true
+  demands-most = most-all maxAmount (S .demand) (h .demandHigh)
 
 limits-pass : {S : Sheet} → WithinLimits S → Passes S
 unfolding badSides badLength badAmount badCost
 limits-pass {S} h = record {
   sides = rw (true-within 1 maxSources (roasteries S) (h .roasteriesLow) (h .roasteriesHigh), true-within 1 maxSinks (cafes S) (h .cafesLow) (h .cafesHigh));
   lengths = rw (eq-eqb (length (S .cost)) (roasteries S * cafes S) (h .costLength));
-  amounts = rw (supplies-within h, demands-within h);
+  amounts = rw (supplies-most h, demands-most h);
   costs = rw (all-withinZ (negℤ (pos maxCost)) (pos maxCost) (S .cost) (λ k. (h .costLow k, h .costHigh k)));
 }
 
--- 5 and 10, each exactly on its condition.
+-- 5, 10 and 11, each exactly on its condition.
 module _ (S : Sheet) where
   pub lacking-yes : Lacking S → lacking S .0 ≡ true
   unfolding lacking
@@ -210,11 +201,22 @@ module _ (S : Sheet) where
       go (no l) = rw (le-ltb (total (S .demand)) (total (S .supply)) (omega arith))
       go (yes l) = rw (ne-eqb (cafes S) maxSide (λ e. c (l, e)), and-false)
 
+  pub idle-yes : Idle S → idle S .0 ≡ true
+  unfolding idle
+  idle-yes e = eq-eqb (total (S .demand)) 0 e
+
+  pub idle-no : ¬ Idle S → idle S .0 ≡ false
+  unfolding idle
+  idle-no n = ne-eqb (total (S .demand)) 0 n
+
   no-lacking : lacking S .0 ≡ false → ¬ Lacking S
   no-lacking e l = true≢false (sym (lacking-yes l) ∙ e)
 
   no-crowded : crowded S .0 ≡ false → ¬ Crowded S
   no-crowded e c = true≢false (sym (crowded-yes c) ∙ e)
+
+  no-idle : idle S .0 ≡ false → ¬ Idle S
+  no-idle e i = true≢false (sym (idle-yes i) ∙ e)
 
 -- A sheet that nothing is refused of is accepted.
 pub accepted : (S : Sheet) → refusal (sheetTests S) ≡ none → Accepted S
@@ -222,18 +224,24 @@ unfolding sheetTests numberTests
 accepted S e =
     let (sides, e) = refusal-clear (badSides S) (badLength S ∷ numberTests S) e in
     let (lengths, e) = refusal-clear (badLength S) (numberTests S) e in
-    let (amounts, e) = refusal-clear (badAmount S) (badCost S ∷ lacking S ∷ crowded S ∷ []) e in
-    let (costs, e) = refusal-clear (badCost S) (lacking S ∷ crowded S ∷ []) e in
-    let (short, e) = refusal-clear (lacking S) (crowded S ∷ []) e in
-    let (full, e) = refusal-clear (crowded S) [] e in
-    record { limits = within-limits S sides lengths amounts costs; enough = no-lacking S short; room = no-crowded S full }
+    let (amounts, e) = refusal-clear (badAmount S) (badCost S ∷ lacking S ∷ crowded S ∷ idle S ∷ []) e in
+    let (costs, e) = refusal-clear (badCost S) (lacking S ∷ crowded S ∷ idle S ∷ []) e in
+    let (short, e) = refusal-clear (lacking S) (crowded S ∷ idle S ∷ []) e in
+    let (full, e) = refusal-clear (crowded S) (idle S ∷ []) e in
+    let (wants, e) = refusal-clear (idle S) [] e in
+    record {
+      limits = within-limits S sides lengths amounts costs;
+      enough = no-lacking S short;
+      room = no-crowded S full;
+      wanting = no-idle S wants;
+    }
 
--- The tests that a sheet within the limits passes leave it to 5, 10 and those after them.
-pub limits-left : {S : Sheet} → WithinLimits S → (ts : List (Bool × ℕ)) → refusal (sheetTests S ++ ts) ≡ refusal (lacking S ∷ crowded S ∷ ts)
+-- The tests that a sheet within the limits passes leave it to 5, 10, 11 and those after them.
+pub limits-left : {S : Sheet} → WithinLimits S → (ts : List (Bool × ℕ)) → refusal (sheetTests S ++ ts) ≡ refusal (lacking S ∷ crowded S ∷ idle S ∷ ts)
 unfolding sheetTests numberTests
 limits-left {S} w ts =
     let p = limits-pass w in
-    let later = lacking S ∷ crowded S ∷ ts in
+    let later = lacking S ∷ crowded S ∷ idle S ∷ ts in
     refusal-no (badSides S) (badLength S ∷ badAmount S ∷ badCost S ∷ later) (p .sides)
     ∙ refusal-no (badLength S) (badAmount S ∷ badCost S ∷ later) (p .lengths)
     ∙ refusal-no (badAmount S) (badCost S ∷ later) (p .amounts)
@@ -243,8 +251,9 @@ limits-left {S} w ts =
 pub accepted-left : {S : Sheet} → Accepted S → (ts : List (Bool × ℕ)) → refusal (sheetTests S ++ ts) ≡ refusal ts
 accepted-left {S} ok ts =
     limits-left (ok .limits) ts
-    ∙ refusal-no (lacking S) (crowded S ∷ ts) (lacking-no S (ok .enough))
-    ∙ refusal-no (crowded S) ts (crowded-no S (ok .room))
+    ∙ refusal-no (lacking S) (crowded S ∷ idle S ∷ ts) (lacking-no S (ok .enough))
+    ∙ refusal-no (crowded S) (idle S ∷ ts) (crowded-no S (ok .room))
+    ∙ refusal-no (idle S) ts (idle-no S (ok .wanting))
 
 -- Of an accepted sheet nothing is refused.
 pub passes : {S : Sheet} → Accepted S → refusal (sheetTests S) ≡ none

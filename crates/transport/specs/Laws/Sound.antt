@@ -1,26 +1,28 @@
--- What the theory of rounds asks of a balanced problem; and the extended problem of an accepted sheet has it. The bound on amounts is one on the total, and
--- costs are bounded from both sides, so that the theory serves problems that are more than a sheet's.
+-- What the theory of rounds asks of a balanced problem; and the problem of the parties left of an accepted sheet has it. The bound on amounts is one on the
+-- total, and costs are bounded from both sides, so that the theory serves problems that are more than a sheet's.
 use Prim.Native.Nat.{ℕ, _*_, _≤_, _<_}
 use native.Mathlib.Omega.{arith}
 use native.Mathlib.Nat.{mul-le-mul-right}
-use mathlib.Core.Path.{_≡_, sym}
+use mathlib.Core.Path.{_≡_, sym, ap, _∙_, subst}
 use mathlib.Core.Logic.{by-cases}
 use mathlib.Core.List.{List}
 use native.Mathlib.Decide.{decLt, ℕ-discrete}
-use lib.IntN.{pos, negℤ}
+use lib.IntN.{ℤ, pos, negℤ}
 use lib.Signed.{_≤ℤ_, leZ-yes}
 use mathlib.Core.Option.{none}
-use lib.ListN.{length, length-append}
-use Rattle.transport.specs.Lists.{at, atZ, total}
+use lib.ListN.{length, getD, length-append, List·getD-eq-default}
+use Rattle.transport.specs.Lists.{at, atZ, grid, total}
 use Rattle.transport.specs.Limits.{maxSources, maxSinks, maxSide, maxAmount, maxBags, maxCost, costBelow, costAbove}
-use Rattle.transport.specs.Problem.{Problem, sources, sinks}
+use Rattle.transport.specs.Problem.{Problem, sources, sinks, laneCost}
 use Rattle.transport.specs.Sheet.{Sheet, roasteries, cafes, sheetTests, refusal}
-use Rattle.transport.specs.Extended.{surplus, wanted, costAt, extended}
+use Rattle.transport.specs.Extended.{surplus, wanted, extended}
+use Rattle.transport.specs.Parties.{left, rowsLeft, columnsLeft, struck, problemOf}
 use Rattle.transport.specs.Statements.{Accepted}
 use Rattle.transport.specs.Laws.ListLaws.{sumTo-each, sumTo-bound, at-past}
 use Rattle.transport.specs.Laws.SheetLaws.{accepted}
-use Rattle.transport.specs.Laws.ProblemLaws.{length-grid}
-use Rattle.transport.specs.Laws.ExtendedLaws.{Extra, without, with, extra, wanted-total, width-low, wanted-at, beyond, cost-each}
+use Rattle.transport.specs.Laws.ProblemLaws.{place-of, length-grid, getD-grid}
+use Rattle.transport.specs.Laws.ExtendedLaws.{Extra, without, with, extra, wanted-total, cost-each}
+use Rattle.transport.specs.Laws.PartiesLaws.{left-at, length-left, amountsLeft, length-amounts, amounts-at, total-left, some-left}
 
 pub record Sound (P : Problem) : Type 0 where
   pub sourcesLow : 1 ≤ sources P
@@ -58,7 +60,25 @@ module _ {P : Problem} (ok : Sound P) where
   pub demand-most : (j : ℕ) → at (P .demand) j ≤ maxBags
   demand-most j = omega (arith, at-most (P .demand) j, ok .bags, ok .balance)
 
--- ---- the extended problem of a sheet
+-- ---- the problem behind a sheet
+
+-- Each of those left has an amount.
+amount-left : (xs : List ℕ) (k : ℕ) → k < length (left xs) → 1 ≤ at (amountsLeft xs) k
+amount-left xs k l = rw (amounts-at xs k l) (left-at xs k l .1)
+
+zero-between : (negℤ (pos costBelow) ≤ℤ pos 0) × (pos 0 ≤ℤ pos costAbove)
+unfolding costBelow costAbove maxCost
+zero-between = (leZ-yes tt, leZ-yes tt)
+
+-- Every number of a grid is 0 or one of its own: what holds of these holds of all.
+grid-each : (m n : ℕ) (f : ℕ → ℕ → ℤ) (Good : ℤ → Type 0) → Good (pos 0) → ((i j : ℕ) → Good (f i j)) → (l : ℕ) → Good (atZ (grid m n f) l)
+unfolding atZ
+grid-each m n f Good zero each l = by-cases (decLt l (m * n))
+    (λ h.
+    let w = place-of m n l h in
+    subst Good (sym (ap (λ (k : ℕ). getD (grid m n f) k (pos 0)) (sym (w .placed)) ∙ getD-grid n f m (w .row) (w .col) (pos 0) (w .rowBelow) (w .colBelow)))
+    (each (w .row) (w .col)))
+    (λ h. rw (List·getD-eq-default (grid m n f) (pos 0) {n = l} (omega (arith, length-grid n f m))) zero)
 
 module _ {S : Sheet} (ok : Accepted S) where
   -- Room for all columns, since a surplus and 32 cafés are refused.
@@ -72,13 +92,6 @@ module _ {S : Sheet} (ok : Accepted S) where
           (λ f. absurd (ok .room (omega arith, f)))
           (λ f. rw (e, length-append) (omega (arith, ok .limits .cafesHigh, sinks-room)))
 
-  -- Each column wants something.
-  wanted-low : (j : ℕ) → j < length (wanted S) → 1 ≤ at (wanted S) j
-  unfolding cafes
-  wanted-low j l = by-cases (decLt j (cafes S))
-      (λ h. rw (wanted-at S j h) (ok .limits .demandLow j h))
-      (λ h. let (z, last, takes) = beyond S j (omega arith) l in rw takes z)
-
   cost-low : (l : ℕ) → negℤ (pos costBelow) ≤ℤ atZ (extended S .cost) l
   unfolding costBelow maxCost
   cost-low l = cost-each S (λ c. negℤ (pos costBelow) ≤ℤ c) (leZ-yes tt) (ok .limits .costLow) l
@@ -87,7 +100,7 @@ module _ {S : Sheet} (ok : Accepted S) where
   unfolding costAbove maxCost
   cost-high l = cost-each S (λ c. c ≤ℤ pos costAbove) (leZ-yes tt) (ok .limits .costHigh) l
 
-  bags-of : total (S .supply) ≤ maxBags
+  pub bags-of : total (S .supply) ≤ maxBags
   unfolding maxBags total roasteries
   bags-of = omega (
     arith,
@@ -95,23 +108,35 @@ module _ {S : Sheet} (ok : Accepted S) where
     mul-le-mul-right {m = roasteries S} {n = maxSide} maxAmount (omega (arith, ok .limits .roasteriesHigh, sources-room)),
   )
 
-  pub sound : Sound (extended S)
-  unfolding extended sources sinks roasteries
+  -- The columns want all that there is, and something is wanted: so somebody is left on either side.
+  extended-balance : total (S .supply) ≡ total (wanted S)
+  extended-balance = sym (wanted-total S (omega (arith, ok .enough)))
+
+  pub rows-left : 1 ≤ length (left (S .supply))
+  rows-left = some-left (S .supply) (omega (arith, ok .enough, ok .wanting))
+
+  pub columns-left : 1 ≤ length (left (wanted S))
+  columns-left = some-left (wanted S) (omega (arith, extended-balance, ok .enough, ok .wanting))
+
+  pub sound : Sound (problemOf S)
+  unfolding problemOf struck extended sources sinks rowsLeft columnsLeft roasteries laneCost
   sound =
       let h = ok .limits in
+      let rows = length-amounts (S .supply) in
+      let columns = length-amounts (wanted S) in
       record {
-        sourcesLow = h .roasteriesLow;
-        sourcesHigh = omega (arith, h .roasteriesHigh, sources-room);
-        sinksLow = omega (arith, h .cafesLow, width-low S);
-        sinksHigh = wanted-room;
-        costLength = length-grid (length (wanted S)) (costAt S) (roasteries S);
-        supplyLow = h .supplyLow;
-        demandLow = wanted-low;
-        bags = bags-of;
-        balance = sym (wanted-total S (omega (arith, ok .enough)));
-        costLow = cost-low;
-        costHigh = cost-high;
+        sourcesLow = omega (arith, rows, rows-left);
+        sourcesHigh = omega (arith, rows, length-left (S .supply), h .roasteriesHigh, sources-room);
+        sinksLow = omega (arith, columns, columns-left);
+        sinksHigh = omega (arith, columns, length-left (wanted S), wanted-room);
+        costLength = rw (rows, columns) (length-grid (length (left (wanted S))) _ (length (left (S .supply))));
+        supplyLow = λ i l. amount-left (S .supply) i (rw rows at l);
+        demandLow = λ j l. amount-left (wanted S) j (rw columns at l);
+        bags = rw (total-left (S .supply)) bags-of;
+        balance = total-left (S .supply) ∙ extended-balance ∙ sym (total-left (wanted S));
+        costLow = grid-each (length (left (S .supply))) (length (left (wanted S))) _ (λ c. negℤ (pos costBelow) ≤ℤ c) (zero-between .0) (λ i j. cost-low _);
+        costHigh = grid-each (length (left (S .supply))) (length (left (wanted S))) _ (λ c. c ≤ℤ pos costAbove) (zero-between .1) (λ i j. cost-high _);
       }
 
-pub accepted-sound : (S : Sheet) → refusal (sheetTests S) ≡ none → Sound (extended S)
+pub accepted-sound : (S : Sheet) → refusal (sheetTests S) ≡ none → Sound (problemOf S)
 accepted-sound S e = sound (accepted S e)

@@ -13,7 +13,8 @@ use Rattle.transport.specs.Amount.{nothing}
 use Rattle.transport.specs.Problem.{place}
 use Rattle.transport.specs.Tableau.{noCell, cellsOf}
 use Rattle.tree.specs.Layout.{stride, laneRoom}
-use Rattle.board.specs.Cells.{cellRoom, long, length-cells, cells-from}
+use Rattle.transport.specs.Laws.ListLaws.{length-mapped}
+use Rattle.board.specs.Cells.{cellRoom, length-cells, cells-from}
 use Rattle.board.specs.CellTests.{fitsAt, fits-row, fits-column, row-small, fitsFrom, fitsFrom-nil, fitsFrom-yes, fitsFrom-no, fits-all}
 use Rattle.board.proofs.fit.cells_fit.Statement.{statement}
 use Rattle.board.proofs.fit.cells_fit.Tie as tie
@@ -42,7 +43,7 @@ returns c =
     let a = c .before .before .before .before .before .args in
     let i = c .before .before .before .before .loop in
     let d = getD (a .t1 .cells) (i .k) noCell in
-    let l : length (a .t1 .cells) ≡ cellRoom = search (needs, long) in
+    let l : length (a .t1 .cells) ≡ cellRoom = search (needs, length-mapped) in
     let e : fitsAt (a .m) (a .n) (i .least) d ≡ false = sym (c .before .cell-fits .ensures) ∙ not-true _ (c .if1 .taken) in
     sym (sym (fits-all (a .m) (a .n) (cellsOf (a .t1))) ∙ i .inv .1 ∙ ap (fitsFrom (a .m) (a .n) (i .least))
     (cells-from (a .t1) (i .k) (omega arith) (omega arith)) ∙ fitsFrom-no (a .m) (a .n) (i .least) d (drop (suc (i .k)) (cellsOf (a .t1))) e)
@@ -91,7 +92,7 @@ loop-again c =
     let a = c .before .before .before .before .before .before .before .args in
     let i = c .before .before .before .before .before .before .loop in
     let d = getD (a .t1 .cells) (i .k) noCell in
-    let l : length (a .t1 .cells) ≡ cellRoom = search (needs, long) in (
+    let l : length (a .t1 .cells) ≡ cellRoom = search (needs, length-mapped) in (
       omega arith,
       i .inv .1
           ∙ ap (fitsFrom (a .m) (a .n) (i .least)) (cells-from (a .t1) (i .k) (omega arith) (omega arith))
@@ -103,7 +104,7 @@ returns-2 : tie.Need-returns-2 Inv-loop μ-loop
 returns-2 c =
     let a = c .before .before .args in
     let i = c .before .loop in
-    let l : length (a .t1 .cells) ≡ cellRoom = search (needs, long) in
+    let l : length (a .t1 .cells) ≡ cellRoom = search (needs, length-mapped) in
     let none : drop (i .k) (cellsOf (a .t1)) ≡ [] = drop-of-length-le (cellsOf (a .t1)) {i = i .k} (omega (arith, length-cells (a .t1) (omega arith))) in
     sym (sym (fits-all (a .m) (a .n) (cellsOf (a .t1))) ∙ i .inv .1 ∙ rw none (fitsFrom-nil (a .m) (a .n) (i .least)))
 

@@ -7,7 +7,8 @@ use lib.ListN.{length, drop, getD, drop-of-length-le}
 use Rattle.transport.specs.Amount.{nothing}
 use Rattle.transport.specs.Tableau.{noCell, cellsOf}
 use Rattle.tree.specs.Layout.{stride}
-use Rattle.board.specs.Cells.{cellRoom, long, length-cells, cells-from, cell-inside}
+use Rattle.transport.specs.Laws.ListLaws.{length-mapped}
+use Rattle.board.specs.Cells.{cellRoom, length-cells, cells-from, cell-inside}
 use Rattle.board.specs.Held.{Held, held-fewer, held-more, held-none}
 use Rattle.board.proofs.spread.spread.Statement.{statement}
 use Rattle.board.proofs.spread.spread.Tie as tie
@@ -24,7 +25,7 @@ clear-requires c κs = tt
 loop-holds : tie.Need-loop-holds Inv-loop μ-loop
 loop-holds c =
     let t = c .before .before .before .before .args .t1 in
-    let l : length (t .cells) ≡ cellRoom = search (needs, long) in
+    let l : length (t .cells) ≡ cellRoom = search (needs, length-mapped) in
     (omega arith, rw (drop-of-length-le (cellsOf t) {i = t .count} (omega (arith, length-cells t (omega arith)))) (held-none (c .clear .ensures)))
 
 sub-k : tie.Need-sub-k Inv-loop μ-loop
@@ -43,7 +44,7 @@ inside : (c : tie.In-loop Inv-loop μ-loop)
     (d .row < a .m) × (d .col < stride)
 inside c =
     let s = c .before .before .before .before .before .before in
-    let l : length (s .args .t1 .cells) ≡ cellRoom = search (needs, long) in
+    let l : length (s .args .t1 .cells) ≡ cellRoom = search (needs, length-mapped) in
     cell-inside (s .args .t1) (s .pre .2) (c .before .loop .k - 1) (omega arith) (omega arith)
 
 put-cell-requires : tie.Need-put-cell-requires Inv-loop μ-loop
@@ -61,7 +62,7 @@ loop-again c =
     let s = c .before .before .before .before .before .before .before .before .before .before .before in
     let i = c .before .before .before .before .before .before .loop in
     let t = s .args .t1 in
-    let l : length (t .cells) ≡ cellRoom = search (needs, long) in
+    let l : length (t .cells) ≡ cellRoom = search (needs, length-mapped) in
     let h = inside (c .before .before .before .before .before) in
     let r : suc (i .k - 1) ≡ i .k = omega arith in
     let held : Held (s .args .m) stride (drop (suc (i .k - 1)) (cellsOf t)) (i .adj) (i .q) (i .e) = rw r (i .inv .1) in (

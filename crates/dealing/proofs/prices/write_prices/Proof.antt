@@ -1,106 +1,136 @@
--- `dealing::prices::write_prices` meets its contract. The loop's invariant: the first k prices are written, and the rest is as it was.
-use Prim.Native.Nat.{_+_, _-_, _≤_}
+-- `dealing::prices::write_prices` meets its contract: what each call ensures is handed to the laws of the prices that are given.
+use mathlib.Core.Path.{_≡_, refl, sym, ap, _∙_}
+use Prim.Native.Nat.{_≤_}
 use native.Mathlib.Omega.{arith}
-use mathlib.Core.Path.{_≡_, refl}
-use mathlib.Core.List.{_++_}
-use lib.IntN.{pos, natAbs}
-use lib.ListN.{length, drop, getD, length-set}
-use mir.Syntax.{w32, w64}
-use mir.Val.{toZ, ofZ}
-use Rattle.transport.specs.Limits.{maxCost, costAbove}
-use Rattle.transport.specs.Laws.RangeLaws.{mag-abs, abs-fits, back}
-use Rattle.transport.specs.Lists.{table}
-use Rattle.transport.specs.Laws.ListLaws.{table-zero, fill-one}
-use Rattle.tree.specs.Layout.{maxPotential}
+use borrow.Author.Needs.{needs}
+use lib.ListN.{length}
+use lib.Seq.{length-take-le}
+use Rattle.transport.specs.Limits.{maxSide}
+use Rattle.transport.specs.Sheet.{Sheet, sheetOf, roasteries, cafes}
+use Rattle.transport.specs.Laws.ExtendedLaws.{width-low}
+use Rattle.transport.specs.Laws.Sound.{wanted-room}
+use Rattle.dealing.specs.Prices.{costs-of, n-room, cols-some, last-in, width-is, placing-rows, placing-cols, row-prices, placed-small, columns-small}
+use Rattle.dealing.specs.Prices.{columns-long, cafes-given, roasteries-given}
 use Rattle.dealing.proofs.prices.write_prices.Statement.{statement}
 use Rattle.dealing.proofs.prices.write_prices.Tie as tie
 
-abbrev Inv-loop : tie.InvT-loop
-Inv-loop price from count out₀ k₀ out k = (k ≤ count) × (length out ≡ length out₀) × (out ≡ table k (λ i. getD price (from + i) (pos 0)) ++ drop k out₀)
+-- From each call to the one before it.
+abbrev start : tie.After-place-prices-arg → tie.Start
+start c = c .before .before .before .before .before
 
-abbrev μ-loop : tie.MeasureT-loop
-μ-loop price from count out₀ k₀ out k = count - k
+abbrev rows : tie.After-place-prices2 → tie.After-place-prices
+rows c = c .before .before .before
 
-loop-holds : tie.Need-loop-holds Inv-loop μ-loop
-loop-holds c = (omega arith, refl, rw table-zero)
+abbrev cols : tie.After-price-cafes-arg → tie.After-place-prices2
+cols c = c .before .before
 
-add-out : tie.Need-add-out Inv-loop μ-loop
-add-out c = omega arith
+abbrev counted : tie.After-price-roasteries-arg → tie.After-column-count
+counted c = c .before .before
 
-mul-out : tie.Need-mul-out Inv-loop μ-loop
-mul-out c = omega arith
+abbrev priced : tie.After-u2 → tie.After-price-roasteries
+priced c = c .before
 
-element-copy-out-out : tie.Need-element-copy-out-out Inv-loop μ-loop
-element-copy-out-out c = omega arith
+-- .. and to the start.
+abbrev sheet : tie.Start → Sheet
+sheet c = sheetOf (c .args .supply .now) (c .args .demand .now) (c .args .cost .now)
 
--- The price is small, so it is read and written as it is.
-small : (c : tie.After-out Inv-loop μ-loop) → let a = c .before .before .before .args in
-    natAbs (getD (a .price .now) (a .from + c .before .before .loop .k) (pos 0)) ≤ maxPotential
-small c = let s = c .before .before .before in s .pre .3 (s .args .from + c .before .before .loop .k) (omega arith)
+abbrev start-cafes : tie.After-price-cafes-arg → tie.Start
+start-cafes c = start (rows (cols c) .before)
 
-whole : (c : tie.After-out Inv-loop μ-loop)
-    → let a = c .before .before .before .args in
-    let z = getD (a .price .now) (a .from + c .before .before .loop .k) (pos 0) in
-    toZ w32 (ofZ w32 z) ≡ z
-unfolding costAbove maxCost
-whole c =
-    let a = c .before .before .before .args in
-    let z = getD (a .price .now) (a .from + c .before .before .loop .k) (pos 0) in
-    back w32 z (omega (arith, mag-abs z, small c))
+abbrev start-roasteries : tie.After-price-roasteries-arg → tie.Start
+start-roasteries c = start-cafes (counted c .before .before)
 
-cast-out : tie.Need-cast-out Inv-loop μ-loop
-unfolding costAbove maxCost
-cast-out c =
-    let a = c .before .before .before .args in
-    rw (whole c) (abs-fits w64 (getD (a .price .now) (a .from + c .before .before .loop .k) (pos 0)) (omega (arith, small c)))
+place-prices-requires : tie.Need-place-prices-requires
+unfolding roasteries
+place-prices-requires c κs = let s = start c in placing-rows (s .pre .0 .1) _ (s .pre .1)
 
-mul-t13 : tie.Need-mul-t13 Inv-loop μ-loop
-mul-t13 c = omega arith
+place-prices-requires-2 : tie.Need-place-prices-requires-2
+unfolding maxSide
+place-prices-requires-2 c κs = placing-cols (start (c .before .before .before) .pre .0 .1) _ refl
 
-slice-set-from-out : tie.Need-slice-set-from-out Inv-loop μ-loop
-slice-set-from-out c = omega arith
+price-cafes-requires : tie.Need-price-cafes-requires
+unfolding roasteries cafes
+price-cafes-requires c κs =
+    let s = start-cafes c in
+    let w = s .pre .0 .1 in
+    ((_, costs-of w, row-prices w (rows (cols c) .place-prices .ensures) (s .pre .1)), n-room w)
 
-add-k : tie.Need-add-k Inv-loop μ-loop
-add-k c = omega arith
+column-count-requires : tie.Need-column-count-requires
+column-count-requires c κs = let w = start-cafes (c .before) .pre .0 .1 in (cols-some w, last-in w)
 
-loop-less : tie.Need-loop-less Inv-loop μ-loop
-loop-less c = omega arith
-
-loop-again : tie.Need-loop-again Inv-loop μ-loop
-unfolding costAbove maxCost
-loop-again c =
-    let a = c .before .before .before .args in
-    let l = c .before .before .loop in
-    let z = getD (a .price .now) (a .from + l .k) (pos 0) in (
-      omega arith,
-      simp length-set (l .inv .1),
-      rw (whole c, back w64 z (omega (arith, mag-abs z, small c)), l .inv .2)
-          (fill-one (λ i. getD (a .price .now) (a .from + i) (pos 0)) (a .out .now) (l .k) (pos 0) (omega arith)),
+-- The number of columns, which are in the room; either list of their prices is small, and so is the number of cafés, so that a program that hands over one of
+-- these is refused for its prices.
+price-roasteries-requires : tie.Need-price-roasteries-requires
+unfolding roasteries cafes maxSide
+price-roasteries-requires c κs =
+    let s = start-roasteries c in
+    let w = s .pre .0 .1 in
+    let count = counted c in
+    let struck = count .before in
+    let second = cols (struck .before) in
+    let first = rows second in
+    let width = width-is w (count .column-count .result) (count .column-count .ensures) in (
+      costs-of w,
+      record {
+        some = omega (arith, width, width-low (sheet s), w .accepted .limits .cafesLow);
+        room = omega (arith, width, wanted-room (w .accepted), n-room w);
+        small = search (
+          placed-small w (second .place-prices2 .ensures),
+          columns-small w (first .place-prices .ensures) (second .place-prices2 .ensures) (struck .price-cafes .ensures) (s .pre .1),
+        );
+      },
+      omega (arith, s .pre .1, first .place-prices .ensures .long),
     )
 
-same-length : tie.Need-same-length Inv-loop μ-loop
-same-length c = c .before .loop .inv .1
+array-share-prefix-columns : tie.Need-array-share-prefix-columns
+unfolding cafes maxSide
+array-share-prefix-columns c =
+    let call = c .before .before in
+    let w = start-roasteries call .pre .0 .1 in
+    let struck = counted call .before in
+    let second = cols (struck .before) in
+    omega (
+      arith,
+      n-room w,
+      columns-long w (rows second .place-prices .ensures) (second .place-prices2 .ensures) (struck .price-cafes .ensures),
+    )
 
-returns : tie.Need-returns Inv-loop μ-loop
-returns c =
-    let e : c .before .loop .k ≡ c .before .before .args .count = omega arith in
-    rw e at (c .before .loop .inv .2)
+slice-aggregate-copy-prices : tie.Need-slice-aggregate-copy-prices
+slice-aggregate-copy-prices c = sym (length-take-le _ _ (array-share-prefix-columns (c .before)))
+
+copy-prices-requires : tie.Need-copy-prices-requires
+copy-prices-requires c κs =
+    let s = start-roasteries (c .before .before .before .before) in
+    omega (arith, slice-aggregate-copy-prices (c .before), s .pre .2)
+
+returns : tie.Need-returns
+unfolding roasteries cafes maxSide
+returns c T w =
+    let call = c .before .before .before .before .before in
+    let s = start-roasteries (call .before) in
+    let count = counted (call .before) in
+    let struck = count .before in
+    let second = cols (struck .before) in
+    let first = rows second in
+    let p = first .place-prices .ensures in
+    let q = second .place-prices2 .ensures in
+    let r = struck .price-cafes .ensures in
+    let width = width-is w (count .column-count .result) (count .column-count .ensures) in
+    (roasteries-given w p q r width (call .price-roasteries .ensures) (s .pre .1), cafes-given w p q r (s .args .v .now) (c .before .copy-prices .ensures))
 
 pub write-prices-spec : {M : Type 1} → statement M
 write-prices-spec =
     tie.close
     (tie.spec
-    Inv-loop
-    μ-loop
-    loop-holds
-    add-out
-    mul-out
-    element-copy-out-out
-    cast-out
-    mul-t13
-    slice-set-from-out
-    add-k
-    loop-less
-    loop-again
-    same-length
+    place-prices-requires
+    (λ c. search needs)
+    place-prices-requires-2
+    price-cafes-requires
+    column-count-requires
+    price-roasteries-requires
+    array-share-prefix-columns
+    slice-aggregate-copy-prices
+    copy-prices-requires
+    (λ c. search needs)
+    (λ c. search needs)
     returns)

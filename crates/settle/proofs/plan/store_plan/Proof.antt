@@ -1,168 +1,199 @@
--- `settle::plan::store_plan` meets its contract. The loops' invariants: the places before row i and column j are written, and the rest is as it was.
-use Prim.Native.Nat.{_+_, _-_, _*_, _≤_, _<_, _^_}
+-- `settle::plan::store_plan` meets its contract. The loops' invariants: the places before l are cleared; then the rows before i are stored, and of row i the
+-- columns before j.
+use Prim.Native.Nat.{ℕ, _+_, _-_, _*_, _≤_, _<_, _^_}
 use native.Mathlib.Omega.{arith}
-use native.Mathlib.Nat.{mul-le-mul-right}
+use native.Mathlib.Nat.{mul-le-mul}
 use borrow.Author.Needs.{needs}
+use borrow.Author.Tests.{eqb-true}
 use mathlib.Core.Path.{_≡_, ap, _∙_}
+use mathlib.Core.Bool.{true}
+use mathlib.Core.List.{List}
 use lib.IntN.{pos, natAbs}
 use lib.Signed.{mag}
 use lib.ListN.{length, getD}
 use mir.Syntax.{w64}
 use mir.Val.{toZ, ofZ}
+use Rattle.transport.specs.Lists.{at}
 use Rattle.transport.specs.Problem.{place}
-use Rattle.transport.specs.Laws.ProblemLaws.{place-below}
 use Rattle.tree.specs.Layout.{stride, laneRoom}
-use Rattle.settle.specs.Plan.{bagsIn, bagsIn-place, Written, written-none, written-one, written-again, written-on}
+use Rattle.settle.specs.Plan.{Storable, Cleared, cleared-none, cleared-one, StoredTo, all-left, stored-none, stored-inside, stored-one, stored-row}
+use Rattle.settle.specs.Plan.{stored-all}
 use Rattle.settle.proofs.plan.store_plan.Statement.{statement}
 use Rattle.settle.proofs.plan.store_plan.Tie as tie
 
-abbrev Inv-loop2 : tie.InvT-loop2
-Inv-loop2 q plan₀ m n i j₀ plan j = (j ≤ n) × Written n q (i * n + j) plan₀ plan
-
-abbrev μ-loop2 : tie.MeasureT-loop2
-μ-loop2 q plan₀ m n i j₀ plan j = n - j
-
 abbrev Inv-loop : tie.InvT-loop
-Inv-loop q plan₀ m n i₀ plan i = (i ≤ m) × Written n q (i * n) plan₀ plan
+Inv-loop q rows cols m n plan₀ l₀ plan l = (l ≤ m * n) × Cleared (m * n) l plan₀ plan
 
 abbrev μ-loop : tie.MeasureT-loop
-μ-loop q plan₀ m n i₀ plan i = m - i
+μ-loop q rows cols m n plan₀ l₀ plan l = m * n - l
 
-loop-holds : tie.Need-loop-holds Inv-loop2 μ-loop2 Inv-loop μ-loop
-loop-holds c =
-    let z : 0 * c .args .n ≡ 0 = omega arith in
-    (omega arith, rw z (written-none (c .args .n) (c .args .q .now) (c .args .plan .now)))
+abbrev Inv-loop3 : tie.InvT-loop3
+Inv-loop3 q rows cols m n plan₀ l all i first j₀ plan j =
+    (j ≤ length cols)
+    × ((old : List ℕ) → Storable q rows cols m n old → StoredTo q rows cols m n i 0 old plan₀ → StoredTo q rows cols m n i j old plan)
 
-loop2-holds : tie.Need-loop2-holds Inv-loop2 μ-loop2 Inv-loop μ-loop
-loop2-holds c =
-    let z : c .before .loop .i * c .before .before .args .n + 0 ≡ c .before .loop .i * c .before .before .args .n = omega arith in
-    (omega arith, rw z (written-again (c .before .loop .inv .1)))
+abbrev μ-loop3 : tie.MeasureT-loop3
+μ-loop3 q rows cols m n plan₀ l all i first j₀ plan j = length cols - j
+
+abbrev Inv-loop2 : tie.InvT-loop2
+Inv-loop2 q rows cols m n plan₀ l all i₀ plan i =
+    (i ≤ length rows)
+    × ((old : List ℕ) → Storable q rows cols m n old → StoredTo q rows cols m n 0 0 old plan₀ → StoredTo q rows cols m n i 0 old plan)
+    × (all ≡ true → length cols ≡ n)
+
+abbrev μ-loop2 : tie.MeasureT-loop2
+μ-loop2 q rows cols m n plan₀ l all i₀ plan i = length rows - i
+
+size : (s : tie.Start Inv-loop μ-loop Inv-loop3 μ-loop3 Inv-loop2 μ-loop2) → s .args .m * s .args .n ≤ laneRoom
+size s = mul-le-mul (s .pre .sourcesFew) (s .pre .sinksFew)
+
+-- ---- cleared
+
+abbrev startBefore : tie.At-loop Inv-loop μ-loop Inv-loop3 μ-loop3 Inv-loop2 μ-loop2 → tie.Start Inv-loop μ-loop Inv-loop3 μ-loop3 Inv-loop2 μ-loop2
+startBefore c = c .before .before .before .before
+
+loop-again : tie.Need-loop-again Inv-loop μ-loop Inv-loop3 μ-loop3 Inv-loop2 μ-loop2
+loop-again c =
+    let l = c .before .loop in
+    (omega arith, cleared-one (l .inv .1) (omega arith) (startBefore (c .before) .pre .room))
+
+-- The list is as long as it was.
+loop-inside : (c : tie.In-loop Inv-loop μ-loop Inv-loop3 μ-loop3 Inv-loop2 μ-loop2) → c .before .loop .l < length (c .before .loop .plan)
+loop-inside c = let s = startBefore (c .before) in omega (arith, c .before .loop .inv .1 .long, s .pre .room)
+
+-- ---- row by row
+
+abbrev startOf : tie.At-loop2 Inv-loop μ-loop Inv-loop3 μ-loop3 Inv-loop2 μ-loop2 → tie.Start Inv-loop μ-loop Inv-loop3 μ-loop3 Inv-loop2 μ-loop2
+startOf c = startBefore (c .before .before)
+
+-- The turn of the outer loop, in which a row is stored.
+abbrev turn : tie.At-loop3 Inv-loop μ-loop Inv-loop3 μ-loop3 Inv-loop2 μ-loop2 → tie.At-loop2 Inv-loop μ-loop Inv-loop3 μ-loop3 Inv-loop2 μ-loop2
+turn c = c .before .before .before
+
+-- What is stored before a turn ..
+before-row : (c : tie.At-loop2 Inv-loop μ-loop Inv-loop3 μ-loop3 Inv-loop2 μ-loop2)
+    → let a = startOf c .args in
+    StoredTo (a .q .now) (a .rows .now) (a .cols .now) (a .m) (a .n) (c .loop2 .i) 0 (a .plan .now) (c .loop2 .plan)
+before-row c =
+    let s = startOf c in
+    let l = c .before .before .loop in
+    let all : l .l ≡ s .args .m * s .args .n = omega arith in
+    c .loop2 .inv .1 _ (s .pre) (stored-none (s .pre) (rw all at (l .inv .1)))
+
+-- .. and within it.
+before-column : (c : tie.At-loop3 Inv-loop μ-loop Inv-loop3 μ-loop3 Inv-loop2 μ-loop2)
+    → let a = startOf (turn c) .args in
+    StoredTo (a .q .now) (a .rows .now) (a .cols .now) (a .m) (a .n) (turn c .loop2 .i) (c .loop3 .j) (a .plan .now) (c .loop3 .plan)
+before-column c = c .loop3 .inv .1 _ (startOf (turn c) .pre) (before-row (turn c))
+
+mul-first-2 : tie.Need-mul-first-2 Inv-loop μ-loop Inv-loop3 μ-loop3 Inv-loop2 μ-loop2
+unfolding at
+mul-first-2 c =
+    let s = startOf (c .before .before) in
+    let i = c .before .before .loop2 .i in
+    let low : at (s .args .rows .now) i ≤ stride = omega (arith, s .pre .rowsBelow i (omega arith), s .pre .sourcesFew) in
+    omega (arith, mul-le-mul low (s .pre .sinksFew))
 
 -- The place of row i and column j is in the list.
-inside : (c : tie.In-loop2 Inv-loop2 μ-loop2 Inv-loop μ-loop)
-    → let a = c .before .before .before .before .args in
-    (c .before .before .before .loop .i * a .n + c .before .loop2 .j < length (c .before .loop2 .plan))
-    × (length (c .before .before .before .loop .plan) ≡ length (a .plan .now)) × (a .m * a .n ≤ laneRoom)
-unfolding place
+inside : (c : tie.In-loop3 Inv-loop μ-loop Inv-loop3 μ-loop3 Inv-loop2 μ-loop2)
+    → let a = startOf (turn (c .before)) .args in
+    let l = getD (a .rows .now) (turn (c .before) .loop2 .i) 0 * a .n + getD (a .cols .now) (c .before .loop3 .j) 0 in
+    (l < length (c .before .loop3 .plan)) × (l < laneRoom)
+unfolding at place
 inside c =
-    let a = c .before .before .before .before in
-    let i = c .before .before .before .loop in
-    let size : a .args .m * a .args .n ≤ stride * a .args .n = mul-le-mul-right (a .args .n) (a .pre .0) in (
-      omega (
-        arith,
-        i .inv .1 .long,
-        c .before .loop2 .inv .1 .long,
-        place-below (a .args .m) (a .args .n) (i .i) (c .before .loop2 .j) (omega arith) (omega arith),
-      ),
-      i .inv .1 .long,
-      omega arith,
-    )
+    let s = startOf (turn (c .before)) in
+    let w = before-column (c .before) in
+    let b = stored-inside (s .pre) w (omega arith) (omega arith) in
+    (omega (arith, w .long, s .pre .room), omega (arith, size s))
 
-mul-plan : tie.Need-mul-plan Inv-loop2 μ-loop2 Inv-loop μ-loop
-mul-plan c = omega arith
-
-add-plan : tie.Need-add-plan Inv-loop2 μ-loop2 Inv-loop μ-loop
-add-plan c = omega arith
-
-mul-plan-2 : tie.Need-mul-plan-2 Inv-loop2 μ-loop2 Inv-loop μ-loop
-mul-plan-2 c = omega arith
-
-element-copy-out-plan : tie.Need-element-copy-out-plan Inv-loop2 μ-loop2 Inv-loop μ-loop
-element-copy-out-plan c = omega arith
+own-column-requires : tie.Need-own-column-requires Inv-loop μ-loop Inv-loop3 μ-loop3 Inv-loop2 μ-loop2
+own-column-requires c κs =
+    let t = turn (c .before) in
+    (omega arith, λ e. all-left (startOf t .pre) (t .loop2 .inv .2 e) (c .before .loop3 .j) (omega arith))
 
 -- The bags on the lane, as a number.
-lies : (c : tie.After-plan Inv-loop2 μ-loop2 Inv-loop μ-loop)
-    → let x = getD (c .before .before .before .before .before .args .q .now) (c .before .before .before .before .loop .i * stride
-    + c .before .before .loop2 .j) (pos 0) in
+lies : (c : tie.After-plan Inv-loop μ-loop Inv-loop3 μ-loop3 Inv-loop2 μ-loop2)
+    → let l = c .before .before .before in
+    let x = getD (startOf (turn l) .args .q .now) (turn l .loop2 .i * stride + l .loop3 .j) (pos 0) in
     (toZ w64 (ofZ w64 x) ≡ pos (natAbs x)) × (natAbs x < 2 ^ 63)
 lies c =
-    let a = c .before .before .before .before .before in
-    let i = c .before .before .before .before .loop .i in
-    let j = c .before .before .loop2 .j in
-    let x = getD (a .args .q .now) (i * stride + j) (pos 0) in
+    let l = c .before .before .before in
+    let s = startOf (turn l) in
+    let x = getD (s .args .q .now) (turn l .loop2 .i * stride + l .loop3 .j) (pos 0) in
     let v : toZ w64 (ofZ w64 x) ≡ x = search needs in
     let g : mag x < 2 ^ 63 = search needs in
-    let s : x ≡ pos (natAbs x) = a .pre .3 i j (omega arith) (omega arith) in
-    (v ∙ s, omega (arith, ap mag s))
+    let e : x ≡ pos (natAbs x) = s .pre .noDebt (turn l .loop2 .i) (l .loop3 .j) (omega arith) (omega arith) in
+    (v ∙ e, omega (arith, ap mag e))
 
-cast-plan : tie.Need-cast-plan Inv-loop2 μ-loop2 Inv-loop μ-loop
+cast-plan : tie.Need-cast-plan Inv-loop μ-loop Inv-loop3 μ-loop3 Inv-loop2 μ-loop2
 cast-plan c =
     let (v, l) = lies c in
     rw v (tt, omega arith)
 
-mul-plan-3 : tie.Need-mul-plan-3 Inv-loop2 μ-loop2 Inv-loop μ-loop
-mul-plan-3 c = omega (arith, inside (c .before))
+-- It goes to the column of the own number that was found.
+goes : (c : tie.After-plan Inv-loop μ-loop Inv-loop3 μ-loop3 Inv-loop2 μ-loop2)
+    → let l = c .before .before .before in
+    let a = startOf (turn l) .args in
+    let p = getD (a .rows .now) (turn l .loop2 .i) 0 * a .n + c .before .own-column .result in
+    (p < length (l .loop3 .plan)) × (p < laneRoom)
+unfolding at
+goes c = rw (c .before .own-column .ensures) (inside (c .before .before))
 
-add-plan-2 : tie.Need-add-plan-2 Inv-loop2 μ-loop2 Inv-loop μ-loop
-add-plan-2 c = omega (arith, inside (c .before))
+loop3-again : tie.Need-loop3-again Inv-loop μ-loop Inv-loop3 μ-loop3 Inv-loop2 μ-loop2
+unfolding at place
+loop3-again c =
+    let l = c .before .before .before in (
+      omega arith,
+      λ old s p. rw (lies c .0, c .before .own-column .ensures) (stored-one s (l .loop3 .inv .1 old s p) (omega arith) (omega arith)),
+    )
 
-mul-plan-4 : tie.Need-mul-plan-4 Inv-loop2 μ-loop2 Inv-loop μ-loop
-mul-plan-4 c = omega (arith, inside (c .before))
-
-slice-write-plan : tie.Need-slice-write-plan Inv-loop2 μ-loop2 Inv-loop μ-loop
-slice-write-plan c = omega (arith, inside (c .before))
-
-add-j : tie.Need-add-j Inv-loop2 μ-loop2 Inv-loop μ-loop
-add-j c = omega arith
-
-loop2-less : tie.Need-loop2-less Inv-loop2 μ-loop2 Inv-loop μ-loop
-loop2-less c = omega arith
-
-loop2-again : tie.Need-loop2-again Inv-loop2 μ-loop2 Inv-loop μ-loop
+loop2-again : tie.Need-loop2-again Inv-loop μ-loop Inv-loop3 μ-loop3 Inv-loop2 μ-loop2
 loop2-again c =
-    let a = c .before .before .before .before .before .args in
-    let i = c .before .before .before .before .loop .i in
-    let l = c .before .before .loop2 in
-    let k : i * a .n + (l .j + 1) ≡ (i * a .n + l .j) + 1 = omega arith in
-    let b : bagsIn (a .n) (a .q .now) (i * a .n + l .j) ≡ natAbs (getD (a .q .now) (i * stride + l .j) (pos 0)) =
-    bagsIn-place (a .n) i (l .j) (a .q .now) (omega arith) in
-    (omega arith, rw (k, lies c .0, ← b) (written-one (l .inv .1) (omega (arith, inside (c .before), l .inv .1 .long))))
+    let l = c .before in (
+      omega arith,
+      (λ old s p. stored-row s (l .loop3 .inv .1 old s (turn l .loop2 .inv .1 old s p)) (omega arith)),
+      turn l .loop2 .inv .2,
+    )
 
-add-i : tie.Need-add-i Inv-loop2 μ-loop2 Inv-loop μ-loop
-add-i c = omega arith
-
-loop-less : tie.Need-loop-less Inv-loop2 μ-loop2 Inv-loop μ-loop
-loop-less c = omega arith
-
-loop-again : tie.Need-loop-again Inv-loop2 μ-loop2 Inv-loop μ-loop
-loop-again c =
-    let a = c .before .before .before .before .args in
-    let i = c .before .before .before .loop in
-    let e : (i .i + 1) * a .n ≡ i .i * a .n + c .before .loop2 .j = omega arith in
-    (omega arith, rw e (written-on (i .inv .1) (omega arith) (c .before .loop2 .inv .1)))
-
-same-length : tie.Need-same-length Inv-loop2 μ-loop2 Inv-loop μ-loop
-same-length c = c .before .loop .inv .1 .long
-
-returns : tie.Need-returns Inv-loop2 μ-loop2 Inv-loop μ-loop
-returns c =
-    let e : c .before .loop .i ≡ c .before .before .args .m = omega arith in
-    rw e at (c .before .loop .inv .1)
+returns : tie.Need-returns Inv-loop μ-loop Inv-loop3 μ-loop3 Inv-loop2 μ-loop2
+returns c = stored-all (startOf (c .before) .pre) (before-row (c .before)) (omega arith)
 
 pub store-plan-spec : {M : Type 1} → statement M
 store-plan-spec =
     tie.close
     (tie.spec
-    Inv-loop2
-    μ-loop2
     Inv-loop
     μ-loop
-    loop-holds
-    loop2-holds
-    mul-plan
-    add-plan
-    mul-plan-2
-    element-copy-out-plan
-    cast-plan
-    mul-plan-3
-    add-plan-2
-    mul-plan-4
-    slice-write-plan
-    add-j
-    loop2-less
-    loop2-again
-    add-i
-    loop-less
+    Inv-loop3
+    μ-loop3
+    Inv-loop2
+    μ-loop2
+    (λ c. (omega arith, cleared-none _ _))
+    (λ c. omega (arith, size (startBefore c)))
+    (λ c. omega (arith, size (startBefore (c .before))))
+    (λ c. loop-inside c)
+    (λ c. omega (arith, size (startBefore (c .before))))
+    (λ c. search needs)
     loop-again
-    same-length
+    (λ c. (omega arith, (λ old s p. p), λ e. eqb-true _ _ e))
+    (λ c. search needs)
+    (λ c. search needs)
+    mul-first-2
+    (λ c. (omega arith, λ old s p. p))
+    own-column-requires
+    (λ c. omega arith)
+    (λ c. omega arith)
+    (λ c. omega arith)
+    (λ c. omega arith)
+    cast-plan
+    (λ c. omega (arith, goes c .1))
+    (λ c. omega (arith, goes c .1))
+    (λ c. goes c .0)
+    (λ c. search needs)
+    (λ c. search needs)
+    loop3-again
+    (λ c. search needs)
+    (λ c. search needs)
+    loop2-again
+    (λ c. before-row (c .before) .long)
     returns)

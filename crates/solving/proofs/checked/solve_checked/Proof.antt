@@ -1,133 +1,139 @@
--- `solving::checked::solve_checked` meets its contract: the rounds come from the start to the finished tableau, whose prices and settled plan are written.
-use Prim.Native.Nat.{ℕ, _+_, _<_, _≤_}
-use native.Mathlib.Omega.{arith}
-use mathlib.Core.Path.{refl}
-use mathlib.Core.Bool.{true}
+-- `solving::checked::solve_checked` meets its contract: the problem of the parties left is solved, and its prices and its plan are written at own numbers.
+use mathlib.Core.Path.{_≡_}
 use borrow.Author.Needs.{needs}
-use lib.IntN.{pos, natAbs}
-use lib.ListN.{length, getD}
-use Rattle.transport.specs.Problem.{sinks}
-use Rattle.transport.specs.Sheet.{Sheet, cafes, sheetOf}
-use Rattle.transport.specs.Extended.{extended}
-use Rattle.transport.specs.Laws.ExtendedLaws.{width-low}
-use Rattle.transport.specs.Tableau.{start}
-use Rattle.transport.specs.Round.{run, roundBound}
-use Rattle.tree.specs.Layout.{maxPotential}
-use Rattle.board.specs.Arrays.{Sides}
-use Rattle.board.specs.Drawing.{lane-rows}
-use Rattle.rounds.specs.Begun.{begun-sides}
-use Rattle.rounds.specs.PricesShown.{prices-small}
-use Rattle.runs.specs.Runs.{Ran}
-use Rattle.solving.specs.Finished.{Finished}
-use Rattle.solving.specs.Stored.{ran-finished, solve-stored}
+use Rattle.transport.specs.Sheet.{Sheet, roasteries, cafes, sheetOf}
+use Rattle.transport.specs.Parties.{problemOf}
+use Rattle.transport.specs.Statements.{Accepted}
+use Rattle.transport.specs.Laws.Sound.{sound}
+use Rattle.sheet.specs.Parties.{PartiesOf, supplies-lent, demands-lent, rows-lent, columns-lent, cafes-lent}
+use Rattle.pricing.specs.Costs.{Costed, spreadable, spread-costed}
+use Rattle.solving.specs.Settled.{settled-storable, stored-settled}
+use Rattle.solving.specs.Stored.{ProblemSolved, solved-priced, solve-stored}
 use Rattle.solving.proofs.checked.solve_checked.Statement.{statement}
 use Rattle.solving.proofs.checked.solve_checked.Tie as tie
 
 abbrev sheetAt : tie.Start → Sheet
 sheetAt s = sheetOf (s .args .supply .now) (s .args .demand .now) (s .args .cost .now)
 
-abbrev startOf : tie.After-begin-sheet → tie.Start
-startOf b = b .before .before .before .before .before .before .before .before .before .before
+abbrev startBefore : tie.After-cols → tie.Start
+startBefore c = c .before .before .before .before .before .before .before
 
-begin-sheet-requires : tie.Need-begin-sheet-requires
-begin-sheet-requires c κs = (c .before .before .before .before .before .before .before .before .before .pre .0, (refl, refl, refl))
+number-parties-requires : tie.Need-number-parties-requires
+number-parties-requires c κs = (_, startBefore c .pre .0)
 
--- The tableau has a column for each café.
-wide : (b : tie.After-begin-sheet) → length (startOf b .args .demand .now) ≤ b .begin-sheet .result
-unfolding extended sinks cafes
-wide b = omega (arith, b .begin-sheet .ensures .columns, width-low (sheetAt (startOf b)))
+-- ---- the parties are numbered
 
-finish-requires : tie.Need-finish-requires
-finish-requires c κs = (_, _, c .before .before .before .before .before .before .before .begin-sheet .ensures)
+abbrev startOf : tie.After-number-parties → tie.Start
+startOf p = startBefore (p .before)
 
-abbrev begin : tie.After-finish → tie.After-begin-sheet
-begin f = f .before .before .before .before .before .before .before .before
+abbrev sheetOn : tie.After-number-parties → Sheet
+sheetOn p = sheetAt (startOf p)
 
-sides : (f : tie.After-finish) → Sides (length (startOf (begin f) .args .supply .now)) (begin f .begin-sheet .result)
-sides f = begun-sides (begin f .begin-sheet .ensures)
+ok : (p : tie.After-number-parties) → Accepted (sheetOn p)
+ok p = startOf p .pre .0
 
--- The rounds from the start on.
-ran : (f : tie.After-finish)
-    → let P = extended (sheetAt (startOf (begin f))) in
-    let l = f .finish .last in
-    Ran P (start P) (roundBound P) (l .0) (l .1 .0) (l .1 .1 .1 .1 .1 .1 .1 .1 .0) (l .1 .1 .1 .1 .1 .0)
-    (length (startOf (begin f) .args .supply .now)) (begin f .begin-sheet .result) true (f .finish .result)
-ran f = f .finish .ensures _ _ (begin f .begin-sheet .ensures)
+parties : (p : tie.After-number-parties)
+    → let l = p .number-parties .last .1 .1 in
+    PartiesOf (sheetOn p) (p .number-parties .result) (l .0) (l .1 .0) (l .1 .1 .0) (l .1 .1 .1 .0)
+parties p = p .number-parties .ensures (sheetOn p .cost)
 
-small : (f : tie.After-finish) (k : ℕ) → k < length (startOf (begin f) .args .supply .now) + begin f .begin-sheet .result
-    → natAbs (getD (f .finish .last .1 .1 .1 .1 .1 .1 .1 .1 .0) k (pos 0)) ≤ maxPotential
-small f = let r = ran f in prices-small (r .ended .board) (f .finish .last .1 .1 .1 .1 .1 .1 .1 .1 .0) (r .prices)
+spread-costs-requires : tie.Need-spread-costs-requires
+unfolding cafes
+spread-costs-requires c κs = let p = c .before .before .before in rw (parties p .rowNumbers, parties p .cafeNumbers) (spreadable (ok p))
+
+-- ---- the costs are spread
+
+abbrev partiesBefore : tie.After-spread-costs → tie.After-number-parties
+partiesBefore c = c .before .before .before .before
+
+costed : (c : tie.After-spread-costs) → Costed (problemOf (sheetOn (partiesBefore c))) (c .spread-costs .last .1 .1 .1 .1 .0)
+unfolding cafes
+costed c =
+    let p = partiesBefore c in
+    spread-costed (ok p) (rw (parties p .rowNumbers, parties p .cafeNumbers) at (c .spread-costs .ensures))
+
+abbrev spreadBefore : tie.After-price → tie.After-spread-costs
+spreadBefore c = c .before .before .before .before .before
+
+solve-problem-requires : tie.Need-solve-problem-requires
+solve-problem-requires c κs =
+    let x = spreadBefore c in
+    let p = partiesBefore x in
+    (_, sound (ok p), parties p .supplies, parties p .demands, costed x)
+
+-- ---- the problem is solved
+
+abbrev partiesOf : tie.After-solve-problem → tie.After-number-parties
+partiesOf a = partiesBefore (spreadBefore (a .before))
+
+solved : (a : tie.After-solve-problem)
+    → let l = a .solve-problem .last .1 .1 .1 in
+    ProblemSolved (problemOf (sheetOn (partiesOf a))) (a .solve-problem .result) (l .0) (l .1 .0)
+solved a =
+    let p = partiesOf a in
+    a .solve-problem .ensures _ (sound (ok p)) (parties p .supplies) (parties p .demands) (costed (spreadBefore (a .before)))
 
 write-prices-requires : tie.Need-write-prices-requires
 write-prices-requires c κs =
-    let f = c .before .before in
-    (omega arith, sides f .rowsHigh, startOf (begin f) .pre .1 .0, λ k l. small f k (omega arith))
+    let a = c .before .before .before .before .before in
+    let p = partiesOf a in
+    let room = startOf p .pre .1 in
+    ((_, solved-priced (ok p) (parties p) (solved a)), room .0, room .1)
 
-abbrev finishBefore : tie.After-write-prices → tie.After-finish
-finishBefore p = p .before .before .before
+-- ---- the prices are written
 
-write-prices-requires-2 : tie.Need-write-prices-requires-2
-write-prices-requires-2 c κs =
-    let f = finishBefore (c .before .before .before) in
-    let w = wide (begin f) in
-    (sides f .rowsHigh, omega (arith, w, sides f .colsHigh), startOf (begin f) .pre .1 .1, λ k l. small f k (omega (arith, w)))
+abbrev solvedBefore : tie.After-write-prices → tie.After-solve-problem
+solvedBefore w = w .before .before .before .before .before .before
 
-abbrev finishOf : tie.After-write-prices2 → tie.After-finish
-finishOf p = finishBefore (p .before .before .before .before)
+abbrev writtenBefore : tie.After-q2 → tie.After-write-prices
+writtenBefore c = c .before .before .before
 
-add-draw : tie.Need-add-draw
-add-draw c = let s = sides (finishOf (c .before .before)) in omega (arith, s .rowsHigh, s .colsHigh)
+abbrev partiesLast : tie.After-q2 → tie.After-number-parties
+partiesLast c = partiesOf (solvedBefore (writtenBefore c))
 
-sub-draw : tie.Need-sub-draw
-sub-draw c = omega (arith, sides (finishOf (c .before .before)) .rowsLow)
-
-draw-requires : tie.Need-draw-requires
-draw-requires c κs =
-    let f = finishOf (c .before .before .before) in
-    let s = sides f in
-    (s .rowsHigh, omega (arith, s .rowsHigh, s .colsHigh), lane-rows (ran f .ended .board))
-
-abbrev written : tie.After-draw → tie.After-write-prices2
-written d = d .before .before .before .before
-
-finished : (d : tie.After-draw)
-    → let f = finishOf (written d) in
-    let P = extended (sheetAt (startOf (begin f))) in
-    let l = f .finish .last in
-    Finished P (run P (roundBound P) (start P) .tableau) (d .draw .last .1 .1 .1 .0) (l .0) (l .1 .0) (begin f .begin-sheet .last .1 .1 .1 .0)
-    (l .1 .1 .1 .1 .1 .1 .1 .1 .0) (length (startOf (begin f) .args .supply .now)) (begin f .begin-sheet .result)
-finished d =
-    let f = finishOf (written d) in
-    ran-finished _ (ran f) (begin f .begin-sheet .ensures .costs) (d .draw .ensures)
-
-settle-board-requires : tie.Need-settle-board-requires
-settle-board-requires c κs =
-    let d = c .before .before .before .before .before in
-    let b = begin (finishOf (written d)) in
-    ((_, _, _, finished d), (wide b, startOf b .pre .1 .2))
+store-plan-requires : tie.Need-store-plan-requires
+unfolding roasteries cafes
+store-plan-requires c κs =
+    let a = solvedBefore (writtenBefore (c .before .before .before)) in
+    let p = partiesOf a in
+    rw (parties p .rowNumbers, parties p .cafeNumbers) (settled-storable (ok p) (solved a .bags) (startOf p .pre .1 .2))
 
 returns : tie.Need-returns
-unfolding cafes
+unfolding roasteries cafes
 returns c =
     let o = c .before .before in
-    let d = o .before .before .before .before .before .before in
-    let v = written d in
-    let f = finishOf v in
-    solve-stored _ (ran f) (v .before .before .before .before .write-prices .ensures) (v .write-prices2 .ensures)
-    (o .settle-board .ensures _ _ _ (finished d) refl)
+    let w = writtenBefore (o .before .before .before .before) in
+    let a = solvedBefore w in
+    let p = partiesOf a in
+    let stored = rw (parties p .rowNumbers, parties p .cafeNumbers) at (o .store-plan .ensures) in
+    solve-stored (ok p) (solved a) (w .write-prices .ensures _ (solved-priced (ok p) (parties p) (solved a)))
+    (stored-settled (ok p) (solved a .bags) (startOf p .pre .1 .2) stored)
 
 pub solve-checked-spec : {M : Type 1} → statement M
 solve-checked-spec =
     tie.close
     (tie.spec
-    begin-sheet-requires
-    finish-requires
+    number-parties-requires
+    (λ c. parties c .rowsRoom)
+    (λ c. rows-lent (parties (c .before)))
+    (λ c. parties (c .before) .cafesRoom)
+    (λ c. cafes-lent (parties (c .before .before)))
+    spread-costs-requires
+    (λ c. parties (partiesBefore c) .suppliesRoom)
+    (λ c. supplies-lent (parties (partiesBefore (c .before))))
+    (λ c. parties (partiesBefore (c .before)) .demandsRoom)
+    (λ c. demands-lent (parties (partiesBefore (c .before .before))))
+    solve-problem-requires
+    (λ c. parties (partiesOf c) .rowsRoom)
+    (λ c. rows-lent (parties (partiesOf (c .before))))
+    (λ c. parties (partiesOf (c .before)) .colsRoom)
+    (λ c. columns-lent (parties (partiesOf (c .before .before))))
     write-prices-requires
-    write-prices-requires-2
-    add-draw
-    sub-draw
-    draw-requires
-    settle-board-requires
+    (λ c. parties (partiesLast c) .rowsRoom)
+    (λ c. rows-lent (parties (partiesLast (c .before))))
+    (λ c. parties (partiesLast (c .before)) .cafesRoom)
+    (λ c. cafes-lent (parties (partiesLast (c .before .before))))
+    store-plan-requires
     (λ c. search needs)
     (λ c. search needs)
     (λ c. search needs)

@@ -1,43 +1,46 @@
--- `solving::finished::settle_board` meets its contract: settling starts from the tight lanes, and ends with the settled plan on the sheet's lanes.
+-- `solving::finished::settle_board` meets its contract: settling starts from the tight lanes, and ends with the bags of the optimal plan.
 use native.Mathlib.Omega.{arith}
-use borrow.Author.Needs.{needs}
-use Rattle.transport.specs.Sheet.{cafes}
-use Rattle.transport.specs.Extended.{extended}
 use Rattle.tableaux.specs.PlanView.{supplies, demands}
-use Rattle.solving.specs.Finished.{finished-ranged, finished-settleable, settled-debtless, settled-written}
+use Rattle.board.specs.Arrays.{Sides, sound-sides}
+use Rattle.board.specs.Drawing.{lane-rows}
+use Rattle.solving.specs.Finished.{judged-finished, finished-ranged, finished-settleable, settled-bags}
 use Rattle.solving.proofs.finished.settle_board.Statement.{statement}
 use Rattle.solving.proofs.finished.settle_board.Tie as tie
 
+sides : (s : tie.Start) → Sides (s .args .m) (s .args .n)
+sides s = let (P, T, e, j, costs) = s .pre in sound-sides (j .board .sound) (j .board .rows) (j .board .columns)
+
+add-draw : tie.Need-add-draw
+add-draw c = omega (arith, sides c .rowsHigh, sides c .colsHigh)
+
+sub-draw : tie.Need-sub-draw
+sub-draw c = omega (arith, sides c .rowsLow)
+
+draw-requires : tie.Need-draw-requires
+draw-requires c κs =
+    let s = c .before in
+    let (P, T, e, j, costs) = s .pre in
+    (sides s .rowsHigh, omega (arith, sides s .rowsHigh, sides s .colsHigh), lane-rows (j .board))
+
 tight-lanes-requires : tie.Need-tight-lanes-requires
-tight-lanes-requires c κs = finished-ranged (c .before .before .pre .0 .3)
+tight-lanes-requires c κs =
+    let d = c .before in
+    let (P, T, e, j, costs) = d .before .before .pre in
+    finished-ranged (judged-finished j costs (d .draw .ensures))
 
 settle-lanes-requires : tie.Need-settle-lanes-requires
 settle-lanes-requires c κs =
-    let t = c .before .before in
-    let (P, T, e, f) = t .before .before .before .pre .0 in
-    (supplies P, demands P, finished-settleable f (t .tight-lanes .ensures))
-
-store-plan-requires : tie.Need-store-plan-requires
-store-plan-requires c κs =
-    let l = c .before .before in
-    let t = l .before .before .before in
-    let s = t .before .before .before in
-    let (P, T, e, f) = s .pre .0 in
-    let (few, room) = s .pre .1 in
-    let r = finished-ranged f in
-    let u = t .tight-lanes .ensures in
-    let d = l .settle-lanes .ensures (supplies P) (demands P) (finished-settleable f u) in
-    (r .rows, omega (arith, few, r .cols), room, settled-debtless f u (l .settle-lanes .last .0) d few)
+    let t = c .before .before .before in
+    let d = t .before .before in
+    let (P, T, e, j, costs) = d .before .before .pre in
+    (supplies P, demands P, finished-settleable (judged-finished j costs (d .draw .ensures)) (t .tight-lanes .ensures))
 
 returns : tie.Need-returns
-unfolding cafes
-returns c = λ S T e f same.
-    let p = c .before .before in
-    let l = p .before .before .before in
-    let u = l .before .before .before .tight-lanes .ensures in
-    let P = extended S in
-    let d = l .settle-lanes .ensures (supplies P) (demands P) (finished-settleable f u) in
-    settled-written S f u (l .settle-lanes .last .0) d same (p .store-plan .ensures)
+returns c = λ P T e j costs.
+    let t = c .before .before .before .before in
+    let f = judged-finished j costs (t .before .before .draw .ensures) in
+    let tight = t .tight-lanes .ensures in
+    settled-bags f tight (c .settle-lanes .last .0) (c .settle-lanes .ensures (supplies P) (demands P) (finished-settleable f tight))
 
 pub settle-board-spec : {M : Type 1} → statement M
-settle-board-spec = tie.close (tie.spec tight-lanes-requires settle-lanes-requires store-plan-requires (λ c. search needs) returns)
+settle-board-spec = tie.close (tie.spec add-draw sub-draw draw-requires tight-lanes-requires settle-lanes-requires returns)

@@ -1,0 +1,79 @@
+-- The front of a call that takes a tableau: what its tests refuse, and what rounds begin with if they refuse nothing.
+use mathlib.Core.Path.{_≡_, sym, _∙_}
+use mathlib.Core.Bool.{true, false, not}
+use mathlib.Core.List.{List, [], _∷_}
+use mathlib.Core.Option.{none, some}
+use Prim.Native.Nat.{ℕ}
+use lib.Dec.{eqb}
+use lib.IntN.{ℤ}
+use lib.ListN.{length, take}
+use Rattle.transport.specs.Problem.{sources, sinks}
+use Rattle.transport.specs.Sheet.{Sheet, cafes, sheetTests, refusal}
+use Rattle.transport.specs.Extended.{extended}
+use Rattle.transport.specs.Parties.{problemOf}
+use Rattle.transport.specs.Tableau.{cellsOf, basisSize}
+use Rattle.transport.specs.Belonging.{cellsBelong, belongs}
+use Rattle.transport.specs.OwnNumbers.{belongsTo}
+use Rattle.transport.specs.Calls.{tableauTests, inside}
+use Rattle.transport.specs.Statements.{Accepted}
+use Rattle.transport.specs.Laws.ListLaws.{and-right}
+use Rattle.transport.specs.Laws.SheetLaws.{refusal-yes, refusal-pass, refusal-stands, passes}
+use Rattle.transport.specs.Laws.CallLaws.{refusal-last}
+use Rattle.transport.specs.Laws.PartiesLaws.{struck-sources, struck-sinks}
+use Rattle.transport.specs.Laws.Sound.{sound}
+use Rattle.transport.specs.declared.Tableau.{Tableau}
+use Rattle.sheet.specs.declared.parties.Parties.{Parties}
+use Rattle.sheet.specs.Parties.{PartiesOf, supplies-lent, demands-lent}
+use Rattle.board.specs.Arrays.{Loaded}
+use Rattle.pricing.specs.Costs.{Spread, spread-costed}
+use Rattle.rounds.specs.Begun.{Begun}
+
+-- ---- what the tests refuse
+
+module _ (S : Sheet) (t : Tableau) where
+  -- The sheet, ..
+  pub sheet-refused : (k : ℕ) → refusal (sheetTests S) ≡ some k → refusal (tableauTests S t) ≡ some k
+  unfolding tableauTests
+  sheet-refused k e = refusal-stands (sheetTests S) ((not (belongsTo (extended S) t), 6) ∷ []) k e
+
+  -- .. the tableau of an accepted one, ..
+  pub tableau-refused : Accepted S → belongsTo (extended S) t ≡ false → refusal (tableauTests S t) ≡ some 6
+  unfolding tableauTests
+  tableau-refused ok b =
+      refusal-pass (sheetTests S) ((not (belongsTo (extended S) t), 6) ∷ []) (passes ok)
+      ∙ refusal-yes (not (belongsTo (extended S) t), 6) [] (rw b)
+
+  -- .. or neither.
+  pub none-refused : Accepted S → belongsTo (extended S) t ≡ true → refusal (tableauTests S t) ≡ none
+  unfolding tableauTests
+  none-refused ok b = refusal-last (sheetTests S) (not (belongsTo (extended S) t), 6) .1 (passes ok, rw b)
+
+-- ---- what is loaded
+
+-- What a call begins with, if no test refuses sheet or tableau: the own numbers of the parties left stand in the lists, and the tableau, among those left, is
+-- laid out with the costs of their lanes.
+pub record Admitted (S : Sheet) (t : Tableau) (p : Parties) (rows cols : List ℕ) (q e cost : List ℤ) (leaf other tree : List ℕ) : Type 0 where
+  pub accepted : Accepted S
+  pub supplies : List ℕ
+  pub demands : List ℕ
+  pub parties : PartiesOf S p supplies demands rows cols
+  pub begun : Begun (problemOf S) (inside S t) q e cost leaf other tree (p .rows) (p .columns)
+
+module _ {S : Sheet} (ok : Accepted S) {p : Parties} {supplies demands rows cols : List ℕ} (h : PartiesOf S p supplies demands rows cols) where
+  -- The tableau t, which is `inner` among those left, belongs, and the costs of their lanes are spread.
+  pub begun-loaded : (t inner : Tableau) {q e cost : List ℤ} {leaf other tree : List ℕ}
+      → Spread (S .cost) (cafes S) (take (p .rows) rows) (take (p .cafes) cols) cost
+      → belongs (problemOf S) inner ≡ true → cellsOf inner ≡ inside S t
+      → Loaded (length (take (p .rows) supplies)) (length (take (p .columns) demands)) (cellsOf inner) q e leaf other tree
+      → Begun (problemOf S) (inside S t) q e cost leaf other tree (p .rows) (p .columns)
+  unfolding belongs problemOf
+  begun-loaded t inner spread own same l =
+      let count = eqb (inner .count) (basisSize (sources (problemOf S)) (sinks (problemOf S))) in
+      record {
+        sound = sound ok;
+        rows = h .rowCount ∙ sym (struck-sources (extended S));
+        columns = h .columnCount ∙ sym (struck-sinks (extended S));
+        belongs = rw (← same) (and-right count (cellsBelong (problemOf S) (cellsOf inner)) own);
+        costs = spread-costed ok (rw (h .rowNumbers, h .cafeNumbers) at spread);
+        loaded = rw (supplies-lent h, demands-lent h, ← same) l;
+      }

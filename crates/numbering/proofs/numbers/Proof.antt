@@ -1,0 +1,65 @@
+-- `numbering::numbers` meets its contract. The loop's invariant: the numbers of the first k are in the list, and nobody else's.
+use Prim.Native.Nat.{_-_, _≤_, _<_}
+use mathlib.Core.Path.{_≡_}
+use native.Mathlib.Omega.{arith}
+use lib.ListN.{length}
+use Rattle.transport.specs.Limits.{maxSide}
+use Rattle.transport.specs.Lists.{at}
+use Rattle.numbering.specs.Numbers.{NumberedTo, numbered-none, numbered-one, numbered-all}
+use Rattle.numbering.proofs.numbers.Statement.{statement}
+use Rattle.numbering.proofs.numbers.Tie as tie
+
+abbrev Inv-loop : tie.InvT-loop
+Inv-loop own among₀ k₀ among k = (k ≤ length own) × NumberedTo own k among
+
+abbrev μ-loop : tie.MeasureT-loop
+μ-loop own among₀ k₀ among k = length own - k
+
+loop-holds : tie.Need-loop-holds Inv-loop μ-loop
+unfolding maxSide
+loop-holds c = (omega arith, numbered-none (c .args .own .now))
+
+mul-among : tie.Need-mul-among Inv-loop μ-loop
+mul-among c = omega arith
+
+shared-slice-read-among : tie.Need-shared-slice-read-among Inv-loop μ-loop
+shared-slice-read-among c = omega arith
+
+-- An own number has a place in the list.
+inside : (c : tie.After-shared-slice-known Inv-loop μ-loop)
+    → at (c .before .before .before .args .own .now) (c .before .before .loop .k) < maxSide
+inside c = c .before .before .before .pre .inside (c .before .before .loop .k) (omega arith)
+
+mul-among-2 : tie.Need-mul-among-2 Inv-loop μ-loop
+unfolding at maxSide
+mul-among-2 c = omega (arith, inside c)
+
+array-write-among : tie.Need-array-write-among Inv-loop μ-loop
+unfolding at maxSide
+array-write-among c = inside c
+
+loop-again : tie.Need-loop-again Inv-loop μ-loop
+unfolding at
+loop-again c = let l = c .before .before .loop in (omega arith, numbered-one _ (l .k) (l .among) (l .inv .1) (inside c))
+
+returns : tie.Need-returns Inv-loop μ-loop
+returns c =
+    let own = c .before .before .args .own .now in
+    let e : c .before .loop .k ≡ length own = omega arith in
+    numbered-all own (c .before .loop .among) (c .before .before .pre) (rw e at (c .before .loop .inv .1))
+
+pub numbers-spec : {M : Type 1} → statement M
+numbers-spec =
+    tie.close
+    (tie.spec
+    Inv-loop
+    μ-loop
+    loop-holds
+    mul-among
+    shared-slice-read-among
+    mul-among-2
+    array-write-among
+    (λ c. omega arith)
+    (λ c. omega arith)
+    loop-again
+    returns)
