@@ -17,7 +17,7 @@ use Rattle.transport.specs.Extended.{wanted, costAt, extended}
 use Rattle.transport.specs.Parties.{left, rowsLeft, columnsLeft, problemOf}
 use Rattle.transport.specs.Laws.ProblemLaws.{lane, place-below}
 use Rattle.transport.specs.Laws.ExtendedLaws.{Extra, without, with, extra, cost-cafe, cost-extra, laneCost-at}
-use Rattle.transport.specs.Laws.PartiesLaws.{left-at, length-left, left-append, struck-sources, struck-sinks, struck-lane}
+use Rattle.transport.specs.Laws.PartiesLaws.{left-at, length-left, left-append, left-whole, struck-sources, struck-sinks, struck-lane}
 use Rattle.transport.specs.Laws.RangeLaws.{abs-between}
 use Rattle.transport.specs.Laws.Sound.{sources-room, sinks-room}
 use Rattle.transport.specs.Statements.{Accepted}
@@ -25,12 +25,14 @@ use Rattle.tree.specs.Layout.{stride, stride-is, laneRoom, getD-all}
 
 -- ---- what is filled in
 
--- The own numbers of the roasteries left, the rows, and of the cafés left, the columns, lead to costs of the list, of so many cafés; and all fit.
+-- The own numbers of the roasteries left, the rows, and of the cafés left, the columns, lead to costs of the list, of so many cafés; where these are all left,
+-- each is its own number; and all fit.
 pub record Spreadable (cost : List ℤ) (cafes : ℕ) (rows cols : List ℕ) : Type 0 where
   pub rowsFew : length rows ≤ stride
   pub colsFew : length cols ≤ stride
   pub firsts : (i : ℕ) → i < length rows → at rows i * cafes ≤ laneRoom
   pub inside : (i j : ℕ) → i < length rows → j < length cols → place cafes (at rows i) (at cols j) < length cost
+  pub whole : length cols ≡ cafes → (j : ℕ) → j < length cols → at cols j ≡ j
   pub small : (k : ℕ) → natAbs (atZ cost k) ≤ maxCost
 
 -- The costs of these rows and columns lie by column, the columns after them are all 0, and no number in the array is greater in size than a cost can be.
@@ -115,6 +117,7 @@ spreadable {S} ok =
         w .costLength,
         place-below (length (S .supply)) (length (S .demand)) (at (left (S .supply)) i) (at (left (S .demand)) j) (row i l) (left-at (S .demand) j h .0),
       );
+      whole = left-whole (S .demand);
       small = λ k. abs-between (w .costLow k) (w .costHigh k);
     }
 

@@ -1,4 +1,5 @@
 // The costs of a sheet's lanes between parties left, spread by column: that of row i and column j lies at j * MAX_SIDE + i.
+use sheet::parties::own_number;
 use transport::MAX_SIDE;
 use tree::LANES;
 use tree::Price;
@@ -17,12 +18,14 @@ pub fn spread_costs(
     ensures { λ _. ⌜ Spread (now (cost .entry)) cafes (now (rows .entry)) (now (cols .entry)) (now (out .exit)) ⌝ }
 {
     *out = [0; LANES];
+    let all = cols.len() == cafes;
     let mut i = 0;
     while i < rows.len() {
         let first = rows[i] * cafes;
         let mut j = 0;
         while j < cols.len() {
-            out[j * MAX_SIDE + i] = cost[first + cols[j]] as Price;
+            let col = own_number(cols, all, j);
+            out[j * MAX_SIDE + i] = cost[first + col] as Price;
             j += 1;
         }
         i += 1;

@@ -2,7 +2,7 @@
 use mathlib.Core.Path.{_≡_, refl, sym, _∙_}
 use mathlib.Core.Logic.{by-cases}
 use mathlib.Core.List.{List}
-use Prim.Native.Nat.{ℕ, zero, suc, _+_, _*_, _-_, _/_, _%_, _<_, _≤_}
+use Prim.Native.Nat.{ℕ, _+_, _*_, _/_, _%_, _<_, _≤_}
 use native.Mathlib.Omega.{arith}
 use native.Mathlib.Nat.{mod-lt, div-add-mod'}
 use native.Mathlib.Decide.{decLt, ℕ-discrete}
@@ -20,7 +20,7 @@ use Rattle.transport.specs.Sheet.{Sheet, roasteries, cafes}
 use Rattle.transport.specs.Extended.{extended}
 use Rattle.transport.specs.Parties.{left, rowsLeft}
 use Rattle.transport.specs.Statements.{Accepted}
-use Rattle.transport.specs.Laws.PartiesLaws.{left-at, length-left, left-grows}
+use Rattle.transport.specs.Laws.PartiesLaws.{left-at, length-left, left-grows, left-whole}
 use Rattle.transport.specs.Laws.Sound.{sources-room, sinks-room}
 use Rattle.tableaux.specs.PlanView.{carried}
 use Rattle.tree.specs.Layout.{stride, stride-is}
@@ -43,7 +43,8 @@ bagsIn-place n i j q p =
 
 -- ---- a plan is stored, under the own numbers of rows and columns
 
--- The own numbers of the rows grow and are below m, those of the columns below n, m × n lanes have room in the list, and no lane has fewer than no bags.
+-- The own numbers of the rows grow and are below m, those of the columns below n, and where these are all columns each is its own number; m × n lanes have room
+-- in the list, and no lane has fewer than no bags.
 pub record Storable (q : List ℤ) (rows cols : List ℕ) (m n : ℕ) (plan : List ℕ) : Type 0 where
   pub rowsFew : length rows ≤ stride
   pub colsFew : length cols ≤ stride
@@ -51,6 +52,7 @@ pub record Storable (q : List ℤ) (rows cols : List ℕ) (m n : ℕ) (plan : Li
   pub colsBelow : (j : ℕ) → j < length cols → at cols j < n
   pub rowsGrow : (h i : ℕ) → h < i → i < length rows → at rows h < at rows i
   pub colsGrow : (k j : ℕ) → k < j → j < length cols → at cols k < at cols j
+  pub colsWhole : length cols ≡ n → (j : ℕ) → j < length cols → at cols j ≡ j
   pub sourcesFew : m ≤ stride
   pub sinksFew : n ≤ stride
   pub room : m * n ≤ length plan
@@ -98,23 +100,7 @@ growing-once xs grow h k p r e = by-cases (decLt h k)
     (λ l. absurd (omega (arith, grow h k l r)))
     (λ l. by-cases (decLt k h) (λ g. absurd (omega (arith, grow k h g p))) (λ g. omega arith))
 
--- .. and if there are as many of them as there may be, each is its own place.
-module _ (xs : List ℕ) (grow : (h k : ℕ) → h < k → k < length xs → at xs h < at xs k) (below : (k : ℕ) → k < length xs → at xs k < length xs) where
-  growing-from : (k : ℕ) → k < length xs → k ≤ at xs k
-  growing-from zero l = omega arith
-  growing-from (suc k) l = omega (arith, grow k (suc k) (omega arith) l, growing-from k (omega arith))
-
-  growing-to : (d k : ℕ) → suc (k + d) ≡ length xs → at xs k + d < length xs
-  growing-to zero k e = omega (arith, below k (omega arith))
-  growing-to (suc d) k e = omega (arith, grow k (suc k) (omega arith) (omega arith), growing-to d (suc k) (omega arith))
-
-  growing-all : (k : ℕ) → k < length xs → at xs k ≡ k
-  growing-all k l = omega (arith, growing-from k l, growing-to (length xs - k - 1) k (omega arith))
-
 module _ {q : List ℤ} {rows cols : List ℕ} {m n : ℕ} {old : List ℕ} (s : Storable q rows cols m n old) where
-  pub all-left : length cols ≡ n → (j : ℕ) → j < length cols → at cols j ≡ j
-  all-left e = growing-all cols (s .colsGrow) (λ k l. omega (arith, s .colsBelow k l))
-
   pub stored-none : {new : List ℕ} → Cleared (m * n) (m * n) old new → StoredTo q rows cols m n 0 0 old new
   stored-none c = record {
     long = c .long;
@@ -193,6 +179,7 @@ storable {S} ok room noDebt =
       colsBelow = λ j l. left-at (S .demand) j l .0;
       rowsGrow = left-grows (S .supply);
       colsGrow = left-grows (S .demand);
+      colsWhole = left-whole (S .demand);
       sourcesFew = sources;
       sinksFew = sinks;
       room = room;

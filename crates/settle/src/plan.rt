@@ -1,20 +1,8 @@
 // The plan that the bags of a tableau make.
+use sheet::parties::own_number;
 use transport::MAX_SIDE;
 use tree::LANES;
-ghost use mathlib.Core.Path.{_≡_};
-ghost use mathlib.Core.Bool.{Bool, true};
-ghost use Prim.Native.Nat.{_<_};
-ghost use lib.ListN.{length};
-ghost use Rattle.transport.specs.Lists.{at};
 ghost use Rattle.settle.specs.Plan.{Storable, Stored};
-
-// The own number of column j. Where all columns are left it is j: told so, a loop over a row copies the row.
-fn own_column(cols: &[usize], all: bool, j: usize) -> usize
-    requires { ⌜ (j < length (now cols)) × (all ≡ true → at (now cols) j ≡ j) ⌝ }
-    ensures { λ r. ⌜ r ≡ at (now (cols .entry)) j ⌝ }
-{
-    if all { j } else { cols[j] }
-}
 
 // Writes a plan of m × n lanes in sheet order, and leaves the rest of the list as it is: the bags of the rows and columns whose own numbers `rows` and `cols`
 // have, and nothing on all other lanes.
@@ -40,7 +28,7 @@ pub fn store_plan(
         let first = rows[i] * n;
         let mut j = 0;
         while j < cols.len() {
-            let col = own_column(cols, all, j);
+            let col = own_number(cols, all, j);
             plan[first + col] = q[i * MAX_SIDE + j] as u64;
             j += 1;
         }

@@ -1,10 +1,13 @@
 // The parties of a sheet's tableaux: those left, which have an amount, numbered among themselves in their order, and where there is a surplus an extra café
 // after them, the last, that takes it.
+ghost use mathlib.Core.Path.{_≡_};
+ghost use mathlib.Core.Bool.{true};
 ghost use mathlib.Core.List.{List};
-ghost use Prim.Native.Nat.{_≤_};
+ghost use Prim.Native.Nat.{_<_, _≤_};
 ghost use lib.IntN.{ℤ};
 ghost use lib.ListN.{length};
 ghost use Rattle.transport.specs.Limits.{maxSide};
+ghost use Rattle.transport.specs.Lists.{at};
 ghost use Rattle.transport.specs.Sheet.{sheetOf};
 ghost use Rattle.transport.specs.Statements.{Accepted};
 ghost use Rattle.sheet.specs.Parties.{Numbered, PartiesOf};
@@ -38,6 +41,14 @@ fn number_left(amounts: &[u64], left: &mut [u64; MAX_SIDE], own: &mut [usize; MA
         k += 1;
     }
     count
+}
+
+// The own number of the k-th of those left. Where all are left it is k: a loop that is told so need not look, and copies what lies side by side.
+pub fn own_number(own: &[usize], all: bool, k: usize) -> usize
+    requires { ⌜ (k < length (now own)) × (all ≡ true → at (now own) k ≡ k) ⌝ }
+    ensures { λ r. ⌜ r ≡ at (now (own .entry)) k ⌝ }
+{
+    if all { k } else { own[k] }
 }
 
 // Writes supplies and demands of those left, and their own numbers. Costs play no part.

@@ -277,6 +277,14 @@ left-all xs some = keep-all (isLeft xs) (below (length xs)) (all-of (isLeft xs) 
     let b : k < length xs = omega (arith, length-table (λ k. k) (length xs)) in
     rw (getD-table (λ k. k) (length xs) k 0 b) (left-yes xs k (some k b))))
 
+-- So it is if as many are left as there are.
+pub left-whole : (xs : List ℕ) → length (left xs) ≡ length xs → (k : ℕ) → k < length (left xs) → at (left xs) k ≡ k
+unfolding at below
+left-whole xs same k l =
+    let some : (k : ℕ) → k < length xs → 1 ≤ at xs k =
+    λ k l. by-cases (ℕ-discrete (at xs k) 0) (λ e. absurd (omega (arith, fewer-left xs k l e))) (λ e. omega arith) in
+    rw (left-all xs some) (getD-table (λ k. k) (length xs) k 0 (omega arith))
+
 -- ---- the problem of those left
 
 module _ (E : Problem) where

@@ -2,47 +2,55 @@
 use Prim.Native.Nat.{ℕ, _+_, _-_, _*_, _≤_, _<_, _^_}
 use native.Mathlib.Omega.{arith}
 use borrow.Author.Needs.{needs}
-use mathlib.Core.Path.{refl}
+use borrow.Author.Tests.{eqb-true}
+use mathlib.Core.Path.{_≡_, refl}
+use mathlib.Core.Bool.{true}
 use mathlib.Core.List.{List}
 use lib.IntN.{ℤ, pos, natAbs}
 use lib.ListN.{length, getD}
 use mir.Syntax.{w32, w64}
+use mir.Val.{toZ, ofZ}
 use mir.Facts.{toZ-ofZ}
 use Rattle.transport.specs.Lists.{at, atZ}
 use Rattle.transport.specs.Limits.{maxCost}
 use Rattle.transport.specs.Problem.{place}
-use Rattle.transport.specs.Laws.RangeLaws.{abs-fits, back}
+use Rattle.transport.specs.Laws.RangeLaws.{mag-abs, abs-fits, back}
 use Rattle.pricing.specs.Costs.{Part, ownCost, part-none, part-one, part-row, part-all}
 use Rattle.pricing.proofs.costs.spread_costs.Statement.{statement}
 use Rattle.pricing.proofs.costs.spread_costs.Tie as tie
 
 abbrev Inv-loop2 : tie.InvT-loop2
-Inv-loop2 cost cafes rows cols out₀ i first j₀ out j =
+Inv-loop2 cost cafes rows cols out₀ all i first j₀ out j =
     let c = ownCost cost cafes rows cols in
     (j ≤ length cols) × ((before : List ℤ) → Part c (length cols) before i 0 out₀ → Part c (length cols) before i j out)
 
 abbrev μ-loop2 : tie.MeasureT-loop2
-μ-loop2 cost cafes rows cols out₀ i first j₀ out j = length cols - j
+μ-loop2 cost cafes rows cols out₀ all i first j₀ out j = length cols - j
 
 abbrev Inv-loop : tie.InvT-loop
-Inv-loop cost cafes rows cols out₀ i₀ out i = (i ≤ length rows) × Part (ownCost cost cafes rows cols) (length cols) out₀ i 0 out
+Inv-loop cost cafes rows cols out₀ all i₀ out i =
+    (i ≤ length rows)
+    × Part (ownCost cost cafes rows cols) (length cols) out₀ i 0 out
+    × (all ≡ true → length cols ≡ cafes)
 
 abbrev μ-loop : tie.MeasureT-loop
-μ-loop cost cafes rows cols out₀ i₀ out i = length rows - i
+μ-loop cost cafes rows cols out₀ all i₀ out i = length rows - i
 
 -- The turn of the outer loop, in which a row is filled in.
 abbrev turn : tie.At-loop2 Inv-loop2 μ-loop2 Inv-loop μ-loop → tie.At-loop Inv-loop2 μ-loop2 Inv-loop μ-loop
 turn c = c .before .before .before
 
 abbrev startOf : tie.At-loop Inv-loop2 μ-loop2 Inv-loop μ-loop → tie.Start Inv-loop2 μ-loop2 Inv-loop μ-loop
-startOf c = c .before .before
+startOf c = c .before .before .before .before
 
 -- The costs of the lanes under own numbers.
 abbrev costsOf : tie.Start Inv-loop2 μ-loop2 Inv-loop μ-loop → ℕ → ℕ → ℤ
 costsOf s = ownCost (s .args .cost .now) (s .args .cafes) (s .args .rows .now) (s .args .cols .now)
 
 loop-holds : tie.Need-loop-holds Inv-loop2 μ-loop2 Inv-loop μ-loop
-loop-holds c = (omega arith, part-none (costsOf (c .before)) (length (c .before .args .cols .now)) _ refl)
+loop-holds c =
+    let s = c .before .before .before in
+    (omega arith, part-none (costsOf s) (length (s .args .cols .now)) _ refl, λ e. eqb-true _ _ e)
 
 mul-first-2 : tie.Need-mul-first-2 Inv-loop2 μ-loop2 Inv-loop μ-loop
 unfolding at
@@ -59,6 +67,19 @@ inside c =
     let s = startOf (turn (c .before)) in
     s .pre .inside (turn (c .before) .loop .i) (c .before .loop2 .j) (omega arith) (omega arith)
 
+own-number-requires : tie.Need-own-number-requires Inv-loop2 μ-loop2 Inv-loop μ-loop
+own-number-requires c κs =
+    let t = turn (c .before) in
+    (omega arith, λ e. startOf t .pre .whole (t .loop .inv .2 e) (c .before .loop2 .j) (omega arith))
+
+-- So is that of the own number that was found.
+found : (c : tie.After-own-number Inv-loop2 μ-loop2 Inv-loop μ-loop)
+    → let l = c .before .before in
+    let a = startOf (turn l) .args in
+    getD (a .rows .now) (turn l .loop .i) 0 * a .cafes + c .own-number .result < length (a .cost .now)
+unfolding at
+found c = rw (c .own-number .ensures) (inside (c .before))
+
 -- The cost that is stored, and its size.
 module _ (l : tie.At-loop2 Inv-loop2 μ-loop2 Inv-loop μ-loop) where
   abbrev laneHere : ℕ
@@ -71,8 +92,14 @@ module _ (l : tie.At-loop2 Inv-loop2 μ-loop2 Inv-loop μ-loop) where
   unfolding atZ maxCost
   small = omega (arith, startOf (turn l) .pre .small laneHere)
 
+  read-back : toZ w64 (ofZ w64 costHere) ≡ costHere
+  read-back = back w64 costHere (omega (arith, mag-abs costHere, small))
+
 cast-out : tie.Need-cast-out Inv-loop2 μ-loop2 Inv-loop μ-loop
-cast-out c = let l = c .before .before .before in rw (back w64 (costHere l) (search needs)) (abs-fits w32 (costHere l) (small l))
+unfolding at
+cast-out c =
+    let l = c .before .before .before in
+    rw (c .before .own-number .ensures, read-back l) (abs-fits w32 (costHere l) (small l))
 
 loop2-again : tie.Need-loop2-again Inv-loop2 μ-loop2 Inv-loop μ-loop
 unfolding at atZ place
@@ -82,7 +109,7 @@ loop2-again c =
     let i = turn l .loop .i in
     let x = costHere l in (
       omega arith,
-      λ before p. rw (back w64 x (search needs), toZ-ofZ {w = w32} (abs-fits w32 x (small l)))
+      λ before p. rw (c .before .own-number .ensures, read-back l, toZ-ofZ {w = w32} (abs-fits w32 x (small l)))
           (part-one (costsOf s) (length (s .args .cols .now)) before i (l .loop2 .j) (l .loop2 .out) (l .loop2 .inv .1 before p) (s .pre .colsFew)
           (omega (arith, s .pre .rowsFew)) (omega arith) (s .pre .small (laneHere l))),
     )
@@ -91,8 +118,11 @@ loop-again : tie.Need-loop-again Inv-loop2 μ-loop2 Inv-loop μ-loop
 loop-again c =
     let l = c .before .loop2 in
     let o = turn (c .before) .loop in
-    let s = startOf (turn (c .before)) in
-    (omega arith, part-row (costsOf s) (length (s .args .cols .now)) _ (o .i) (l .j) (l .out) (l .inv .1 _ (o .inv .1)) (s .pre .colsFew) (omega arith))
+    let s = startOf (turn (c .before)) in (
+      omega arith,
+      part-row (costsOf s) (length (s .args .cols .now)) _ (o .i) (l .j) (l .out) (l .inv .1 _ (o .inv .1)) (s .pre .colsFew) (omega arith),
+      o .inv .2,
+    )
 
 returns : tie.Need-returns Inv-loop2 μ-loop2 Inv-loop μ-loop
 returns c =
@@ -113,11 +143,10 @@ spread-costs-spec =
     (λ c. search needs)
     mul-first-2
     (λ c. (omega arith, λ before p. p))
-    (λ c. search needs)
-    (λ c. search needs)
-    (λ c. search (needs, inside (c .before)))
-    (λ c. search (needs, inside (c .before)))
-    (λ c. inside (c .before))
+    own-number-requires
+    (λ c. search (needs, found c))
+    (λ c. search (needs, found c))
+    (λ c. found c)
     cast-out
     (λ c. search needs)
     (λ c. search needs)

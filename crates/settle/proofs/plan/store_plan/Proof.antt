@@ -16,8 +16,7 @@ use mir.Val.{toZ, ofZ}
 use Rattle.transport.specs.Lists.{at}
 use Rattle.transport.specs.Problem.{place}
 use Rattle.tree.specs.Layout.{stride, laneRoom}
-use Rattle.settle.specs.Plan.{Storable, Cleared, cleared-none, cleared-one, StoredTo, all-left, stored-none, stored-inside, stored-one, stored-row}
-use Rattle.settle.specs.Plan.{stored-all}
+use Rattle.settle.specs.Plan.{Storable, Cleared, cleared-none, cleared-one, StoredTo, stored-none, stored-inside, stored-one, stored-row, stored-all}
 use Rattle.settle.proofs.plan.store_plan.Statement.{statement}
 use Rattle.settle.proofs.plan.store_plan.Tie as tie
 
@@ -106,10 +105,10 @@ inside c =
     let b = stored-inside (s .pre) w (omega arith) (omega arith) in
     (omega (arith, w .long, s .pre .room), omega (arith, size s))
 
-own-column-requires : tie.Need-own-column-requires Inv-loop μ-loop Inv-loop3 μ-loop3 Inv-loop2 μ-loop2
-own-column-requires c κs =
+own-number-requires : tie.Need-own-number-requires Inv-loop μ-loop Inv-loop3 μ-loop3 Inv-loop2 μ-loop2
+own-number-requires c κs =
     let t = turn (c .before) in
-    (omega arith, λ e. all-left (startOf t .pre) (t .loop2 .inv .2 e) (c .before .loop3 .j) (omega arith))
+    (omega arith, λ e. startOf t .pre .colsWhole (t .loop2 .inv .2 e) (c .before .loop3 .j) (omega arith))
 
 -- The bags on the lane, as a number.
 lies : (c : tie.After-plan Inv-loop μ-loop Inv-loop3 μ-loop3 Inv-loop2 μ-loop2)
@@ -134,17 +133,17 @@ cast-plan c =
 goes : (c : tie.After-plan Inv-loop μ-loop Inv-loop3 μ-loop3 Inv-loop2 μ-loop2)
     → let l = c .before .before .before in
     let a = startOf (turn l) .args in
-    let p = getD (a .rows .now) (turn l .loop2 .i) 0 * a .n + c .before .own-column .result in
+    let p = getD (a .rows .now) (turn l .loop2 .i) 0 * a .n + c .before .own-number .result in
     (p < length (l .loop3 .plan)) × (p < laneRoom)
 unfolding at
-goes c = rw (c .before .own-column .ensures) (inside (c .before .before))
+goes c = rw (c .before .own-number .ensures) (inside (c .before .before))
 
 loop3-again : tie.Need-loop3-again Inv-loop μ-loop Inv-loop3 μ-loop3 Inv-loop2 μ-loop2
 unfolding at place
 loop3-again c =
     let l = c .before .before .before in (
       omega arith,
-      λ old s p. rw (lies c .0, c .before .own-column .ensures) (stored-one s (l .loop3 .inv .1 old s p) (omega arith) (omega arith)),
+      λ old s p. rw (lies c .0, c .before .own-number .ensures) (stored-one s (l .loop3 .inv .1 old s p) (omega arith) (omega arith)),
     )
 
 loop2-again : tie.Need-loop2-again Inv-loop μ-loop Inv-loop3 μ-loop3 Inv-loop2 μ-loop2
@@ -180,7 +179,7 @@ store-plan-spec =
     (λ c. search needs)
     mul-first-2
     (λ c. (omega arith, λ old s p. p))
-    own-column-requires
+    own-number-requires
     (λ c. omega arith)
     (λ c. omega arith)
     (λ c. omega arith)

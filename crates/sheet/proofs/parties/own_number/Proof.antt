@@ -1,0 +1,16 @@
+-- `sheet::parties::own_number` meets its contract: where all are left, the own number of one is its number among those left.
+use mathlib.Core.Path.{_≡_, sym}
+use borrow.Author.Needs.{needs}
+use Rattle.transport.specs.Lists.{at}
+use Rattle.sheet.proofs.parties.own_number.Statement.{statement}
+use Rattle.sheet.proofs.parties.own_number.Tie as tie
+
+returns : tie.Need-returns
+returns c = sym (c .before .pre .1 (c .if1 .taken))
+
+returns-2 : tie.Need-returns-2
+unfolding at
+returns-2 c = search needs
+
+pub own-number-spec : {M : Type 1} → statement M
+own-number-spec = tie.close (tie.spec (λ c. search needs) (λ c. search needs) returns returns-2)
