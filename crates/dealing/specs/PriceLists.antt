@@ -147,21 +147,21 @@ Placed price from own old new = PlacedTo price from own (length own) old new
 -- ---- prices of those at 0
 
 -- Of the numbers from a to n, those with an amount of 0 have the price f, and nothing else has changed.
-pub record Repriced (amounts : List ℕ) (f : ℕ → ℤ) (a n : ℕ) (old new : List ℤ) : Type 0 where
+pub record StruckPriced (amounts : List ℕ) (f : ℕ → ℤ) (a n : ℕ) (old new : List ℤ) : Type 0 where
   pub long : length new ≡ length old
   pub done : (k : ℕ) → a ≤ k → k < n → k < length amounts → atZ new k ≡ cond (isLeft amounts k) (atZ old k) (f k)
   pub ahead : (k : ℕ) → n ≤ k → k < length amounts → atZ new k ≡ atZ old k
   pub past : (k : ℕ) → length amounts ≤ k → atZ new k ≡ atZ old k
 
 module _ {amounts : List ℕ} {f : ℕ → ℤ} {a : ℕ} {old : List ℤ} where
-  pub repriced-none : Repriced amounts f a a old old
-  repriced-none = record { long = refl; done = λ k p q b. absurd (omega arith); ahead = λ k p b. refl; past = λ k p. refl }
+  pub priced-none : StruckPriced amounts f a a old old
+  priced-none = record { long = refl; done = λ k p q b. absurd (omega arith); ahead = λ k p b. refl; past = λ k p. refl }
 
   -- The next one has nothing, and its price is written ..
-  pub repriced-struck : {n : ℕ} {new next : List ℤ} {z : ℤ} → Repriced amounts f a n old new → n < length amounts → n < length new
-      → at amounts n ≡ 0 → next ≡ set new n z → z ≡ f n → Repriced amounts f a (n + 1) old next
+  pub priced-struck : {n : ℕ} {new next : List ℤ} {z : ℤ} → StruckPriced amounts f a n old new → n < length amounts → n < length new
+      → at amounts n ≡ 0 → next ≡ set new n z → z ≡ f n → StruckPriced amounts f a (n + 1) old next
   unfolding atZ
-  repriced-struck {n} {new} {next} {z} w l room nothing is-next e = rw is-next (record {
+  priced-struck {n} {new} {next} {z} w l room nothing is-next e = rw is-next (record {
     long = length-set new n z ∙ w .long;
     done = λ k p q b. by-cases (ℕ-discrete k n)
         (λ s. rw (s, left-no amounts n nothing) (getD-set-same new n z (pos 0) room ∙ e))
@@ -171,9 +171,9 @@ module _ {amounts : List ℕ} {f : ℕ → ℤ} {a : ℕ} {old : List ℤ} where
   })
 
   -- .. or something, and it keeps its price.
-  pub repriced-left : {n : ℕ} {new next : List ℤ} → Repriced amounts f a n old new → n < length amounts → (at amounts n ≡ 0 → ⊥) → next ≡ new
-      → Repriced amounts f a (n + 1) old next
-  repriced-left {n} {new} {next} w l some is-next = rw is-next (record {
+  pub priced-left : {n : ℕ} {new next : List ℤ} → StruckPriced amounts f a n old new → n < length amounts → (at amounts n ≡ 0 → ⊥) → next ≡ new
+      → StruckPriced amounts f a (n + 1) old next
+  priced-left {n} {new} {next} w l some is-next = rw is-next (record {
     long = w .long;
     done = λ k p q b. by-cases (ℕ-discrete k n)
         (λ s. rw (s, left-yes amounts n (omega arith)) (w .ahead n (omega arith) l))
@@ -183,6 +183,6 @@ module _ {amounts : List ℕ} {f : ℕ → ℤ} {a : ℕ} {old : List ℤ} where
   })
 
 -- All are gone through.
-pub repriced-all : {amounts : List ℕ} {f : ℕ → ℤ} {a n : ℕ} {old new : List ℤ} → length amounts ≤ n → Repriced amounts f a n old new
-    → Repriced amounts f a (length amounts) old new
-repriced-all l w = record { long = w .long; done = λ k p q b. w .done k p (omega arith) b; ahead = λ k p b. absurd (omega arith); past = w .past }
+pub priced-all : {amounts : List ℕ} {f : ℕ → ℤ} {a n : ℕ} {old new : List ℤ} → length amounts ≤ n → StruckPriced amounts f a n old new
+    → StruckPriced amounts f a (length amounts) old new
+priced-all l w = record { long = w .long; done = λ k p q b. w .done k p (omega arith) b; ahead = λ k p b. absurd (omega arith); past = w .past }

@@ -30,7 +30,7 @@ use Rattle.transport.specs.Laws.Sound.{sound, wanted-room, sources-room, sinks-
 use Rattle.transport.specs.declared.Cell.{Cell}
 use Rattle.tree.specs.Layout.{stride, stride-is, nodeRoom, maxPotential, getD-all}
 use Rattle.dealing.specs.PriceLists.{maxPrice, Costs, RowPrices, ColumnPrices, costIn, costIn-small, rowSlack, rowsLeast, columnSlack, columnsLeast}
-use Rattle.dealing.specs.PriceLists.{least-small, Placing, PlacedTo, Placed, Repriced}
+use Rattle.dealing.specs.PriceLists.{least-small, Placing, PlacedTo, Placed, StruckPriced}
 
 -- The own numbers of the nodes of the problem behind an accepted sheet, and the prices of a tableau of it.
 pub record NodesPriced (S : Sheet) (T : List Cell) (ownRows ownCols : List ℕ) (price : List ℤ) : Type 0 where
@@ -221,7 +221,7 @@ module _ {S : Sheet} {T : List Cell} {rows cols : List ℕ} {price : List ℤ} (
 
     -- `placed` has the prices of the columns left, and `columns` those of struck cafés too.
     module _ {placed columns : List ℤ} (q : Placed price (length rows) cols (replicate maxSide (pos 0)) placed)
-        (r : Repriced (S .demand) (rowsLeast (S .cost) (cafes S) rows u′) 0 (cafes S) placed columns) where
+        (r : StruckPriced (S .demand) (rowsLeast (S .cost) (cafes S) rows u′) 0 (cafes S) placed columns) where
       -- Every column has its price: a café ..
       cafe-here : (j : ℕ) → j < cafes S → atZ columns j ≡ cafePrice E T j
       unfolding cafes
@@ -290,7 +290,7 @@ module _ {S : Sheet} {T : List Cell} {rows cols : List ℕ} {price : List ℤ} (
       roastery-struck i e = rw e
 
       module _ {width : ℕ} (is-width : width ≡ length (wanted S)) {u″ : List ℤ}
-          (s : Repriced (S .supply) (columnsLeast (S .cost) (cafes S) columns width) 0 (roasteries S) u′ u″) where
+          (s : StruckPriced (S .supply) (columnsLeast (S .cost) (cafes S) columns width) 0 (roasteries S) u′ u″) where
         roastery-here : (i : ℕ) → i < roasteries S → atZ u″ i ≡ roasteryPrice E T i
         unfolding roasteries
         roastery-here i l = go (isLeft (S .supply) i) refl

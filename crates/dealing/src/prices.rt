@@ -16,7 +16,7 @@ ghost use Rattle.transport.specs.Sheet.{sheetOf};
 ghost use Rattle.transport.specs.OwnNumbers.{roasteryPrices, cafePrices};
 ghost use Rattle.transport.specs.declared.Cell.{Cell};
 ghost use Rattle.dealing.specs.PriceLists.{maxPrice, Costs, RowPrices, ColumnPrices, costIn, rowsLeast, columnsLeast};
-ghost use Rattle.dealing.specs.PriceLists.{Placing, Placed, Repriced};
+ghost use Rattle.dealing.specs.PriceLists.{Placing, Placed, StruckPriced};
 ghost use Rattle.dealing.specs.Prices.{NodesPriced};
 
 // Writes prices at their own numbers: that of the node `from` + k at the k-th.
@@ -73,7 +73,7 @@ fn price_cafes(
     requires { ⌜ ((m : ℕ) × Costs m (length (now demand)) (now cost) × RowPrices m (now rows) (now u)) × (length (now demand) ≤ maxSide) ⌝ }
     ensures { λ r.
         let d = now (demand .entry) in
-        ⌜ Repriced d (rowsLeast (now (cost .entry)) (length d) (now (rows .entry)) (now (u .entry))) 0 (length d) v r ⌝ }
+        ⌜ StruckPriced d (rowsLeast (now (cost .entry)) (length d) (now (rows .entry)) (now (u .entry))) 0 (length d) v r ⌝ }
 {
     let mut priced = v;
     let mut j = 0;
@@ -112,7 +112,7 @@ fn price_roasteries(
     requires { ⌜ Costs (length (now supply)) cafes (now cost) × ColumnPrices (now v) width × (length (now supply) ≤ length (now u)) ⌝ }
     ensures { λ _.
         let s = now (supply .entry) in
-        ⌜ Repriced s (columnsLeast (now (cost .entry)) cafes (now (v .entry)) width) 0 (length s) (now (u .entry)) (now (u .exit)) ⌝ }
+        ⌜ StruckPriced s (columnsLeast (now (cost .entry)) cafes (now (v .entry)) width) 0 (length s) (now (u .entry)) (now (u .exit)) ⌝ }
 {
     let mut i = 0;
     while i < supply.len() {

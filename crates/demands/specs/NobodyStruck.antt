@@ -285,12 +285,12 @@ module _ {S : Sheet} (each : NoZero S) where
   unfolding tableauTests
   tests-same t = refusal-then (sheetTests S) (checkBefore S) _ _ check-same (λ e. rw (belongs-same E rows columns costs t))
 
-  record Taken (t : Tableau) : Type 1 where
+  record HandedOver (t : Tableau) : Type 1 where
     sound : Sound E
     belongs : Belongs E (cellsOf t)
     numbers : inside S t ≡ cellsOf t
 
-  taken : (t : Tableau) → refusal (tableauBefore S t) ≡ none → Taken t
+  taken : (t : Tableau) → refusal (tableauBefore S t) ≡ none → HandedOver t
   unfolding belongs inside
   taken t e =
       let (check, passes) = refusal-last (checkBefore S) (not (belongs E t), 6) .0 e in

@@ -68,17 +68,17 @@ pub record Stored (q : List ℤ) (rows cols : List ℕ) (m n : ℕ) (old new : L
   pub offColumn : (i j : ℕ) → i < m → j < n → ((k : ℕ) → k < length cols → ¬ (at cols k ≡ j)) → at new (place n i j) ≡ 0
 
 -- Before: the first l places are cleared.
-pub record Cleared (size l : ℕ) (old new : List ℕ) : Type 0 where
+pub record Emptied (size l : ℕ) (old new : List ℕ) : Type 0 where
   pub long : length new ≡ length old
   pub rest : drop size new ≡ drop size old
   pub clear : (k : ℕ) → k < l → at new k ≡ 0
 
-pub cleared-none : (size : ℕ) (old : List ℕ) → Cleared size 0 old old
-cleared-none size old = record { long = refl; rest = refl; clear = λ k h. absurd (omega arith) }
+pub emptied-none : (size : ℕ) (old : List ℕ) → Emptied size 0 old old
+emptied-none size old = record { long = refl; rest = refl; clear = λ k h. absurd (omega arith) }
 
-pub cleared-one : {size l : ℕ} {old new : List ℕ} → Cleared size l old new → l < size → size ≤ length old → Cleared size (l + 1) old (set new l 0)
+pub emptied-one : {size l : ℕ} {old new : List ℕ} → Emptied size l old new → l < size → size ≤ length old → Emptied size (l + 1) old (set new l 0)
 unfolding at
-cleared-one {size} {l} {old} {new} c h room = record {
+emptied-one {size} {l} {old} {new} c h room = record {
   long = simp length-set (c .long);
   rest = drop-set-lt size new l 0 h ∙ c .rest;
   clear = λ k b. by-cases (ℕ-discrete k l)
@@ -101,7 +101,7 @@ growing-once xs grow h k p r e = by-cases (decLt h k)
     (λ l. by-cases (decLt k h) (λ g. absurd (omega (arith, grow k h g p))) (λ g. omega arith))
 
 module _ {q : List ℤ} {rows cols : List ℕ} {m n : ℕ} {old : List ℕ} (s : Storable q rows cols m n old) where
-  pub stored-none : {new : List ℕ} → Cleared (m * n) (m * n) old new → StoredTo q rows cols m n 0 0 old new
+  pub stored-none : {new : List ℕ} → Emptied (m * n) (m * n) old new → StoredTo q rows cols m n 0 0 old new
   stored-none c = record {
     long = c .long;
     rest = c .rest;

@@ -9,12 +9,12 @@ use mir.Syntax.{w64}
 use Rattle.transport.specs.Limits.{maxSide}
 use Rattle.transport.specs.Lists.{at}
 use Rattle.transport.specs.Laws.RangeLaws.{back}
-use Rattle.dealing.specs.PriceLists.{rowsLeast, Repriced, repriced-none, repriced-struck, repriced-left, repriced-all}
+use Rattle.dealing.specs.PriceLists.{rowsLeast, StruckPriced, priced-none, priced-struck, priced-left, priced-all}
 use Rattle.dealing.proofs.prices.price_cafes.Statement.{statement}
 use Rattle.dealing.proofs.prices.price_cafes.Tie as tie
 
 abbrev Inv-loop : tie.InvT-loop
-Inv-loop demand cost rows u priced₀ j₀ priced j = Repriced demand (rowsLeast cost (length demand) rows u) j₀ j priced₀ priced
+Inv-loop demand cost rows u priced₀ j₀ priced j = StruckPriced demand (rowsLeast cost (length demand) rows u) j₀ j priced₀ priced
 
 abbrev μ-loop : tie.MeasureT-loop
 μ-loop demand cost rows u priced₀ j₀ priced j = length demand - j
@@ -26,7 +26,7 @@ abbrev start : tie.In-loop Inv-loop μ-loop → tie.Start Inv-loop μ-loop
 start c = c .before .before .before .before
 
 loop-holds : tie.Need-loop-holds Inv-loop μ-loop
-loop-holds c = repriced-none
+loop-holds c = priced-none
 
 cafe-price-requires : tie.Need-cafe-price-requires Inv-loop μ-loop
 cafe-price-requires c κs = start (turn c) .pre .0
@@ -42,12 +42,12 @@ loop-again c =
     let inv = here .before .loop .inv in
     let long : length (start here .args .v) ≡ 32 = search needs in
     ⊎-elim
-    (λ w. repriced-struck inv (omega arith) (omega (arith, inv .long, room here)) (w .0 .taken) (w .2) (back w64 (w .1 .result) (search needs) ∙ w .1 .ensures))
-    (λ w. repriced-left inv (omega arith) (w .0 .left) (w .1))
+    (λ w. priced-struck inv (omega arith) (omega (arith, inv .long, room here)) (w .0 .taken) (w .2) (back w64 (w .1 .result) (search needs) ∙ w .1 .ensures))
+    (λ w. priced-left inv (omega arith) (w .0 .left) (w .1))
     (c .if1 .came)
 
 returns : tie.Need-returns Inv-loop μ-loop
-returns c = repriced-all (omega arith) (c .before .loop .inv)
+returns c = priced-all (omega arith) (c .before .loop .inv)
 
 pub price-cafes-spec : {M : Type 1} → statement M
 price-cafes-spec =

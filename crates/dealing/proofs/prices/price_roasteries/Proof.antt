@@ -8,12 +8,12 @@ use lib.ListN.{length}
 use mir.Syntax.{w64}
 use Rattle.transport.specs.Lists.{at}
 use Rattle.transport.specs.Laws.RangeLaws.{back}
-use Rattle.dealing.specs.PriceLists.{columnsLeast, Repriced, repriced-none, repriced-struck, repriced-left, repriced-all}
+use Rattle.dealing.specs.PriceLists.{columnsLeast, StruckPriced, priced-none, priced-struck, priced-left, priced-all}
 use Rattle.dealing.proofs.prices.price_roasteries.Statement.{statement}
 use Rattle.dealing.proofs.prices.price_roasteries.Tie as tie
 
 abbrev Inv-loop : tie.InvT-loop
-Inv-loop supply cost cafes v width u₀ i₀ u i = Repriced supply (columnsLeast cost cafes v width) i₀ i u₀ u
+Inv-loop supply cost cafes v width u₀ i₀ u i = StruckPriced supply (columnsLeast cost cafes v width) i₀ i u₀ u
 
 abbrev μ-loop : tie.MeasureT-loop
 μ-loop supply cost cafes v width u₀ i₀ u i = length supply - i
@@ -25,7 +25,7 @@ abbrev start : tie.In-loop Inv-loop μ-loop → tie.Start Inv-loop μ-loop
 start c = c .before .before .before
 
 loop-holds : tie.Need-loop-holds Inv-loop μ-loop
-loop-holds c = repriced-none
+loop-holds c = priced-none
 
 roastery-price-requires : tie.Need-roastery-price-requires Inv-loop μ-loop
 roastery-price-requires c κs = let s = start (turn c) in ((length (s .args .supply .now), s .pre .0, omega arith), s .pre .1)
@@ -39,15 +39,15 @@ loop-again c =
     let here = c .before .before in
     let inv = here .before .loop .inv in
     ⊎-elim
-    (λ w. repriced-struck inv (omega arith) (room here) (w .0 .taken) (w .2) (back w64 (w .1 .result) (search needs) ∙ w .1 .ensures))
-    (λ w. repriced-left inv (omega arith) (w .0 .left) (w .1))
+    (λ w. priced-struck inv (omega arith) (room here) (w .0 .taken) (w .2) (back w64 (w .1 .result) (search needs) ∙ w .1 .ensures))
+    (λ w. priced-left inv (omega arith) (w .0 .left) (w .1))
     (c .if1 .came)
 
 same-length : tie.Need-same-length Inv-loop μ-loop
 same-length c = c .before .loop .inv .long
 
 returns : tie.Need-returns Inv-loop μ-loop
-returns c = repriced-all (omega arith) (c .before .loop .inv)
+returns c = priced-all (omega arith) (c .before .loop .inv)
 
 pub price-roasteries-spec : {M : Type 1} → statement M
 price-roasteries-spec =

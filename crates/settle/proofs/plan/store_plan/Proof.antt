@@ -16,12 +16,12 @@ use mir.Val.{toZ, ofZ}
 use Rattle.transport.specs.Lists.{at}
 use Rattle.transport.specs.Problem.{place}
 use Rattle.tree.specs.Layout.{stride, laneRoom}
-use Rattle.settle.specs.Plan.{Storable, Cleared, cleared-none, cleared-one, StoredTo, stored-none, stored-inside, stored-one, stored-row, stored-all}
+use Rattle.settle.specs.Plan.{Storable, Emptied, emptied-none, emptied-one, StoredTo, stored-none, stored-inside, stored-one, stored-row, stored-all}
 use Rattle.settle.proofs.plan.store_plan.Statement.{statement}
 use Rattle.settle.proofs.plan.store_plan.Tie as tie
 
 abbrev Inv-loop : tie.InvT-loop
-Inv-loop q rows cols m n plan₀ l₀ plan l = (l ≤ m * n) × Cleared (m * n) l plan₀ plan
+Inv-loop q rows cols m n plan₀ l₀ plan l = (l ≤ m * n) × Emptied (m * n) l plan₀ plan
 
 abbrev μ-loop : tie.MeasureT-loop
 μ-loop q rows cols m n plan₀ l₀ plan l = m * n - l
@@ -54,7 +54,7 @@ startBefore c = c .before .before .before .before
 loop-again : tie.Need-loop-again Inv-loop μ-loop Inv-loop3 μ-loop3 Inv-loop2 μ-loop2
 loop-again c =
     let l = c .before .loop in
-    (omega arith, cleared-one (l .inv .1) (omega arith) (startBefore (c .before) .pre .room))
+    (omega arith, emptied-one (l .inv .1) (omega arith) (startBefore (c .before) .pre .room))
 
 -- The list is as long as it was.
 loop-inside : (c : tie.In-loop Inv-loop μ-loop Inv-loop3 μ-loop3 Inv-loop2 μ-loop2) → c .before .loop .l < length (c .before .loop .plan)
@@ -167,7 +167,7 @@ store-plan-spec =
     μ-loop3
     Inv-loop2
     μ-loop2
-    (λ c. (omega arith, cleared-none _ _))
+    (λ c. (omega arith, emptied-none _ _))
     (λ c. omega (arith, size (startBefore c)))
     (λ c. omega (arith, size (startBefore (c .before))))
     (λ c. loop-inside c)
