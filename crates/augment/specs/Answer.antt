@@ -1,6 +1,5 @@
 -- What the search answers.
-use mathlib.Core.List.{List}
-use Prim.Native.Nat.{ℕ}
+use Rattle.prelude.specs.Words.{List, ℕ}
 use Rattle.integers.specs.Integer.{Z}
 use Rattle.network.specs.Settling.{Stuck}
 use Rattle.tree.specs.Mask.{has}

@@ -1,18 +1,8 @@
 -- Bags by lane, and the masks that say where there are any.
-use mathlib.Core.Path.{_≡_, refl, sym, _∙_}
-use mathlib.Core.Logic.{_↔_, _≢_, by-cases, Dec·and}
-use mathlib.Core.Bool.{Bool, true, false, not, cond, _&&_, _||_, and-false, Bool-discrete}
-use mathlib.Core.List.{List}
-use Prim.Native.Nat.{ℕ, _+_, _-_, _*_, _<_, _≤_}
-use native.Mathlib.Omega.{arith}
-use native.Mathlib.Decide.{ℕ-discrete}
-use borrow.Author.Tests.{eq-eqb, ne-eqb}
+use Rattle.prelude.specs.Words.{_≡_, refl, sym, _∙_, _↔_, _≢_, by-cases, Dec·and, Bool, true, false, not, cond, _&&_, _||_, and-false, Bool-discrete, List, ℕ}
+use Rattle.prelude.specs.Words.{_+_, _-_, _*_, _<_, _≤_, arith, ℕ-discrete, eq-eqb, ne-eqb, eqb, ℤ, pos, natAbs, negℤ, _+ℤ_, length, getD, set, replicate}
+use Rattle.prelude.specs.Words.{length-set, getD-set-same, getD-set-other, ltZ}
 use lib.Bits.{bitAnd}
-use lib.Dec.{eqb}
-use lib.IntN.{ℤ, pos, natAbs, negℤ, _+ℤ_}
-use lib.ListN.{length, getD, set, replicate, length-set}
-use lib.Seq.{getD-set-same, getD-set-other}
-use lib.Signed.{ltZ}
 use Rattle.integers.specs.Integer.{Z, _≈_, _≺_, _⊕_, _⊖_, _⊗_, neg, nat}
 use Rattle.integers.specs.IntegerLaws.{⊗-cong}
 use Rattle.integers.specs.Bridge.{toZ, z-add, z-neg}

@@ -1,11 +1,6 @@
 -- Masks as sets of their bits: what is in a mask that is made of others.
-use mathlib.Core.Path.{_≡_, sym, _∙_}
-use mathlib.Core.Logic.{_↔_, _≢_, _⊎_, inl, inr, ⊎-elim, by-cases}
-use mathlib.Core.Bool.{true, false≢true}
-use Prim.Native.Nat.{ℕ, _-_, _<_, _≤_}
-use native.Mathlib.Omega.{arith}
-use native.Mathlib.Decide.{ℕ-discrete, decLt}
-use borrow.Author.Tests.{eqb-true, eq-eqb, ne-eqb}
+use Rattle.prelude.specs.Words.{_≡_, sym, _∙_, _↔_, _≢_, _⊎_, inl, inr, ⊎-elim, by-cases, true, false≢true, ℕ, _-_, _<_, _≤_, arith, ℕ-discrete, decLt}
+use Rattle.prelude.specs.Words.{eqb-true, eq-eqb, ne-eqb}
 use lib.Bits.{bitAnd, bitOr}
 use Rattle.tree.specs.Mask.{bit, has, bit-or, bit-and, put, put-here, put-there, unset, unset-here, unset-there, has-zero}
 use Rattle.tree.specs.MaskLaws.{firstBits, first-below, first-above, minus, bit-minus}

@@ -1,14 +1,7 @@
 -- The search by masks and arrays, turn by turn.
-use mathlib.Core.Path.{_≡_, refl, sym, ap, _∙_}
-use mathlib.Core.Logic.{_↔_, _≢_, _⊎_, inl, inr, ⊎-elim, by-cases}
-use mathlib.Core.Bool.{true, Bool-discrete}
-use mathlib.Core.List.{List}
-use Prim.Native.Nat.{ℕ, suc, _-_, _≤_, _<_}
-use native.Mathlib.Omega.{arith}
-use native.Mathlib.Decide.{ℕ-discrete}
+use Rattle.prelude.specs.Words.{_≡_, refl, sym, ap, _∙_, _↔_, _≢_, _⊎_, inl, inr, ⊎-elim, by-cases, true, Bool-discrete, List, ℕ, suc, _-_, _≤_, _<_, arith}
+use Rattle.prelude.specs.Words.{ℕ-discrete, length, set, length-set, getD-set-same, getD-set-other}
 use lib.Bits.{bitAnd, bitOr}
-use lib.ListN.{length, set, length-set}
-use lib.Seq.{getD-set-same, getD-set-other}
 use Rattle.integers.specs.Integer.{Z, _≈_, _≺_, ≈-dec, nat}
 use Rattle.network.specs.Flow.{Nonneg}
 use Rattle.network.specs.Finite.{once-few}

@@ -1,14 +1,6 @@
 -- The way from a position of a search up to the root: the lanes that it takes bags from, and the bags moved along it.
-use mathlib.Core.Path.{_≡_, refl, sym, ap, _∙_}
-use mathlib.Core.Logic.{by-cases}
-use mathlib.Core.Bool.{true, false}
-use mathlib.Core.List.{List}
-use Prim.Native.Nat.{ℕ, zero, suc, _+_, _*_, _≤_, _<_, _^_}
-use native.Mathlib.Omega.{arith}
-use native.Mathlib.Decide.{ℕ-discrete, decLt}
-use lib.IntN.{ℤ, pos, natAbs}
-use lib.ListN.{getD}
-use lib.Signed.{ltZ}
+use Rattle.prelude.specs.Words.{_≡_, refl, sym, ap, _∙_, by-cases, true, false, List, ℕ, zero, suc, _+_, _*_, _≤_, _<_, _^_, arith, ℕ-discrete, decLt, ℤ, pos}
+use Rattle.prelude.specs.Words.{natAbs, getD, ltZ}
 use Rattle.integers.specs.Integer.{Z, _≈_, _≼_, _⊕_, _⊖_, _⊗_}
 use Rattle.integers.specs.Bridge.{toZ}
 use Rattle.integers.specs.Tests.{lt-yes, lt-no}

@@ -1,15 +1,7 @@
 -- The rows and columns of a tableau add up exactly if its cells carry the flow of the paired supplies and demands: a part of the amounts, bags or marks, has
 -- the margins of the flow if the two are the same on every lane, and no other amounts on these lanes have them.
-use Prim.Native.Nat.{ℕ, zero, suc, _+_, _-_, _<_, _≤_}
-use native.Mathlib.Omega.{arith}
-use mathlib.Core.Path.{_≡_, refl, sym, ap, _∙_}
-use mathlib.Core.Logic.{_↔_, by-cases}
-use mathlib.Core.Bool.{Bool, true, cond}
-use mathlib.Core.List.{List}
-use lib.Dec.{eqb}
-use lib.IntN.{ℤ, pos, _+ℤ_}
-use lib.ListN.{getD}
-use borrow.Author.Tests.{eq-eqb, ne-eqb}
+use Rattle.prelude.specs.Words.{ℕ, zero, suc, _+_, _-_, _<_, _≤_, arith, _≡_, refl, sym, ap, _∙_, _↔_, by-cases, Bool, true, cond, List, eqb, ℤ, pos, _+ℤ_}
+use Rattle.prelude.specs.Words.{getD, eq-eqb, ne-eqb}
 use Rattle.integers.specs.Integer.{Z, _≈_, nat}
 use Rattle.integers.specs.Bridge.{toZ, z-eq, eq-z}
 use Rattle.integers.specs.Sum.{sum}

@@ -1,14 +1,6 @@
 -- Whether lanes carry the flow of weights, in the arrays of the code.
-use Prim.Native.Nat.{ℕ, _+_, _^_, _<_, _≤_}
-use native.Mathlib.Omega.{arith}
-use native.Mathlib.Decide.{decLt}
-use mathlib.Core.Path.{_≡_, refl, sym, ap, _∙_}
-use mathlib.Core.Logic.{by-cases}
-use mathlib.Core.Bool.{Bool, true, false}
-use mathlib.Core.List.{List}
-use lib.IntN.{ℤ, pos, _-ℤ_}
-use lib.ListN.{length, getD, set}
-use lib.Signed.{mag}
+use Rattle.prelude.specs.Words.{ℕ, _+_, _^_, _<_, _≤_, arith, decLt, _≡_, refl, sym, ap, _∙_, by-cases, Bool, true, false, List, ℤ, pos, _-ℤ_, length, getD}
+use Rattle.prelude.specs.Words.{set, mag}
 use mir.Syntax.{w64}
 use mir.Val.{toZ, ofZ}
 use Rattle.transport.specs.Laws.RangeLaws.{back}

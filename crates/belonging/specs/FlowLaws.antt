@@ -1,17 +1,7 @@
 -- The laws of flows by strikes: the step through one strike, that the weights that are left never grow, and the same on the arrays of the code.
-use Prim.Native.Nat.{ℕ, zero, suc, _+_, _*_, _<_, _≤_}
-use native.Mathlib.Omega.{arith}
-use native.Mathlib.Numerals.{add-one}
-use native.Mathlib.Nat.{eq-or-lt-of-le}
-use mathlib.Core.Path.{_≡_, refl, sym, ap, _∙_}
-use mathlib.Core.Logic.{_≢_, ⊎-elim}
-use mathlib.Core.Bool.{Bool, true, false, cond}
-use mathlib.Core.List.{List}
-use lib.Dec.{eqb}
-use lib.IntN.{ℤ, pos, natAbs, _-ℤ_, +ℤ-invr}
-use lib.ListN.{length, getD, set, length-set}
-use lib.Seq.{lt-length-set}
-use borrow.Author.Tests.{eqb-true, eq-eqb, ne-eqb}
+use Rattle.prelude.specs.Words.{ℕ, zero, suc, _+_, _*_, _<_, _≤_, arith, add-one, eq-or-lt-of-le, _≡_, refl, sym, ap, _∙_, _≢_, ⊎-elim, Bool, true, false, cond}
+use Rattle.prelude.specs.Words.{List, eqb, ℤ, pos, natAbs, _-ℤ_, length, getD, set, length-set, lt-length-set, eqb-true, eq-eqb, ne-eqb}
+use lib.IntN.{+ℤ-invr}
 use Rattle.transport.specs.Lists.{sumTo}
 use Rattle.transport.specs.Laws.ListLaws.{sumTo-each, sumTo-cong}
 use Rattle.transport.specs.Problem.{Lane}

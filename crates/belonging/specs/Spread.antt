@@ -1,13 +1,6 @@
 -- A tableau in the flat arrays: whether its lanes span and its amounts add up, as the code finds it.
-use Prim.Native.Nat.{ℕ, _+_, _-_, _*_, _<_}
-use mathlib.Core.Path.{_≡_, refl, sym, ap, _∙_, subst}
-use mathlib.Core.Logic.{_↔_}
-use mathlib.Core.Bool.{Bool, true, false, _&&_}
-use mathlib.Core.List.{List}
-use lib.Dec.{eqb, ltb}
-use borrow.Author.Tests.{ltb-true, eq-eqb, ne-eqb}
-use lib.IntN.{ℤ, pos}
-use lib.ListN.{length, getD, length-map}
+use Rattle.prelude.specs.Words.{ℕ, _+_, _-_, _*_, _<_, _≡_, refl, sym, ap, _∙_, subst, _↔_, Bool, true, false, _&&_, List, eqb, ltb, ltb-true, eq-eqb, ne-eqb}
+use Rattle.prelude.specs.Words.{ℤ, pos, length, getD, length-map}
 use Rattle.transport.specs.Lists.{all, at, total}
 use Rattle.transport.specs.Laws.ListLaws.{and-left, and-right, all-at, member-table, table-member}
 use Rattle.transport.specs.Problem.{Problem, sources, sinks}

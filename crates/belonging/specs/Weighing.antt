@@ -1,15 +1,6 @@
 -- How the weights at the nodes are put into their array.
-use Prim.Native.Nat.{ℕ, _+_, _-_, _<_, _≤_}
-use native.Mathlib.Omega.{arith}
-use native.Mathlib.Nat.{zero-add}
-use native.Mathlib.Decide.{decLt, ℕ-discrete}
-use mathlib.Core.Path.{_≡_, refl, _∙_}
-use mathlib.Core.Logic.{by-cases}
-use mathlib.Core.List.{List}
-use lib.IntN.{ℤ, pos, natAbs}
-use lib.ListN.{length, getD, set, length-set}
-use lib.Seq.{getD-set-same, getD-set-other}
-use borrow.Author.Tests.{eq-eqb, ne-eqb}
+use Rattle.prelude.specs.Words.{ℕ, _+_, _-_, _<_, _≤_, arith, zero-add, decLt, ℕ-discrete, _≡_, refl, _∙_, by-cases, List, ℤ, pos, natAbs, length, getD, set}
+use Rattle.prelude.specs.Words.{length-set, getD-set-same, getD-set-other, eq-eqb, ne-eqb}
 use Rattle.transport.specs.Lists.{at}
 use Rattle.transport.specs.Laws.ListLaws.{sumTo-bound}
 use Rattle.transport.specs.Limits.{maxAmount, maxBags, maxSide}

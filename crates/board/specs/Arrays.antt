@@ -1,11 +1,5 @@
 -- What the arrays hold: the amounts of a tableau, the strikes of its basis, and its tree.
-use mathlib.Core.Path.{_≡_}
-use mathlib.Core.Bool.{true}
-use mathlib.Core.List.{List}
-use Prim.Native.Nat.{ℕ, _+_, _-_, _*_, _<_, _≤_}
-use native.Mathlib.Omega.{arith}
-use lib.IntN.{ℤ, pos}
-use lib.ListN.{length, getD}
+use Rattle.prelude.specs.Words.{_≡_, true, List, ℕ, _+_, _-_, _*_, _<_, _≤_, arith, ℤ, pos, length, getD}
 use Rattle.transport.specs.Problem.{Problem, sources, sinks}
 use Rattle.transport.specs.Laws.Sound.{Sound}
 use Rattle.transport.specs.Tableau.{basisOf}

@@ -1,12 +1,6 @@
 -- The tests of belonging that look at cells one by one, made in one pass.
-use Prim.Native.Nat.{ℕ, _+_, _*_, _<_, _≤_}
-use native.Mathlib.Omega.{arith}
-use native.Mathlib.Nat.{mul-le-mul}
-use mathlib.Core.Path.{_≡_, refl, _∙_}
-use mathlib.Core.Bool.{Bool, true, false, _&&_}
-use mathlib.Core.List.{List, [], _∷_}
-use lib.Dec.{ltb, leb}
-use borrow.Author.Tests.{ltb-true, ltb-false, lt-leb, le-leb}
+use Rattle.prelude.specs.Words.{ℕ, _+_, _*_, _<_, _≤_, arith, mul-le-mul, _≡_, refl, _∙_, Bool, true, false, _&&_, List, [], _∷_, ltb, leb, ltb-true, ltb-false}
+use Rattle.prelude.specs.Words.{lt-leb, le-leb}
 use Rattle.transport.specs.Lists.{all}
 use Rattle.transport.specs.Laws.ListLaws.{and-left, and-right}
 use Rattle.transport.specs.Problem.{place}

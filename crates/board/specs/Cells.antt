@@ -1,10 +1,5 @@
 -- The cells of a tableau's array.
-use Prim.Native.Nat.{ℕ, suc, _<_, _≤_}
-use native.Mathlib.Omega.{arith}
-use mathlib.Core.Path.{_≡_, refl, _∙_}
-use mathlib.Core.List.{_∷_}
-use lib.ListN.{length, drop, getD}
-use lib.Seq.{drop-cons, getD-take, length-take-le}
+use Rattle.prelude.specs.Words.{ℕ, suc, _<_, _≤_, arith, _≡_, refl, _∙_, _∷_, length, drop, getD, drop-cons, getD-take, length-take-le}
 use Rattle.transport.specs.Limits.{maxSide, maxCells}
 use Rattle.transport.specs.Tableau.{noCell, cellsOf}
 use Rattle.transport.specs.declared.Tableau.{Tableau}

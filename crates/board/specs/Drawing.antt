@@ -1,16 +1,6 @@
 -- The masks of the basic lanes, drawn from the lanes of a tree; with them the arrays hold the cells as they do when a tableau is laid out.
-use Prim.Native.Nat.{ℕ, zero, suc, _+_, _-_, _/_, _%_, _<_, _≤_}
-use native.Mathlib.Omega.{arith}
-use native.Mathlib.Numerals.{add-one}
-use mathlib.Core.Path.{_≡_, refl, sym, ap, _∙_}
-use mathlib.Core.Logic.{_⊎_, inl, inr, by-cases}
-use mathlib.Core.Bool.{Bool, true, false, _&&_, _||_, false≢true, or-true}
-use mathlib.Core.List.{List}
-use native.Mathlib.Decide.{ℕ-discrete}
-use borrow.Author.Tests.{eqb-true, eq-eqb}
-use lib.Dec.{eqb}
-use lib.IntN.{ℤ}
-use lib.ListN.{length, getD}
+use Rattle.prelude.specs.Words.{ℕ, zero, suc, _+_, _-_, _/_, _%_, _<_, _≤_, arith, add-one, _≡_, refl, sym, ap, _∙_, _⊎_, inl, inr, by-cases, Bool, true, false}
+use Rattle.prelude.specs.Words.{_&&_, _||_, false≢true, or-true, List, ℕ-discrete, eqb-true, eq-eqb, eqb, ℤ, length, getD}
 use Rattle.transport.specs.Laws.ListLaws.{and-left, and-right}
 use Rattle.transport.specs.Problem.{Problem, Lane, sinks}
 use Rattle.transport.specs.Laws.ProblemLaws.{lane}

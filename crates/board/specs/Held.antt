@@ -1,15 +1,8 @@
 -- How the flat arrays of a run hold a list of cells: a mask of basic lanes for each node, and an amount for each lane.
-use Prim.Native.Nat.{ℕ, zero, suc, _+_, _*_, _<_, _≤_}
-use native.Mathlib.Omega.{arith}
-use mathlib.Core.Path.{_≡_, refl, sym, ap, _∙_}
-use mathlib.Core.Bool.{Bool, true, false, _&&_, _||_, cond, false≢true, or-true, and-comm}
-use mathlib.Core.List.{List, [], _∷_}
-use mathlib.Core.Logic.{_↔_, _≢_, _⊎_, inl, inr}
-use lib.Dec.{eqb}
-use lib.IntN.{ℤ, pos}
-use lib.ListN.{length, getD, set, length-set, length-map, List·getD-map}
-use lib.Seq.{lt-length-set, getD-set-same, getD-set-other}
-use borrow.Author.Tests.{eqb-true, eqb-false, eq-eqb, ne-eqb}
+use Rattle.prelude.specs.Words.{ℕ, zero, suc, _+_, _*_, _<_, _≤_, arith, _≡_, refl, sym, ap, _∙_, Bool, true, false, _&&_, _||_, cond, false≢true, or-true}
+use Rattle.prelude.specs.Words.{and-comm, List, [], _∷_, _↔_, _≢_, _⊎_, inl, inr, eqb, ℤ, pos, length, getD, set, length-set, length-map, lt-length-set}
+use Rattle.prelude.specs.Words.{getD-set-same, getD-set-other, eqb-true, eqb-false, eq-eqb, ne-eqb}
+use lib.ListN.{List·getD-map}
 use Rattle.transport.specs.Laws.ListLaws.{and-left, and-right}
 use Rattle.transport.specs.Problem.{Lane}
 use Rattle.transport.specs.Laws.ProblemLaws.{lane}

@@ -1,15 +1,8 @@
 -- The basic lanes in sheet order, read from the masks of the rows, and the cells gathered from them.
-use Prim.Native.Nat.{ℕ, zero, suc, _+_, _-_, _*_, _/_, _%_, _<_, _≤_}
-use native.Mathlib.Omega.{arith}
-use native.Mathlib.Nat.{mul-le-mul-right, suc-mul, add-zero}
-use native.Mathlib.Decide.{decLt}
-use mathlib.Core.Path.{_≡_, refl, sym, ap, _∙_}
-use mathlib.Core.Logic.{⊎-elim}
-use mathlib.Core.Bool.{Bool, true, false, true≢false}
-use mathlib.Core.List.{List, [], _∷_, _++_, map, append-nil, List·Memᴰ, List·Memᴰ·head, List·Memᴰ·tail, List·Memᴰ·not-nil, List·Memᴰ·cases-cons}
-use lib.IntN.{ℤ, pos}
-use lib.ListN.{length, take, drop, getD, set, replicate, length-append, length-map, length-replicate}
-use lib.Seq.{getD-take}
+use Rattle.prelude.specs.Words.{ℕ, zero, suc, _+_, _-_, _*_, _/_, _%_, _<_, _≤_, arith, mul-le-mul-right, suc-mul, add-zero, decLt, _≡_, refl, sym, ap, _∙_}
+use Rattle.prelude.specs.Words.{⊎-elim, Bool, true, false, true≢false, List, [], _∷_, _++_, map, append-nil, List·Memᴰ, List·Memᴰ·head, List·Memᴰ·tail}
+use Rattle.prelude.specs.Words.{List·Memᴰ·not-nil, List·Memᴰ·cases-cons, ℤ, pos, length, take, drop, getD, set, replicate, length-append, length-map}
+use Rattle.prelude.specs.Words.{length-replicate, getD-take}
 use Rattle.transport.specs.Lists.{keep, table, below, padded}
 use Rattle.transport.specs.Laws.ListLaws.{table-zero, table-split, table-first, table-cong, table-getD, fill-one, member-at, keep-member, map-table}
 use Rattle.transport.specs.Laws.ListLaws.{keep-append, keep-yes, keep-no, keep-none, keep-map, keep-cong, table-member, length-table, getD-table, map-member}

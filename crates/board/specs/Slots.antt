@@ -1,16 +1,7 @@
 -- Amounts by lane, and what is done to the lanes of slots: the slot with the least pair, and a pair added to each of some slots.
-use mathlib.Core.Path.{_≡_, refl, sym, ap, _∙_}
-use mathlib.Core.Logic.{_≢_, by-cases}
-use mathlib.Core.Bool.{true, false, true≢false}
-use mathlib.Core.List.{List}
-use Prim.Native.Nat.{ℕ, _-_, _<_}
-use native.Mathlib.Omega.{arith}
-use native.Mathlib.Decide.{ℕ-discrete}
-use borrow.Author.Tests.{eq-eqb, ne-eqb}
+use Rattle.prelude.specs.Words.{_≡_, refl, sym, ap, _∙_, _≢_, by-cases, true, false, true≢false, List, ℕ, _-_, _<_, arith, ℕ-discrete, eq-eqb, ne-eqb, ℤ, pos}
+use Rattle.prelude.specs.Words.{_+ℤ_, length, getD, set, length-set, getD-set-same, getD-set-other}
 use lib.Bits.{bitAnd}
-use lib.IntN.{ℤ, pos, _+ℤ_}
-use lib.ListN.{length, getD, set, length-set}
-use lib.Seq.{getD-set-same, getD-set-other}
 use Rattle.transport.specs.Amount.{less}
 use Rattle.transport.specs.Laws.ListLaws.{is-false}
 use Rattle.transport.specs.Laws.AmountLaws.{less-weak}

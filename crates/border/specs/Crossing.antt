@@ -1,9 +1,5 @@
 -- The declared answers of round, run, settle and the two writers cross the border as Border says.
-use mathlib.Core.Path.{_≡_, refl}
-use mathlib.Core.Bool.{Bool, true, false}
-use mathlib.Core.List.{List}
-use Prim.Native.Nat.{ℕ}
-use lib.IntN.{ℤ}
+use Rattle.prelude.specs.Words.{_≡_, refl, Bool, true, false, List, ℕ, ℤ}
 use Rattle.transport.specs.declared.Tableau.{Tableau}
 use Rattle.transport.specs.declared.RoundOutcome.{RoundOutcome}
 use Rattle.transport.specs.declared.RoundOutcome.the-variants as RoundOutcome

@@ -1,9 +1,5 @@
 -- How the tableau that a lent list of cells is (`Tableau.lentTableau`) is put together cell by cell.
-use Prim.Native.Nat.{ℕ, zero, suc, _+_, _-_, _^_}
-use mathlib.Core.Bool.{cond}
-use mathlib.Core.List.{List}
-use lib.Dec.{ltb}
-use lib.ListN.{getD, set}
+use Rattle.prelude.specs.Words.{ℕ, zero, suc, _+_, _-_, _^_, cond, List, ltb, getD, set}
 use Rattle.transport.specs.Limits.{maxCells}
 use Rattle.transport.specs.Tableau.{noCell, noTableau}
 use Rattle.transport.specs.declared.Cell.{Cell}

@@ -1,15 +1,8 @@
 -- The laws of Lent: a list's cells, added to no tableau, make the tableau that the list is; and what the calls make of that tableau.
-use Prim.Native.Nat.{ℕ, zero, suc, _+_, _-_, _<_, _≤_, _^_}
-use native.Mathlib.Omega.{arith}
-use native.Mathlib.Decide.{decLt}
-use mathlib.Core.Path.{_≡_, refl, sym, ap, _∙_}
-use mathlib.Core.Logic.{by-cases}
-use mathlib.Core.Bool.{Bool, true, false, _&&_, true≢false}
-use mathlib.Core.List.{List, [], _∷_, _++_, append-assoc}
-use lib.Dec.{eqb}
-use lib.ListN.{length, take, getD, set, replicate, length-append, length-map}
-use lib.Seq.{take-all, take-suc, take-length, take-append-le, take-append-seam, length-take-le, set-at}
-use borrow.Author.Tests.{lt-ltb, le-ltb, ne-eqb}
+use Rattle.prelude.specs.Words.{ℕ, zero, suc, _+_, _-_, _<_, _≤_, _^_, arith, decLt, _≡_, refl, sym, ap, _∙_, by-cases, Bool, true, false, _&&_, true≢false}
+use Rattle.prelude.specs.Words.{List, [], _∷_, _++_, append-assoc, eqb, length, take, getD, set, replicate, length-append, length-map, take-all, take-suc}
+use Rattle.prelude.specs.Words.{take-length, take-append-seam, length-take-le, set-at, lt-ltb, le-ltb, ne-eqb}
+use lib.Seq.{take-append-le}
 use Rattle.transport.specs.Lists.{all, padded}
 use Rattle.transport.specs.Limits.{maxCells}
 use Rattle.transport.specs.Problem.{Problem, sources, sinks}

@@ -1,15 +1,7 @@
 -- The fundamental cuts of a spanning tree: without one of its lanes the tree falls into two parts, and no other lane of it goes across.
 -- What they give: the loop of an entering lane with its signs, the cuts after an exchange of lanes, and the potentials after it.
-use mathlib.Core.Path.{_≡_, refl, ap, sym, _∙_}
-use mathlib.Core.Logic.{_↔_, _≢_, _⊎_, inl, inr, ⊎-elim, by-cases}
-use mathlib.Core.Bool.{Bool, true, false, not, cond, xor, _&&_, and-false, true≢false, false≢true}
-use mathlib.Core.List.{List, List·Memᴰ}
-use Prim.Native.Nat.{ℕ, _+_, _<_, _≤_}
-use native.Mathlib.Omega.{arith}
-use native.Mathlib.Decide.{ℕ-discrete}
-use borrow.Author.Tests.{eq-eqb, ne-eqb}
-use lib.Dec.{eqb}
-use lib.IntN.{ℤ, pos, negsuc}
+use Rattle.prelude.specs.Words.{_≡_, refl, ap, sym, _∙_, _↔_, _≢_, _⊎_, inl, inr, ⊎-elim, by-cases, Bool, true, false, not, cond, xor, _&&_, and-false}
+use Rattle.prelude.specs.Words.{true≢false, false≢true, List, List·Memᴰ, ℕ, _+_, _<_, _≤_, arith, ℕ-discrete, eq-eqb, ne-eqb, eqb, ℤ, pos, negsuc}
 use Rattle.integers.specs.Integer.{Z, _≈_, _⊕_, _⊖_, _⊗_, neg, nat}
 use Rattle.integers.specs.Bridge.{toZ, eq-z}
 use Rattle.integers.specs.Sum.{point}

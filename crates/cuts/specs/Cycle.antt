@@ -1,15 +1,8 @@
 -- The loop that an entering lane closes with the tree, by the paths of its two nodes: its slots as bits, those whose lane loses the step and those whose lane
 -- gains it.
-use mathlib.Core.Path.{_≡_, refl, sym, ap, _∙_}
-use mathlib.Core.Logic.{_≢_, by-cases}
-use mathlib.Core.Bool.{Bool, true, false, not, xor, _&&_, _||_, and-true, and-false, or-false}
-use mathlib.Core.List.{List}
-use Prim.Native.Nat.{ℕ, _-_, _/_}
-use native.Mathlib.Decide.{ℕ-discrete}
-use borrow.Author.Tests.{eq-eqb, ne-eqb}
+use Rattle.prelude.specs.Words.{_≡_, refl, sym, ap, _∙_, _≢_, by-cases, Bool, true, false, not, xor, _&&_, _||_, and-true, and-false, or-false, List, ℕ, _-_}
+use Rattle.prelude.specs.Words.{_/_, ℕ-discrete, eq-eqb, ne-eqb, eqb, getD}
 use lib.Bits.{bitAnd, bitOr, bitXor}
-use lib.Dec.{eqb}
-use lib.ListN.{getD}
 use Rattle.transport.specs.Laws.ListLaws.{and-right}
 use Rattle.tree.specs.Layout.{stride}
 use Rattle.tree.specs.Mask.{has, put, has-zero}

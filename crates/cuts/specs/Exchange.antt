@@ -1,14 +1,6 @@
 -- The tree after an exchange of lanes, as masks.
-use mathlib.Core.Path.{_≡_, refl, ap, sym, _∙_}
-use mathlib.Core.Logic.{_≢_}
-use mathlib.Core.Bool.{Bool, true, false, not, xor, _&&_, and-comm, and-false, false≢true}
-use mathlib.Core.List.{List}
-use Prim.Native.Nat.{ℕ, _+_, _-_, _*_, _<_, _≤_}
-use native.Mathlib.Omega.{arith}
-use borrow.Author.Tests.{lt-ltb}
-use lib.Dec.{eqb, ltb}
-use lib.ListN.{length, getD, set, length-set}
-use lib.Seq.{getD-set-same, getD-set-other}
+use Rattle.prelude.specs.Words.{_≡_, refl, ap, sym, _∙_, _≢_, Bool, true, false, not, xor, _&&_, and-comm, and-false, false≢true, List, ℕ, _+_, _-_, _*_, _<_}
+use Rattle.prelude.specs.Words.{_≤_, arith, lt-ltb, eqb, ltb, length, getD, set, length-set, getD-set-same, getD-set-other}
 use Rattle.transport.specs.Laws.ListLaws.{and-right}
 use Rattle.transport.specs.Problem.{Lane}
 use Rattle.transport.specs.Laws.ProblemLaws.{lane}

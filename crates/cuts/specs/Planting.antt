@@ -1,15 +1,7 @@
 -- The first tree: strikes of a basis, read backwards, hang each leaf with its lane on the node at the other end.
-use mathlib.Core.Path.{_≡_, refl, ap, sym, _∙_}
-use mathlib.Core.Logic.{_≢_, _⊎_, inl, inr, ⊎-elim, by-cases}
-use mathlib.Core.Bool.{Bool, true, false, xor, _&&_, _||_, and-false, and-true, false≢true}
-use mathlib.Core.List.{List, List·Memᴰ}
-use Prim.Native.Nat.{ℕ, zero, suc, _+_, _-_, _<_, _≤_}
-use native.Mathlib.Omega.{arith}
-use native.Mathlib.Decide.{ℕ-discrete, decLt}
-use borrow.Author.Tests.{eqb-true, eq-eqb, ne-eqb, lt-ltb, le-ltb}
-use lib.Dec.{eqb, ltb}
-use lib.ListN.{length, getD, set, length-set}
-use lib.Seq.{getD-set-same, getD-set-other}
+use Rattle.prelude.specs.Words.{_≡_, refl, ap, sym, _∙_, _≢_, _⊎_, inl, inr, ⊎-elim, by-cases, Bool, true, false, xor, _&&_, _||_, and-false, and-true}
+use Rattle.prelude.specs.Words.{false≢true, List, List·Memᴰ, ℕ, zero, suc, _+_, _-_, _<_, _≤_, arith, ℕ-discrete, decLt, eqb-true, eq-eqb, ne-eqb, lt-ltb}
+use Rattle.prelude.specs.Words.{le-ltb, eqb, ltb, length, getD, set, length-set, getD-set-same, getD-set-other}
 use Rattle.transport.specs.Laws.ListLaws.{member-at, member-table, table-member}
 use Rattle.transport.specs.Problem.{Lane}
 use Rattle.transport.specs.Leaf.{Strike}

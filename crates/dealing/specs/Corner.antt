@@ -1,15 +1,6 @@
 -- The corner rule step by step: where it stands, what it puts there, where it goes on, and that its numbers stay small.
-use Prim.Native.Nat.{ℕ, zero, suc, _+_, _*_, _-_, _≤_, _<_}
-use native.Mathlib.Omega.{arith}
-use native.Mathlib.Nat.{add-suc, suc-add}
-use mathlib.Core.Path.{_≡_, refl, sym, ap, _∙_}
-use mathlib.Core.Bool.{Bool, true, false, cond}
-use mathlib.Core.List.{List, _∷_}
-use lib.Dec.{eqb}
-use lib.IntN.{pos, negℤ, natAbs}
-use lib.Signed.{_≤ℤ_}
-use lib.ListN.{length, drop, getD, replicate, length-replicate}
-use lib.Seq.{drop-cons}
+use Rattle.prelude.specs.Words.{ℕ, zero, suc, _+_, _*_, _-_, _≤_, _<_, arith, add-suc, suc-add, _≡_, refl, sym, ap, _∙_, Bool, true, false, cond, List, _∷_}
+use Rattle.prelude.specs.Words.{eqb, pos, negℤ, natAbs, _≤ℤ_, length, drop, getD, replicate, length-replicate, drop-cons}
 pub use Rattle.dealing.specs.declared.corner.Corner.{Corner}
 use Rattle.transport.specs.Lists.{atZ}
 use Rattle.transport.specs.Limits.{maxSide, maxAmount, maxCells, maxBags, costBelow, costAbove}

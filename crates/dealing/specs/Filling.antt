@@ -1,10 +1,6 @@
 -- A tableau's array that is filled cell by cell.
-use Prim.Native.Nat.{ℕ, zero, suc, _+_, _-_, _<_}
-use native.Mathlib.Omega.{arith}
-use native.Mathlib.Nat.{zero-sub, sub-zero, suc-sub-suc}
-use mathlib.Core.Path.{_≡_}
-use mathlib.Core.List.{List, _++_}
-use lib.ListN.{length, drop, getD, set, replicate, length-replicate}
+use Rattle.prelude.specs.Words.{ℕ, zero, suc, _+_, _-_, _<_, arith, sub-zero, _≡_, List, _++_, length, drop, getD, set, replicate, length-replicate}
+use native.Mathlib.Nat.{zero-sub, suc-sub-suc}
 use Rattle.transport.specs.Lists.{table, padded}
 use Rattle.transport.specs.Laws.ListLaws.{table-zero, length-table, table-getD, fill-one}
 use Rattle.transport.specs.Limits.{maxCells}

@@ -1,17 +1,7 @@
 -- Lists of prices, as the code reads and writes them: prices of nodes written at their own numbers, and those at 0 priced by the least slack.
-use mathlib.Core.Path.{_≡_, refl, sym, ap, _∙_}
-use mathlib.Core.Logic.{by-cases}
-use mathlib.Core.Bool.{Bool, true, false, cond}
-use mathlib.Core.List.{List, [], _∷_, _++_, map}
-use Prim.Native.Nat.{ℕ, zero, suc, _+_, _*_, _-_, _≤_, _<_}
-use native.Mathlib.Omega.{arith}
-use native.Mathlib.Numerals.{add-one}
-use native.Mathlib.Decide.{decLt, ℕ-discrete}
-use lib.Dec.{ltb}
-use lib.IntN.{ℤ, pos, natAbs, _-ℤ_}
-use lib.Signed.{ltZ}
-use lib.ListN.{length, take, drop, getD, set, length-set}
-use lib.Seq.{getD-set-same, getD-set-other}
+use Rattle.prelude.specs.Words.{_≡_, refl, sym, ap, _∙_, by-cases, Bool, true, false, cond, List, [], _∷_, _++_, map, ℕ, zero, suc, _+_, _*_, _-_, _≤_, _<_}
+use Rattle.prelude.specs.Words.{arith, add-one, decLt, ℕ-discrete, ltb, ℤ, pos, natAbs, _-ℤ_, ltZ, length, take, drop, getD, set, length-set, getD-set-same}
+use Rattle.prelude.specs.Words.{getD-set-other}
 use mir.Syntax.{w64}
 use mir.Val.{toZ, ofZ}
 use Rattle.transport.specs.Limits.{maxSide, maxCost, costAbove}

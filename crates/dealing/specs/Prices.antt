@@ -1,16 +1,7 @@
 -- The prices that a call gives: those of the parties left at their own numbers, then those of struck cafés, then those of struck roasteries.
-use mathlib.Core.Path.{_≡_, refl, sym, ap, _∙_}
-use mathlib.Core.Logic.{by-cases}
-use mathlib.Core.Bool.{Bool, true, false, cond}
-use mathlib.Core.List.{List, [], _∷_, _++_, map}
-use Prim.Native.Nat.{ℕ, _+_, _-_, _≤_, _<_}
-use native.Mathlib.Omega.{arith}
-use native.Mathlib.Decide.{decLt}
-use lib.Dec.{ltb}
-use lib.IntN.{ℤ, pos, natAbs, _-ℤ_}
-use lib.ListN.{length, take, drop, getD, replicate, length-replicate, length-append}
-use lib.Seq.{take-at, getD-at, length-take-le}
-use borrow.Author.Tests.{lt-ltb, le-ltb}
+use Rattle.prelude.specs.Words.{_≡_, refl, sym, ap, _∙_, by-cases, Bool, true, false, cond, List, [], _∷_, _++_, map, ℕ, _+_, _-_, _≤_, _<_, arith, decLt, ltb}
+use Rattle.prelude.specs.Words.{ℤ, pos, natAbs, _-ℤ_, length, take, drop, getD, replicate, length-replicate, length-append, take-at, getD-at, length-take-le}
+use Rattle.prelude.specs.Words.{lt-ltb, le-ltb}
 use Rattle.transport.specs.Limits.{maxSide, maxSources, maxSinks, maxCost}
 use Rattle.transport.specs.Lists.{at, atZ, table, leastOf}
 use Rattle.transport.specs.Problem.{Problem, sources, sinks, laneCost, place}

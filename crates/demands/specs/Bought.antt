@@ -1,13 +1,6 @@
 -- What is bought, from the contract of solve.
-use mathlib.Core.Path.{_≡_, refl, sym, ap, _∙_}
-use mathlib.Core.Logic.{_↔_, _⊎_, inl, inr, by-cases}
-use mathlib.Core.List.{List}
-use Prim.Native.Nat.{ℕ, _*_}
-use native.Mathlib.Omega.{arith}
-use native.Mathlib.Decide.{decLt, ℕ-discrete}
-use lib.IntN.{ℤ}
-use lib.ListN.{length, take, drop}
-use lib.Seq.{take-at, drop-at}
+use Rattle.prelude.specs.Words.{_≡_, refl, sym, ap, _∙_, _↔_, _⊎_, inl, inr, by-cases, List, ℕ, _*_, arith, decLt, ℕ-discrete, ℤ, length, take, drop, take-at}
+use Rattle.prelude.specs.Words.{drop-at}
 use Rattle.transport.specs.declared.SolveAnswer.{SolveAnswer}
 use Rattle.transport.specs.declared.SolveAnswer.the-variants as SolveAnswer
 use Rattle.transport.specs.Lists.{total}

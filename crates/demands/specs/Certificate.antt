@@ -1,12 +1,5 @@
 -- The prices that solve shows prove its plan, to whoever does not trust the panel.
-use mathlib.Core.Path.{_≡_, sym, ap, _∙_}
-use mathlib.Core.Logic.{⊎-elim, by-cases}
-use mathlib.Core.List.{List}
-use Prim.Native.Nat.{ℕ, _+_, _≤_, _<_}
-use native.Mathlib.Omega.{arith}
-use native.Mathlib.Nat.{one-mul}
-use native.Mathlib.Decide.{ℕ-discrete}
-use lib.IntN.{ℤ, pos, _+ℤ_, _*ℤ_}
+use Rattle.prelude.specs.Words.{_≡_, sym, ap, _∙_, ⊎-elim, by-cases, List, ℕ, _+_, _≤_, _<_, arith, one-mul, ℕ-discrete, ℤ, pos, _+ℤ_, _*ℤ_}
 use Rattle.integers.specs.Integer.{_≈_, ≈-dec, _≼_, _⊕_, nat}
 use Rattle.integers.specs.Bridge.{toZ, z-eq, eq-z, z-le, le-z, z-add, z-mul}
 use Rattle.network.specs.Flow.{Tight}

@@ -1,9 +1,6 @@
 -- Demand 3 (02, One and Four): for a sheet within the limits solve gives the best plan, but for the lacking ones, which it refuses by 5, the crowded ones, by
 -- 10, and the idle ones, by 11.
-use mathlib.Core.Path.{_≡_, ap}
-use mathlib.Core.List.{[], _∷_, _++_}
-use Prim.Native.Nat.{ℕ, _*_}
-use lib.ListN.{length}
+use Rattle.prelude.specs.Words.{_≡_, ap, [], _∷_, _++_, ℕ, _*_, length}
 use Rattle.transport.specs.Problem.{Problem}
 use Rattle.transport.specs.Sheet.{Sheet, roasteries, cafes, sheetTests}
 use Rattle.transport.specs.Parties.{problemOf}

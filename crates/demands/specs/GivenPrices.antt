@@ -1,13 +1,7 @@
 -- The prices that are given (02, Four), those of struck parties among them: none passes the bound of prices, and no lane's reduced cost is negative with them
 -- once the tableau is finished.
-use mathlib.Core.Path.{_≡_, refl, sym, ap, _∙_}
-use mathlib.Core.Bool.{Bool, true, false}
-use mathlib.Core.List.{List, map, List·Memᴰ, Memᴰ·cast}
-use Prim.Native.Nat.{ℕ, suc, _+_, _*_, _≤_, _<_}
-use native.Mathlib.Omega.{arith}
-use lib.IntN.{ℤ, pos, natAbs, negℤ, _+ℤ_, _-ℤ_}
-use lib.Signed.{_≤ℤ_}
-use lib.ListN.{length, length-map}
+use Rattle.prelude.specs.Words.{_≡_, refl, sym, ap, _∙_, Bool, true, false, List, map, List·Memᴰ, Memᴰ·cast, ℕ, suc, _+_, _*_, _≤_, _<_, arith, ℤ, pos, natAbs}
+use Rattle.prelude.specs.Words.{negℤ, _+ℤ_, _-ℤ_, _≤ℤ_, length, length-map}
 use Rattle.integers.specs.Integer.{_≈_, _≼_, _⊕_}
 use Rattle.integers.specs.Bridge.{toZ, z-neg, z-add, z-eq, z-le, le-z}
 use Rattle.transport.specs.declared.Cell.{Cell}

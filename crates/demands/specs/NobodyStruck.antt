@@ -1,18 +1,7 @@
 -- Sheets without a 0 give what they gave before Four: nobody is struck, so the problem behind the sheet is the extended one, all have their own numbers, and
 -- the prices are its potentials.
-use mathlib.Core.Path.{_≡_, refl, sym, ap, _∙_}
-use mathlib.Core.Logic.{by-cases}
-use mathlib.Core.Bool.{Bool, true, false, not, _&&_, _||_, and-false, and-true}
-use mathlib.Core.List.{List, [], _∷_, _++_}
-use mathlib.Core.Option.{Option, none, some}
-use Prim.Native.Nat.{ℕ, suc, _+_, _*_, _≤_, _<_}
-use native.Mathlib.Omega.{arith}
-use native.Mathlib.Decide.{decLt}
-use lib.Dec.{eqb, ltb}
-use lib.IntN.{ℤ, pos}
-use lib.ListN.{length, getD}
-use lib.Seq.{ext-getD}
-use borrow.Author.Tests.{le-leb, lt-ltb, le-ltb, not-false}
+use Rattle.prelude.specs.Words.{_≡_, refl, sym, ap, _∙_, by-cases, Bool, true, false, not, _&&_, _||_, and-false, and-true, List, [], _∷_, _++_, Option, none}
+use Rattle.prelude.specs.Words.{some, ℕ, suc, _+_, _*_, _≤_, _<_, arith, decLt, eqb, ltb, ℤ, pos, length, getD, ext-getD, le-leb, lt-ltb, le-ltb, not-false}
 use Rattle.transport.specs.declared.Cell.{Cell}
 use Rattle.transport.specs.declared.Tableau.{Tableau}
 use Rattle.transport.specs.Lists.{all, grid, at, atZ, below, table, within, atMost, total}

@@ -1,11 +1,6 @@
 -- Demand 3, last sentence (02, One and Four): of sheets within the limits, with lists long enough, solve refuses exactly the lacking, the crowded and the idle
 -- ones.
-use mathlib.Core.Path.{_≡_, _∙_}
-use mathlib.Core.Bool.{Bool, false, _||_}
-use mathlib.Core.List.{[], _∷_, _++_}
-use Prim.Native.Nat.{ℕ, _*_}
-use native.Mathlib.Omega.{arith}
-use borrow.Author.Tests.{le-ltb}
+use Rattle.prelude.specs.Words.{_≡_, _∙_, Bool, false, _||_, [], _∷_, _++_, ℕ, _*_, arith, le-ltb}
 use Rattle.transport.specs.Sheet.{Sheet, roasteries, cafes, lacking, crowded, idle, sheetTests, refusal}
 use Rattle.transport.specs.Laws.SheetLaws.{refusal-yes, refusal-no, lacking-yes, lacking-no, crowded-yes, crowded-no, idle-yes, limits-left, accepted-left}
 use Rattle.transport.specs.Calls.{given, refusedBy, tooShort, solution, solveCall}

@@ -3,14 +3,8 @@
 -- lost or taken for another thing. The idea: a test refuses by a number alone, and a text that is no sheet text by 9 with its place, which the answer holds;
 -- and what is given stands in front, a tableau's cells in its array, as many as it counts, prices, plan, sheet and text in their lists, as many as m, n, m ×
 -- n or the length in the answer.
-use mathlib.Core.Path.{_≡_, refl, ap, sym, _∙_}
-use mathlib.Core.Bool.{Bool, true, false}
-use mathlib.Core.Option.{Option, none, some}
-use mathlib.Core.List.{List, _++_}
-use Prim.Native.Nat.{ℕ, _+_, _*_, _≤_, _<_}
-use lib.IntN.{ℤ, pos}
-use lib.ListN.{length, take}
-use lib.Seq.{take-at, take-append-seam}
+use Rattle.prelude.specs.Words.{_≡_, refl, ap, sym, _∙_, Bool, true, false, Option, none, some, List, _++_, ℕ, _+_, _*_, _≤_, _<_, ℤ, pos, length, take}
+use Rattle.prelude.specs.Words.{take-at, take-append-seam}
 use Rattle.transport.specs.declared.Cell.{Cell}
 use Rattle.transport.specs.declared.Tableau.{Tableau}
 use Rattle.transport.specs.Lists.{at, atZ, padded}

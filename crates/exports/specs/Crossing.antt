@@ -1,10 +1,5 @@
 -- The declared answers of start, solve and read sheet, as the exported calls take them apart, cross the border as Border says.
-use mathlib.Core.Path.{_≡_, refl, sym, ap, _∙_}
-use mathlib.Core.List.{List}
-use mathlib.Core.Option.{Option, none, some}
-use Prim.Native.Nat.{ℕ, _-_}
-use lib.IntN.{pos}
-use lib.ListN.{length}
+use Rattle.prelude.specs.Words.{_≡_, refl, sym, ap, _∙_, List, Option, none, some, ℕ, _-_, pos, length}
 use Rattle.transport.specs.declared.Tableau.{Tableau}
 use Rattle.transport.specs.declared.StartOutcome.{StartOutcome}
 use Rattle.transport.specs.declared.StartOutcome.the-variants as StartOutcome

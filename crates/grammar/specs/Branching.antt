@@ -1,13 +1,6 @@
 -- A reader that goes one way after a byte b, and another way on every text that does not begin with b. It is exact where both ways are, and b begins no text of
 -- the other way.
-use mathlib.Core.Path.{_≡_, refl, sym, _∙_, ap}
-use mathlib.Core.Logic.{_⊎_, inl, inr}
-use mathlib.Core.Bool.{Bool, true, false, cond}
-use mathlib.Core.List.{List, [], _∷_, _++_}
-use Prim.Native.Nat.{ℕ}
-use native.Mathlib.Omega.{arith}
-use lib.Dec.{eqb}
-use borrow.Author.Tests.{eqb-true, eq-eqb, ne-eqb}
+use Rattle.prelude.specs.Words.{_≡_, refl, sym, _∙_, ap, _⊎_, inl, inr, Bool, true, false, cond, List, [], _∷_, _++_, ℕ, arith, eqb, eqb-true, eq-eqb, ne-eqb}
 use Rattle.transport.specs.SheetText.{stuck, got, Reader}
 use Rattle.grammar.specs.Exact.{Exact, Taken, Stopped, Any}
 

@@ -1,11 +1,5 @@
 -- Digits and the byte that closes a number. A number alone has no end of its own: its reader is exact with the byte after it.
-use mathlib.Core.Path.{_≡_, refl, sym, _∙_, ap}
-use mathlib.Core.Logic.{_↔_}
-use mathlib.Core.Bool.{Bool, true, false, _&&_, and-eq-true-iff}
-use mathlib.Core.List.{List, [], _∷_, _++_}
-use Prim.Native.Nat.{ℕ, zero, suc, _+_, _*_}
-use native.Mathlib.Omega.{arith}
-use lib.Dec.{eqb}
+use Rattle.prelude.specs.Words.{_≡_, refl, sym, _∙_, ap, _↔_, Bool, true, false, _&&_, and-eq-true-iff, List, [], _∷_, _++_, ℕ, zero, suc, _+_, _*_, arith, eqb}
 use Rattle.transport.specs.Text.{digits}
 use Rattle.transport.specs.SheetText.{Reading, stuck, got, Reader, _>>=_, _>>_, pure, byteThat, word, isDigit, digitValue, moreDigits}
 use Rattle.grammar.specs.Digits.{value-of}

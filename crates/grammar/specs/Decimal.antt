@@ -1,13 +1,7 @@
 -- The digits of a number are its one decimal numeral with no leading 0, of whatever length (paper 01, "Texts"), and a cost may have a minus before it.
-use mathlib.Core.Path.{_≡_, refl, sym, _∙_, ap}
-use mathlib.Core.Logic.{_↔_, _⊎_, inl, inr}
-use mathlib.Core.Bool.{Bool, true}
-use mathlib.Core.List.{List, [], _∷_, head-eq-of-cons-eq}
-use Prim.Native.Nat.{ℕ, zero, suc, _+_, _*_, _^_, _≤_, _<_}
-use native.Mathlib.Omega.{arith}
-use native.Mathlib.Decide.{decLt}
-use lib.IntN.{ℤ, pos, negsuc, negℤ}
-use lib.ListN.{length}
+use Rattle.prelude.specs.Words.{_≡_, refl, sym, _∙_, ap, _↔_, _⊎_, inl, inr, Bool, true, List, [], _∷_, ℕ, zero, suc, _+_, _*_, _^_, _≤_, _<_, arith, decLt, ℤ}
+use Rattle.prelude.specs.Words.{pos, negsuc, negℤ, length}
+use mathlib.Core.List.{head-eq-of-cons-eq}
 use Rattle.transport.specs.Text.{bytes, digits, wholeDigits}
 use Rattle.transport.specs.SheetText.{isDigit, digitValue}
 use Rattle.grammar.specs.Digits.{digits-small, digit-value, digit-of}

@@ -1,14 +1,6 @@
 -- Laws of decimal digits: how they grow, how many there are, and the number that they give back.
-use mathlib.Core.Path.{_≡_, refl, sym, _∙_, ap}
-use mathlib.Core.Logic.{_↔_}
-use mathlib.Core.Bool.{Bool, true, false}
-use mathlib.Core.List.{List, [], _∷_, _++_}
-use Prim.Native.Nat.{ℕ, zero, suc, _+_, _*_, _/_, _%_, _^_, _≤_, _<_}
-use native.Mathlib.Omega.{arith}
-use native.Mathlib.Decide.{decLt}
-use lib.Dec.{ltb, eqb}
-use lib.ListN.{length, length-append}
-use borrow.Author.Tests.{ltb-true, ltb-false}
+use Rattle.prelude.specs.Words.{_≡_, refl, sym, _∙_, ap, _↔_, Bool, true, false, List, [], _∷_, _++_, ℕ, zero, suc, _+_, _*_, _/_, _%_, _^_, _≤_, _<_, arith}
+use Rattle.prelude.specs.Words.{decLt, ltb, eqb, length, length-append, ltb-true, ltb-false}
 use Rattle.transport.specs.Lists.{within}
 use Rattle.transport.specs.Text.{kindOf, digitsUpTo, digits}
 use Rattle.transport.specs.SheetText.{isDigit, digitValue}

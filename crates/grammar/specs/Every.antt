@@ -1,8 +1,5 @@
 -- Lists whose elements are all good.
-use mathlib.Core.Path.{_≡_, refl}
-use mathlib.Core.List.{List, [], _∷_, _++_, List·Memᴰ, List·Memᴰ·head, List·Memᴰ·tail}
-use Prim.Native.Nat.{ℕ, zero, suc}
-use lib.ListN.{length, take, drop}
+use Rattle.prelude.specs.Words.{_≡_, refl, List, [], _∷_, _++_, List·Memᴰ, List·Memᴰ·head, List·Memᴰ·tail, ℕ, zero, suc, length, take, drop}
 
 module _ {A : Type 0} where
   abbrev pub Every : (A → Type 0) → List A → Type 0

@@ -1,9 +1,6 @@
 -- Exact readers: they take the texts of a language and no others, and are stuck at the first byte with which no text of the language goes on.
-use mathlib.Core.Path.{_≡_, refl, sym, _∙_, ap, ap₂, subst, fun-ext}
-use mathlib.Core.Logic.{_↔_}
-use mathlib.Core.List.{List, [], _∷_, _++_, append-assoc}
-use Prim.Native.Nat.{ℕ}
-use native.Mathlib.Omega.{arith}
+use Rattle.prelude.specs.Words.{_≡_, refl, sym, _∙_, ap, subst, fun-ext, _↔_, List, [], _∷_, _++_, append-assoc, ℕ, arith}
+use mathlib.Core.Path.{ap₂}
 use Rattle.transport.specs.SheetText.{Reading, stuck, got, Reader, _>>=_, _>>_}
 
 -- What a reader took: a text of the language, before a rest that may stand after it.

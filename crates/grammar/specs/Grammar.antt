@@ -1,10 +1,5 @@
 -- The sheet's reader is exact: it takes the sheet texts, each as its own sheet, and nothing else.
-use mathlib.Core.Path.{_≡_, refl, sym, _∙_, ap}
-use mathlib.Core.List.{List, [], _++_, append-assoc, append-nil, flatMap, flatten}
-use Prim.Native.Nat.{ℕ}
-use native.Mathlib.Omega.{arith}
-use lib.IntN.{ℤ, pos}
-use lib.ListN.{length}
+use Rattle.prelude.specs.Words.{_≡_, refl, sym, _∙_, ap, List, [], _++_, append-assoc, append-nil, flatMap, flatten, ℕ, arith, ℤ, pos, length}
 use Rattle.transport.specs.Lists.{at, atZ}
 use Rattle.transport.specs.Limits.{maxSources, maxSinks, maxDigits}
 use Rattle.transport.specs.Sheet.{Sheet, roasteries, cafes}

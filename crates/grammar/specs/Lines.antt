@@ -1,11 +1,5 @@
 -- The readers of lines are exact: of one number, of a count, and of a row of costs.
-use mathlib.Core.Path.{_≡_, refl, sym, _∙_, ap}
-use mathlib.Core.Logic.{_↔_}
-use mathlib.Core.Bool.{false}
-use mathlib.Core.List.{List, [], _∷_, _++_, append-nil}
-use Prim.Native.Nat.{ℕ, zero, suc}
-use native.Mathlib.Omega.{arith}
-use lib.ListN.{length}
+use Rattle.prelude.specs.Words.{_≡_, refl, sym, _∙_, ap, _↔_, false, List, [], _∷_, _++_, append-nil, ℕ, zero, suc, arith, length}
 use Rattle.transport.specs.Lists.{within}
 use Rattle.transport.specs.Text.{bytes, kindOf, wholeDigits, numberLine, rowLine}
 use Rattle.transport.specs.Limits.{maxSources, maxSinks}

@@ -1,12 +1,6 @@
 -- The longest sheet text has 9,756 bytes.
-use mathlib.Core.Path.{_≡_, refl}
-use mathlib.Core.List.{List, [], _∷_, flatMap}
-use Prim.Native.Nat.{ℕ, suc, _+_, _*_, _-_, _^_, _≤_, _<_}
-use native.Mathlib.Omega.{arith}
-use native.Mathlib.Nat.{mul-le-mul}
-use lib.IntN.{ℤ, pos, negsuc, negℤ, natAbs}
-use lib.Signed.{leZ-yes}
-use lib.ListN.{length, length-append}
+use Rattle.prelude.specs.Words.{_≡_, refl, List, [], _∷_, flatMap, ℕ, suc, _+_, _*_, _-_, _^_, _≤_, _<_, arith, mul-le-mul, ℤ, pos, negsuc, negℤ, natAbs}
+use Rattle.prelude.specs.Words.{leZ-yes, length, length-append}
 use Rattle.transport.specs.Lists.{at, atZ}
 use Rattle.transport.specs.Limits.{maxSources, maxSinks, maxSide, maxDigits, maxText, maxAmount, maxCost}
 use Rattle.transport.specs.Sheet.{Sheet, roasteries, cafes}

@@ -1,11 +1,6 @@
 -- The readers of numbers without a minus are exact with the byte after the number.
-use mathlib.Core.Path.{_≡_, refl, _∙_}
-use mathlib.Core.Bool.{Bool, true, false, _&&_, cond, and-eq-true-iff}
-use mathlib.Core.List.{List, [], _∷_}
-use Prim.Native.Nat.{ℕ, zero, suc, _+_, _*_, _-_, _/_, _≤_, _<_}
-use native.Mathlib.Omega.{arith}
-use lib.Dec.{eqb, leb}
-use borrow.Author.Tests.{eqb-false, ne-eqb, leb-true, le-leb}
+use Rattle.prelude.specs.Words.{_≡_, refl, _∙_, Bool, true, false, _&&_, cond, and-eq-true-iff, List, [], _∷_, ℕ, zero, suc, _+_, _*_, _-_, _/_, _≤_, _<_}
+use Rattle.prelude.specs.Words.{arith, eqb, leb, eqb-false, ne-eqb, leb-true, le-leb}
 use Rattle.transport.specs.Lists.{within}
 use Rattle.transport.specs.Limits.{maxDigits}
 use Rattle.transport.specs.Text.{kindOf, digits}

@@ -1,11 +1,5 @@
 -- The numbers of a sheet text: those of at most seven digits, and the counts of a side.
-use mathlib.Core.Path.{_≡_}
-use mathlib.Core.Logic.{_↔_}
-use mathlib.Core.Bool.{true}
-use mathlib.Core.List.{List, [], _∷_}
-use Prim.Native.Nat.{ℕ, zero, suc, _^_, _≤_, _<_}
-use lib.IntN.{ℤ, natAbs}
-use lib.ListN.{getD}
+use Rattle.prelude.specs.Words.{_≡_, _↔_, true, List, [], _∷_, ℕ, zero, suc, _^_, _≤_, _<_, ℤ, natAbs, getD}
 use Rattle.transport.specs.Lists.{within}
 use Rattle.transport.specs.Laws.SheetLaws.{within-true, true-within}
 use Rattle.transport.specs.Limits.{maxDigits}

@@ -1,11 +1,6 @@
 -- Numbers as their digits are read, from the front.
-use mathlib.Core.Path.{_≡_, refl, _∙_}
-use mathlib.Core.Bool.{Bool, true}
-use mathlib.Core.List.{List, [], _∷_, _++_, append-assoc, append-nil}
-use Prim.Native.Nat.{ℕ, zero, suc, _+_, _*_, _/_, _%_, _^_, _≤_, _<_}
-use native.Mathlib.Omega.{arith}
-use native.Mathlib.Decide.{decLt}
-use lib.ListN.{length}
+use Rattle.prelude.specs.Words.{_≡_, refl, _∙_, Bool, true, List, [], _∷_, _++_, append-assoc, append-nil, ℕ, zero, suc, _+_, _*_, _/_, _%_, _^_, _≤_, _<_}
+use Rattle.prelude.specs.Words.{arith, decLt, length}
 use Rattle.transport.specs.Text.{digits}
 use Rattle.transport.specs.SheetText.{isDigit, digitValue}
 use Rattle.grammar.specs.Digits.{digits-small, digits-large, digits-push, digit-value, digit-of, value-of}

@@ -1,13 +1,8 @@
 -- What the sheet's reader takes, and where it is stuck.
-use mathlib.Core.Path.{_≡_, refl, sym, _∙_, ap}
-use mathlib.Core.Logic.{_↔_}
-use mathlib.Core.List.{List, [], _∷_, _++_, append-assoc, append-nil}
-use Prim.Native.Nat.{ℕ, suc, _+_, _-_, _≤_, _<_}
-use native.Mathlib.Omega.{arith}
+use Rattle.prelude.specs.Words.{_≡_, refl, sym, _∙_, ap, _↔_, List, [], _∷_, _++_, append-assoc, append-nil, ℕ, suc, _+_, _-_, _≤_, _<_, arith, decLe, length}
+use Rattle.prelude.specs.Words.{take, drop, length-append, take-append-drop, take-at}
 use native.Mathlib.Nat.{le-antisymm}
-use native.Mathlib.Decide.{decLe}
-use lib.ListN.{length, take, drop, length-append, take-append-drop}
-use lib.Seq.{take-at, take-take, take-append-add}
+use lib.Seq.{take-take, take-append-add}
 use Rattle.transport.specs.Limits.{maxText}
 use Rattle.transport.specs.Sheet.{Sheet}
 use Rattle.transport.specs.SheetText.{stuck, got, sheetText, sheetReader}

@@ -1,13 +1,7 @@
 -- The readers that the sheet's reader is made of are exact.
-use mathlib.Core.Path.{_≡_, refl, sym, _∙_, ap}
-use mathlib.Core.Logic.{_↔_}
-use mathlib.Core.Bool.{Bool, true, false}
-use mathlib.Core.List.{List, [], _∷_, append-nil, cons≢nil, nil≢cons, flatMap}
-use Prim.Native.Nat.{ℕ, zero, suc}
-use native.Mathlib.Omega.{arith}
-use lib.Dec.{eqb}
-use lib.ListN.{length}
-use borrow.Author.Tests.{eqb-true, eq-eqb}
+use Rattle.prelude.specs.Words.{_≡_, refl, sym, _∙_, ap, _↔_, Bool, true, false, List, [], _∷_, append-nil, flatMap, ℕ, zero, suc, arith, eqb, length, eqb-true}
+use Rattle.prelude.specs.Words.{eq-eqb}
+use mathlib.Core.List.{cons≢nil, nil≢cons}
 use Rattle.transport.specs.SheetText.{Reading, stuck, got, Reader, _>>_, pure, byteThat, word, end, times}
 use Rattle.grammar.specs.Every.{Count}
 use Rattle.grammar.specs.Exact.{Exact, Taken, Stopped, Any, AtEnd, Then, glued, stuck≢got, bind, then, reworded}

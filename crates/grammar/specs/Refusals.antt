@@ -1,13 +1,5 @@
 -- Accepted sheets and sheets that have a text.
-use mathlib.Core.Path.{_≡_, _∙_}
-use mathlib.Core.Logic.{_↔_}
-use mathlib.Core.Bool.{false}
-use mathlib.Core.List.{_∷_}
-use mathlib.Core.Option.{none}
-use Prim.Native.Nat.{_*_}
-use native.Mathlib.Omega.{arith}
-use lib.ListN.{length}
-use borrow.Author.Tests.{eq-eqb}
+use Rattle.prelude.specs.Words.{_≡_, _∙_, _↔_, false, _∷_, none, _*_, arith, length, eq-eqb}
 use Rattle.transport.specs.Limits.{maxSources, maxSinks, maxDigits, maxAmount, maxCost}
 use Rattle.transport.specs.Sheet.{Sheet, roasteries, cafes, badSides, badLength, numberTests, sheetTests, refusal}
 use Rattle.transport.specs.Laws.RangeLaws.{abs-between}

@@ -1,10 +1,6 @@
 -- A list cut into rows, and rows laid end to end.
-use mathlib.Core.Path.{_≡_, refl, _∙_, ap}
-use mathlib.Core.List.{List, [], _∷_, flatten}
-use Prim.Native.Nat.{ℕ, zero, suc, _*_}
-use native.Mathlib.Omega.{arith}
-use lib.ListN.{length, drop, length-append, length-drop, take-append-drop}
-use lib.Seq.{length-take-le, take-at, drop-at}
+use Rattle.prelude.specs.Words.{_≡_, refl, _∙_, ap, List, [], _∷_, flatten, ℕ, zero, suc, _*_, arith, length, drop, length-append, length-drop}
+use Rattle.prelude.specs.Words.{take-append-drop, length-take-le, take-at, drop-at}
 use Rattle.transport.specs.SheetText.{rowsOf}
 use Rattle.grammar.specs.Every.{Every, Count, every-append, every-take, every-drop}
 

@@ -1,15 +1,6 @@
 -- Read sheet and write sheet: when they succeed, that they undo each other, and what refusal 9 says.
-use mathlib.Core.Path.{_≡_, refl, sym, _∙_, ap}
-use mathlib.Core.Logic.{_↔_}
-use mathlib.Core.Bool.{Bool, false, _||_}
-use mathlib.Core.List.{List, []}
-use mathlib.Core.Option.{none, some}
-use Prim.Native.Nat.{ℕ, suc, _*_, _-_, _≤_}
-use native.Mathlib.Omega.{arith}
-use native.Mathlib.Nat.{mul-le-mul}
-use native.Mathlib.Decide.{decLe}
-use lib.ListN.{length, take}
-use lib.Seq.{take-all}
+use Rattle.prelude.specs.Words.{_≡_, refl, sym, _∙_, ap, _↔_, Bool, false, _||_, List, [], none, some, ℕ, suc, _*_, _-_, _≤_, arith, mul-le-mul, decLe, length}
+use Rattle.prelude.specs.Words.{take, take-all}
 use Rattle.transport.specs.Limits.{maxSources, maxSinks, maxText}
 use Rattle.transport.specs.Sheet.{Sheet, roasteries, cafes, refusal, sheetTests, numberTests}
 use Rattle.transport.specs.Calls.{Refusal, refused, given, unless, tooShort}

@@ -1,13 +1,6 @@
 -- The reader of a cost is exact with the byte after it (paper 02, Two): after a minus it goes on as a number from 1, and without one as any number.
-use mathlib.Core.Path.{_≡_, refl, sym, _∙_, ap, fun-ext}
-use mathlib.Core.Logic.{_⊎_, inl, inr}
-use mathlib.Core.Bool.{Bool, true, false, cond, true≢false}
-use mathlib.Core.List.{List, [], _∷_, _++_, append-nil}
-use Prim.Native.Nat.{ℕ, zero, suc}
-use native.Mathlib.Omega.{arith}
-use lib.Dec.{eqb}
-use lib.IntN.{ℤ, pos, negsuc}
-use lib.ListN.{length, length-append}
+use Rattle.prelude.specs.Words.{_≡_, refl, sym, _∙_, ap, fun-ext, _⊎_, inl, inr, Bool, true, false, cond, true≢false, List, [], _∷_, _++_, append-nil, ℕ, zero}
+use Rattle.prelude.specs.Words.{suc, arith, eqb, ℤ, pos, negsuc, length, length-append}
 use Rattle.transport.specs.Text.{bytes, digits, wholeDigits, kindOf}
 use Rattle.transport.specs.Lists.{within}
 use Rattle.transport.specs.SheetText.{Reader, _>>=_, pure, isDigit, numberFrom, minus, signed, whole}

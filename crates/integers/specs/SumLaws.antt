@@ -1,10 +1,5 @@
 -- The laws of finite sums. A function argument is to be written out by the caller: `sum-add n (λ i. ..) (λ i. ..)`.
-use mathlib.Core.Path.{_≡_, refl}
-use mathlib.Core.Logic.{_≢_, by-cases, if-pos, if-neg}
-use Prim.Native.Nat.{ℕ, zero, suc, _+_, _*_, _<_}
-use native.Mathlib.Omega.{arith}
-use native.Mathlib.Nat.{zero-mul, suc-mul, add-zero, add-suc}
-use native.Mathlib.Decide.{ℕ-discrete}
+use Rattle.prelude.specs.Words.{_≡_, refl, _≢_, by-cases, if-pos, if-neg, ℕ, zero, suc, _+_, _*_, _<_, arith, zero-mul, suc-mul, add-zero, add-suc, ℕ-discrete}
 use Rattle.integers.specs.Integer.{Z, _≈_, _≼_, _≺_, ≼-dec, _⊕_, _⊖_, _⊗_, neg, nat}
 use Rattle.integers.specs.IntegerLaws.{⊗-cong}
 use Rattle.integers.specs.Sum.{sum, sum₂, sumN, point}

@@ -1,12 +1,5 @@
 -- The front of a call that takes a tableau: what its tests refuse, and what rounds begin with if they refuse nothing.
-use mathlib.Core.Path.{_≡_, sym, _∙_}
-use mathlib.Core.Bool.{true, false, not}
-use mathlib.Core.List.{List, [], _∷_}
-use mathlib.Core.Option.{none, some}
-use Prim.Native.Nat.{ℕ}
-use lib.Dec.{eqb}
-use lib.IntN.{ℤ}
-use lib.ListN.{length, take}
+use Rattle.prelude.specs.Words.{_≡_, sym, _∙_, true, false, not, List, [], _∷_, none, some, ℕ, eqb, ℤ, length, take}
 use Rattle.transport.specs.Problem.{sources, sinks}
 use Rattle.transport.specs.Sheet.{Sheet, cafes, sheetTests, refusal}
 use Rattle.transport.specs.Extended.{extended}

@@ -1,10 +1,6 @@
 -- Bases: m + n − 1 cells that join all rows and columns. Each cell alone crosses some cut; so flows on a basis are determined by their margins.
-use mathlib.Core.Path.{_≡_, refl, ap, sym, _∙_}
-use mathlib.Core.Logic.{_≢_, _⊎_, inl, inr, ⊎-elim, by-cases, ite, if-pos, if-neg}
-use mathlib.Core.Bool.{Bool, true, false, false≢true}
-use Prim.Native.Nat.{ℕ, zero, suc, _+_, _-_, _<_}
-use native.Mathlib.Omega.{arith}
-use native.Mathlib.Decide.{ℕ-discrete, decLt}
+use Rattle.prelude.specs.Words.{_≡_, refl, ap, sym, _∙_, _≢_, _⊎_, inl, inr, ⊎-elim, by-cases, ite, if-pos, if-neg, Bool, true, false, false≢true, ℕ, zero, suc}
+use Rattle.prelude.specs.Words.{_+_, _-_, _<_, arith, ℕ-discrete, decLt}
 use Rattle.integers.specs.Integer.{Z, _≈_, ≈-dec, _⊖_, _⊗_, neg, nat, Within}
 use Rattle.integers.specs.Sum.{point}
 use Rattle.integers.specs.SumLaws.{sum-point}

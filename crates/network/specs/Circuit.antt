@@ -1,9 +1,5 @@
 -- Circuits of lanes: bags are taken from lane (r k, c k) and put on lane (r (k + 1), c k), for k below L, back to the first row.
-use mathlib.Core.Path.{_≡_, sym, _∙_}
-use mathlib.Core.Logic.{_≢_, _⊎_, inl, inr, ⊎-elim, by-cases, Dec·and}
-use Prim.Native.Nat.{ℕ, zero, suc, _<_}
-use native.Mathlib.Omega.{arith}
-use native.Mathlib.Decide.{ℕ-discrete}
+use Rattle.prelude.specs.Words.{_≡_, sym, _∙_, _≢_, _⊎_, inl, inr, ⊎-elim, by-cases, Dec·and, ℕ, zero, suc, _<_, arith, ℕ-discrete}
 use Rattle.integers.specs.Integer.{Z, _≈_, _≼_, ≈-dec, _⊕_, _⊖_, _⊗_, neg, nat}
 use Rattle.integers.specs.IntegerLaws.{⊗-cong}
 use Rattle.integers.specs.Sum.{sum, point}

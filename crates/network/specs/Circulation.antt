@@ -1,12 +1,7 @@
 -- Many lanes carry a circulation: on m + n lanes or more, among m rows and n columns, some amounts, not all of them 0, add up to 0 in each row and column.
 -- For a lane is a vector with a coordinate for each row and each column, and more vectors than coordinates are not independent.
-use mathlib.Core.Path.{_≡_, refl, sym, ap, _∙_}
-use mathlib.Core.Logic.{_≢_, _⊎_, inl, inr, ⊎-elim, by-cases, ite, if-pos, if-neg}
-use mathlib.Core.Bool.{Bool, true, false, true≢false}
-use Prim.Native.Nat.{ℕ, zero, suc, _+_, _*_, _-_, _≤_, _<_}
-use native.Mathlib.Omega.{arith}
-use native.Mathlib.Decide.{ℕ-discrete, decLt}
-use lib.ListN.{getD}
+use Rattle.prelude.specs.Words.{_≡_, refl, sym, ap, _∙_, _≢_, _⊎_, inl, inr, ⊎-elim, by-cases, ite, if-pos, if-neg, Bool, true, false, true≢false, ℕ, zero, suc}
+use Rattle.prelude.specs.Words.{_+_, _*_, _-_, _≤_, _<_, arith, ℕ-discrete, decLt, getD}
 use Rattle.integers.specs.Integer.{Z, _≈_, ≈-dec, _⊖_, _⊗_, nat}
 use Rattle.integers.specs.IntegerLaws.{⊗-cong, ⊗-zero}
 use Rattle.integers.specs.Sum.{sum, point}

@@ -1,9 +1,5 @@
 -- Numbers below a bound: one of them is so, or all are otherwise; and how many different ones there are.
-use mathlib.Core.Path.{_≡_, sym, _∙_}
-use mathlib.Core.Logic.{_≢_, _⊎_, inl, inr, ⊎-elim, by-cases, ite, if-pos, if-neg}
-use Prim.Native.Nat.{ℕ, zero, suc, _≤_, _<_}
-use native.Mathlib.Omega.{arith}
-use native.Mathlib.Decide.{ℕ-discrete}
+use Rattle.prelude.specs.Words.{_≡_, sym, _∙_, _≢_, _⊎_, inl, inr, ⊎-elim, by-cases, ite, if-pos, if-neg, ℕ, zero, suc, _≤_, _<_, arith, ℕ-discrete}
 
 -- below n one has Q, or each has R
 pub some-or-all : (n : ℕ) (Q R : ℕ → Type 0) → ((k : ℕ) → k < n → Q k ⊎ R k) → ((k : ℕ) × (k < n) × Q k) ⊎ ((k : ℕ) → k < n → R k)

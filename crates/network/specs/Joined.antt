@@ -1,11 +1,7 @@
 -- Cells that join all rows and columns, said by cuts instead of paths; the exchange of one cell.
-use mathlib.Core.Path.{_≡_, refl, ap, sym, _∙_}
-use mathlib.Core.Logic.{_⊎_, inl, inr, ⊎-elim, by-cases, Dec·and}
-use mathlib.Core.Bool.{Bool, true, false, cond, Bool-discrete, decide, decide-iff}
+use Rattle.prelude.specs.Words.{_≡_, refl, ap, sym, _∙_, _⊎_, inl, inr, ⊎-elim, by-cases, Dec·and, Bool, true, false, cond, Bool-discrete, decide, decide-iff}
+use Rattle.prelude.specs.Words.{ℕ, _<_, arith, ℕ-discrete}
 use mathlib.Mathlib.Data.Bool.Basic.{decide-congr}
-use Prim.Native.Nat.{ℕ, _<_}
-use native.Mathlib.Omega.{arith}
-use native.Mathlib.Decide.{ℕ-discrete}
 use Rattle.integers.specs.Integer.{Z, _≈_, ≈-dec, _⊕_, _⊖_, _⊗_, neg, nat}
 use Rattle.integers.specs.IntegerLaws.{⊗-cong}
 use Rattle.integers.specs.Sum.{sum}

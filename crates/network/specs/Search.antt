@@ -1,10 +1,6 @@
 -- The search for bags to bring onto lane (p, q): the rows that it reaches as a tree, the circuit from one of them back to the lane, and its end.
-use mathlib.Core.Path.{_≡_, refl, ap, sym, _∙_}
-use mathlib.Core.Logic.{_↔_, _≢_, _⊎_, inl, inr, ⊎-elim, by-cases}
-use mathlib.Core.Bool.{Bool, true, Bool-discrete}
-use Prim.Native.Nat.{ℕ, zero, suc, _≤_, _<_}
-use native.Mathlib.Omega.{arith}
-use native.Mathlib.Decide.{ℕ-discrete, decLt}
+use Rattle.prelude.specs.Words.{_≡_, refl, ap, sym, _∙_, _↔_, _≢_, _⊎_, inl, inr, ⊎-elim, by-cases, Bool, true, Bool-discrete, ℕ, zero, suc, _≤_, _<_, arith}
+use Rattle.prelude.specs.Words.{ℕ-discrete, decLt}
 use Rattle.integers.specs.Integer.{Z, _≈_, _≼_, _≺_, nat}
 use Rattle.network.specs.Finite.{Once}
 use Rattle.network.specs.Circuit.{Circuit}

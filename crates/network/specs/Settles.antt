@@ -1,10 +1,6 @@
 -- Settling on bags comes to its end: every plan on P leads to one whose lanes are all decided.
-use mathlib.Core.Path.{_≡_, refl, ap, sym, _∙_}
-use mathlib.Core.Logic.{_≢_, _⊎_, inl, inr, ⊎-elim, by-cases, Dec·and, ite, if-pos, if-neg}
-use mathlib.Core.Bool.{Bool, true, false, cond, decide, decide-iff, Bool-discrete, false≢true}
-use Prim.Native.Nat.{ℕ, zero, suc, _+_, _*_, _≤_, _<_}
-use native.Mathlib.Omega.{arith}
-use native.Mathlib.Decide.{ℕ-discrete, decLt}
+use Rattle.prelude.specs.Words.{_≡_, refl, ap, sym, _∙_, _≢_, _⊎_, inl, inr, ⊎-elim, by-cases, Dec·and, ite, if-pos, if-neg, Bool, true, false, cond, decide}
+use Rattle.prelude.specs.Words.{decide-iff, Bool-discrete, false≢true, ℕ, zero, suc, _+_, _*_, _≤_, _<_, arith, ℕ-discrete, decLt}
 use Rattle.integers.specs.Integer.{Z, _≈_, _≼_, _≺_, ≈-dec, ≼-dec, _⊕_, nat}
 use Rattle.integers.specs.SumLaws.{sum-each}
 use Rattle.transport.specs.Problem.{place}

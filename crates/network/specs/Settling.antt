@@ -1,12 +1,7 @@
 -- Settling on bags: a lane is decided when no more bags can be brought onto it from later lanes, and where all lanes are decided the plan carries more on the
 -- first lane where it differs from any other. Lane (i, j) has the number i * n + j.
-use mathlib.Core.Path.{_≡_, refl, ap}
-use mathlib.Core.Logic.{_↔_, _≢_, inl, inr, ⊎-elim, by-cases}
-use mathlib.Core.Bool.{Bool, true, false, cond, Bool-discrete}
-use Prim.Native.Nat.{ℕ, zero, suc, _+_, _*_, _-_, _≤_, _<_}
-use native.Mathlib.Omega.{arith}
-use native.Mathlib.Decide.{ℕ-discrete, decLt}
-use native.Mathlib.Nat.{mul-le-mul-right}
+use Rattle.prelude.specs.Words.{_≡_, refl, ap, _↔_, _≢_, inl, inr, ⊎-elim, by-cases, Bool, true, false, cond, Bool-discrete, ℕ, zero, suc, _+_, _*_, _-_, _≤_}
+use Rattle.prelude.specs.Words.{_<_, arith, ℕ-discrete, decLt, mul-le-mul-right}
 use Rattle.integers.specs.Integer.{Z, _≈_, _≼_, _≺_, ≈-dec, ≼-dec, _⊕_, _⊖_, _⊗_, nat}
 use Rattle.integers.specs.IntegerLaws.{⊗-cong}
 use Rattle.integers.specs.Sum.{sum, point}

@@ -1,13 +1,6 @@
 -- A tableau that a caller hands over belongs to the sheet exactly if, under the numbers of those left, it belongs to the problem of these: a cell at a struck
 -- party, or off the sheet, has a number that is off that problem's sheet.
-use mathlib.Core.Path.{_≡_, refl, sym, ap, _∙_}
-use mathlib.Core.Bool.{Bool, true, false, _&&_}
-use mathlib.Core.List.{List, [], _∷_, map}
-use Prim.Native.Nat.{ℕ, _≤_}
-use native.Mathlib.Omega.{arith}
-use lib.Dec.{eqb, ltb}
-use lib.ListN.{length}
-use borrow.Author.Tests.{lt-ltb, le-ltb}
+use Rattle.prelude.specs.Words.{_≡_, refl, sym, ap, _∙_, Bool, true, false, _&&_, List, [], _∷_, map, ℕ, _≤_, arith, eqb, ltb, length, lt-ltb, le-ltb}
 use Rattle.transport.specs.Limits.{maxSide, maxCells}
 use Rattle.transport.specs.Lists.{all, at}
 use Rattle.transport.specs.Problem.{Problem, sources, sinks}

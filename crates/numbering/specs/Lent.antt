@@ -1,9 +1,5 @@
 -- The own numbers of a sheet's parties left, as a call lends them: in their order, and those that a tableau of these gets.
-use mathlib.Core.Path.{_≡_}
-use mathlib.Core.List.{List, map}
-use Prim.Native.Nat.{ℕ, _≤_}
-use native.Mathlib.Omega.{arith}
-use lib.ListN.{length, take}
+use Rattle.prelude.specs.Words.{_≡_, List, map, ℕ, _≤_, arith, length, take}
 use Rattle.transport.specs.Limits.{maxSide}
 use Rattle.transport.specs.Sheet.{Sheet, roasteries}
 use Rattle.transport.specs.Extended.{extended}

@@ -1,17 +1,9 @@
 -- The numbers of those left among themselves, their own numbers, and cells under the one and under the other.
-use mathlib.Core.Path.{_≡_, refl, sym, ap, _∙_}
-use mathlib.Core.Logic.{by-cases}
-use mathlib.Core.Bool.{true, false, cond}
-use mathlib.Core.List.{List, [], _∷_, _++_, map, append-nil}
-use Prim.Native.Nat.{ℕ, zero, suc, _+_, _-_, _≤_, _<_}
-use native.Mathlib.Omega.{arith}
-use native.Mathlib.Decide.{decLt, ℕ-discrete}
-use native.Mathlib.Numerals.{add-one}
-use lib.Dec.{eqb, ltb}
-use lib.ListN.{length, take, drop, getD, set, replicate, length-set, length-map, length-append, length-replicate, List·getD-append}
-use lib.ListN.{take-append-drop, drop-of-length-le}
-use lib.Seq.{getD-drop, drop-append-seam, getD-set-same, getD-set-other, take-at, take-all, length-take-le}
-use borrow.Author.Tests.{eq-eqb, ne-eqb, lt-ltb, le-ltb}
+use Rattle.prelude.specs.Words.{_≡_, refl, sym, ap, _∙_, by-cases, true, false, cond, List, [], _∷_, _++_, map, append-nil, ℕ, zero, suc, _+_, _-_, _≤_, _<_}
+use Rattle.prelude.specs.Words.{arith, decLt, ℕ-discrete, add-one, eqb, ltb, length, take, drop, getD, set, replicate, length-set, length-map, length-append}
+use Rattle.prelude.specs.Words.{length-replicate, List·getD-append, take-append-drop, drop-of-length-le, getD-drop, getD-set-same, getD-set-other, take-at}
+use Rattle.prelude.specs.Words.{take-all, length-take-le, eq-eqb, ne-eqb, lt-ltb, le-ltb}
+use lib.Seq.{drop-append-seam}
 use Rattle.transport.specs.Limits.{maxSide, maxCells}
 use Rattle.transport.specs.Lists.{at, table, padded}
 use Rattle.transport.specs.Parties.{left}

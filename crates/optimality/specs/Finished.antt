@@ -1,11 +1,5 @@
 -- A finished tableau: its bags are a plan of least cost, and the plans of least cost are exactly those on its tight lanes.
-use mathlib.Core.Path.{_≡_}
-use mathlib.Core.Logic.{_↔_}
-use mathlib.Core.Bool.{true}
-use mathlib.Core.List.{List}
-use Prim.Native.Nat.{ℕ}
-use lib.IntN.{pos, _*ℤ_}
-use lib.Signed.{_≤ℤ_}
+use Rattle.prelude.specs.Words.{_≡_, _↔_, true, List, ℕ, pos, _*ℤ_, _≤ℤ_}
 use Rattle.transport.specs.Problem.{Problem}
 use Rattle.transport.specs.Laws.Sound.{Sound}
 use Rattle.transport.specs.Potential.{isFinished}

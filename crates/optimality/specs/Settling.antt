@@ -1,13 +1,6 @@
 -- Settling over problems: a plan on the tight lanes of feasible potentials, all of whose lanes are decided, is the optimal plan that carries more on the first
 -- lane where it differs from any other; and from every finished tableau there is one.
-use mathlib.Core.Path.{_≡_, refl, ap, _∙_}
-use mathlib.Core.Logic.{_↔_}
-use mathlib.Core.Bool.{Bool, true}
-use mathlib.Core.List.{List, map}
-use Prim.Native.Nat.{ℕ, suc, _+_, _*_, _-_, _<_}
-use native.Mathlib.Omega.{arith}
-use lib.IntN.{pos, _*ℤ_}
-use lib.ListN.{length, length-map}
+use Rattle.prelude.specs.Words.{_≡_, refl, ap, _∙_, _↔_, Bool, true, List, map, ℕ, suc, _+_, _*_, _-_, _<_, arith, pos, _*ℤ_, length, length-map}
 use Rattle.integers.specs.Integer.{Z, _≈_, ≈-dec, _⊕_, _⊗_, nat}
 use Rattle.integers.specs.IntegerLaws.{⊗-cong}
 use Rattle.integers.specs.Bridge.{toZ, z-mul, z-eq, eq-z, le-z}

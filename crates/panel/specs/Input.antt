@@ -1,10 +1,5 @@
 -- What the program knows of its input: that what was read lies in the buffer. What was read, no contract can say.
-use mathlib.Core.Path.{_≡_, refl}
-use mathlib.Core.Bool.{false, true≢false}
-use Prim.Native.Nat.{ℕ, zero, suc, _≤_, _<_, _^_}
-use native.Mathlib.Omega.{arith}
-use lib.IntN.{ℤ, pos, negsuc, natAbs}
-use lib.Signed.{ltZ, mag}
+use Rattle.prelude.specs.Words.{_≡_, refl, false, true≢false, ℕ, zero, suc, _≤_, _<_, _^_, arith, ℤ, pos, negsuc, natAbs, ltZ, mag}
 use mir.Syntax.{w64}
 use mir.Val.{toZ, ofZ}
 use Rattle.transport.specs.Laws.RangeLaws.{back}

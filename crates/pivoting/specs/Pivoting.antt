@@ -1,17 +1,8 @@
 -- A pivot on the arrays that hold a tableau: its amounts by lane, and its tree. What the loop's slots, the slot with the least pair and the amounts after the
 -- step are, in the terms of the specification; and that the arrays then hold the next tableau, with its tree.
-use mathlib.Core.Path.{_≡_, refl, sym, ap, _∙_}
-use mathlib.Core.Logic.{_≢_, _⊎_, inl, inr, ⊎-elim, by-cases, Dec·and}
-use mathlib.Core.Bool.{Bool, true, false, not, cond, xor, _&&_, true≢false, false≢true}
-use mathlib.Core.List.{List, List·Memᴰ}
-use Prim.Native.Nat.{ℕ, zero, suc, _+_, _-_, _*_, _/_, _%_, _<_, _≤_}
-use native.Mathlib.Omega.{arith}
-use native.Mathlib.Decide.{ℕ-discrete, decLt}
-use borrow.Author.Tests.{lt-ltb, le-ltb}
-use lib.IntN.{ℤ, pos, negsuc, natAbs, negℤ, _+ℤ_, _-ℤ_, +ℤ-idl}
-use lib.Signed.{ltZ}
-use lib.ListN.{length, getD, set, length-set}
-use lib.Seq.{getD-set-same, getD-set-other}
+use Rattle.prelude.specs.Words.{_≡_, refl, sym, ap, _∙_, _≢_, _⊎_, inl, inr, ⊎-elim, by-cases, Dec·and, Bool, true, false, not, cond, xor, _&&_, true≢false}
+use Rattle.prelude.specs.Words.{false≢true, List, List·Memᴰ, ℕ, zero, suc, _+_, _-_, _*_, _/_, _%_, _<_, _≤_, arith, ℕ-discrete, decLt, lt-ltb, le-ltb, ℤ, pos}
+use Rattle.prelude.specs.Words.{negsuc, natAbs, negℤ, _+ℤ_, _-ℤ_, +ℤ-idl, ltZ, length, getD, set, length-set, getD-set-same, getD-set-other}
 use Rattle.integers.specs.Integer.{Z, _≈_, _⊕_, _⊖_, neg, nat, Within}
 use Rattle.integers.specs.Bridge.{toZ, eq-z, z-add, z-neg}
 use Rattle.transport.specs.Limits.{maxSide, maxAmount, maxBags}

@@ -1,16 +1,6 @@
 -- The lanes that carry a bag: what the code writes and counts, place by place, is what the lanes' section of the plan text shows.
-use mathlib.Core.Path.{_≡_, refl, sym, ap, _∙_}
-use mathlib.Core.Logic.{by-cases}
-use mathlib.Core.Bool.{Bool, not, cond}
-use mathlib.Core.List.{List, [], _∷_, _++_, flatMap, append-nil}
-use Prim.Native.Nat.{ℕ, zero, suc, _+_, _*_, _/_, _%_, _≤_, _<_}
-use native.Mathlib.Omega.{arith}
-use native.Mathlib.Numerals.{add-one}
-use native.Mathlib.Decide.{decLe}
-use native.Mathlib.Nat.{div-add-mod', mod-lt, div-lt-iff-lt-mul}
-use lib.Dec.{eqb}
-use lib.ListN.{length, getD, length-append}
-use borrow.Author.Tests.{ne-eqb}
+use Rattle.prelude.specs.Words.{_≡_, refl, sym, ap, _∙_, by-cases, Bool, not, cond, List, [], _∷_, _++_, flatMap, append-nil, ℕ, zero, suc, _+_, _*_, _/_, _%_}
+use Rattle.prelude.specs.Words.{_≤_, _<_, arith, add-one, decLe, div-add-mod', mod-lt, div-lt-iff-lt-mul, eqb, length, getD, length-append, ne-eqb}
 use Rattle.transport.specs.Lists.{at, keep, table}
 use Rattle.transport.specs.Laws.ListLaws.{table-cong, table-getD, flatMap-append, keep-append, keep-yes, keep-no}
 use Rattle.transport.specs.Problem.{Lane, lanes, place}

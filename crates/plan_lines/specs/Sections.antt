@@ -1,11 +1,6 @@
 -- The plan text by its sections, from the figures that they show.
-use mathlib.Core.Path.{_≡_}
-use mathlib.Core.List.{List, [], _∷_, _++_, flatMap, append-assoc, append-nil}
+use Rattle.prelude.specs.Words.{_≡_, List, [], _∷_, _++_, flatMap, append-assoc, append-nil, ℕ, _+_, _*_, _≤_, arith, ℤ, length, length-append}
 use Prim.Native.String.{String}
-use Prim.Native.Nat.{ℕ, _+_, _*_, _≤_}
-use native.Mathlib.Omega.{arith}
-use lib.IntN.{ℤ}
-use lib.ListN.{length, length-append}
 use Rattle.plan_lines.specs.declared.plan_sections.Figures.{Figures}
 use Rattle.transport.specs.Sheet.{Sheet, roasteries, cafes}
 use Rattle.transport.specs.Text.{bytes, digits, wholeDigits, headLine, numberLine}

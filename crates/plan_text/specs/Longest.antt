@@ -1,14 +1,7 @@
 -- No plan text is longer than 1,604 bytes, and nothing that the program prints is.
-use mathlib.Core.Path.{_≡_, refl, ap}
-use mathlib.Core.Option.{Option, none, some}
-use mathlib.Core.List.{List, _++_, flatMap, List·Memᴰ}
+use Rattle.prelude.specs.Words.{_≡_, refl, ap, Option, none, some, List, _++_, flatMap, List·Memᴰ, ℕ, suc, _+_, _*_, _-_, _^_, _≤_, _<_, arith}
+use Rattle.prelude.specs.Words.{mul-le-mul-right, eq-eqb, ℤ, natAbs, length, take, length-append, length-take}
 use Prim.Native.String.{String}
-use Prim.Native.Nat.{ℕ, suc, _+_, _*_, _-_, _^_, _≤_, _<_}
-use native.Mathlib.Omega.{arith}
-use native.Mathlib.Nat.{mul-le-mul-right}
-use borrow.Author.Tests.{eq-eqb}
-use lib.IntN.{ℤ, natAbs}
-use lib.ListN.{length, take, length-append, length-take}
 use Rattle.transport.specs.Lists.{table, below, grid}
 use Rattle.transport.specs.Laws.ListLaws.{length-table, table-member, flatMap-member, keep-member}
 use Rattle.transport.specs.Limits.{maxSide, maxAmount, maxCells, maxText, maxPlanText, costAbove}

@@ -1,13 +1,5 @@
 -- What write plan knows once solve has answered, with lists that have room for any sheet.
-use mathlib.Core.Path.{_≡_, refl, sym, ap, _∙_}
-use mathlib.Core.Option.{Option, none, some}
-use mathlib.Core.List.{List}
-use Prim.Native.Nat.{ℕ, _≤_, _*_}
-use native.Mathlib.Omega.{arith}
-use native.Mathlib.Nat.{mul-le-mul}
-use lib.IntN.{ℤ}
-use lib.ListN.{length, take, drop}
-use lib.Seq.{take-at}
+use Rattle.prelude.specs.Words.{_≡_, refl, sym, ap, _∙_, Option, none, some, List, ℕ, _≤_, _*_, arith, mul-le-mul, ℤ, length, take, drop, take-at}
 use Rattle.transport.specs.declared.SolveAnswer.the-variants.{Solved, Refused}
 use Rattle.transport.specs.Limits.{maxSide}
 use Rattle.transport.specs.Sheet.{Sheet, roasteries, cafes, sheetTests, refusal}

@@ -1,15 +1,8 @@
 -- `plans` lists all plans that meet a sheet, and no others; of two, the one that carries more on the first lane where they differ comes first.
-use Prim.Native.Nat.{ℕ, zero, suc, _+_, _-_, _*_, _≤_, _<_}
-use native.Mathlib.Omega.{arith}
-use native.Mathlib.Nat.{zero-mul, suc-mul, zero-add}
-use native.Mathlib.Decide.{decLt}
-use mathlib.Core.Path.{_≡_, refl, sym, ap, _∙_}
-use mathlib.Core.Bool.{Bool, true, false, cond}
-use mathlib.Core.List.{List, [], _∷_, _++_, map, zipWith, List·Memᴰ, List·Memᴰ·head, List·Memᴰ·eq-of-singleton, List·Memᴰ·not-nil, Memᴰ·cast}
-use lib.Dec.{eqb}
-use lib.ListN.{length, getD, take, drop, length-append, take-append-drop, List·getD-append}
-use lib.Seq.{length-take-le}
-use borrow.Author.Tests.{eqb-true, eq-eqb}
+use Rattle.prelude.specs.Words.{ℕ, zero, suc, _+_, _-_, _*_, _≤_, _<_, arith, zero-mul, suc-mul, zero-add, decLt, _≡_, refl, sym, ap, _∙_, Bool, true, false}
+use Rattle.prelude.specs.Words.{cond, List, [], _∷_, _++_, map, List·Memᴰ, List·Memᴰ·head, List·Memᴰ·eq-of-singleton, List·Memᴰ·not-nil, Memᴰ·cast, eqb, length}
+use Rattle.prelude.specs.Words.{getD, take, drop, length-append, take-append-drop, List·getD-append, length-take-le, eqb-true, eq-eqb}
+use mathlib.Core.List.{zipWith}
 use Rattle.transport.specs.Lists.{all, sumTo, at, total}
 use Rattle.transport.specs.Laws.ListLaws.{all-at, all-of, member-at, member-place, member-map, map-member, member-flatMap, flatMap-member, getD-append-at}
 use Rattle.transport.specs.Laws.ListLaws.{sumTo-cong, sumTo-swap, sumTo-le, sumTo-first, at-past}

@@ -1,13 +1,7 @@
 -- The ways to send at least `low` and at most `left` from one source: `rowPlans` lists them all, the one that carries more on the first lane where two differ
 -- first.
-use Prim.Native.Nat.{ℕ, zero, suc, _+_, _-_, _≤_, _<_, min}
-use native.Mathlib.Omega.{arith}
-use mathlib.Core.Path.{_≡_, refl, ap}
-use mathlib.Core.Bool.{Bool, true, false, cond}
-use mathlib.Core.List.{List, [], _∷_, map, List·Memᴰ, List·Memᴰ·head, List·Memᴰ·eq-of-singleton, List·Memᴰ·not-nil, Memᴰ·cast}
-use lib.Dec.{eqb}
-use lib.ListN.{length, getD}
-use borrow.Author.Tests.{eqb-true, eq-eqb}
+use Rattle.prelude.specs.Words.{ℕ, zero, suc, _+_, _-_, _≤_, _<_, min, arith, _≡_, refl, ap, Bool, true, false, cond, List, [], _∷_, map, List·Memᴰ}
+use Rattle.prelude.specs.Words.{List·Memᴰ·head, List·Memᴰ·eq-of-singleton, List·Memᴰ·not-nil, Memᴰ·cast, eqb, length, getD, eqb-true, eq-eqb}
 use Rattle.transport.specs.Lists.{downTo, at, total}
 use Rattle.transport.specs.Laws.ListLaws.{member-table, table-member, member-map, map-member, member-flatMap, flatMap-member, sumTo-le, total-nil, total-cons}
 use Rattle.transport.specs.Plan.{rowPlans}

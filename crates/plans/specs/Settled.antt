@@ -1,13 +1,5 @@
 -- The settled plan is the one of least cost that carries more, on the first lane where they differ, than any other of that cost.
-use Prim.Native.Nat.{ℕ, _<_}
-use native.Mathlib.Omega.{arith}
-use native.Mathlib.Nat.{one-mul}
-use mathlib.Core.Path.{_≡_, refl, sym, _∙_}
-use mathlib.Core.Bool.{Bool, true, false}
-use mathlib.Core.List.{List, [], _∷_}
-use lib.IntN.{ℤ, pos, _*ℤ_}
-use lib.Signed.{ltZ, _≤ℤ_}
-use lib.ListN.{length, getD}
+use Rattle.prelude.specs.Words.{ℕ, _<_, arith, one-mul, _≡_, refl, sym, _∙_, Bool, true, false, List, [], _∷_, ℤ, pos, _*ℤ_, ltZ, _≤ℤ_, length, getD}
 use Rattle.integers.specs.Bridge.{z-eq, eq-z, z-le, z-mul}
 use Rattle.integers.specs.Tests.{lt-no, no-lt}
 use Rattle.transport.specs.Lists.{at}

@@ -1,11 +1,6 @@
 -- Lists in which every element stands in the relation R to each one after it.
-use Prim.Native.Nat.{ℕ, zero, suc, _<_}
-use native.Mathlib.Omega.{arith}
-use mathlib.Core.Path.{refl}
-use mathlib.Core.Logic.{_⊎_, inl, inr}
-use mathlib.Core.List.{List, [], _∷_, _++_, map, flatMap, List·Memᴰ, List·Memᴰ·head, List·Memᴰ·tail, List·Memᴰ·append-cases, List·Memᴰ·not-nil}
-use mathlib.Core.List.{List·Memᴰ·eq-of-singleton}
-use lib.ListN.{length, getD}
+use Rattle.prelude.specs.Words.{ℕ, zero, suc, _<_, arith, refl, _⊎_, inl, inr, List, [], _∷_, _++_, map, flatMap, List·Memᴰ, List·Memᴰ·head, List·Memᴰ·tail}
+use Rattle.prelude.specs.Words.{List·Memᴰ·append-cases, List·Memᴰ·not-nil, List·Memᴰ·eq-of-singleton, length, getD}
 use Rattle.transport.specs.Lists.{table}
 use Rattle.transport.specs.Laws.ListLaws.{member-at, table-member, map-member, flatMap-member}
 

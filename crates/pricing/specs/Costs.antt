@@ -1,14 +1,6 @@
 -- The costs of a sheet's lanes between parties left, spread by column with the stride of the arrays: while they are filled in, and for a problem.
-use Prim.Native.Nat.{ℕ, _+_, _*_, _<_, _≤_}
-use native.Mathlib.Omega.{arith}
-use native.Mathlib.Nat.{mul-le-mul}
-use native.Mathlib.Decide.{decLt, ℕ-discrete}
-use mathlib.Core.Path.{_≡_, refl, sym, ap, _∙_}
-use mathlib.Core.Logic.{by-cases}
-use mathlib.Core.List.{List, [], _∷_, _++_}
-use lib.IntN.{ℤ, pos, natAbs}
-use lib.ListN.{length, getD, set, replicate, length-set, length-append, List·getD-append}
-use lib.Seq.{getD-set-same, getD-set-other, getD-at}
+use Rattle.prelude.specs.Words.{ℕ, _+_, _*_, _<_, _≤_, arith, mul-le-mul, decLt, ℕ-discrete, _≡_, refl, sym, ap, _∙_, by-cases, List, [], _∷_, _++_, ℤ, pos}
+use Rattle.prelude.specs.Words.{natAbs, length, getD, set, replicate, length-set, length-append, List·getD-append, getD-set-same, getD-set-other, getD-at}
 use Rattle.transport.specs.Limits.{maxCost, costAbove}
 use Rattle.transport.specs.Lists.{at, atZ}
 use Rattle.transport.specs.Problem.{Problem, sources, sinks, place, laneCost}

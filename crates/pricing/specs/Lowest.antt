@@ -1,16 +1,7 @@
 -- The least of some numbers: taken number by number, kept where all of them rise or some fall, and the first place that has it.
-use mathlib.Core.Path.{_≡_, refl, sym, ap, _∙_}
-use mathlib.Core.Logic.{_≢_, _⊎_, inl, inr, ⊎-elim, by-cases}
-use mathlib.Core.Bool.{Bool, true, false, cond, true≢false}
-use Prim.Native.Nat.{ℕ, zero, suc, _+_, _-_, _<_, _≤_}
-use native.Mathlib.Omega.{arith}
-use native.Mathlib.Numerals.{add-one}
-use native.Mathlib.Decide.{ℕ-discrete}
-use native.Mathlib.Nat.{eq-or-lt-of-le}
-use borrow.Author.Tests.{ne-eqb}
+use Rattle.prelude.specs.Words.{_≡_, refl, sym, ap, _∙_, _≢_, _⊎_, inl, inr, ⊎-elim, by-cases, Bool, true, false, cond, true≢false, ℕ, zero, suc, _+_, _-_, _<_}
+use Rattle.prelude.specs.Words.{_≤_, arith, add-one, ℕ-discrete, eq-or-lt-of-le, ne-eqb, ℤ, _+ℤ_, ltZ}
 use lib.Bits.{bitAnd}
-use lib.IntN.{ℤ, _+ℤ_}
-use lib.Signed.{ltZ}
 use Rattle.integers.specs.Integer.{_≼_, _≺_}
 use Rattle.integers.specs.Bridge.{toZ, eq-z, z-eq, z-add}
 use Rattle.integers.specs.Tests.{lt-yes, lt-no}

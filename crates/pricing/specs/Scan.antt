@@ -1,14 +1,6 @@
 -- The scan: the lane of least reduced cost, and the first such in the order of rows and columns, from the least slack of each row.
-use mathlib.Core.Path.{_≡_, sym, ap, _∙_}
-use mathlib.Core.Bool.{true, false, true≢false}
-use mathlib.Core.Logic.{by-cases}
-use mathlib.Core.List.{List}
-use Prim.Native.Nat.{ℕ, _+_, _*_, _<_, _≤_}
-use native.Mathlib.Omega.{arith}
-use native.Mathlib.Decide.{decLt}
-use lib.IntN.{ℤ, pos, natAbs, negℤ, _-ℤ_}
-use lib.ListN.{getD}
-use lib.Signed.{ltZ}
+use Rattle.prelude.specs.Words.{_≡_, sym, ap, _∙_, true, false, true≢false, by-cases, List, ℕ, _+_, _*_, _<_, _≤_, arith, decLt, ℤ, pos, natAbs, negℤ, _-ℤ_}
+use Rattle.prelude.specs.Words.{getD, ltZ}
 use Rattle.transport.specs.Limits.{costAbove}
 use Rattle.integers.specs.Integer.{_≈_, _≼_, _≺_, _⊖_}
 use Rattle.integers.specs.Bridge.{toZ, eq-z, z-eq, z-add, z-neg, z-ev, !, _-'_}

@@ -1,20 +1,10 @@
 -- Slacks: what is left of a lane's cost when the potential of its sink is taken off. The least slack of each row is kept between rounds. Where the prices of
 -- some columns rise, it falls to the least of what it was and of the new slacks of those columns. Where they fall, all slacks are raised by as much, and it is
 -- the other columns that are lower then.
-use mathlib.Core.Path.{_≡_, refl, sym, ap, _∙_}
-use mathlib.Core.Logic.{inl, ⊎-elim, by-cases}
-use mathlib.Core.Bool.{Bool, true, false, cond, not, xor, true≢false}
-use mathlib.Core.List.{List}
-use Prim.Native.Nat.{ℕ, _+_, _-_, _*_, _/_, _^_, _<_, _≤_}
-use native.Mathlib.Omega.{arith}
-use native.Mathlib.Decide.{ℕ-discrete, decLt}
-use borrow.Author.Tests.{ltb-true, lt-ltb, le-ltb, not-true, not-false}
+use Rattle.prelude.specs.Words.{_≡_, refl, sym, ap, _∙_, inl, ⊎-elim, by-cases, Bool, true, false, cond, not, xor, true≢false, List, ℕ, _+_, _-_, _*_, _/_, _^_}
+use Rattle.prelude.specs.Words.{_<_, _≤_, arith, ℕ-discrete, decLt, ltb-true, lt-ltb, le-ltb, not-true, not-false, eqb, ltb, ℤ, pos, natAbs, negℤ, _+ℤ_, _-ℤ_}
+use Rattle.prelude.specs.Words.{length, getD, set, replicate, length-set, getD-replicate, getD-set-same, getD-set-other, ltZ}
 use lib.Bits.{bitAnd, bitXor}
-use lib.Dec.{eqb, ltb}
-use lib.IntN.{ℤ, pos, natAbs, negℤ, _+ℤ_, _-ℤ_}
-use lib.ListN.{length, getD, set, replicate, length-set, getD-replicate}
-use lib.Seq.{getD-set-same, getD-set-other}
-use lib.Signed.{ltZ}
 use Rattle.integers.specs.Integer.{_≼_, _≺_}
 use Rattle.integers.specs.Bridge.{toZ, z-eq, z-add, z-neg, eq!, !, _+'_, _-'_, neg'}
 use Rattle.integers.specs.Tests.{lt-yes, abs-z}

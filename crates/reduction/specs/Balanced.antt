@@ -1,11 +1,5 @@
 -- Balanced sheets: nothing stays at home, so plans are those of 01, and the extended problem is the one of the same lists.
-use mathlib.Core.Path.{_≡_}
-use mathlib.Core.Logic.{_↔_}
-use mathlib.Core.List.{List}
-use Prim.Native.Nat.{ℕ, _*_}
-use native.Mathlib.Omega.{arith}
-use lib.IntN.{ℤ, pos}
-use lib.ListN.{length}
+use Rattle.prelude.specs.Words.{_≡_, _↔_, List, ℕ, _*_, arith, ℤ, pos, length}
 use Rattle.transport.specs.Lists.{atZ, grid}
 use Rattle.transport.specs.Sheet.{Sheet, roasteries, cafes}
 use Rattle.transport.specs.Extended.{surplus, costAt, extended}

@@ -1,14 +1,6 @@
 -- From a plan of the sheet to one of the extended problem: what a roastery does not send stays at home, and goes to the extra café.
-use mathlib.Core.Path.{_≡_, sym, ap, _∙_}
-use mathlib.Core.Logic.{⊎-elim, by-cases}
-use mathlib.Core.Bool.{cond}
-use mathlib.Core.List.{List}
-use Prim.Native.Nat.{ℕ, _+_, _*_, _-_, _≤_, _<_}
-use native.Mathlib.Omega.{arith}
-use native.Mathlib.Nat.{mul-zero, mul-add}
-use native.Mathlib.Decide.{decLt}
-use lib.Dec.{ltb}
-use borrow.Author.Tests.{lt-ltb, le-ltb}
+use Rattle.prelude.specs.Words.{_≡_, sym, ap, _∙_, ⊎-elim, by-cases, cond, List, ℕ, _+_, _*_, _-_, _≤_, _<_, arith, mul-zero, mul-add, decLt, ltb, lt-ltb}
+use Rattle.prelude.specs.Words.{le-ltb}
 use Rattle.transport.specs.Lists.{at, grid, sumTo, total}
 use Rattle.transport.specs.Problem.{sources, sinks, place}
 use Rattle.transport.specs.Sheet.{Sheet, roasteries, cafes}

@@ -1,14 +1,6 @@
 -- Belonging under own numbers (02, Four): the literal statement is the belonging of the problem of the parties left, after renumbering.
-use mathlib.Core.Path.{_≡_, refl, sym, ap, _∙_}
-use mathlib.Core.Logic.{_↔_, inl, inr, by-cases}
-use mathlib.Core.Bool.{Bool, true, false, not, _&&_, true≢false, and-false}
-use mathlib.Core.List.{List, List·Memᴰ}
-use Prim.Native.Nat.{ℕ, suc, _-_, _≤_, _<_}
-use native.Mathlib.Omega.{arith}
-use native.Mathlib.Decide.{decLt, ℕ-discrete}
-use lib.IntN.{pos}
-use lib.ListN.{length}
-use borrow.Author.Tests.{eq-eqb, ne-eqb, not-true}
+use Rattle.prelude.specs.Words.{_≡_, refl, sym, ap, _∙_, _↔_, inl, inr, by-cases, Bool, true, false, not, _&&_, true≢false, and-false, List, List·Memᴰ, ℕ, suc}
+use Rattle.prelude.specs.Words.{_-_, _≤_, _<_, arith, decLt, ℕ-discrete, pos, length, eq-eqb, ne-eqb, not-true}
 use Rattle.transport.specs.declared.Cell.{Cell}
 use Rattle.transport.specs.declared.Tableau.{Tableau}
 use Rattle.transport.specs.Lists.{all, at}

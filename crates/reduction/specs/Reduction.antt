@@ -1,14 +1,6 @@
 -- From the extended problem back to the sheet: its plans are the sheet's at the same cost, so what is optimal there is best here. So is what is optimal for
 -- the problem behind the sheet, of the parties left, and it is the settled plan.
-use mathlib.Core.Path.{_≡_, sym, ap, _∙_}
-use mathlib.Core.Bool.{cond}
-use mathlib.Core.List.{List, [], _∷_}
-use Prim.Native.Nat.{ℕ, _*_, _≤_, _<_}
-use native.Mathlib.Omega.{arith}
-use native.Mathlib.Nat.{one-mul}
-use lib.Dec.{eqb}
-use lib.IntN.{ℤ, pos, _*ℤ_}
-use lib.ListN.{length, length-map}
+use Rattle.prelude.specs.Words.{_≡_, sym, ap, _∙_, cond, List, [], _∷_, ℕ, _*_, _≤_, _<_, arith, one-mul, eqb, ℤ, pos, _*ℤ_, length, length-map}
 use Rattle.transport.specs.Lists.{at, grid, sumTo, total}
 use Rattle.transport.specs.Problem.{sources, sinks, place}
 use Rattle.transport.specs.Sheet.{Sheet, roasteries, cafes}

@@ -1,15 +1,7 @@
 -- A plan of the sheet and one of the extended problem that carry the same on the sheet's lanes: they cost the same, and two of each differ first on the same
 -- lane.
-use mathlib.Core.Path.{_≡_, sym, ap, _∙_}
-use mathlib.Core.Logic.{_⊎_, inl, inr, ⊎-elim, by-cases}
-use mathlib.Core.List.{List, [], _∷_}
-use Prim.Native.Nat.{ℕ, _+_, _*_, _<_}
-use native.Mathlib.Omega.{arith}
-use native.Mathlib.Nat.{mul-le-mul-right}
-use native.Mathlib.Numerals.{add-one}
-use native.Mathlib.Decide.{decLt}
-use lib.IntN.{pos}
-use lib.ListN.{length, length-append}
+use Rattle.prelude.specs.Words.{_≡_, sym, ap, _∙_, _⊎_, inl, inr, ⊎-elim, by-cases, List, [], _∷_, ℕ, _+_, _*_, _<_, arith, mul-le-mul-right, add-one, decLt}
+use Rattle.prelude.specs.Words.{pos, length, length-append}
 use Rattle.integers.specs.Integer.{Z, _≈_, _⊗_, nat}
 use Rattle.integers.specs.Bridge.{toZ, eq-z}
 use Rattle.integers.specs.Sum.{sum}

@@ -1,15 +1,7 @@
 -- Plans of a problem E, whose amounts may be 0, and plans of the problem of the parties left. No plan carries anything from or to a party at 0, so these are
 -- the same plans under other numbers: at the same cost, and two of each differ first on the same lane. What is optimal there is optimal here.
-use mathlib.Core.Path.{_≡_, sym, ap, _∙_}
-use mathlib.Core.Logic.{⊎-elim, inl, inr, by-cases}
-use mathlib.Core.Bool.{_&&_, cond, and-false}
-use mathlib.Core.List.{List}
-use Prim.Native.Nat.{ℕ, zero, suc, _*_, _-_, _≤_, _<_}
-use native.Mathlib.Omega.{arith}
-use native.Mathlib.Nat.{mul-zero}
-use native.Mathlib.Decide.{ℕ-discrete}
-use lib.IntN.{ℤ, pos, _*ℤ_}
-use lib.ListN.{length, length-map}
+use Rattle.prelude.specs.Words.{_≡_, sym, ap, _∙_, ⊎-elim, inl, inr, by-cases, _&&_, cond, and-false, List, ℕ, zero, suc, _*_, _-_, _≤_, _<_, arith, mul-zero}
+use Rattle.prelude.specs.Words.{ℕ-discrete, ℤ, pos, _*ℤ_, length, length-map}
 use Rattle.integers.specs.Integer.{Z, _≈_, _⊖_, _⊗_, nat}
 use Rattle.integers.specs.Bridge.{eq-z}
 use Rattle.integers.specs.Sum.{sum, sum₂}

@@ -1,11 +1,6 @@
 -- Totals: what the plans of a sheet cost in size at most, and sheets that reach it at both ends.
-use mathlib.Core.Path.{_≡_, refl, ap, _∙_}
-use mathlib.Core.List.{List}
-use Prim.Native.Nat.{ℕ, zero, suc, _+_, _*_, _≤_, _<_}
-use native.Mathlib.Omega.{arith}
-use native.Mathlib.Nat.{suc-mul, mul-le-mul-left, one-mul}
-use lib.IntN.{ℤ, pos, natAbs, _+ℤ_, _*ℤ_}
-use lib.ListN.{replicate, length-replicate, getD-replicate}
+use Rattle.prelude.specs.Words.{_≡_, refl, ap, _∙_, List, ℕ, zero, suc, _+_, _*_, _≤_, _<_, arith, suc-mul, mul-le-mul-left, one-mul, ℤ, pos, natAbs, _+ℤ_}
+use Rattle.prelude.specs.Words.{_*ℤ_, replicate, length-replicate, getD-replicate}
 use Rattle.integers.specs.Bridge.{eq-z, z-add, z-mul}
 use Rattle.transport.specs.Lists.{at, atZ, sumTo, sumZ, total}
 use Rattle.transport.specs.Limits.{maxSide, maxAmount, maxBags, maxCost}

@@ -1,12 +1,5 @@
 -- Round, case by case: the answers of the call.
-use Prim.Native.Nat.{ℕ, _+_, _<_}
-use native.Mathlib.Omega.{arith}
-use mathlib.Core.Path.{_≡_, refl, ap}
-use mathlib.Core.Bool.{Bool, true, false, not, cond}
-use mathlib.Core.Option.{none, some}
-use mathlib.Core.List.{List, _++_}
-use lib.IntN.{ℤ, pos}
-use lib.ListN.{take, drop, getD, replicate}
+use Rattle.prelude.specs.Words.{ℕ, _+_, _<_, arith, _≡_, refl, ap, Bool, true, false, not, cond, none, some, List, _++_, ℤ, pos, take, drop, getD, replicate}
 use Rattle.transport.specs.declared.RoundOutcome.the-variants as RoundOutcome
 use Rattle.transport.specs.declared.Cell.{Cell}
 use Rattle.transport.specs.declared.Tableau.{Tableau}

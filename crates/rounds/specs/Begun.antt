@@ -1,11 +1,5 @@
 -- How rounds begin: a tableau laid out over arrays, with the costs of its problem by column, becomes what a run keeps. What one round gives.
-use Prim.Native.Nat.{ℕ, _+_, _-_, _<_, _≤_}
-use native.Mathlib.Omega.{arith}
-use mathlib.Core.Path.{_≡_, _∙_}
-use mathlib.Core.Bool.{Bool, true, cond}
-use mathlib.Core.List.{List, List·Memᴰ}
-use lib.IntN.{ℤ, pos}
-use lib.ListN.{length, getD}
+use Rattle.prelude.specs.Words.{ℕ, _+_, _-_, _<_, _≤_, arith, _≡_, _∙_, Bool, true, cond, List, List·Memᴰ, ℤ, pos, length, getD}
 use Rattle.integers.specs.Bridge.{z-eq}
 use Rattle.transport.specs.Problem.{Problem, sources, sinks, Lane, laneCost}
 use Rattle.transport.specs.Laws.Sound.{Sound}

@@ -1,18 +1,8 @@
 -- What a run keeps from round to round: the board of a tableau with its prices and the least slacks of its rows. What the scan finds on it, and one round.
-use Prim.Native.Nat.{ℕ, _+_, _-_, _*_, _^_, _<_, _≤_}
-use native.Mathlib.Omega.{arith}
-use native.Mathlib.Decide.{decLt}
-use mathlib.Core.Path.{_≡_, refl, sym, ap, _∙_}
-use mathlib.Core.Logic.{by-cases}
-use mathlib.Core.Bool.{Bool, true, false, not, cond, true≢false}
-use mathlib.Core.List.{List}
-use lib.IntN.{ℤ, pos, negsuc, natAbs, negℤ, _+ℤ_, _-ℤ_}
-use lib.Signed.{ltZ, leZ, nonNeg, mag}
-use lib.Dec.{ltb}
-use lib.ListN.{length, getD}
+use Rattle.prelude.specs.Words.{ℕ, _+_, _-_, _*_, _^_, _<_, _≤_, arith, decLt, _≡_, refl, sym, ap, _∙_, by-cases, Bool, true, false, not, cond, true≢false}
+use Rattle.prelude.specs.Words.{List, ℤ, pos, negsuc, natAbs, negℤ, _+ℤ_, _-ℤ_, ltZ, leZ, nonNeg, mag, ltb, length, getD, lt-ltb, le-ltb, le-leb}
 use mir.Syntax.{w32}
 use mir.Val as bits
-use borrow.Author.Tests.{lt-ltb, le-ltb, le-leb}
 use Rattle.integers.specs.Integer.{_≈_, _⊕_, _⊖_, neg, nat}
 use Rattle.integers.specs.Bridge.{toZ, z-add, z-neg}
 use Rattle.integers.specs.Tests.{lt-yes}

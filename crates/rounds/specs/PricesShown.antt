@@ -1,11 +1,5 @@
 -- The prices that the arrays hold: none is greater in size than a price can be, and after the last round they are those of the finished tableau.
-use Prim.Native.Nat.{ℕ, _+_, _<_, _≤_}
-use native.Mathlib.Omega.{arith}
-use mathlib.Core.Path.{_≡_, _∙_}
-use mathlib.Core.Bool.{Bool, true, false}
-use mathlib.Core.List.{List}
-use lib.IntN.{ℤ, pos, natAbs}
-use lib.ListN.{getD}
+use Rattle.prelude.specs.Words.{ℕ, _+_, _<_, _≤_, arith, _≡_, _∙_, Bool, true, false, List, ℤ, pos, natAbs, getD}
 use Rattle.transport.specs.declared.Cell.{Cell}
 use Rattle.transport.specs.Limits.{maxCost, costAbove}
 use Rattle.transport.specs.Problem.{Problem}

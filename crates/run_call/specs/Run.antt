@@ -1,9 +1,5 @@
 -- Run, case by case: the answers of the call.
-use Prim.Native.Nat.{ℕ}
-use mathlib.Core.Path.{_≡_, refl, ap}
-use mathlib.Core.Bool.{Bool, true, false, not}
-use mathlib.Core.Option.{none, some}
-use mathlib.Core.List.{List}
+use Rattle.prelude.specs.Words.{ℕ, _≡_, refl, ap, Bool, true, false, not, none, some, List}
 use Rattle.transport.specs.declared.RunOutcome.the-variants as RunOutcome
 use Rattle.transport.specs.declared.Cell.{Cell}
 use Rattle.transport.specs.declared.Tableau.{Tableau}

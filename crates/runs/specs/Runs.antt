@@ -1,12 +1,6 @@
 -- Runs on what is kept: what falls in each round, and how they end.
-use Prim.Native.Nat.{ℕ, zero, suc, _+_, _*_, _-_, _<_}
-use native.Mathlib.Omega.{arith}
-use native.Mathlib.Nat.{mul-le-mul-left}
-use mathlib.Core.Path.{_≡_, refl, sym, ap, _∙_}
-use mathlib.Core.Bool.{Bool, true, false, true≢false}
-use mathlib.Core.List.{List}
-use lib.IntN.{ℤ, pos}
-use lib.ListN.{getD}
+use Rattle.prelude.specs.Words.{ℕ, zero, suc, _+_, _*_, _-_, _<_, arith, mul-le-mul-left, _≡_, refl, sym, ap, _∙_, Bool, true, false, true≢false, List, ℤ, pos}
+use Rattle.prelude.specs.Words.{getD}
 use Rattle.integers.specs.Integer.{Z, _≈_, _⊗_}
 use Rattle.integers.specs.Bridge.{toZ}
 use Rattle.integers.specs.SumLaws.{sum₂-cong}

@@ -1,11 +1,6 @@
 -- The decimal digits of a number, counted and written from the last one on.
-use mathlib.Core.Path.{_≡_, refl, sym, ap, _∙_}
-use mathlib.Core.List.{List, [], _∷_, _++_}
-use Prim.Native.Nat.{ℕ, suc, _+_, _/_, _%_, _≤_, _<_}
-use native.Mathlib.Omega.{arith}
-use native.Mathlib.Decide.{decLt}
-use lib.ListN.{length, take, drop, getD, set, length-append, length-take}
-use lib.Seq.{take-suc, drop-cons, getD-set-same, drop-set-lt, lt-length-set}
+use Rattle.prelude.specs.Words.{_≡_, refl, sym, ap, _∙_, List, [], _∷_, _++_, ℕ, suc, _+_, _/_, _%_, _≤_, _<_, arith, decLt, length, take, drop, getD, set}
+use Rattle.prelude.specs.Words.{length-append, length-take, take-suc, drop-cons, getD-set-same, drop-set-lt, lt-length-set}
 use Rattle.transport.specs.Text.{digits}
 use Rattle.grammar.specs.Digits.{digits-small, digits-large}
 

@@ -1,8 +1,5 @@
 -- A text that is put at the front of an output if it fits, and else not at all.
-use mathlib.Core.Path.{_≡_, refl, sym}
-use mathlib.Core.List.{List, []}
-use Prim.Native.Nat.{ℕ, _≤_, _<_}
-use lib.ListN.{length}
+use Rattle.prelude.specs.Words.{_≡_, refl, sym, List, [], ℕ, _≤_, _<_, length}
 use Rattle.transport.specs.PlanText.{fitting}
 use Rattle.transport.specs.Laws.CallLaws.{short-yes, short-no}
 use Rattle.sections.specs.Front.{front, front-nil}

@@ -1,11 +1,8 @@
 -- A text at the front of an output: the bytes of the output past the text stay. So it is with a list of anything in a longer one.
-use mathlib.Core.Path.{_≡_, refl, sym, ap, _∙_}
-use mathlib.Core.List.{List, [], _∷_, _++_, append-nil, append-assoc}
-use Prim.Native.Nat.{ℕ, suc, _+_, _-_, _≤_, _<_}
-use native.Mathlib.Omega.{arith}
-use native.Mathlib.Numerals.{add-one}
-use lib.ListN.{length, take, drop, set, getD, length-append, length-drop, drop-of-length-le}
-use lib.Seq.{length-take-le, take-all, take-at, drop-at, drop-drop, drop-cons, set-at, take-add}
+use Rattle.prelude.specs.Words.{_≡_, refl, sym, ap, _∙_, List, [], _∷_, _++_, append-nil, append-assoc, ℕ, suc, _+_, _-_, _≤_, _<_, arith, add-one, length}
+use Rattle.prelude.specs.Words.{take, drop, set, getD, length-append, length-drop, drop-of-length-le, length-take-le, take-all, take-at, drop-at, drop-drop}
+use Rattle.prelude.specs.Words.{drop-cons, set-at}
+use lib.Seq.{take-add}
 use borrow.Rule.Slice.PartMut.{midOf, putMid}
 
 module _ {A : Type 0} where

@@ -1,19 +1,9 @@
 -- Numbers in lines of `width` of them. A column (width 1) and the rows of the costs are such lines: number after number, each with the byte that ends it.
 -- `left` counts the numbers of a line from the present one to the line's last. `write` gives the bytes of a number: `digits` or `wholeDigits`.
-use mathlib.Core.Path.{_≡_, refl, sym, _∙_}
-use mathlib.Core.Bool.{cond}
-use mathlib.Core.List.{List, [], _∷_, _++_, flatMap, append-assoc}
+use Rattle.prelude.specs.Words.{_≡_, refl, sym, _∙_, cond, List, [], _∷_, _++_, flatMap, append-assoc, ℕ, zero, suc, _+_, _*_, _-_, _≤_, _<_, arith, add-one}
+use Rattle.prelude.specs.Words.{suc-mul, decLt, eqb, ℤ, length, take, drop, getD, length-append, length-take, length-drop, take-append-drop, drop-of-length-le}
+use Rattle.prelude.specs.Words.{drop-cons, ne-eqb}
 use Prim.Native.String.{String}
-use Prim.Native.Nat.{ℕ, zero, suc, _+_, _*_, _-_, _≤_, _<_}
-use native.Mathlib.Omega.{arith}
-use native.Mathlib.Numerals.{add-one}
-use native.Mathlib.Nat.{suc-mul}
-use native.Mathlib.Decide.{decLt}
-use lib.Dec.{eqb}
-use lib.IntN.{ℤ}
-use lib.ListN.{length, take, drop, getD, length-append, length-take, length-drop, take-append-drop, drop-of-length-le}
-use lib.Seq.{drop-cons}
-use borrow.Author.Tests.{ne-eqb}
 use Rattle.transport.specs.Text.{bytes, digits, wholeDigits, headLine, numberLine, rowLine}
 use Rattle.transport.specs.SheetText.{rowsOf}
 use Rattle.transport.specs.PlanText.{wholeLine}

@@ -1,10 +1,5 @@
 -- Numbers in lines, written one after the other: what a loop that writes them keeps, whatever its numbers are.
-use mathlib.Core.Path.{_≡_, refl, sym, ap, _∙_}
-use mathlib.Core.List.{List, _++_}
-use Prim.Native.Nat.{ℕ, _+_, _-_, _≤_, _<_}
-use native.Mathlib.Omega.{arith}
-use lib.ListN.{length, take, drop, getD, length-take, length-drop}
-use lib.Seq.{take-all}
+use Rattle.prelude.specs.Words.{_≡_, refl, sym, ap, _∙_, List, _++_, ℕ, _+_, _-_, _≤_, _<_, arith, length, take, drop, getD, length-take, length-drop, take-all}
 use borrow.Rule.Slice.PartMut.{midOf, putMid}
 use Rattle.sections.specs.Front.{front, front-nil, length-front, FirstWritten, both-written, piece-room, take-piece, drop-piece, piece-next}
 use Rattle.sections.specs.Lines.{ending, leftAfter, ended, linesFrom, left-pos, lines-next, lines-end}

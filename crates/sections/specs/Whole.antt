@@ -1,17 +1,9 @@
 -- Whole numbers of 64 bits: their magnitude, and the laws of their digits.
-use mathlib.Core.Path.{_≡_, refl, sym, ap, _∙_}
-use mathlib.Core.Bool.{true, false, true≢false}
-use mathlib.Core.List.{_∷_}
-use Prim.Native.Nat.{ℕ, suc, _-_, _^_, _≤_, _<_}
-use native.Mathlib.Omega.{arith}
-use lib.Dec.{T}
-use lib.IntN.{ℤ, pos, negsuc, _-ℤ_, natAbs}
-use lib.ListN.{length}
-use lib.Signed.{ltZ, mag, nonNeg}
+use Rattle.prelude.specs.Words.{_≡_, refl, sym, ap, _∙_, true, false, true≢false, _∷_, ℕ, suc, _-_, _^_, _≤_, _<_, arith, T, ℤ, pos, negsuc, _-ℤ_, natAbs}
+use Rattle.prelude.specs.Words.{length, ltZ, mag, nonNeg, le-ltb}
 use mir.Syntax.{w64}
 use mir.Val.{toZ, ofZ, SFits}
 use mir.Facts.{toZ-ofZ}
-use borrow.Author.Tests.{le-ltb}
 use Rattle.transport.specs.Laws.RangeLaws.{back}
 use Rattle.transport.specs.Text.{bytes, digits, wholeDigits}
 use Rattle.grammar.specs.Longest.{whole-length}

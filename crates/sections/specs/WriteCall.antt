@@ -1,10 +1,6 @@
 -- A call that writes a text, case by case: the sheet check refuses, the output is too short, or the text stands at its front. Write sheet and write plan are
 -- such calls.
-use mathlib.Core.Path.{_≡_, sym, ap, _∙_}
-use mathlib.Core.List.{List, [], _∷_, _++_}
-use mathlib.Core.Option.{none, some}
-use Prim.Native.Nat.{ℕ, _≤_, _<_}
-use lib.ListN.{length}
+use Rattle.prelude.specs.Words.{_≡_, sym, ap, _∙_, List, [], _∷_, _++_, none, some, ℕ, _≤_, _<_, length}
 use Rattle.transport.specs.declared.WriteAnswer.{WriteAnswer}
 use Rattle.transport.specs.declared.WriteAnswer.the-variants.{Written, Refused}
 use Rattle.transport.specs.Sheet.{Sheet, refusal, sheetTests}

@@ -1,14 +1,6 @@
 -- The bags in the arrays as a plan in sheet order.
-use mathlib.Core.Path.{_≡_, refl, sym, _∙_}
-use mathlib.Core.Logic.{by-cases}
-use mathlib.Core.List.{List}
-use Prim.Native.Nat.{ℕ, _+_, _*_, _/_, _%_, _<_, _≤_}
-use native.Mathlib.Omega.{arith}
-use native.Mathlib.Nat.{mod-lt, div-add-mod'}
-use native.Mathlib.Decide.{decLt, ℕ-discrete}
-use lib.IntN.{ℤ, pos, negsuc, natAbs}
-use lib.ListN.{length, getD, set, drop, length-set}
-use lib.Seq.{getD-set-same, getD-set-other, drop-set-lt}
+use Rattle.prelude.specs.Words.{_≡_, refl, sym, _∙_, by-cases, List, ℕ, _+_, _*_, _/_, _%_, _<_, _≤_, arith, mod-lt, div-add-mod', decLt, ℕ-discrete, ℤ, pos}
+use Rattle.prelude.specs.Words.{negsuc, natAbs, length, getD, set, drop, length-set, getD-set-same, getD-set-other, drop-set-lt}
 use Rattle.integers.specs.Integer.{_≈_, _≼_, nat}
 use Rattle.integers.specs.Bridge.{toZ}
 use Rattle.network.specs.Flow.{Nonneg}

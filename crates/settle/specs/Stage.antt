@@ -1,14 +1,6 @@
 -- Stages of settling: the bags where the lanes before one are decided, a turn that brings bags onto the next, and what decides it.
-use mathlib.Core.Path.{_≡_, refl, sym, _∙_}
-use mathlib.Core.Logic.{_↔_, by-cases}
-use mathlib.Core.Bool.{true}
-use mathlib.Core.List.{List}
-use Prim.Native.Nat.{ℕ, suc, _+_, _*_, _<_, _≤_}
-use native.Mathlib.Omega.{arith}
-use native.Mathlib.Decide.{ℕ-discrete}
+use Rattle.prelude.specs.Words.{_≡_, refl, sym, _∙_, _↔_, by-cases, true, List, ℕ, suc, _+_, _*_, _<_, _≤_, arith, ℕ-discrete, ℤ, pos, negsuc, natAbs, getD}
 use lib.Bits.{bitAnd}
-use lib.IntN.{ℤ, pos, negsuc, natAbs}
-use lib.ListN.{getD}
 use Rattle.integers.specs.Integer.{Z, _≈_, _≼_, _≺_, ≈-dec, nat}
 use Rattle.integers.specs.Bridge.{toZ}
 use Rattle.integers.specs.SumLaws.{sum-each}

@@ -1,15 +1,6 @@
 -- The lanes of reduced cost 0 as masks of the rows.
-use mathlib.Core.Path.{_≡_, refl, sym, _∙_}
-use mathlib.Core.Logic.{by-cases}
-use mathlib.Core.Bool.{Bool, true, false}
-use mathlib.Core.List.{List}
-use Prim.Native.Nat.{ℕ, _+_, _*_, _<_, _≤_}
-use native.Mathlib.Omega.{arith}
-use native.Mathlib.Decide.{ℕ-discrete}
-use borrow.Author.Tests.{eq-eqb, ne-eqb}
-use lib.IntN.{ℤ, pos, natAbs, _-ℤ_}
-use lib.ListN.{length, getD, set, replicate, length-set}
-use lib.Seq.{getD-set-same, getD-set-other}
+use Rattle.prelude.specs.Words.{_≡_, refl, sym, _∙_, by-cases, Bool, true, false, List, ℕ, _+_, _*_, _<_, _≤_, arith, ℕ-discrete, eq-eqb, ne-eqb, ℤ, pos}
+use Rattle.prelude.specs.Words.{natAbs, _-ℤ_, length, getD, set, replicate, length-set, getD-set-same, getD-set-other}
 use Rattle.integers.specs.Bridge.{eq-z, z-eq, z-ev, !, _-'_}
 use Rattle.transport.specs.Laws.ListLaws.{is-false}
 use Rattle.transport.specs.Limits.{maxCost, costAbove}

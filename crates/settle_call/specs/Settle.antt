@@ -1,10 +1,5 @@
 -- Settle, case by case: its refusals in their order, and the plan that it writes.
-use mathlib.Core.Path.{_≡_, refl, _∙_}
-use mathlib.Core.Bool.{Bool, true, false, not}
-use mathlib.Core.List.{List, [], _∷_, _++_}
-use mathlib.Core.Option.{none, some}
-use Prim.Native.Nat.{ℕ, _*_, _<_, _≤_}
-use lib.ListN.{drop}
+use Rattle.prelude.specs.Words.{_≡_, refl, _∙_, Bool, true, false, not, List, [], _∷_, _++_, none, some, ℕ, _*_, _<_, _≤_, drop}
 use Rattle.transport.specs.Sheet.{Sheet, roasteries, cafes, sheetTests, refusal}
 use Rattle.transport.specs.Extended.{extended}
 use Rattle.transport.specs.Parties.{problemOf}

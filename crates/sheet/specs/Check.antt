@@ -1,8 +1,5 @@
 -- The answer of the sheet check.
-use mathlib.Core.Path.{_≡_, refl}
-use mathlib.Core.Option.{Option, none, some}
-use Prim.Native.Nat.{ℕ}
-use native.Mathlib.Omega.{arith}
+use Rattle.prelude.specs.Words.{_≡_, refl, Option, none, some, ℕ, arith}
 pub use Rattle.sheet.specs.declared.SheetCheck.{SheetCheck}
 pub use Rattle.sheet.specs.declared.SheetCheck.the-variants.{Accepted, Refused}
 

@@ -1,7 +1,6 @@
 -- The product of two sides fits a word.
-use Prim.Native.Nat.{ℕ, _*_, _≤_, _<_, _^_}
-use native.Mathlib.Omega.{arith}
-use native.Mathlib.Nat.{lt-of-le-of-lt, mul-le-mul}
+use Rattle.prelude.specs.Words.{ℕ, _*_, _≤_, _<_, _^_, arith, mul-le-mul}
+use native.Mathlib.Nat.{lt-of-le-of-lt}
 use Rattle.transport.specs.Limits.{maxSources, maxSinks}
 
 pub sides-product : (m n : ℕ) → m ≤ maxSources → n ≤ maxSinks → m * n < 2 ^ 64

@@ -1,11 +1,8 @@
 -- The parties left of a sheet, numbered among themselves: their amounts and their own numbers, at the front of lists that have room for any side.
-use mathlib.Core.Path.{_≡_, refl, sym, ap, _∙_}
-use mathlib.Core.List.{[], _∷_, _++_, List, map, map-append}
-use Prim.Native.Nat.{ℕ, _+_, _≤_, _<_}
-use native.Mathlib.Omega.{arith}
-use native.Mathlib.Numerals.{add-one}
-use lib.ListN.{length, take, getD, set, length-append, length-set, length-map, length-take, List·getD-append}
-use lib.Seq.{ext-getD, getD-at, length-take-le, take-suc-set, take-set-le}
+use Rattle.prelude.specs.Words.{_≡_, refl, sym, ap, _∙_, [], _∷_, _++_, List, map, ℕ, _+_, _≤_, _<_, arith, add-one, length, take, getD, set, length-append}
+use Rattle.prelude.specs.Words.{length-set, length-map, length-take, List·getD-append, ext-getD, getD-at, length-take-le, take-suc-set}
+use mathlib.Core.List.{map-append}
+use lib.Seq.{take-set-le}
 use Rattle.transport.specs.Lists.{at}
 use Rattle.transport.specs.Limits.{maxSide}
 use Rattle.transport.specs.Sheet.{Sheet}

@@ -1,13 +1,5 @@
 -- What the sheet check refuses, case by case, and what a sheet within the limits is known to be.
-use mathlib.Core.Path.{_≡_}
-use mathlib.Core.Bool.{Bool, true, false}
-use mathlib.Core.Option.{none, some}
-use Prim.Native.Nat.{_*_, _≤_}
-use native.Mathlib.Omega.{arith}
-use native.Mathlib.Nat.{mul-le-mul}
-use lib.Dec.{eqb}
-use lib.IntN.{pos, negℤ}
-use lib.ListN.{length}
+use Rattle.prelude.specs.Words.{_≡_, Bool, true, false, none, some, _*_, _≤_, arith, mul-le-mul, eqb, pos, negℤ, length}
 use Rattle.transport.specs.Lists.{all, atMost, within, withinZ}
 use Rattle.transport.specs.Limits.{maxSources, maxSinks, maxAmount, maxCost}
 use Rattle.transport.specs.Sheet.{Sheet, roasteries, cafes, badSides, badLength, badAmount, badCost, lacking, crowded, idle, numberTests, sheetTests, refusal}

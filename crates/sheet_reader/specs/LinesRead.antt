@@ -1,13 +1,6 @@
 -- Numbers read in lines of `width`, one after the other, as Lines has them: what the columns and rows of the specification read. Their reader is any.
-use mathlib.Core.Path.{_≡_, refl, sym, ap, _∙_}
-use mathlib.Core.Bool.{Bool, true, false}
-use mathlib.Core.List.{List, [], _∷_, _++_, flatten, append-assoc, append-nil}
-use Prim.Native.Nat.{ℕ, zero, suc, _+_, _*_, _-_, _≤_, _<_}
-use native.Mathlib.Omega.{arith}
-use native.Mathlib.Nat.{suc-mul, suc-add, zero-add, zero-mul}
-use native.Mathlib.Numerals.{add-one}
-use lib.ListN.{length, take, drop, set}
-use lib.Seq.{take-suc-set}
+use Rattle.prelude.specs.Words.{_≡_, refl, sym, ap, _∙_, Bool, true, false, List, [], _∷_, _++_, flatten, append-assoc, append-nil, ℕ, zero, suc, _+_, _*_, _-_}
+use Rattle.prelude.specs.Words.{_≤_, _<_, arith, suc-mul, suc-add, zero-add, zero-mul, add-one, length, take, drop, set, take-suc-set}
 use Rattle.transport.specs.Text.{bytes}
 use Rattle.transport.specs.SheetText.{Reading, stuck, got, Reader, _>>=_, _>>_, pure, times, word, line, row}
 use Rattle.sections.specs.Lines.{ending, leftAfter, ending-last, ending-more, left-last, left-more, left-pos}

@@ -1,14 +1,7 @@
 -- Read sheet: a sheet that was read and is stored, and the call case by case.
-use mathlib.Core.Path.{_≡_, refl, ap, _∙_}
-use mathlib.Core.List.{List}
-use Prim.Native.Nat.{ℕ, _*_, _-_, _≤_}
-use native.Mathlib.Omega.{arith}
-use mathlib.Core.Bool.{Bool, true, false, not, _&&_, _||_, and-eq-true-iff}
-use mathlib.Core.Option.{none, some}
-use borrow.Author.Tests.{leb-true, leb-false}
-use lib.Dec.{leb}
-use lib.IntN.{ℤ}
-use lib.ListN.{length, drop, length-drop}
+use Rattle.prelude.specs.Words.{_≡_, refl, ap, _∙_, List, ℕ, _*_, _-_, _≤_, arith, Bool, true, false, not, _&&_, _||_, and-eq-true-iff, none, some, leb-true}
+use Rattle.prelude.specs.Words.{leb, ℤ, length, drop, length-drop}
+use borrow.Author.Tests.{leb-false}
 use Rattle.transport.specs.declared.ReadAnswer.{ReadAnswer}
 use Rattle.transport.specs.declared.ReadAnswer.the-variants as ReadAnswer
 use Rattle.transport.specs.Sheet.{Sheet as SheetRecord, roasteries, cafes, refusal, numberTests}

@@ -1,12 +1,6 @@
 -- What an answer says was read up to the end of the text: by the reader of the whole, and by those of what comes after its first sections.
-use mathlib.Core.Path.{_≡_, ap, _∙_}
-use mathlib.Core.List.{List, []}
-use Prim.Native.Nat.{ℕ, _*_, _≤_, _<_}
-use native.Mathlib.Omega.{arith}
-use native.Mathlib.Nat.{le-trans, mul-le-mul}
-use lib.IntN.{ℤ}
-use lib.ListN.{length, take, drop, drop-of-length-le}
-use lib.Seq.{drop-cons, length-take-le}
+use Rattle.prelude.specs.Words.{_≡_, ap, _∙_, List, [], ℕ, _*_, _≤_, _<_, arith, le-trans, mul-le-mul, ℤ, length, take, drop, drop-of-length-le, drop-cons}
+use Rattle.prelude.specs.Words.{length-take-le}
 use Rattle.transport.specs.declared.ReadAnswer.{ReadAnswer}
 use Rattle.transport.specs.declared.ReadAnswer.the-variants as ReadAnswer
 use Rattle.transport.specs.Limits.{maxSources, maxSinks}

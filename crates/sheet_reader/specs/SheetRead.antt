@@ -1,10 +1,5 @@
 -- The sheet reader by its sections: two lists, the costs and the end.
-use mathlib.Core.Path.{_≡_, refl, sym, ap, _∙_}
-use mathlib.Core.List.{List, [], _∷_, _++_, flatten}
-use Prim.Native.Nat.{ℕ, zero, suc, _*_, _-_, _≤_}
-use native.Mathlib.Omega.{arith}
-use lib.IntN.{ℤ}
-use lib.ListN.{length, take}
+use Rattle.prelude.specs.Words.{_≡_, refl, sym, ap, _∙_, List, [], _∷_, _++_, flatten, ℕ, zero, suc, _*_, _-_, _≤_, arith, ℤ, length, take}
 use Rattle.transport.specs.Limits.{maxSources, maxSinks}
 use Rattle.transport.specs.Text.{bytes, digits, headLine}
 use Rattle.transport.specs.Sheet.{Sheet}

@@ -1,9 +1,5 @@
 -- The sections of the sheet text.
-use mathlib.Core.Path.{_≡_}
-use mathlib.Core.List.{List, _++_, append-assoc}
-use Prim.Native.Nat.{ℕ, _*_, _≤_}
-use lib.IntN.{ℤ}
-use lib.ListN.{length}
+use Rattle.prelude.specs.Words.{_≡_, List, _++_, append-assoc, ℕ, _*_, _≤_, ℤ, length}
 use Rattle.transport.specs.Text.{bytes, digits, wholeDigits}
 use Rattle.transport.specs.Sheet.{Sheet, roasteries, cafes}
 use Rattle.transport.specs.SheetText.{sheetText}

@@ -1,12 +1,5 @@
 -- Solve, case by case: its refusals in their order, and the solution that it gives.
-use mathlib.Core.Path.{_≡_, refl}
-use mathlib.Core.Bool.{Bool, true, false, _||_}
-use mathlib.Core.Option.{none, some}
-use mathlib.Core.List.{List, _++_}
-use Prim.Native.Nat.{ℕ, _+_, _*_, _-_, _≤_, _<_}
-use native.Mathlib.Omega.{arith}
-use lib.IntN.{ℤ}
-use lib.ListN.{length, drop}
+use Rattle.prelude.specs.Words.{_≡_, refl, Bool, true, false, _||_, none, some, List, _++_, ℕ, _+_, _*_, _-_, _≤_, _<_, arith, ℤ, length, drop}
 use Rattle.transport.specs.declared.SolveAnswer.{SolveAnswer}
 use Rattle.transport.specs.declared.SolveAnswer.the-variants.{Solved, Refused}
 use Rattle.transport.specs.Lists.{sumZ}

@@ -1,11 +1,6 @@
 -- The cost of a plan as a sum that fits, and that of the settled plan.
-use mathlib.Core.Path.{_≡_, sym, ap, _∙_}
-use mathlib.Core.List.{List, _++_}
-use Prim.Native.Nat.{ℕ, _*_, _<_, _≤_, _^_}
-use native.Mathlib.Omega.{arith}
-use native.Mathlib.Nat.{mul-le-mul}
-use lib.IntN.{ℤ, pos, natAbs, _*ℤ_}
-use lib.ListN.{length, length-append, List·getD-append}
+use Rattle.prelude.specs.Words.{_≡_, sym, ap, _∙_, List, _++_, ℕ, _*_, _<_, _≤_, _^_, arith, mul-le-mul, ℤ, pos, natAbs, _*ℤ_, length, length-append}
+use Rattle.prelude.specs.Words.{List·getD-append}
 use Rattle.transport.specs.Lists.{at, atZ, sumZ}
 use Rattle.transport.specs.Laws.ListLaws.{sumZ-cong, sumTo-each, sumTo-bound}
 use Rattle.transport.specs.Limits.{maxSources, maxSinks, maxAmount, maxCost}

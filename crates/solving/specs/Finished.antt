@@ -1,13 +1,5 @@
 -- The board of a finished tableau: from it settling starts, and what it ends with are the bags of the optimal plan.
-use mathlib.Core.Path.{_≡_, sym, _∙_}
-use mathlib.Core.Logic.{_↔_, by-cases}
-use mathlib.Core.Bool.{true, false≢true}
-use mathlib.Core.List.{List}
-use Prim.Native.Nat.{ℕ, _+_, _*_, _-_, _<_, _≤_}
-use native.Mathlib.Omega.{arith}
-use native.Mathlib.Decide.{decLt}
-use lib.IntN.{ℤ, pos}
-use lib.ListN.{getD}
+use Rattle.prelude.specs.Words.{_≡_, sym, _∙_, _↔_, by-cases, true, false≢true, List, ℕ, _+_, _*_, _-_, _<_, _≤_, arith, decLt, ℤ, pos, getD}
 use Rattle.integers.specs.Integer.{_≈_, nat}
 use Rattle.integers.specs.IntegerLaws.{⊗-cong}
 use Rattle.network.specs.Flow.{Plan, Tight}

@@ -1,10 +1,5 @@
 -- The first tableau of a problem, as code gives it, and the board that holds it.
-use mathlib.Core.Path.{_≡_, refl, ap, _∙_, subst}
-use mathlib.Core.List.{List}
-use Prim.Native.Nat.{ℕ, _≤_}
-use native.Mathlib.Omega.{arith}
-use lib.IntN.{ℤ}
-use lib.ListN.{length}
+use Rattle.prelude.specs.Words.{_≡_, refl, ap, _∙_, subst, List, ℕ, _≤_, arith, ℤ, length}
 use Rattle.transport.specs.Problem.{Problem, sources, sinks}
 use Rattle.transport.specs.Laws.Sound.{Sound}
 use Rattle.transport.specs.Tableau.{cellsOf, tableauOf, basisOf, basisSize, start}

@@ -1,13 +1,6 @@
 -- The settled plan of a sheet, as it is stored: on each lane between two parties left the bags of their lane, and nothing on all others.
-use mathlib.Core.Path.{_≡_, sym, ap, _∙_}
-use mathlib.Core.Logic.{by-cases}
-use mathlib.Core.List.{List, [], _∷_, _++_}
-use Prim.Native.Nat.{ℕ, _*_, _≤_, _<_}
-use native.Mathlib.Omega.{arith}
-use native.Mathlib.Decide.{ℕ-discrete}
-use lib.IntN.{ℤ}
-use lib.ListN.{length, take, drop, length-append, take-append-drop}
-use lib.Seq.{ext-getD, getD-take, length-take-le}
+use Rattle.prelude.specs.Words.{_≡_, sym, ap, _∙_, by-cases, List, [], _∷_, _++_, ℕ, _*_, _≤_, _<_, arith, ℕ-discrete, ℤ, length, take, drop, length-append}
+use Rattle.prelude.specs.Words.{take-append-drop, ext-getD, getD-take, length-take-le}
 use Rattle.transport.specs.Lists.{at, table}
 use Rattle.transport.specs.Problem.{place}
 use Rattle.transport.specs.Sheet.{Sheet, roasteries, cafes}

@@ -1,10 +1,5 @@
 -- What solve has stored before its cost is told: the prices of the first finished tableau and the settled plan, each in its list, with the rounds made.
-use mathlib.Core.Path.{_≡_, sym, ap, _∙_}
-use mathlib.Core.Bool.{true}
-use mathlib.Core.List.{List, _++_}
-use Prim.Native.Nat.{ℕ, _+_, _*_, _-_, _≤_, _<_}
-use lib.IntN.{ℤ, pos, natAbs}
-use lib.ListN.{length, take, drop, getD}
+use Rattle.prelude.specs.Words.{_≡_, sym, ap, _∙_, true, List, _++_, ℕ, _+_, _*_, _-_, _≤_, _<_, ℤ, pos, natAbs, length, take, drop, getD}
 use Rattle.transport.specs.Laws.ListLaws.{length-table}
 use Rattle.transport.specs.Problem.{Problem, sources, sinks}
 use Rattle.transport.specs.Sheet.{Sheet, roasteries, cafes}

@@ -1,7 +1,5 @@
 -- Start, case by case.
-use mathlib.Core.Path.{_≡_}
-use mathlib.Core.Option.{none, some}
-use Prim.Native.Nat.{ℕ}
+use Rattle.prelude.specs.Words.{_≡_, none, some, ℕ}
 use Rattle.transport.specs.declared.StartOutcome.the-variants.{Started, Refused}
 use Rattle.transport.specs.Sheet.{Sheet, refusal, sheetTests}
 use Rattle.transport.specs.Extended.{extended}

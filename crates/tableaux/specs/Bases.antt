@@ -1,11 +1,5 @@
 -- Lanes that span are a basis, in the sense of the theory of networks.
-use mathlib.Core.Path.{_≡_, ap, sym}
-use mathlib.Core.Logic.{_↔_}
-use mathlib.Core.Bool.{true}
-use mathlib.Core.List.{List, Memᴰ·cast}
-use Prim.Native.Nat.{ℕ, _+_, _-_, _≤_}
-use native.Mathlib.Omega.{arith}
-use lib.ListN.{length, getD}
+use Rattle.prelude.specs.Words.{_≡_, ap, sym, _↔_, true, List, Memᴰ·cast, ℕ, _+_, _-_, _≤_, arith, length, getD}
 use Rattle.transport.specs.Laws.ListLaws.{member-at, member-place}
 use Rattle.transport.specs.Problem.{Lane}
 use Rattle.transport.specs.Laws.ProblemLaws.{lane}

@@ -1,15 +1,6 @@
 -- Belonging, as it is computed and as the paper says it; and what it gives to the theory: a basis, a flow of bags and a flow of marks.
-use mathlib.Core.Path.{_≡_, refl, ap, sym, _∙_}
-use mathlib.Core.Logic.{_↔_, _⊎_, inl, inr, ⊎-elim, by-cases, Dec·and}
-use mathlib.Core.Bool.{Bool, true, false, _&&_, false≢true}
-use mathlib.Core.List.{List, [], _∷_}
-use Prim.Native.Nat.{ℕ, zero, suc, _+_, _-_, _≤_, _<_}
-use native.Mathlib.Omega.{arith}
-use native.Mathlib.Decide.{ℕ-discrete}
-use borrow.Author.Tests.{ltb-true, lt-ltb}
-use lib.Dec.{ltb}
-use lib.IntN.{ℤ, pos, _+ℤ_}
-use lib.ListN.{length, length-map}
+use Rattle.prelude.specs.Words.{_≡_, refl, ap, sym, _∙_, _↔_, _⊎_, inl, inr, ⊎-elim, by-cases, Dec·and, Bool, true, false, _&&_, false≢true, List, [], _∷_, ℕ}
+use Rattle.prelude.specs.Words.{zero, suc, _+_, _-_, _≤_, _<_, arith, ℕ-discrete, ltb-true, lt-ltb, ltb, ℤ, pos, _+ℤ_, length, length-map}
 use Rattle.integers.specs.Integer.{_≈_, nat, neg}
 use Rattle.integers.specs.Bridge.{toZ, z-eq}
 use Rattle.integers.specs.Sum.{sum, point}

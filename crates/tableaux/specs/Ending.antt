@@ -1,12 +1,6 @@
 -- Rounds end: the valued cost falls in each of them and stays within bounds.
-use mathlib.Core.Path.{_≡_, refl, _∙_}
-use mathlib.Core.Logic.{⊎-elim}
-use mathlib.Core.Bool.{Bool, true, false}
-use mathlib.Core.List.{List}
-use Prim.Native.Nat.{ℕ, zero, suc, _+_, _*_, _^_, _≤_, _<_}
-use native.Mathlib.Omega.{arith}
-use native.Mathlib.Nat.{mul-le-mul-left, mul-le-mul-right}
-use lib.IntN.{pos}
+use Rattle.prelude.specs.Words.{_≡_, refl, _∙_, ⊎-elim, Bool, true, false, List, ℕ, zero, suc, _+_, _*_, _^_, _≤_, _<_, arith, mul-le-mul-left}
+use Rattle.prelude.specs.Words.{mul-le-mul-right, pos}
 use Rattle.integers.specs.Integer.{Z, _≈_, _≼_, _⊕_, _⊗_, neg, nat}
 use Rattle.integers.specs.Bridge.{z-le, z-neg}
 use Rattle.integers.specs.IntegerLaws.{⊗-cong}

@@ -1,13 +1,6 @@
 -- The entering lane: it is on the sheet, and on an unfinished tableau its reduced cost is negative, so that it is not basic.
-use mathlib.Core.Path.{_≡_, refl, ap, sym, _∙_}
-use mathlib.Core.Bool.{Bool, true, false, true≢false}
-use mathlib.Core.List.{List}
-use Prim.Native.Nat.{ℕ, _<_}
-use native.Mathlib.Omega.{arith}
-use native.Mathlib.Nat.{mul-le-mul-right}
-use lib.IntN.{ℤ, pos, negsuc}
-use lib.Signed.{ltZ, nonNeg}
-use lib.ListN.{getD}
+use Rattle.prelude.specs.Words.{_≡_, refl, ap, sym, _∙_, Bool, true, false, true≢false, List, ℕ, _<_, arith, mul-le-mul-right, ℤ, pos, negsuc, ltZ, nonNeg}
+use Rattle.prelude.specs.Words.{getD}
 use Rattle.integers.specs.Integer.{_≺_, _⊕_}
 use Rattle.integers.specs.Tests.{lt-yes, lt-no}
 use Rattle.transport.specs.Laws.ListLaws.{by-key, FirstLeast, firstLeast-is}

@@ -1,13 +1,6 @@
 -- Flows through the strikes have the margins asked for; and so the loop's signs are the flow of −1 at the two nodes of the entering lane.
-use mathlib.Core.Path.{_≡_, refl, ap, sym, _∙_}
-use mathlib.Core.Logic.{_≢_, _⊎_, ⊎-elim, by-cases}
-use mathlib.Core.Bool.{true}
-use mathlib.Core.List.{List, [], _∷_, List·Memᴰ, List·Memᴰ·head, List·Memᴰ·tail, List·Memᴰ·not-nil, List·Memᴰ·cases-cons}
-use Prim.Native.Nat.{ℕ, suc, _+_, _-_, _≤_, _<_}
-use native.Mathlib.Omega.{arith}
-use native.Mathlib.Decide.{ℕ-discrete}
-use borrow.Author.Tests.{eq-eqb, ne-eqb}
-use lib.IntN.{ℤ, pos, negℤ, _-ℤ_}
+use Rattle.prelude.specs.Words.{_≡_, refl, ap, sym, _∙_, _≢_, _⊎_, ⊎-elim, by-cases, true, List, [], _∷_, List·Memᴰ, List·Memᴰ·head, List·Memᴰ·tail}
+use Rattle.prelude.specs.Words.{List·Memᴰ·not-nil, List·Memᴰ·cases-cons, ℕ, suc, _+_, _-_, _≤_, _<_, arith, ℕ-discrete, eq-eqb, ne-eqb, ℤ, pos, negℤ, _-ℤ_}
 use Rattle.integers.specs.Integer.{Z, _≈_, _⊕_, _⊖_, _⊗_, neg, nat}
 use Rattle.integers.specs.Bridge.{toZ, z-add, z-neg, z-eq}
 use Rattle.integers.specs.Sum.{sum, point}

@@ -1,10 +1,6 @@
 -- Lanes: those in a list, and an amount on one lane alone.
-use mathlib.Core.Path.{ap, sym}
-use mathlib.Core.Logic.{_↔_, _≢_, ⊎-elim, by-cases}
-use mathlib.Core.List.{List, [], _∷_, map, Memᴰ·cast, List·Memᴰ, List·Memᴰ·head, List·Memᴰ·tail, List·Memᴰ·not-nil, List·Memᴰ·cases-cons}
-use Prim.Native.Nat.{ℕ, _<_}
-use native.Mathlib.Omega.{arith}
-use native.Mathlib.Decide.{ℕ-discrete}
+use Rattle.prelude.specs.Words.{ap, sym, _↔_, _≢_, ⊎-elim, by-cases, List, [], _∷_, map, Memᴰ·cast, List·Memᴰ, List·Memᴰ·head, List·Memᴰ·tail}
+use Rattle.prelude.specs.Words.{List·Memᴰ·not-nil, List·Memᴰ·cases-cons, ℕ, _<_, arith, ℕ-discrete}
 use Rattle.integers.specs.Integer.{Z, _≈_, _⊗_, nat}
 use Rattle.integers.specs.Sum.{sum, point}
 use Rattle.integers.specs.SumLaws.{sum-cong, sum-point, point-at, point-off}

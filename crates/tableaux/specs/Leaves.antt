@@ -1,16 +1,8 @@
 -- Leaves: while any of the lanes that join the nodes left is there, a node but the root has a single one; and after striking it off the lanes join the nodes
 -- left.
-use mathlib.Core.Path.{_≡_, refl, ap, sym, _∙_}
-use mathlib.Core.Logic.{_↔_, _≢_, _⊎_, inl, inr, by-cases}
-use mathlib.Core.Bool.{Bool, true, false, not, _&&_, _||_, cond, true≢false}
-use mathlib.Core.List.{List, [], _∷_, List·Memᴰ, List·Memᴰ·head, List·Memᴰ·tail, List·Memᴰ·not-nil, List·Memᴰ·cases-cons, List·Memᴰ·eq-of-singleton}
-use mathlib.Core.Option.{Option, none, some}
-use Prim.Native.Nat.{ℕ, zero, suc, _+_, _*_, _≤_, _<_}
-use native.Mathlib.Omega.{arith}
-use native.Mathlib.Decide.{ℕ-discrete}
-use borrow.Author.Tests.{eqb-true, eqb-false, eq-eqb, ne-eqb, not-true}
-use lib.Dec.{eqb}
-use lib.ListN.{length}
+use Rattle.prelude.specs.Words.{_≡_, refl, ap, sym, _∙_, _↔_, _≢_, _⊎_, inl, inr, by-cases, Bool, true, false, not, _&&_, _||_, cond, true≢false, List, [], _∷_}
+use Rattle.prelude.specs.Words.{List·Memᴰ, List·Memᴰ·head, List·Memᴰ·tail, List·Memᴰ·not-nil, List·Memᴰ·cases-cons, List·Memᴰ·eq-of-singleton, Option, none}
+use Rattle.prelude.specs.Words.{some, ℕ, zero, suc, _+_, _*_, _≤_, _<_, arith, ℕ-discrete, eqb-true, eqb-false, eq-eqb, ne-eqb, not-true, eqb, length}
 use Rattle.transport.specs.Lists.{keep, sumTo}
 use Rattle.transport.specs.Laws.ListLaws.{keep-yes, keep-no, keep-member, member-keep, and-left, and-right, sumTo-cong, sumTo-none, sumTo-add, sumTo-le}
 use Rattle.transport.specs.Laws.ListLaws.{sumTo-scale}

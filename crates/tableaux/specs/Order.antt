@@ -1,14 +1,7 @@
 -- Cells in sheet order, said of members instead of indices: each cell stands before all that come after it in the list.
-use mathlib.Core.Path.{_≡_, refl, ap, sym, _∙_}
-use mathlib.Core.Logic.{_⊎_, inl, inr, ⊎-elim, Dec·and}
-use mathlib.Core.Bool.{Bool, true, false, cond}
-use mathlib.Core.List.{List, [], _∷_, map, List·Memᴰ, List·Memᴰ·head, List·Memᴰ·tail, List·Memᴰ·not-nil, List·Memᴰ·cases-cons}
-use Prim.Native.Nat.{ℕ, zero, suc, _<_}
-use native.Mathlib.Omega.{arith}
-use native.Mathlib.Decide.{ℕ-discrete}
-use borrow.Author.Tests.{ltb-true, ltb-false}
-use lib.Dec.{ltb}
-use lib.ListN.{length, getD}
+use Rattle.prelude.specs.Words.{_≡_, refl, ap, sym, _∙_, _⊎_, inl, inr, ⊎-elim, Dec·and, Bool, true, false, cond, List, [], _∷_, map, List·Memᴰ, List·Memᴰ·head}
+use Rattle.prelude.specs.Words.{List·Memᴰ·tail, List·Memᴰ·not-nil, List·Memᴰ·cases-cons, ℕ, zero, suc, _<_, arith, ℕ-discrete, ltb-true, ltb-false, ltb, length}
+use Rattle.prelude.specs.Words.{getD}
 use Rattle.transport.specs.Lists.{keep}
 use Rattle.transport.specs.Laws.ListLaws.{member-at, member-place, map-member, keep-member}
 use Rattle.transport.specs.Problem.{place}

@@ -1,11 +1,6 @@
 -- Pairs over the integers of the theory: their parts, their sums and differences, and their order as `PairLess`; and those of paired supplies and demands.
-use Prim.Native.Nat.{ℕ, suc, _-_, _<_}
-use native.Mathlib.Omega.{arith}
-use native.Mathlib.Decide.{ℕ-discrete}
-use mathlib.Core.Path.{_≡_, refl, ap, sym, _∙_}
-use mathlib.Core.Logic.{_⊎_, inl, inr, ⊎-elim, by-cases}
-use mathlib.Core.Bool.{true, false, true≢false}
-use borrow.Author.Tests.{eq-eqb, ne-eqb}
+use Rattle.prelude.specs.Words.{ℕ, suc, _-_, _<_, arith, ℕ-discrete, _≡_, refl, ap, sym, _∙_, _⊎_, inl, inr, ⊎-elim, by-cases, true, false, true≢false, eq-eqb}
+use Rattle.prelude.specs.Words.{ne-eqb}
 use Rattle.integers.specs.Integer.{Z, _≈_, _≼_, _≺_, _⊕_, _⊖_, nat}
 use Rattle.integers.specs.Bridge.{toZ, z-eq, eq-z, z-add, z-ev, !, _-'_}
 use Rattle.integers.specs.Sum.{point}

@@ -1,14 +1,6 @@
 -- What a pivot holds: its cells, their amounts, their order and their number. Only lists are reasoned about: no sum, no tree.
-use mathlib.Core.Path.{_≡_, refl, ap, sym, _∙_, subst}
-use mathlib.Core.Logic.{_⊎_, inl, inr, ⊎-elim, Dec·and, _↔_}
-use mathlib.Core.Bool.{Bool, true, false, not, true≢false}
-use mathlib.Core.List.{List, [], _∷_, map, List·Memᴰ, List·Memᴰ·not-nil, List·Memᴰ·cases-cons}
-use Prim.Native.Nat.{ℕ, suc, _≤_, _<_}
-use native.Mathlib.Omega.{arith}
-use native.Mathlib.Decide.{ℕ-discrete}
-use lib.IntN.{ℤ, pos}
-use lib.Signed.{ltZ}
-use lib.ListN.{length, getD, length-map}
+use Rattle.prelude.specs.Words.{_≡_, refl, ap, sym, _∙_, subst, _⊎_, inl, inr, ⊎-elim, Dec·and, _↔_, Bool, true, false, not, true≢false, List, [], _∷_, map}
+use Rattle.prelude.specs.Words.{List·Memᴰ, List·Memᴰ·not-nil, List·Memᴰ·cases-cons, ℕ, suc, _≤_, _<_, arith, ℕ-discrete, ℤ, pos, ltZ, length, getD, length-map}
 use Rattle.transport.specs.Lists.{keep}
 use Rattle.transport.specs.Laws.ListLaws.{member-at, member-place, member-keep, keep-member, member-map, map-member, keep-yes, keep-no, keep-all, all-of}
 use Rattle.transport.specs.Laws.ListLaws.{by-key, FirstLeast, firstLeast-is}

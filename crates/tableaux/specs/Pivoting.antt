@@ -1,14 +1,6 @@
 -- The pivot of a tableau that belongs to a sheet belongs to it: the abstract round, read off the lists.
-use mathlib.Core.Path.{_≡_, refl, ap, sym, _∙_, subst}
-use mathlib.Core.Logic.{inl, inr, Dec·and}
-use mathlib.Core.Bool.{true, true≢false}
-use mathlib.Core.List.{List, List·Memᴰ}
-use Prim.Native.Nat.{ℕ, zero, suc, _+_, _*_, _-_, _<_}
-use native.Mathlib.Omega.{arith}
-use native.Mathlib.Decide.{ℕ-discrete}
-use lib.IntN.{ℤ, pos, negsuc}
-use lib.Signed.{ltZ}
-use lib.ListN.{length, getD}
+use Rattle.prelude.specs.Words.{_≡_, refl, ap, sym, _∙_, subst, inl, inr, Dec·and, true, true≢false, List, List·Memᴰ, ℕ, zero, suc, _+_, _*_, _-_, _<_, arith}
+use Rattle.prelude.specs.Words.{ℕ-discrete, ℤ, pos, negsuc, ltZ, length, getD}
 use Rattle.integers.specs.Integer.{Z, _≈_, _≼_, _≺_, _⊕_, _⊖_, _⊗_, neg, nat, Within}
 use Rattle.integers.specs.IntegerLaws.{⊗-cong}
 use Rattle.integers.specs.Bridge.{toZ, z-eq, eq-z}

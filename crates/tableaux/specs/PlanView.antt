@@ -1,10 +1,5 @@
 -- A plan as amounts on rows and columns: the view in which the theory of networks speaks of plans and their cost.
-use Prim.Native.Nat.{ℕ, zero, suc, _*_}
-use native.Mathlib.Omega.{arith}
-use mathlib.Core.Path.{_≡_}
-use mathlib.Core.List.{List}
-use lib.IntN.{ℤ, pos, _*ℤ_}
-use lib.ListN.{length}
+use Rattle.prelude.specs.Words.{ℕ, zero, suc, _*_, arith, _≡_, List, ℤ, pos, _*ℤ_, length}
 use Rattle.integers.specs.Integer.{Z, _≈_, _⊗_, nat}
 use Rattle.integers.specs.Bridge.{toZ, z-add, z-mul}
 use Rattle.integers.specs.Sum.{sum}

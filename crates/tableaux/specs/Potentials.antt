@@ -1,15 +1,7 @@
 -- Potentials through the strikes: tight on every lane, 0 at the root, the only such numbers, and bounded.
-use mathlib.Core.Path.{_≡_, refl, ap, sym, _∙_}
-use mathlib.Core.Logic.{_≢_, ⊎-elim, by-cases}
-use mathlib.Core.Bool.{true}
-use mathlib.Core.List.{List, [], _∷_, List·Memᴰ, List·Memᴰ·head, List·Memᴰ·tail, List·Memᴰ·not-nil, List·Memᴰ·cases-cons}
-use Prim.Native.Nat.{ℕ, _+_, _*_, _-_, _≤_, _<_}
-use native.Mathlib.Omega.{arith}
-use native.Mathlib.Nat.{mul-le-mul-right}
-use native.Mathlib.Decide.{ℕ-discrete, decLt}
-use borrow.Author.Tests.{eq-eqb, ne-eqb}
-use lib.IntN.{ℤ, pos, negℤ, natAbs, _-ℤ_}
-use lib.ListN.{length}
+use Rattle.prelude.specs.Words.{_≡_, refl, ap, sym, _∙_, _≢_, ⊎-elim, by-cases, true, List, [], _∷_, List·Memᴰ, List·Memᴰ·head, List·Memᴰ·tail}
+use Rattle.prelude.specs.Words.{List·Memᴰ·not-nil, List·Memᴰ·cases-cons, ℕ, _+_, _*_, _-_, _≤_, _<_, arith, mul-le-mul-right, ℕ-discrete, decLt, eq-eqb, ne-eqb}
+use Rattle.prelude.specs.Words.{ℤ, pos, negℤ, natAbs, _-ℤ_, length}
 use Rattle.integers.specs.Integer.{_≈_, _⊕_}
 use Rattle.integers.specs.Bridge.{toZ, z-add, z-neg, z-eq, eq-z}
 use Rattle.transport.specs.Limits.{maxSide, maxCost, costBelow, costAbove, maxCells}

@@ -1,9 +1,5 @@
 -- The prices of a tableau that belongs, in the paper's words: they are prices, and the only ones.
-use mathlib.Core.Path.{_≡_, sym, _∙_}
-use mathlib.Core.List.{List}
-use Prim.Native.Nat.{ℕ, _+_, _<_}
-use native.Mathlib.Omega.{arith}
-use lib.IntN.{ℤ, pos}
+use Rattle.prelude.specs.Words.{_≡_, sym, _∙_, List, ℕ, _+_, _<_, arith, ℤ, pos}
 use Rattle.integers.specs.Integer.{_≈_, _⊕_}
 use Rattle.integers.specs.Bridge.{toZ, z-add, z-eq, eq-z}
 use Rattle.transport.specs.Lists.{atZ}

@@ -1,10 +1,5 @@
 -- Plans of a balanced problem: what Meets, planCost and Best of Statements are for the problem that stands behind a sheet.
-use mathlib.Core.Path.{_≡_}
-use mathlib.Core.List.{List}
-use Prim.Native.Nat.{ℕ, _*_, _≤_, _<_}
-use lib.IntN.{ℤ, pos, _*ℤ_}
-use lib.Signed.{_≤ℤ_}
-use lib.ListN.{length}
+use Rattle.prelude.specs.Words.{_≡_, List, ℕ, _*_, _≤_, _<_, ℤ, pos, _*ℤ_, _≤ℤ_, length}
 use Rattle.transport.specs.Lists.{at, atZ, sumTo, sumZ}
 use Rattle.transport.specs.Problem.{Problem, sources, sinks, place}
 use Rattle.transport.specs.Statements.{FirstDifference, scaled}

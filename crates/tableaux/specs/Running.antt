@@ -1,10 +1,5 @@
 -- Runs of rounds: a run ends at the first finished tableau, if that comes within its allowance, and else after exactly its allowance.
-use mathlib.Core.Path.{_≡_, refl, ap, sym, _∙_}
-use mathlib.Core.Logic.{_⊎_, inl, inr, ⊎-elim, _↔_}
-use mathlib.Core.Bool.{Bool, true, false, true≢false}
-use mathlib.Core.List.{List}
-use Prim.Native.Nat.{ℕ, zero, suc, _≤_, _<_}
-use native.Mathlib.Omega.{arith}
+use Rattle.prelude.specs.Words.{_≡_, refl, ap, sym, _∙_, _⊎_, inl, inr, ⊎-elim, _↔_, Bool, true, false, true≢false, List, ℕ, zero, suc, _≤_, _<_, arith}
 use Rattle.transport.specs.Problem.{Problem}
 use Rattle.transport.specs.Potential.{isFinished}
 use Rattle.transport.specs.Round.{next, run}

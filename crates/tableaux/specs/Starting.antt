@@ -1,15 +1,6 @@
 -- The start belongs to its sheet, and the corner rule empties a row and a column together at the last cell only.
-use Prim.Native.Nat.{ℕ, zero, suc, _+_, _-_, _≤_, _<_}
-use native.Mathlib.Omega.{arith}
-use native.Mathlib.Decide.{decLt, ℕ-discrete}
-use mathlib.Core.Path.{_≡_, refl, ap, sym, _∙_}
-use mathlib.Core.Logic.{_≢_, _↔_, _⊎_, inl, inr, ⊎-elim, by-cases}
-use mathlib.Core.Bool.{Bool, true, false, true≢false}
-use mathlib.Core.List.{List, [], _∷_, map}
-use borrow.Author.Tests.{eq-eqb, ne-eqb}
-use lib.Dec.{eqb}
-use lib.ListN.{length, getD, drop}
-use lib.Seq.{drop-cons}
+use Rattle.prelude.specs.Words.{ℕ, zero, suc, _+_, _-_, _≤_, _<_, arith, decLt, ℕ-discrete, _≡_, refl, ap, sym, _∙_, _≢_, _↔_, _⊎_, inl, inr, ⊎-elim, by-cases}
+use Rattle.prelude.specs.Words.{Bool, true, false, true≢false, List, [], _∷_, map, eq-eqb, ne-eqb, eqb, length, getD, drop, drop-cons}
 use Rattle.integers.specs.Integer.{_≈_, _≼_, ≼-dec, _⊕_, nat}
 use Rattle.network.specs.Basis.{Basis}
 use Rattle.network.specs.Staircase.{Step, staircase}

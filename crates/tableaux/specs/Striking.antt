@@ -1,15 +1,7 @@
 -- Striking off leaf after leaf: lanes join all nodes without a loop exactly if all of them are struck off, and what the list of strikes then is.
-use mathlib.Core.Path.{_≡_, refl, ap, sym, _∙_}
-use mathlib.Core.Logic.{_↔_, _≢_, _⊎_, inl, inr, ⊎-elim, by-cases}
-use mathlib.Core.Bool.{Bool, true, false, cond}
-use mathlib.Core.List.{List, [], _∷_, List·Memᴰ, List·Memᴰ·head, List·Memᴰ·tail, List·Memᴰ·not-nil, List·Memᴰ·cases-cons, Memᴰ·cast}
-use mathlib.Core.Option.{Option, none, some}
-use Prim.Native.Nat.{ℕ, zero, suc, _+_, _-_, _≤_, _<_}
-use native.Mathlib.Omega.{arith}
-use native.Mathlib.Decide.{ℕ-discrete, decLt}
-use borrow.Author.Tests.{lt-ltb, le-ltb, eqb-true, eq-eqb}
-use lib.Dec.{eqb, ltb}
-use lib.ListN.{length}
+use Rattle.prelude.specs.Words.{_≡_, refl, ap, sym, _∙_, _↔_, _≢_, _⊎_, inl, inr, ⊎-elim, by-cases, Bool, true, false, cond, List, [], _∷_, List·Memᴰ}
+use Rattle.prelude.specs.Words.{List·Memᴰ·head, List·Memᴰ·tail, List·Memᴰ·not-nil, List·Memᴰ·cases-cons, Memᴰ·cast, Option, none, some, ℕ, zero, suc, _+_, _-_}
+use Rattle.prelude.specs.Words.{_≤_, _<_, arith, ℕ-discrete, decLt, lt-ltb, le-ltb, eqb-true, eq-eqb, eqb, ltb, length}
 use Rattle.transport.specs.Lists.{table, sumTo}
 use Rattle.transport.specs.Laws.ListLaws.{member-at, member-place, getD-table, length-table, and-left, and-right, sumTo-none, sumTo-add, sumTo-le}
 use Rattle.transport.specs.Problem.{Lane}

@@ -1,9 +1,5 @@
 -- A tableau of a sheet as one of the theory of networks.
-use mathlib.Core.Path.{_≡_, refl}
-use mathlib.Core.List.{List, List·Memᴰ}
-use Prim.Native.Nat.{ℕ, suc, _+_, _-_, _<_}
-use native.Mathlib.Omega.{arith}
-use lib.ListN.{length, getD}
+use Rattle.prelude.specs.Words.{_≡_, refl, List, List·Memᴰ, ℕ, suc, _+_, _-_, _<_, arith, length, getD}
 use Rattle.integers.specs.Integer.{Z, _≼_, nat, Within}
 use Rattle.integers.specs.SumLaws.{sum-each}
 use Rattle.network.specs.Flow.{Flow}

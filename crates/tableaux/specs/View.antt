@@ -1,15 +1,6 @@
 -- A tableau as amounts on rows and columns: the view in which the theory of networks speaks of it.
-use mathlib.Core.Path.{_≡_, refl, sym, _∙_}
-use mathlib.Core.Logic.{_↔_, by-cases, Dec·and}
-use mathlib.Core.Bool.{_&&_, cond}
-use mathlib.Core.List.{List, [], _∷_, map}
-use Prim.Native.Nat.{ℕ, zero, suc, _+_, _<_}
-use native.Mathlib.Omega.{arith}
-use native.Mathlib.Decide.{ℕ-discrete}
-use borrow.Author.Tests.{eq-eqb, ne-eqb}
-use lib.Dec.{eqb}
-use lib.IntN.{ℤ, pos, _+ℤ_}
-use lib.ListN.{length, getD}
+use Rattle.prelude.specs.Words.{_≡_, refl, sym, _∙_, _↔_, by-cases, Dec·and, _&&_, cond, List, [], _∷_, map, ℕ, zero, suc, _+_, _<_, arith, ℕ-discrete, eq-eqb}
+use Rattle.prelude.specs.Words.{ne-eqb, eqb, ℤ, pos, _+ℤ_, length, getD}
 use Rattle.integers.specs.Integer.{Z, _≈_, _⊕_, _⊗_, nat}
 use Rattle.integers.specs.Bridge.{toZ, z-add}
 use Rattle.integers.specs.Sum.{sum, point}

@@ -1,17 +1,8 @@
 -- What a reader of the code found, as a reading of the specification; and the readers' laws, by what comes next in the text.
-use mathlib.Core.Path.{_≡_, refl, sym, _∙_}
-use mathlib.Core.Logic.{by-cases}
-use mathlib.Core.Bool.{Bool, true, false, not, _&&_, cond, true≢false}
-use mathlib.Core.List.{List, [], _∷_}
-use Prim.Native.Nat.{ℕ, zero, suc, _+_, _*_, _-_, _≤_, _<_, _^_}
-use native.Mathlib.Omega.{arith}
-use native.Mathlib.Decide.{ℕ-discrete, decLt}
-use native.Mathlib.Nat.{pow-suc, pow-le-pow-right, lt-of-lt-of-le}
-use native.Mathlib.Numerals.{add-one}
-use lib.Dec.{eqb, leb}
-use lib.ListN.{length, drop, getD, drop-of-length-le}
-use lib.Seq.{drop-cons, drop-drop}
-use borrow.Author.Tests.{ne-eqb, le-leb, lt-leb}
+use Rattle.prelude.specs.Words.{_≡_, refl, sym, _∙_, by-cases, Bool, true, false, not, _&&_, cond, true≢false, List, [], _∷_, ℕ, zero, suc, _+_, _*_, _-_, _≤_}
+use Rattle.prelude.specs.Words.{_<_, _^_, arith, ℕ-discrete, decLt, pow-suc, add-one, eqb, leb, length, drop, getD, drop-of-length-le, drop-cons, drop-drop}
+use Rattle.prelude.specs.Words.{ne-eqb, le-leb, lt-leb}
+use native.Mathlib.Nat.{pow-le-pow-right, lt-of-lt-of-le}
 use Rattle.transport.specs.Lists.{within}
 use Rattle.transport.specs.Laws.ListLaws.{and-right}
 use Rattle.transport.specs.Limits.{maxDigits}

@@ -1,17 +1,9 @@
 -- Whole numbers: a number that was read, with the sign before it.
-use mathlib.Core.Path.{_≡_, refl, sym, ap, _∙_}
-use mathlib.Core.Bool.{Bool, true, false, cond}
-use mathlib.Core.List.{List, [], _∷_}
-use Prim.Native.Nat.{ℕ, zero, suc, _+_, _≤_, _<_, _^_}
-use native.Mathlib.Omega.{arith}
-use lib.Dec.{eqb}
-use lib.IntN.{ℤ, pos, negsuc, negℤ, _-ℤ_}
-use lib.ListN.{length, drop}
-use lib.Seq.{drop-drop}
+use Rattle.prelude.specs.Words.{_≡_, refl, sym, ap, _∙_, Bool, true, false, cond, List, [], _∷_, ℕ, zero, suc, _+_, _≤_, _<_, _^_, arith, eqb, ℤ, pos, negsuc}
+use Rattle.prelude.specs.Words.{negℤ, _-ℤ_, length, drop, drop-drop, lt-ltb}
 use mir.Syntax.{w64}
 use mir.Val.{toZ, ofZ, SFits, boolByte}
 use mir.Facts.{toZ-ofZ, toZ-pos}
-use borrow.Author.Tests.{lt-ltb}
 use Rattle.grammar.specs.Number.{from-exact}
 use Rattle.grammar.specs.Lines.{LF-plain, space-plain}
 use Rattle.sections.specs.Lines.{ending}

@@ -1,16 +1,8 @@
 -- The bits of a mask, one after the other, least first: a mask without its least bit, and a change of the array at each bit.
-use mathlib.Core.Path.{_≡_, refl, sym, ap, _∙_}
-use mathlib.Core.Logic.{_≢_, by-cases}
-use mathlib.Core.Bool.{Bool, true, false, not, cond, xor, _&&_, _||_, or-false}
-use mathlib.Core.List.{List}
-use Prim.Native.Nat.{ℕ, zero, suc, _-_, _/_, _<_, min, max}
-use native.Mathlib.Omega.{arith}
-use native.Mathlib.Decide.{ℕ-discrete, decLt}
+use Rattle.prelude.specs.Words.{_≡_, refl, sym, ap, _∙_, _≢_, by-cases, Bool, true, false, not, cond, xor, _&&_, _||_, or-false, List, ℕ, zero, suc, _-_, _/_}
+use Rattle.prelude.specs.Words.{_<_, min, max, arith, ℕ-discrete, decLt, eqb, ltb, length, getD, set, length-set, eqb-true, eqb-false, eq-eqb, ne-eqb, lt-ltb}
+use Rattle.prelude.specs.Words.{le-ltb, getD-set-same, getD-set-other}
 use lib.Bits.{bitAnd, bitOr, bitXor, differ, and-le-r}
-use lib.Dec.{eqb, ltb}
-use lib.ListN.{length, getD, set, length-set}
-use borrow.Author.Tests.{eqb-true, eqb-false, eq-eqb, ne-eqb, lt-ltb, le-ltb}
-use lib.Seq.{getD-set-same, getD-set-other}
 use Rattle.tree.specs.Mask.{bit, has, put, has-put, has-zero, bit-suc, bit-and, bit-or, bit-xor}
 use Rattle.tree.specs.MaskLaws.{firstBits, first-below, first-above}
 

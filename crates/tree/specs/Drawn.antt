@@ -1,10 +1,5 @@
 -- Lanes drawn into masks: which bits are set, and that the masks are then those of the lanes.
-use mathlib.Core.Path.{_≡_}
-use mathlib.Core.Logic.{_↔_, _≢_}
-use mathlib.Core.Bool.{true}
-use mathlib.Core.List.{List}
-use Prim.Native.Nat.{ℕ, _+_, _<_, _≤_}
-use lib.ListN.{length, getD}
+use Rattle.prelude.specs.Words.{_≡_, _↔_, _≢_, true, List, ℕ, _+_, _<_, _≤_, length, getD}
 use Rattle.transport.specs.Problem.{Lane}
 use Rattle.transport.specs.Laws.ProblemLaws.{lane}
 use Rattle.tree.specs.Layout.{stride}

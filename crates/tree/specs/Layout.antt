@@ -1,15 +1,6 @@
 -- How a round's numbers lie in the flat arrays, and what the arrays stand for.
-use mathlib.Core.Path.{_≡_, refl}
-use mathlib.Core.Bool.{Bool, true, false, cond}
-use mathlib.Core.List.{List, [], _∷_}
-use Prim.Native.Nat.{ℕ, zero, suc, _+_, _*_, _/_, _%_, _<_, _≤_}
-use native.Mathlib.Omega.{arith}
-use native.Mathlib.Nat.{div-add-mod'}
-use lib.IntN.{ℤ, pos, _-ℤ_}
-use lib.Dec.{eqb}
-use lib.ListN.{length, drop, getD, set, replicate, drop-of-length-le}
-use lib.Seq.{drop-cons, getD-set-same, getD-set-other}
-use borrow.Author.Tests.{eqb-true, eqb-false}
+use Rattle.prelude.specs.Words.{_≡_, refl, Bool, true, false, cond, List, [], _∷_, ℕ, zero, suc, _+_, _*_, _/_, _%_, _<_, _≤_, arith, div-add-mod', ℤ, pos}
+use Rattle.prelude.specs.Words.{_-ℤ_, eqb, length, drop, getD, set, replicate, drop-of-length-le, drop-cons, getD-set-same, getD-set-other, eqb-true, eqb-false}
 use Rattle.transport.specs.Limits.{maxSide, costAbove}
 use Rattle.transport.specs.Lists.{table}
 use Rattle.transport.specs.Laws.ListLaws.{length-table, getD-table}

@@ -1,16 +1,8 @@
 -- Masks as lanes: bit y of the mask of node x is the lane from x to the node `otherEnd m x y`.
-use mathlib.Core.Path.{_≡_, refl, sym, ap, _∙_}
-use mathlib.Core.Logic.{_↔_, _≢_, by-cases}
-use mathlib.Core.Bool.{Bool, true, false, not, _&&_, cond, false≢true}
-use mathlib.Core.List.{List}
-use Prim.Native.Nat.{ℕ, zero, suc, _+_, _-_, _*_, _/_, _^_, _<_, _≤_}
-use native.Mathlib.Omega.{arith}
-use native.Mathlib.Decide.{ℕ-discrete, decLt}
-use borrow.Author.Tests.{lt-ltb, le-ltb, eqb-true, eqb-false, eq-eqb, ne-eqb, not-true}
-use lib.Dec.{eqb, ltb}
+use Rattle.prelude.specs.Words.{_≡_, refl, sym, ap, _∙_, _↔_, _≢_, by-cases, Bool, true, false, not, _&&_, cond, false≢true, List, ℕ, zero, suc, _+_, _-_, _*_}
+use Rattle.prelude.specs.Words.{_/_, _^_, _<_, _≤_, arith, ℕ-discrete, decLt, lt-ltb, le-ltb, eqb-true, eqb-false, eq-eqb, ne-eqb, not-true, eqb, ltb, length}
+use Rattle.prelude.specs.Words.{getD, set, length-set, getD-set-same, getD-set-other}
 use lib.Count.{ones, ones-step, trailingZeros}
-use lib.ListN.{length, getD, set, length-set}
-use lib.Seq.{getD-set-same, getD-set-other}
 use Rattle.transport.specs.Problem.{Lane}
 use Rattle.transport.specs.Laws.ProblemLaws.{lane}
 use Rattle.transport.specs.Laws.ListLaws.{and-left, and-right}

@@ -1,13 +1,6 @@
 -- A mask: a number as the set of its bits. Bit k is in the mask x where the binary digit k of x is 1.
-use Prim.Native.Nat.{ℕ, zero, suc, _+_, _-_, _*_, _/_, _%_, _^_, _<_, _≤_, min, max}
-use native.Mathlib.Omega.{arith}
-use native.Mathlib.Nat.{pow-suc, div-eq-of-lt, one-mul, eq-or-lt-of-le}
-use native.Mathlib.Decide.{decLt}
-use mathlib.Core.Path.{_≡_, refl, sym, ap, _∙_, subst}
-use mathlib.Core.Bool.{Bool, true, false, not, _&&_, _||_}
-use borrow.Author.Tests.{eqb-true, eqb-false}
-use mathlib.Core.Logic.{⊎-elim, _⊎_, inl, inr}
-use lib.Dec.{eqb}
+use Rattle.prelude.specs.Words.{ℕ, zero, suc, _+_, _-_, _*_, _/_, _%_, _^_, _<_, _≤_, min, max, arith, pow-suc, div-eq-of-lt, one-mul, eq-or-lt-of-le, decLt}
+use Rattle.prelude.specs.Words.{_≡_, refl, sym, ap, _∙_, subst, Bool, true, false, not, _&&_, _||_, eqb-true, eqb-false, ⊎-elim, _⊎_, inl, inr, eqb}
 use lib.Bits.{bitAnd, bitOr, bitXor, differ, or-shr, or-step, and-shr, and-step, xor-shr, xor-step}
 use native.Mathlib.Numerals.{one-add}
 use lib.Pow.{shr-shr, shl-shr, shl-exact, pow-lt, pow-add}

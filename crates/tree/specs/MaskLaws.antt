@@ -1,8 +1,5 @@
 -- Masks as sets: the first n bits, the bits of one mask without those of another, and where there is a bit at all.
-use mathlib.Core.Path.{_≡_, refl, _∙_}
-use Prim.Native.Nat.{ℕ, zero, suc, _+_, _-_, _*_, _/_, _%_, _^_, _<_, _≤_, min, max}
-use native.Mathlib.Omega.{arith}
-use native.Mathlib.Nat.{pow-suc, div-eq-of-lt}
+use Rattle.prelude.specs.Words.{_≡_, refl, _∙_, ℕ, zero, suc, _+_, _-_, _*_, _/_, _%_, _^_, _<_, _≤_, min, max, arith, pow-suc, div-eq-of-lt}
 use lib.Bits.{bitOr, bitXor, differ}
 use lib.Pow.{pow-pos, pow-mono, shl-exact, shr-shr}
 use lib.Count.{trailingZeros}

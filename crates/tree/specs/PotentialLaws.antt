@@ -1,14 +1,6 @@
 -- The laws of potentials by strikes: the step back through one strike, and a bound on their size.
-use Prim.Native.Nat.{ℕ, suc, _+_, _*_, _-_, _/_, _%_, _<_, _≤_}
-use native.Mathlib.Omega.{arith}
-use native.Mathlib.Nat.{suc-mul, mul-le-mul-right}
-use mathlib.Core.Path.{_≡_, refl, ap, _∙_}
-use mathlib.Core.Bool.{Bool, true, false, cond}
-use mathlib.Core.List.{List, [], _∷_}
-use lib.Dec.{eqb}
-use lib.IntN.{ℤ, pos, natAbs, _-ℤ_}
-use lib.ListN.{length, getD, set, length-drop}
-use lib.Seq.{getD-drop}
+use Rattle.prelude.specs.Words.{ℕ, suc, _+_, _*_, _-_, _/_, _%_, _<_, _≤_, arith, suc-mul, mul-le-mul-right, _≡_, refl, ap, _∙_, Bool, true, false, cond, List}
+use Rattle.prelude.specs.Words.{[], _∷_, eqb, ℤ, pos, natAbs, _-ℤ_, length, getD, set, length-drop, getD-drop}
 use Rattle.transport.specs.Problem.{Lane}
 use Rattle.transport.specs.Leaf.{Strike}
 use Rattle.transport.specs.Potential.{potentialBy}

@@ -1,17 +1,9 @@
 -- The queue of leaves: distinct nodes, those before place k struck and without a lane, those from k up to tail with at most one. Every leaf that is left
 -- waits in it.
-use mathlib.Core.Path.{_≡_, refl, sym, ap, _∙_}
-use mathlib.Core.Logic.{_≢_, _⊎_, inl, inr, ⊎-elim, by-cases}
-use mathlib.Core.Bool.{Bool, true, false, not, _&&_, cond, true≢false, false≢true}
-use mathlib.Core.List.{List}
-use Prim.Native.Nat.{ℕ, zero, suc, _+_, _<_, _≤_}
-use native.Mathlib.Omega.{arith}
-use native.Mathlib.Decide.{ℕ-discrete, decLt}
-use borrow.Author.Tests.{eqb-true, eqb-false, eq-eqb, ne-eqb, not-true}
-use lib.Dec.{eqb}
+use Rattle.prelude.specs.Words.{_≡_, refl, sym, ap, _∙_, _≢_, _⊎_, inl, inr, ⊎-elim, by-cases, Bool, true, false, not, _&&_, cond, true≢false, false≢true, List}
+use Rattle.prelude.specs.Words.{ℕ, zero, suc, _+_, _<_, _≤_, arith, ℕ-discrete, decLt, eqb-true, eqb-false, eq-eqb, ne-eqb, not-true, eqb, length, getD, set}
+use Rattle.prelude.specs.Words.{getD-set-same, getD-set-other}
 use lib.Count.{ones}
-use lib.ListN.{length, getD, set}
-use lib.Seq.{getD-set-same, getD-set-other}
 use Rattle.transport.specs.Lists.{sumTo}
 use Rattle.transport.specs.Laws.ListLaws.{and-left, and-right, sumTo-cong, sumTo-add, sumTo-each}
 use Rattle.tree.specs.Mask.{bit, has, unset, has-unset, has-zero, ones-zero, only}

@@ -1,12 +1,7 @@
 -- Prices that move on one side of a cut: rows up, columns down.
-use mathlib.Core.Path.{_≡_, refl, sym, _∙_}
-use mathlib.Core.Bool.{Bool, true, false, not, cond, xor, _&&_, false≢true}
-use mathlib.Core.List.{List}
-use Prim.Native.Nat.{ℕ, _≤_}
+use Rattle.prelude.specs.Words.{_≡_, refl, sym, _∙_, Bool, true, false, not, cond, xor, _&&_, false≢true, List, ℕ, _≤_, ltb, ℤ, pos, natAbs, negℤ, _+ℤ_, length}
+use Rattle.prelude.specs.Words.{getD}
 use lib.Bits.{bitAnd, bitXor}
-use lib.Dec.{ltb}
-use lib.IntN.{ℤ, pos, natAbs, negℤ, _+ℤ_}
-use lib.ListN.{length, getD}
 use Rattle.transport.specs.Laws.RangeLaws.{abs-neg}
 use Rattle.tree.specs.Mask.{has}
 use Rattle.tree.specs.MaskLaws.{firstBits}

@@ -1,11 +1,6 @@
 -- What the arrays hold while leaves are struck off: at the start, after one strike more, and at the end.
-use mathlib.Core.Path.{_≡_, ap, _∙_}
-use mathlib.Core.Bool.{true, cond}
-use mathlib.Core.List.{List, [], _∷_, _++_}
-use Prim.Native.Nat.{ℕ, _+_, _-_, _*_, _/_, _%_, _<_, _≤_}
-use native.Mathlib.Omega.{arith}
-use lib.ListN.{length, getD, set, length-set}
-use lib.Seq.{getD-set-same, getD-set-other}
+use Rattle.prelude.specs.Words.{_≡_, ap, _∙_, true, cond, List, [], _∷_, _++_, ℕ, _+_, _-_, _*_, _/_, _%_, _<_, _≤_, arith, length, getD, set, length-set}
+use Rattle.prelude.specs.Words.{getD-set-same, getD-set-other}
 use Rattle.transport.specs.Lists.{table}
 use Rattle.transport.specs.Laws.ListLaws.{table-zero, table-one, table-cong}
 use Rattle.transport.specs.Problem.{Lane}

@@ -1,10 +1,5 @@
 -- The strikes in the arrays: their nodes and lanes are within the room, and no lane comes twice.
-use mathlib.Core.Path.{_≡_, ap}
-use mathlib.Core.Logic.{_≢_}
-use mathlib.Core.List.{List}
-use Prim.Native.Nat.{ℕ, zero, suc, _+_, _<_, _≤_}
-use native.Mathlib.Omega.{arith}
-use lib.ListN.{length, getD}
+use Rattle.prelude.specs.Words.{_≡_, ap, _≢_, List, ℕ, zero, suc, _+_, _<_, _≤_, arith, length, getD}
 use Rattle.transport.specs.Laws.ListLaws.{member-at}
 use Rattle.transport.specs.Problem.{Lane}
 use Rattle.transport.specs.Leaf.{Strike}

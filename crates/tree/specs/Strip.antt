@@ -1,16 +1,8 @@
 -- The lanes B while leaves are struck off: what is struck, what is left, and that all is struck exactly if the lanes span.
-use mathlib.Core.Path.{_≡_, refl, sym, ap, _∙_}
-use mathlib.Core.Logic.{_≢_, _⊎_, inl, inr, ⊎-elim, by-cases}
-use mathlib.Core.Bool.{Bool, true, false, not, _&&_, cond, true≢false}
-use mathlib.Core.List.{List, [], _∷_, _++_, List·Memᴰ, List·Memᴰ·head, List·Memᴰ·tail, List·Memᴰ·not-nil, List·Memᴰ·cases-cons, List·Memᴰ·append-cases}
-use mathlib.Core.List.{Memᴰ·append-left, Memᴰ·append-right, List·Memᴰ·eq-of-singleton, Memᴰ·cast}
-use Prim.Native.Nat.{ℕ, suc, _+_, _-_, _<_, _≤_}
-use native.Mathlib.Omega.{arith}
-use native.Mathlib.Decide.{decLt}
-use borrow.Author.Tests.{lt-ltb, le-ltb, eq-eqb, ne-eqb, not-true}
-use lib.Dec.{ltb}
-use lib.ListN.{length, getD, set}
-use lib.Seq.{getD-set-other}
+use Rattle.prelude.specs.Words.{_≡_, refl, sym, ap, _∙_, _≢_, _⊎_, inl, inr, ⊎-elim, by-cases, Bool, true, false, not, _&&_, cond, true≢false, List, [], _∷_}
+use Rattle.prelude.specs.Words.{_++_, List·Memᴰ, List·Memᴰ·head, List·Memᴰ·tail, List·Memᴰ·not-nil, List·Memᴰ·cases-cons, List·Memᴰ·append-cases}
+use Rattle.prelude.specs.Words.{Memᴰ·append-left, Memᴰ·append-right, List·Memᴰ·eq-of-singleton, Memᴰ·cast, ℕ, suc, _+_, _-_, _<_, _≤_, arith, decLt, lt-ltb}
+use Rattle.prelude.specs.Words.{le-ltb, eq-eqb, ne-eqb, not-true, ltb, length, getD, set, getD-set-other}
 use Rattle.transport.specs.Lists.{keep, table}
 use Rattle.transport.specs.Laws.ListLaws.{keep-yes, keep-no, keep-none, keep-all, keep-cong, keep-keep, keep-member, member-keep, all-members, member-place}
 use Rattle.transport.specs.Laws.ListLaws.{member-at, and-left, and-right}

@@ -1,13 +1,5 @@
 -- `belonging::balances` meets its contract: with the cells a tree, the two flows decide (`balanced-is`).
-use Prim.Native.Nat.{_+_, _-_}
-use native.Mathlib.Omega.{arith}
-use mathlib.Core.Path.{_≡_, sym, _∙_}
-use mathlib.Core.Bool.{_&&_}
-use mathlib.Core.List.{List}
-use borrow.Author.Needs.{needs}
-use borrow.Author.Tests.{not-true, not-false}
-use lib.IntN.{ℤ}
-use lib.ListN.{length}
+use Rattle.prelude.specs.Words.{_+_, _-_, arith, _≡_, sym, _∙_, _&&_, List, needs, not-true, not-false, ℤ, length}
 use Rattle.transport.specs.declared.Cell.{Cell}
 use Rattle.transport.specs.Belonging.{balanced}
 use Rattle.transport.specs.Laws.ProblemLaws.{problem}

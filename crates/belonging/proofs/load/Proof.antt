@@ -1,11 +1,5 @@
 -- `belonging::load` meets its contract: each test refuses what does not belong (`other-count`, `other-cells`), and the last one decides (`belongs-whole`).
-use Prim.Native.Nat.{_≤_}
-use native.Mathlib.Omega.{arith}
-use mathlib.Core.Path.{_≡_, sym, _∙_}
-use mathlib.Core.Bool.{true, false≢true}
-use borrow.Author.Needs.{needs}
-use borrow.Author.Tests.{not-true, not-false}
-use lib.ListN.{length}
+use Rattle.prelude.specs.Words.{_≤_, arith, _≡_, sym, _∙_, true, false≢true, needs, not-true, not-false, length}
 use Rattle.transport.specs.Tableau.{cellsOf, basisSize}
 use Rattle.transport.specs.Laws.ListLaws.{length-mapped}
 use Rattle.board.specs.Cells.{cellRoom, length-cells}
@@ -17,9 +11,6 @@ use Rattle.belonging.proofs.load.Tie as tie
 
 sides : (c : tie.Start) → Sides (length (c .args .supply .now)) (length (c .args .demand .now))
 sides c = list-sides (c .pre .0 .1)
-
-sub-if1 : tie.Need-sub-if1
-sub-if1 c = omega (arith, sides (c .before .before) .rowsLow)
 
 returns : tie.Need-returns
 unfolding basisSize
@@ -66,9 +57,6 @@ many : (c : tie.After-lay-out) → let a = startOf c .args in length (cellsOf (a
 many c =
     let e = c .before .before .before .before .before .before .before .before in
     length-cells (startOf c .args .t) (omega (arith, few e, roomy (e .before))) ∙ counted e
-
-sub-if3 : tie.Need-sub-if3
-sub-if3 c = omega (arith, sides (startOf c) .rowsLow)
 
 returns-3 : tie.Need-returns-3
 unfolding basisSize
@@ -117,13 +105,13 @@ load-spec =
     tie.close
     (tie.spec
     (λ c. search needs)
-    sub-if1
+    (λ c. omega (arith, sides (c .before .before) .rowsLow))
     returns
     cells-fit-requires
     returns-2
     lay-out-requires
     (λ c. search needs)
-    sub-if3
+    (λ c. omega (arith, sides (startOf c) .rowsLow))
     returns-3
     balances-requires
     returns-4)

@@ -1,11 +1,10 @@
 -- Each way out is a case of the answer.
-use mathlib.Core.Path.{sym, ap, _∙_}
+use Rattle.prelude.specs.Words.{sym, ap, _∙_, needs}
 use Rattle.transport.specs.declared.RoundAnswer.{RoundAnswer}
 use Rattle.transport.specs.declared.RoundOutcome.{RoundOutcome}
 use Rattle.transport.specs.Sheet.{Sheet, sheetOf}
 use Rattle.transport.specs.Calls.{roundCall}
 use Rattle.border.specs.Crossing.{rounded, rounded-is}
-use borrow.Author.Needs.{needs}
 use Rattle.border.proofs.round_from.Statement.{statement}
 use Rattle.border.proofs.round_from.Tie as tie
 

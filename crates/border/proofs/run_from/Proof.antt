@@ -1,25 +1,12 @@
 -- Each way out is a case of the answer.
-use mathlib.Core.Path.{sym, ap, _∙_}
+use Rattle.prelude.specs.Words.{sym, ap, _∙_, needs}
 use Rattle.transport.specs.declared.RunAnswer.{RunAnswer}
 use Rattle.transport.specs.declared.RunOutcome.{RunOutcome}
 use Rattle.transport.specs.Sheet.{Sheet, sheetOf}
 use Rattle.transport.specs.Calls.{runCall}
 use Rattle.border.specs.Crossing.{ran, ran-is}
-use borrow.Author.Needs.{needs}
 use Rattle.border.proofs.run_from.Statement.{statement}
 use Rattle.border.proofs.run_from.Tie as tie
-
-run-requires : tie.Need-run-requires
-run-requires c κs = search needs
-
-enum-known-outcome : tie.Need-enum-known-outcome
-enum-known-outcome c = search needs
-
-enum-known-outcome-2 : tie.Need-enum-known-outcome-2
-enum-known-outcome-2 c = search needs
-
-enum-known-outcome-3 : tie.Need-enum-known-outcome-3
-enum-known-outcome-3 c = search needs
 
 abbrev sheetAt : (t : tie.Start) → Sheet
 sheetAt t = sheetOf (t .args .supply .now) (t .args .demand .now) (t .args .cost .now)
@@ -52,10 +39,10 @@ pub run-from-spec : {M : Type 1} → statement M
 run-from-spec =
     tie.close
     (tie.spec
-    run-requires
-    enum-known-outcome
-    enum-known-outcome-2
-    enum-known-outcome-3
+    (λ c κs. search needs)
+    (λ c. search needs)
+    (λ c. search needs)
+    (λ c. search needs)
     returns
     returns-2
     returns-3)

@@ -1,7 +1,6 @@
 -- Each way out is a case of the answer.
-use mathlib.Core.Path.{sym, ap}
+use Rattle.prelude.specs.Words.{sym, ap, needs}
 use Rattle.border.specs.Crossing.{written}
-use borrow.Author.Needs.{needs}
 use Rattle.border.proofs.write_out.Statement.{statement}
 use Rattle.border.proofs.write_out.Tie as tie
 

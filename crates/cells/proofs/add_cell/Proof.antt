@@ -1,7 +1,5 @@
 -- `cells::add_cell` meets its contract: each of its three ends is a case of `addCell`.
-use native.Mathlib.Omega.{arith}
-use borrow.Author.Needs.{needs}
-use borrow.Author.Tests.{lt-ltb, le-ltb}
+use Rattle.prelude.specs.Words.{arith, needs, lt-ltb, le-ltb}
 use Rattle.transport.specs.Limits.{maxSide, maxCells}
 use Rattle.cells.specs.Lent.{maxCount, addCell}
 use Rattle.cells.proofs.add_cell.Statement.{statement}

@@ -1,7 +1,5 @@
 -- Each way out is a case of the answer.
-use mathlib.Core.Path.{_≡_, sym, ap, _∙_}
-use lib.IntN.{ℤ}
-use lib.ListN.{length}
+use Rattle.prelude.specs.Words.{_≡_, sym, ap, _∙_, ℤ, length, needs}
 use mir.Syntax.{w64}
 use mir.Val.{toZ, ofZ}
 use Rattle.transport.specs.declared.SolveAnswer.the-variants as SolveAnswer
@@ -9,27 +7,8 @@ use Rattle.transport.specs.Sheet.{Sheet, sheetOf}
 use Rattle.transport.specs.Calls.{solveCall}
 use Rattle.transport.specs.Laws.RangeLaws.{back}
 use Rattle.exports.specs.Crossing.{solvedAs, solved-is}
-use borrow.Author.Needs.{needs}
 use Rattle.exports.proofs.panel_solve.Statement.{statement}
 use Rattle.exports.proofs.panel_solve.Tie as tie
-
-solve-requires : tie.Need-solve-requires
-solve-requires c κs = search needs
-
-enum-known-answer : tie.Need-enum-known-answer
-enum-known-answer c = search needs
-
-enum-known-answer-2 : tie.Need-enum-known-answer-2
-enum-known-answer-2 c = search needs
-
-same-length : tie.Need-same-length
-same-length c = search needs
-
-same-length-2 : tie.Need-same-length-2
-same-length-2 c = search needs
-
-same-length-3 : tie.Need-same-length-3
-same-length-3 c = search needs
 
 abbrev sheetAt : (t : tie.Start) → Sheet
 sheetAt t = sheetOf (t .args .supply .now) (t .args .demand .now) (t .args .cost .now)
@@ -44,15 +23,6 @@ returns c =
     let cost : toZ w64 (ofZ w64 (g .0 .0)) ≡ g .0 .0 = back w64 (g .0 .0) (search needs) in
     (ap (λ (k : ℤ). solvedAs (SolveAnswer.Solved k (g .0 .1 .0))) cost ∙ ap solvedAs (sym (g .1) ∙ e .0) ∙ solved-is a, e .1, e .2, e .3)
 
-same-length-4 : tie.Need-same-length-4
-same-length-4 c = search needs
-
-same-length-5 : tie.Need-same-length-5
-same-length-5 c = search needs
-
-same-length-6 : tie.Need-same-length-6
-same-length-6 c = search needs
-
 returns-2 : tie.Need-returns-2
 returns-2 c =
     let t = c .before .before .before .before .before .before .before .before .before .before .before .before .before .before in
@@ -64,14 +34,14 @@ pub panel-solve-spec : {M : Type 1} → statement M
 panel-solve-spec =
     tie.close
     (tie.spec
-    solve-requires
-    enum-known-answer
-    enum-known-answer-2
-    same-length
-    same-length-2
-    same-length-3
+    (λ c κs. search needs)
+    (λ c. search needs)
+    (λ c. search needs)
+    (λ c. search needs)
+    (λ c. search needs)
+    (λ c. search needs)
     returns
-    same-length-4
-    same-length-5
-    same-length-6
+    (λ c. search needs)
+    (λ c. search needs)
+    (λ c. search needs)
     returns-2)

@@ -1,11 +1,10 @@
 -- Each way out is a case of the answer.
-use mathlib.Core.Path.{sym, ap, _∙_}
+use Rattle.prelude.specs.Words.{sym, ap, _∙_, needs}
 use Rattle.transport.specs.declared.StartAnswer.{StartAnswer}
 use Rattle.transport.specs.declared.StartOutcome.{StartOutcome}
 use Rattle.transport.specs.Sheet.{Sheet, sheetOf}
 use Rattle.transport.specs.Calls.{startCall}
 use Rattle.exports.specs.Crossing.{started, started-is}
-use borrow.Author.Needs.{needs}
 use Rattle.exports.proofs.panel_start.Statement.{statement}
 use Rattle.exports.proofs.panel_start.Tie as tie
 

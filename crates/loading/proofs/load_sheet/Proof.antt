@@ -1,6 +1,5 @@
 -- `loading::load_sheet` meets its contract: what the sheet check refuses is refused, and else the tableau is tested and loaded.
-use mathlib.Core.Path.{_≡_, sym, ap, _∙_}
-use borrow.Author.Needs.{needs}
+use Rattle.prelude.specs.Words.{_≡_, sym, ap, _∙_, needs}
 use Rattle.transport.specs.Sheet.{Sheet, sheetOf}
 use Rattle.transport.specs.Laws.SheetLaws.{accepted}
 use Rattle.transport.specs.Laws.CallLaws.{some≢none}

@@ -1,9 +1,5 @@
 -- `loading::load_tableau` meets its contract: among those left the caller's tableau belongs exactly if it belongs to the sheet under own numbers.
-use mathlib.Core.Path.{_≡_, sym, ap, _∙_}
-use mathlib.Core.Bool.{true}
-use mathlib.Core.List.{map}
-use borrow.Author.Needs.{needs}
-use borrow.Author.Tests.{not-true, not-false}
+use Rattle.prelude.specs.Words.{_≡_, sym, ap, _∙_, true, map, needs, not-true, not-false}
 use Rattle.transport.specs.Sheet.{Sheet, cafes, sheetOf}
 use Rattle.transport.specs.Extended.{extended}
 use Rattle.transport.specs.Parties.{rowsLeft, columnsLeft, problemOf}
@@ -30,9 +26,6 @@ sheetAt s = sheetOf (s .args .supply .now) (s .args .demand .now) (s .args .cost
 
 abbrev startBefore : tie.After-cols → tie.Start
 startBefore c = c .before .before .before .before .before .before
-
-number-parties-requires : tie.Need-number-parties-requires
-number-parties-requires c κs = (_, startBefore c .pre .0)
 
 -- ---- the parties are numbered
 
@@ -148,7 +141,7 @@ pub load-tableau-spec : {M : Type 1} → statement M
 load-tableau-spec =
     tie.close
     (tie.spec
-    number-parties-requires
+    (λ c κs. (_, startBefore c .pre .0))
     (λ c. parties c .rowsRoom)
     (λ c. rows-lent (parties (c .before)))
     (λ c. parties (c .before) .colsRoom)

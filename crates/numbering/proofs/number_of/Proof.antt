@@ -1,6 +1,5 @@
 -- `numbering::number_of` meets its contract: on the list its number, and off the list nobody's.
-use native.Mathlib.Omega.{arith}
-use borrow.Author.Needs.{needs}
+use Rattle.prelude.specs.Words.{arith, needs}
 use Rattle.transport.specs.Limits.{maxSide}
 use Rattle.transport.specs.Lists.{at}
 use Rattle.numbering.specs.Numbers.{numbering-off}

@@ -1,8 +1,5 @@
 -- `numbering::numbers` meets its contract. The loop's invariant: the numbers of the first k are in the list, and nobody else's.
-use Prim.Native.Nat.{_-_, _≤_, _<_}
-use mathlib.Core.Path.{_≡_}
-use native.Mathlib.Omega.{arith}
-use lib.ListN.{length}
+use Rattle.prelude.specs.Words.{_-_, _≤_, _<_, _≡_, arith, length}
 use Rattle.transport.specs.Limits.{maxSide}
 use Rattle.transport.specs.Lists.{at}
 use Rattle.numbering.specs.Numbers.{NumberedTo, numbered-none, numbered-one, numbered-all}
@@ -18,12 +15,6 @@ abbrev μ-loop : tie.MeasureT-loop
 loop-holds : tie.Need-loop-holds Inv-loop μ-loop
 unfolding maxSide
 loop-holds c = (omega arith, numbered-none (c .args .own .now))
-
-mul-among : tie.Need-mul-among Inv-loop μ-loop
-mul-among c = omega arith
-
-shared-slice-read-among : tie.Need-shared-slice-read-among Inv-loop μ-loop
-shared-slice-read-among c = omega arith
 
 -- An own number has a place in the list.
 inside : (c : tie.After-shared-slice-known Inv-loop μ-loop)
@@ -55,8 +46,8 @@ numbers-spec =
     Inv-loop
     μ-loop
     loop-holds
-    mul-among
-    shared-slice-read-among
+    (λ c. omega arith)
+    (λ c. omega arith)
     mul-among-2
     array-write-among
     (λ c. omega arith)

@@ -1,6 +1,5 @@
 -- `numbering::own_cell` meets its contract.
-use mathlib.Core.Path.{refl}
-use borrow.Author.Needs.{needs}
+use Rattle.prelude.specs.Words.{refl, needs}
 use Rattle.transport.specs.Lists.{at}
 use Rattle.numbering.specs.Numbers.{ownCell}
 use Rattle.numbering.proofs.own_cell.Statement.{statement}

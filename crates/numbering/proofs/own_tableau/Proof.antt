@@ -1,6 +1,5 @@
 -- `numbering::own_tableau` meets its contract. The loop's invariant: the first k cells have own numbers, and the rest is as it was.
-use Prim.Native.Nat.{_-_, _≤_, _<_}
-use native.Mathlib.Omega.{arith}
+use Rattle.prelude.specs.Words.{_-_, _≤_, _<_, arith}
 use Rattle.transport.specs.Limits.{maxSide, maxCells}
 use Rattle.transport.specs.Amount.{nothing}
 use Rattle.transport.specs.Tableau.{noCell}
@@ -50,9 +49,6 @@ add-k : tie.Need-add-k Inv-loop μ-loop
 unfolding maxCells maxSide
 add-k c = omega (arith, room (c .before .before))
 
-loop-less : tie.Need-loop-less Inv-loop μ-loop
-loop-less c = omega (arith, below (c .before .before))
-
 loop-again : tie.Need-loop-again Inv-loop μ-loop
 unfolding noCell nothing
 loop-again c =
@@ -78,6 +74,6 @@ own-tableau-spec =
     mul-t7
     element-set-from-own
     add-k
-    loop-less
+    (λ c. omega (arith, below (c .before .before)))
     loop-again
     returns)

@@ -1,10 +1,6 @@
 -- `numbering::renumber` meets its contract. The loop's invariant: the first k cells of the array have the numbers of those left, and the rest is as it was; no
 -- more are counted than the array has.
-use Prim.Native.Nat.{_-_, _≤_, _<_}
-use mathlib.Core.Path.{_≡_, _∙_}
-use native.Mathlib.Omega.{arith}
-use borrow.Author.Needs.{needs}
-use lib.ListN.{length}
+use Rattle.prelude.specs.Words.{_-_, _≤_, _<_, _≡_, _∙_, arith, needs, length}
 use Rattle.transport.specs.Limits.{maxSide, maxCells}
 use Rattle.transport.specs.Amount.{nothing}
 use Rattle.transport.specs.Tableau.{noCell}
@@ -24,9 +20,6 @@ loop-holds c = (omega arith, changed-none, counted-most _ _ (c .counted .ensures
 
 below : (c : tie.In-loop Inv-loop μ-loop) → c .before .loop .k < maxCells
 below c = omega (arith, c .before .loop .inv .2)
-
-loop-less : tie.Need-loop-less Inv-loop μ-loop
-loop-less c = omega arith
 
 long : (c : tie.Start Inv-loop μ-loop) → length (c .args .t .cells) ≡ maxCells
 unfolding maxCells maxSide
@@ -85,6 +78,6 @@ renumber-spec =
     mul-t12
     (λ c. element-copy-out-c (inLoop c))
     add-k
-    loop-less
+    (λ c. omega arith)
     loop-again
     returns)

@@ -1,12 +1,6 @@
 -- The loop's invariant: what was read lies in the buffer. What is left of the buffer falls in each turn.
-use mathlib.Core.Path.{_≡_, _∙_}
-use Prim.Native.Nat.{_≤_, _<_, _-_, _^_}
-use native.Mathlib.Omega.{arith}
-use borrow.Author.Needs.{needs}
+use Rattle.prelude.specs.Words.{_≡_, _∙_, _≤_, _<_, _-_, _^_, arith, needs, natAbs, length, mag}
 use borrow.Rule.Slice.PartMut.{putMid, same-len-mid, mid-len}
-use lib.IntN.{natAbs}
-use lib.ListN.{length}
-use lib.Signed.{mag}
 use mir.Syntax.{w64}
 use mir.Val.{toZ, ofZ}
 use Rattle.sections.specs.Whole.{not-negative}
@@ -20,21 +14,6 @@ Inv-loop buffer₀ at₀ buffer at = (at ≤ length buffer) × (length buffer �
 abbrev μ-loop : tie.MeasureT-loop
 μ-loop buffer₀ at₀ buffer at = length buffer - at
 
-loop-holds : tie.Need-loop-holds Inv-loop μ-loop
-loop-holds c = omega arith
-
-sub-read : tie.Need-sub-read Inv-loop μ-loop
-sub-read c = omega arith
-
-part-read-start : tie.Need-part-read-start Inv-loop μ-loop
-part-read-start c = omega arith
-
-part-read-end : tie.Need-part-read-end Inv-loop μ-loop
-part-read-end c = search needs
-
-read-requires : tie.Need-read-requires Inv-loop μ-loop
-read-requires c κs = search needs
-
 -- The buffer is as long as it was.
 after : (c : tie.After-read Inv-loop μ-loop) → let l = c .before .before .before .loop in
     length (putMid (l .at) (length (l .buffer) - l .at) (l .buffer) (c .read .last .1 .0)) ≡ length (l .buffer)
@@ -42,9 +21,6 @@ after c = let l = c .before .before .before .loop in same-len-mid (l .at) (lengt
 
 same-length : tie.Need-same-length Inv-loop μ-loop
 same-length c = after (c .before .before .before) ∙ c .before .before .before .before .before .before .loop .inv .1
-
-returns : tie.Need-returns Inv-loop μ-loop
-returns c = tt
 
 same-length-2 : tie.Need-same-length-2 Inv-loop μ-loop
 same-length-2 c = after (c .before .before .before .before) ∙ c .before .before .before .before .before .before .before .loop .inv .1
@@ -74,17 +50,11 @@ module _ (c : tie.Else2 Inv-loop μ-loop) where
 cast-at : tie.Need-cast-at Inv-loop μ-loop
 cast-at c = (not-negative (toZ w64 (ofZ w64 (c .before .before .before .before .read .result))) (c .before .if1 .left), omega (arith, most c))
 
-add-at : tie.Need-add-at Inv-loop μ-loop
-add-at c = omega (arith, most c)
-
 loop-less : tie.Need-loop-less Inv-loop μ-loop
 loop-less c = omega (arith, most c, least c, after (c .before .before .before .before))
 
 loop-again : tie.Need-loop-again Inv-loop μ-loop
 loop-again c = omega (arith, most c, after (c .before .before .before .before))
-
-same-length-3 : tie.Need-same-length-3 Inv-loop μ-loop
-same-length-3 c = c .before .loop .inv .1
 
 returns-3 : tie.Need-returns-3 Inv-loop μ-loop
 returns-3 c = c .before .loop .inv .0
@@ -95,18 +65,18 @@ read-input-spec =
     (tie.spec
     Inv-loop
     μ-loop
-    loop-holds
-    sub-read
-    part-read-start
-    part-read-end
-    read-requires
+    (λ c. omega arith)
+    (λ c. omega arith)
+    (λ c. omega arith)
+    (λ c. search needs)
+    (λ c κs. search needs)
     same-length
-    returns
+    (λ c. tt)
     same-length-2
     returns-2
     cast-at
-    add-at
+    (λ c. omega (arith, most c))
     loop-less
     loop-again
-    same-length-3
+    (λ c. c .before .loop .inv .1)
     returns-3)

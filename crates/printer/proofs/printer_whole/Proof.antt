@@ -1,12 +1,10 @@
 -- Too short, or written. The number is passed on as it is.
-use mathlib.Core.Path.{_≡_}
-use native.Mathlib.Omega.{arith}
+use Rattle.prelude.specs.Words.{_≡_, arith, needs}
 use mir.Syntax.{w64}
 use mir.Val.{toZ, ofZ}
 use Rattle.transport.specs.Laws.RangeLaws.{back}
 use Rattle.transport.specs.Text.{wholeDigits}
 use Rattle.sections.specs.Fitting.{put-nothing, put-whole}
-use borrow.Author.Needs.{needs}
 use Rattle.printer.proofs.printer_whole.Statement.{statement}
 use Rattle.printer.proofs.printer_whole.Tie as tie
 

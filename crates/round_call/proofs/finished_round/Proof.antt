@@ -1,6 +1,5 @@
 -- `round_call::finished_round` meets its contract: the prices of both sides, written in lists of zeros, and no tableau.
-use native.Mathlib.Omega.{arith}
-use borrow.Author.Needs.{needs}
+use Rattle.prelude.specs.Words.{arith, needs}
 use Rattle.transport.specs.Limits.{maxSide}
 use Rattle.transport.specs.Sheet.{Sheet, sheetOf, roasteries, cafes}
 use Rattle.transport.specs.Laws.Sound.{sources-room, sinks-room}

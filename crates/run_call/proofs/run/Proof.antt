@@ -1,7 +1,5 @@
 -- `run_call::run` meets its contract: each way out is a case of the call.
-use mathlib.Core.Path.{_≡_, refl, sym, ap, _∙_}
-use mathlib.Core.Option.{none}
-use borrow.Author.Needs.{needs}
+use Rattle.prelude.specs.Words.{_≡_, refl, sym, ap, _∙_, none, needs}
 use Rattle.transport.specs.Sheet.{Sheet, refusal, sheetOf}
 use Rattle.transport.specs.Tableau.{tableauOf}
 use Rattle.transport.specs.Calls.{given, tableauTests, inside}

@@ -1,13 +1,5 @@
 -- `settle_call::settle` meets its contract: each way out is a case of the call.
-use native.Mathlib.Omega.{arith}
-use Prim.Native.Nat.{ℕ, _≤_}
-use native.Mathlib.Nat.{mul-le-mul-left}
-use mathlib.Core.Path.{_≡_, refl, sym, _∙_}
-use mathlib.Core.Bool.{true}
-use mathlib.Core.Option.{none}
-use borrow.Author.Needs.{needs}
-use borrow.Author.Tests.{not-true, not-false}
-use lib.ListN.{length}
+use Rattle.prelude.specs.Words.{arith, ℕ, _≤_, mul-le-mul-left, _≡_, refl, sym, _∙_, true, none, needs, not-true, not-false, length}
 use Rattle.transport.specs.Limits.{maxSide}
 use Rattle.transport.specs.Sheet.{Sheet, roasteries, cafes, refusal, sheetOf}
 use Rattle.transport.specs.Parties.{problemOf}

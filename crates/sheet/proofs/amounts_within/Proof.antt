@@ -1,13 +1,6 @@
 -- The loop's invariant: the test of the whole list is the test of what is left of it.
-use borrow.Author.Needs.{needs}
-use borrow.Author.Tests.{le-leb, lt-leb}
-use mathlib.Core.Path.{_≡_, refl, sym, ap, _∙_}
-use mathlib.Core.List.{List, _∷_}
-use Prim.Native.Nat.{ℕ, _≤_, _-_, suc}
-use native.Mathlib.Omega.{arith}
-use native.Mathlib.Numerals.{add-one}
-use lib.ListN.{length, drop, getD, drop-of-length-le}
-use lib.Seq.{drop-cons}
+use Rattle.prelude.specs.Words.{needs, le-leb, lt-leb, _≡_, refl, sym, ap, _∙_, List, _∷_, ℕ, _≤_, _-_, suc, arith, add-one, length, drop, getD}
+use Rattle.prelude.specs.Words.{drop-of-length-le, drop-cons}
 use Rattle.transport.specs.Lists.{all, atMost}
 use Rattle.transport.specs.Limits.{maxAmount}
 use Rattle.transport.specs.Laws.ListLaws.{all-nil, all-yes, all-no}

@@ -1,20 +1,12 @@
 -- Each way out is a case of `refusal`; the totals are taken where both lists are known to be within their limits.
-use mathlib.Core.Path.{_≡_, sym, ap, _∙_}
-use mathlib.Core.Logic.{_↔_, ⊎-elim}
-use mathlib.Core.Bool.{true, false, not, true≢false}
-use mathlib.Core.Option.{none, some}
-use Prim.Native.Nat.{_≤_}
-use native.Mathlib.Omega.{arith}
-use lib.Dec.{ltb}
-use lib.IntN.{pos, negℤ}
-use borrow.Author.Tests.{not-true, not-false, eqb-true, eqb-false, eq-eqb, ltb-true, ltb-false}
+use Rattle.prelude.specs.Words.{_≡_, sym, ap, _∙_, _↔_, ⊎-elim, true, false, not, true≢false, none, some, _≤_, arith, ltb, pos, negℤ, not-true, not-false}
+use Rattle.prelude.specs.Words.{eqb-true, eqb-false, eq-eqb, ltb-true, ltb-false, needs}
 use Rattle.transport.specs.Lists.{all, atMost, withinZ, total}
 use Rattle.transport.specs.Limits.{maxSide, maxAmount, maxCost}
 use Rattle.transport.specs.Sheet.{Sheet, cafes, sheetOf, refusal, numberTests}
 use Rattle.transport.specs.Statements.{Lacking, Crowded, Idle}
 use Rattle.sheet.specs.Check.{check-none, check-some}
 use Rattle.sheet.specs.Refusals.{refused-supply, refused-demand, refused-cost, refused-lacking, refused-crowded, refused-idle, numbers-accepted}
-use borrow.Author.Needs.{needs}
 use Rattle.sheet.proofs.check_numbers.Statement.{statement}
 use Rattle.sheet.proofs.check_numbers.Tie as tie
 
@@ -28,26 +20,17 @@ costs-fit : (c : tie.Else3)
     → all (withinZ (negℤ (pos maxCost)) (pos maxCost)) (c .before .before .before .before .before .before .before .before .args .cost .now) ≡ true
 costs-fit c = sym (c .before .costs-within .ensures) ∙ not-false _ (c .if3 .left)
 
-amounts-within-requires : tie.Need-amounts-within-requires
-amounts-within-requires c κs = search needs
-
 returns : tie.Need-returns
 returns c =
     let a = c .before .before .before .before .args in
     let S = sheetOf (a .supply .now) (a .demand .now) (a .cost .now) in
     rw (refused-supply S (sym (c .before .amounts-within .ensures) ∙ not-true _ (c .if1 .taken)), check-some)
 
-amounts-within-requires-2 : tie.Need-amounts-within-requires-2
-amounts-within-requires-2 c κs = search needs
-
 returns-2 : tie.Need-returns-2
 returns-2 c =
     let a = c .before .before .before .before .before .before .args in
     let S = sheetOf (a .supply .now) (a .demand .now) (a .cost .now) in
     rw (refused-demand S (supplies-fit (c .before .before)) (sym (c .before .amounts-within2 .ensures) ∙ not-true _ (c .if2 .taken)), check-some)
-
-costs-within-requires : tie.Need-costs-within-requires
-costs-within-requires c κs = search needs
 
 returns-3 : tie.Need-returns-3
 returns-3 c =
@@ -153,11 +136,11 @@ pub check-numbers-spec : {M : Type 1} → statement M
 check-numbers-spec =
     tie.close
     (tie.spec
-    amounts-within-requires
+    (λ c κs. search needs)
     returns
-    amounts-within-requires-2
+    (λ c κs. search needs)
     returns-2
-    costs-within-requires
+    (λ c κs. search needs)
     returns-3
     total-of-requires
     total-of-requires-2

@@ -1,9 +1,5 @@
 -- Each way out is a case of `refusal`; what is left of the tests is check_numbers.
-use mathlib.Core.Path.{_≡_, sym, _∙_}
-use mathlib.Core.Bool.{true}
-use native.Mathlib.Omega.{arith}
-use lib.ListN.{length}
-use borrow.Author.Tests.{not-true, not-false, eq-eqb, ne-eqb}
+use Rattle.prelude.specs.Words.{_≡_, sym, _∙_, true, arith, length, not-true, not-false, eq-eqb, ne-eqb, needs}
 use Rattle.transport.specs.Lists.{within}
 use Rattle.transport.specs.Limits.{maxSources, maxSinks}
 use Rattle.transport.specs.Sheet.{sheetOf}
@@ -12,7 +8,6 @@ use Rattle.transport.specs.Laws.Sound.{sources-room, sinks-room}
 use Rattle.sheet.specs.Check.{check-some}
 use Rattle.sheet.specs.Laws.{sides-product}
 use Rattle.sheet.specs.Refusals.{refused-sources, refused-sinks, refused-length, sheet-numbers}
-use borrow.Author.Needs.{needs}
 use Rattle.sheet.proofs.check_sheet.Statement.{statement}
 use Rattle.sheet.proofs.check_sheet.Tie as tie
 
@@ -24,18 +19,12 @@ sinks-fit : (c : tie.Else2) → within 1 maxSinks (length (c .before .before .be
 unfolding maxSinks
 sinks-fit c = sym (c .before .side-fits2 .ensures) ∙ not-false _ (c .if2 .left)
 
-side-fits-requires : tie.Need-side-fits-requires
-side-fits-requires c κs = search needs
-
 returns : tie.Need-returns
 unfolding maxSources
 returns c =
     let a = c .before .before .before .before .args in
     let S = sheetOf (a .supply .now) (a .demand .now) (a .cost .now) in
     rw (refused-sources S (sym (c .before .side-fits .ensures) ∙ not-true _ (c .if1 .taken)), check-some)
-
-side-fits-requires-2 : tie.Need-side-fits-requires-2
-side-fits-requires-2 c κs = search needs
 
 returns-2 : tie.Need-returns-2
 unfolding maxSinks
@@ -71,9 +60,9 @@ pub check-sheet-spec : {M : Type 1} → statement M
 check-sheet-spec =
     tie.close
     (tie.spec
-    side-fits-requires
+    (λ c κs. search needs)
     returns
-    side-fits-requires-2
+    (λ c κs. search needs)
     returns-2
     mul-if3
     returns-3

@@ -1,15 +1,6 @@
 -- The loop's invariant: the test of the whole list is the test of what is left of it.
-use borrow.Author.Needs.{needs}
-use mathlib.Core.Path.{_≡_, refl, sym, ap, _∙_}
-use mathlib.Core.Bool.{Bool, true, false}
-use mathlib.Core.List.{List, _∷_}
-use Prim.Native.Nat.{_≤_, _-_, suc}
-use native.Mathlib.Omega.{arith}
-use native.Mathlib.Numerals.{add-one}
-use lib.IntN.{ℤ, pos, negℤ}
-use lib.ListN.{length, drop, getD, drop-of-length-le}
-use lib.Seq.{drop-cons}
-use lib.Signed.{ltZ}
+use Rattle.prelude.specs.Words.{needs, _≡_, refl, sym, ap, _∙_, Bool, true, false, List, _∷_, _≤_, _-_, suc, arith, add-one, ℤ, pos, negℤ, length, drop, getD}
+use Rattle.prelude.specs.Words.{drop-of-length-le, drop-cons, ltZ}
 use mir.Syntax.{w64}
 use Rattle.transport.specs.Lists.{all, withinZ}
 use Rattle.transport.specs.Limits.{maxCost}
@@ -30,15 +21,6 @@ abbrev μ-loop : tie.MeasureT-loop
 
 loop-holds : tie.Need-loop-holds Inv-loop μ-loop
 loop-holds c = (omega arith, refl)
-
-mul-x : tie.Need-mul-x Inv-loop μ-loop
-mul-x c = search needs
-
-shared-slice-copy-out-x : tie.Need-shared-slice-copy-out-x Inv-loop μ-loop
-shared-slice-copy-out-x c = search needs
-
-sub-if1 : tie.Need-sub-if1 Inv-loop μ-loop
-sub-if1 c = search needs
 
 -- The cost that a turn looks at, and the test of what is left, which begins with it.
 module _ (l : tie.In-loop Inv-loop μ-loop) where
@@ -75,12 +57,6 @@ high : (c : tie.Else2 Inv-loop μ-loop) → ltZ (pos maxCost) (cost (c .before .
 unfolding maxCost
 high c = rw (back w64 (cost (c .before .before .before)) (search needs)) at (c .if2 .left)
 
-add-i : tie.Need-add-i Inv-loop μ-loop
-add-i c = search needs
-
-loop-less : tie.Need-loop-less Inv-loop μ-loop
-loop-less c = search needs
-
 loop-again : tie.Need-loop-again Inv-loop μ-loop
 loop-again c =
     let t = c .before .before .before in
@@ -99,12 +75,12 @@ costs-within-spec =
     Inv-loop
     μ-loop
     loop-holds
-    mul-x
-    shared-slice-copy-out-x
-    sub-if1
+    (λ c. search needs)
+    (λ c. search needs)
+    (λ c. search needs)
     returns
     returns-2
-    add-i
-    loop-less
+    (λ c. search needs)
+    (λ c. search needs)
     loop-again
     returns-3)

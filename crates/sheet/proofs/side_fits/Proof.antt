@@ -1,5 +1,5 @@
 -- Each way out of the code is a case of `within`.
-use borrow.Author.Tests.{le-leb, lt-leb}
+use Rattle.prelude.specs.Words.{le-leb, lt-leb}
 use Rattle.transport.specs.Lists.{within}
 use Rattle.sheet.proofs.side_fits.Statement.{statement}
 use Rattle.sheet.proofs.side_fits.Tie as tie

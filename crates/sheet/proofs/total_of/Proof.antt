@@ -1,9 +1,5 @@
 -- The loop's invariant: the sum of the first i amounts, each of which is within its limit.
-use borrow.Author.Needs.{needs}
-use mathlib.Core.Path.{_≡_, ap, _∙_}
-use Prim.Native.Nat.{ℕ, _≤_, _-_, _*_}
-use native.Mathlib.Omega.{arith}
-use lib.ListN.{length, getD}
+use Rattle.prelude.specs.Words.{needs, _≡_, ap, _∙_, ℕ, _≤_, _-_, _*_, arith, length, getD}
 use Rattle.transport.specs.Lists.{sumTo, at, total}
 use Rattle.transport.specs.Limits.{maxSide, maxAmount}
 use Rattle.transport.specs.Laws.ListLaws.{sumTo-zero, sumTo-one}
@@ -20,12 +16,6 @@ abbrev μ-loop : tie.MeasureT-loop
 loop-holds : tie.Need-loop-holds Inv-loop μ-loop
 loop-holds c = (omega arith, omega arith, rw sumTo-zero)
 
-mul-sum : tie.Need-mul-sum Inv-loop μ-loop
-mul-sum c = search needs
-
-shared-slice-read-sum : tie.Need-shared-slice-read-sum Inv-loop μ-loop
-shared-slice-read-sum c = search needs
-
 small : (c : tie.In-loop Inv-loop μ-loop) → getD (c .before .before .args .amounts .now) (c .before .loop .i) 0 ≤ maxAmount
 unfolding at
 small c = all-most maxAmount (c .before .before .args .amounts .now) (c .before .before .pre .1) (c .before .loop .i)
@@ -33,12 +23,6 @@ small c = all-most maxAmount (c .before .before .args .amounts .now) (c .before 
 add-sum : tie.Need-add-sum Inv-loop μ-loop
 unfolding maxSide maxAmount
 add-sum c = omega (arith, small (c .before))
-
-add-i : tie.Need-add-i Inv-loop μ-loop
-add-i c = search needs
-
-loop-less : tie.Need-loop-less Inv-loop μ-loop
-loop-less c = search needs
 
 loop-again : tie.Need-loop-again Inv-loop μ-loop
 unfolding at
@@ -62,10 +46,10 @@ total-of-spec =
     Inv-loop
     μ-loop
     loop-holds
-    mul-sum
-    shared-slice-read-sum
+    (λ c. search needs)
+    (λ c. search needs)
     add-sum
-    add-i
-    loop-less
+    (λ c. search needs)
+    (λ c. search needs)
     loop-again
     returns)

@@ -1,10 +1,5 @@
 -- What the sections say is a case of the call, and a sheet that was read is left to store_sheet.
-use mathlib.Core.Path.{_≡_, refl, sym}
-use mathlib.Core.List.{List, [], _∷_}
-use mathlib.Core.Logic.{⊎-elim}
-use Prim.Native.Nat.{ℕ}
-use native.Mathlib.Omega.{arith}
-use lib.IntN.{ℤ}
+use Rattle.prelude.specs.Words.{_≡_, refl, sym, List, [], _∷_, ⊎-elim, ℕ, arith, ℤ, needs}
 use denote.Enum.Declared.{tagOf}
 use types.Run.{OneOf}
 use Rattle.transport.proofs.ReadAnswer as declared
@@ -15,25 +10,12 @@ use Rattle.transport.specs.SheetText.{sheetReader}
 use Rattle.sheet.specs.Laws.{sides-product}
 use Rattle.sheet_reader.specs.SheetAnswer.{sheetRead, readFits, SheetIn, sheet-in, supply-length, demand-length, cost-length}
 use Rattle.sheet_reader.specs.ReadCall.{Read, read-stuck, read-got}
-use borrow.Author.Needs.{needs}
 use Rattle.sheet_reader.proofs.read_sheet.Statement.{statement}
 use Rattle.sheet_reader.proofs.read_sheet.Tie as tie
-
-slice-aggregate-read-sections : tie.Need-slice-aggregate-read-sections
-slice-aggregate-read-sections c = search needs
-
-slice-aggregate-read-sections-2 : tie.Need-slice-aggregate-read-sections-2
-slice-aggregate-read-sections-2 c = search needs
-
-slice-aggregate-read-sections-3 : tie.Need-slice-aggregate-read-sections-3
-slice-aggregate-read-sections-3 c = search needs
 
 read-sections-requires : tie.Need-read-sections-requires
 unfolding maxSources maxSinks
 read-sections-requires c κs = search needs
-
-enum-known-answer : tie.Need-enum-known-answer
-enum-known-answer c = search needs
 
 stopped : (text s d : List ℕ) (c : List ℤ) (supply demand : List ℕ) (cost : List ℤ) (r : ReadAnswer) → OneOf (1 ∷ 2 ∷ []) (tagOf declared.the-type r)
     → sheetReader text ≡ sheetRead text s d c r → readFits text r → Read text supply demand cost r supply demand cost
@@ -58,15 +40,6 @@ sheet-read c =
 mul-lanes : tie.Need-mul-lanes
 mul-lanes c = let s = sheet-read c in record { fits = sides-product _ _ (s .m-few) (s .n-few) }
 
-array-share-prefix-supplies : tie.Need-array-share-prefix-supplies
-array-share-prefix-supplies c = sheet-read c .supply-room
-
-slice-aggregate-store-sheet : tie.Need-slice-aggregate-store-sheet
-slice-aggregate-store-sheet c = sym (supply-length (sheet-read (c .before)))
-
-array-share-prefix-demands : tie.Need-array-share-prefix-demands
-array-share-prefix-demands c = sheet-read (c .before) .demand-room
-
 slice-aggregate-store-sheet-2 : tie.Need-slice-aggregate-store-sheet-2
 slice-aggregate-store-sheet-2 c = sym (demand-length (sheet-read (c .before .before)))
 
@@ -80,15 +53,6 @@ store-sheet-requires : tie.Need-store-sheet-requires
 store-sheet-requires c κs = let s = sheet-read (c .before .before .before .before .before .before) in
     rw (supply-length s, demand-length s, cost-length s) (s .m-few, s .n-few, refl)
 
-same-length : tie.Need-same-length
-same-length c = search needs
-
-same-length-2 : tie.Need-same-length-2
-same-length-2 c = search needs
-
-same-length-3 : tie.Need-same-length-3
-same-length-3 c = search needs
-
 returns-2 : tie.Need-returns-2
 returns-2 c =
     let a = c .before .before .before .before .before .before .before .before .before .before .before .before .before .before .before .before .before .before
@@ -101,21 +65,21 @@ pub read-sheet-spec : {M : Type 1} → statement M
 read-sheet-spec =
     tie.close
     (tie.spec
-    slice-aggregate-read-sections
-    slice-aggregate-read-sections-2
-    slice-aggregate-read-sections-3
+    (λ c. search needs)
+    (λ c. search needs)
+    (λ c. search needs)
     read-sections-requires
-    enum-known-answer
+    (λ c. search needs)
     returns
     mul-lanes
-    array-share-prefix-supplies
-    slice-aggregate-store-sheet
-    array-share-prefix-demands
+    (λ c. sheet-read c .supply-room)
+    (λ c. sym (supply-length (sheet-read (c .before))))
+    (λ c. sheet-read (c .before) .demand-room)
     slice-aggregate-store-sheet-2
     array-share-prefix-costs
     slice-aggregate-store-sheet-3
     store-sheet-requires
-    same-length
-    same-length-2
-    same-length-3
+    (λ c. search needs)
+    (λ c. search needs)
+    (λ c. search needs)
     returns-2)

@@ -1,21 +1,13 @@
 -- The lengths of the three sections.
-use mathlib.Core.Path.{ap}
-use native.Mathlib.Omega.{arith}
-use mathlib.Core.List.{_++_}
-use Prim.Native.Nat.{_≤_}
-use lib.ListN.{length, length-append}
+use Rattle.prelude.specs.Words.{ap, arith, _++_, _≤_, length, length-append, needs}
 use Rattle.transport.specs.Limits.{maxSources, maxSinks}
 use Rattle.transport.specs.Text.{bytes, digits, wholeDigits}
 use Rattle.transport.specs.Sheet.{Sheet, sheetOf}
 use Rattle.sheet.specs.Refusals.{sources-few, sinks-few, sinks-some, costs-few, costs-whole}
 use Rattle.sections.specs.Lines.{length-section}
 use Rattle.sheet_writer.specs.SheetSections.{supplySection, demandSection, costSection, sheet-sections}
-use borrow.Author.Needs.{needs}
 use Rattle.sheet_writer.proofs.text_len.Statement.{statement}
 use Rattle.sheet_writer.proofs.text_len.Tie as tie
-
-slice-aggregate-section-len : tie.Need-slice-aggregate-section-len
-slice-aggregate-section-len c = search needs
 
 -- No section is long.
 module _ (t : tie.Start) where
@@ -37,9 +29,6 @@ module _ (t : tie.Start) where
 section-len-requires : tie.Need-section-len-requires
 section-len-requires c κs = omega (arith, sources-most (c .before .before .before))
 
-slice-aggregate-section-len-2 : tie.Need-slice-aggregate-section-len-2
-slice-aggregate-section-len-2 c = search needs
-
 section-len-requires-2 : tie.Need-section-len-requires-2
 section-len-requires-2 c κs = omega (arith, sinks-most (c .before .before .before .before .before))
 
@@ -49,9 +38,6 @@ add-result c = omega (
   sources-most (c .before .before .before .before .before .before),
   sinks-most (c .before .before .before .before .before .before),
 )
-
-slice-aggregate-whole-section-len : tie.Need-slice-aggregate-whole-section-len
-slice-aggregate-whole-section-len c = search needs
 
 whole-section-len-requires : tie.Need-whole-section-len-requires
 whole-section-len-requires c κs = omega (arith, costs-most (c .before .before .before .before .before .before .before))
@@ -89,12 +75,12 @@ pub text-len-spec : {M : Type 1} → statement M
 text-len-spec =
     tie.close
     (tie.spec
-    slice-aggregate-section-len
+    (λ c. search needs)
     section-len-requires
-    slice-aggregate-section-len-2
+    (λ c. search needs)
     section-len-requires-2
     add-result
-    slice-aggregate-whole-section-len
+    (λ c. search needs)
     whole-section-len-requires
     add-result-2
     returns)

@@ -1,15 +1,10 @@
 -- The demands, and then the costs in what is left of the output.
-use native.Mathlib.Omega.{arith}
-use lib.ListN.{length}
+use Rattle.prelude.specs.Words.{arith, length, needs}
 use Rattle.transport.specs.Text.{bytes}
 use Rattle.sections.specs.Front.{FirstWritten, first-room, second-start, second-room, both-length, both-written}
 use Rattle.sheet_writer.specs.SheetSections.{demandSection, costSection}
-use borrow.Author.Needs.{needs}
 use Rattle.sheet_writer.proofs.write_after_supply.Statement.{statement}
 use Rattle.sheet_writer.proofs.write_after_supply.Tie as tie
-
-slice-aggregate-write-section : tie.Need-slice-aggregate-write-section
-slice-aggregate-write-section c = search needs
 
 write-section-requires : tie.Need-write-section-requires
 unfolding bytes
@@ -24,17 +19,11 @@ begun : (c : tie.After-write-section) → let t = c .before .before .before .bef
 unfolding bytes
 begun c = record { room = c .before .before .before .before .before .pre .1; ends = c .write-section .ensures .0; holds = c .write-section .ensures .1 }
 
-slice-aggregate-write-whole-section : tie.Need-slice-aggregate-write-whole-section
-slice-aggregate-write-whole-section c = search needs
-
 sub-write-whole-section : tie.Need-sub-write-whole-section
 sub-write-whole-section c = second-start (begun (c .before .before .before))
 
 part-write-whole-section-start : tie.Need-part-write-whole-section-start
 part-write-whole-section-start c = second-start (begun (c .before .before .before))
-
-part-write-whole-section-end : tie.Need-part-write-whole-section-end
-part-write-whole-section-end c = search needs
 
 write-whole-section-requires : tie.Need-write-whole-section-requires
 unfolding bytes
@@ -47,9 +36,6 @@ add-result c =
     let b = begun (c .before .before .before .before .before .before .before) in
     omega (arith, b .room, both-length b _ (c .before .before .write-whole-section .ensures .0))
 
-same-length : tie.Need-same-length
-same-length c = search needs
-
 returns : tie.Need-returns
 unfolding bytes
 returns c =
@@ -61,13 +47,13 @@ pub write-after-supply-spec : {M : Type 1} → statement M
 write-after-supply-spec =
     tie.close
     (tie.spec
-    slice-aggregate-write-section
+    (λ c. search needs)
     write-section-requires
-    slice-aggregate-write-whole-section
+    (λ c. search needs)
     sub-write-whole-section
     part-write-whole-section-start
-    part-write-whole-section-end
+    (λ c. search needs)
     write-whole-section-requires
     add-result
-    same-length
+    (λ c. search needs)
     returns)

@@ -1,16 +1,11 @@
 -- The supplies, and then the other sections in what is left of the output.
-use mathlib.Core.Path.{_≡_}
-use mathlib.Core.List.{List, _++_}
-use Prim.Native.Nat.{ℕ, _≤_}
-use native.Mathlib.Omega.{arith}
-use lib.ListN.{length}
+use Rattle.prelude.specs.Words.{_≡_, List, _++_, ℕ, _≤_, arith, length, needs}
 use Rattle.transport.specs.Text.{bytes}
 use Rattle.transport.specs.Sheet.{Sheet, sheetOf}
 use Rattle.transport.specs.SheetText.{sheetText}
 use Rattle.sheet.specs.Refusals.{sinks-some, costs-whole}
 use Rattle.sections.specs.Front.{FirstWritten, first-room, second-start, second-room, both-length, both-written}
 use Rattle.sheet_writer.specs.SheetSections.{supplySection, demandSection, costSection, sheet-sections}
-use borrow.Author.Needs.{needs}
 use Rattle.sheet_writer.proofs.write_text.Statement.{statement}
 use Rattle.sheet_writer.proofs.write_text.Tie as tie
 
@@ -26,9 +21,6 @@ module _ (t : tie.Start) where
 
   room : length (supplySection (t .args .supply .now) ++ others) ≤ length (t .args .out .now)
   room = rw sections at (t .pre .1)
-
-slice-aggregate-write-section : tie.Need-slice-aggregate-write-section
-slice-aggregate-write-section c = search needs
 
 write-section-requires : tie.Need-write-section-requires
 unfolding bytes
@@ -52,9 +44,6 @@ sub-write-after-supply c = second-start (begun (c .before .before))
 part-write-after-supply-start : tie.Need-part-write-after-supply-start
 part-write-after-supply-start c = second-start (begun (c .before .before))
 
-part-write-after-supply-end : tie.Need-part-write-after-supply-end
-part-write-after-supply-end c = search needs
-
 write-after-supply-requires : tie.Need-write-after-supply-requires
 write-after-supply-requires c κs =
     let t = c .before .before .before .before .before .before .before .before .before in
@@ -64,9 +53,6 @@ add-result : tie.Need-add-result
 add-result c =
     let b = begun (c .before .before .before .before .before .before) in
     omega (arith, b .room, both-length b _ (c .before .before .write-after-supply .ensures .0))
-
-same-length : tie.Need-same-length
-same-length c = search needs
 
 returns : tie.Need-returns
 returns c =
@@ -79,12 +65,12 @@ pub write-text-spec : {M : Type 1} → statement M
 write-text-spec =
     tie.close
     (tie.spec
-    slice-aggregate-write-section
+    (λ c. search needs)
     write-section-requires
     sub-write-after-supply
     part-write-after-supply-start
-    part-write-after-supply-end
+    (λ c. search needs)
     write-after-supply-requires
     add-result
-    same-length
+    (λ c. search needs)
     returns)

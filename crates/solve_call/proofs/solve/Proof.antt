@@ -1,11 +1,6 @@
 -- `solve_call::solve` meets its contract: each way out is a case of the call.
-use mathlib.Core.Path.{_≡_, sym, _∙_}
-use mathlib.Core.Option.{none}
-use Prim.Native.Nat.{_*_, _≤_}
-use native.Mathlib.Omega.{arith}
-use lib.ListN.{length}
+use Rattle.prelude.specs.Words.{_≡_, sym, _∙_, none, _*_, _≤_, arith, length, needs}
 use mir.Syntax.{w64}
-use borrow.Author.Needs.{needs}
 use Rattle.transport.specs.Sheet.{Sheet, roasteries, cafes, refusal, sheetTests, sheetOf}
 use Rattle.transport.specs.Laws.RangeLaws.{back}
 use Rattle.transport.specs.Laws.SheetLaws.{accepted}
@@ -22,21 +17,12 @@ sheetAt s = sheetOf (s .args .supply .now) (s .args .demand .now) (s .args .cost
 abbrev startBefore : tie.After-check-sheet → tie.Start
 startBefore c = c .before .before .before .before
 
-check-sheet-requires : tie.Need-check-sheet-requires
-check-sheet-requires c κs = search needs
-
-enum-known-check : tie.Need-enum-known-check
-enum-known-check c = search needs
-
 returns : tie.Need-returns
 returns c =
     let k = c .before .before .before in
     told-all (told-refused (solve-early (sheetAt (startBefore k)) _ _ _ _ (refused-some _ _ (sym (k .check-sheet .ensures) ∙ c .before .check .given .1))))
 
 -- ---- the sheet passed its check
-
-enum-told : tie.Need-enum-told
-enum-told c = search needs
 
 abbrev startOf : tie.After-enum-told → tie.Start
 startOf c = startBefore (c .before .before)
@@ -81,15 +67,6 @@ plan-cost-requires c κs =
     let a = told (elseBefore o) in
     stored-summable (o .solve-checked .ensures) (accepted (sheetAt (startOf a)) (passed a))
 
-same-length : tie.Need-same-length
-same-length c = search needs
-
-same-length-2 : tie.Need-same-length-2
-same-length-2 c = search needs
-
-same-length-3 : tie.Need-same-length-3
-same-length-3 c = search needs
-
 returns-3 : tie.Need-returns-3
 unfolding roasteries cafes
 returns-3 c =
@@ -104,15 +81,15 @@ pub solve-spec : {M : Type 1} → statement M
 solve-spec =
     tie.close
     (tie.spec
-    check-sheet-requires
-    enum-known-check
+    (λ c κs. search needs)
+    (λ c. search needs)
     returns
-    enum-told
+    (λ c. search needs)
     missing-room-requires
     returns-2
     solve-checked-requires
     plan-cost-requires
-    same-length
-    same-length-2
-    same-length-3
+    (λ c. search needs)
+    (λ c. search needs)
+    (λ c. search needs)
     returns-3)

@@ -1,7 +1,5 @@
 -- Each way out is a case of the call; the first tableau is the start of the problem of the parties left, whatever its costs, under their own numbers.
-use mathlib.Core.Path.{_≡_, sym, _∙_}
-use mathlib.Core.Option.{none}
-use borrow.Author.Needs.{needs}
+use Rattle.prelude.specs.Words.{_≡_, sym, _∙_, none, needs}
 use Rattle.transport.specs.Laws.Sound.{sound}
 use Rattle.transport.specs.Sheet.{Sheet, refusal, sheetTests, sheetOf}
 use Rattle.transport.specs.Parties.{problemOf}

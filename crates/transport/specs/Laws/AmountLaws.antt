@@ -1,13 +1,7 @@
 -- The laws of paired amounts: what the tests of whole numbers and of pairs say, and that pairs are strictly ordered.
-use Prim.Native.Nat.{ℕ, suc, _+_, _≤_, _<_}
-use native.Mathlib.Omega.{arith}
-use mathlib.Core.Path.{_≡_, refl, sym, ap, _∙_}
-use mathlib.Core.Bool.{Bool, true, false, _&&_, _||_, true≢false, false≢true, not}
-use mathlib.Core.List.{List, List·Memᴰ}
-use lib.IntN.{ℤ, pos, negsuc}
-use lib.Signed.{ltZ, _≤ℤ_, ltZ-no}
-use lib.ListN.{length}
-use borrow.Author.Tests.{ltb-true, ltb-false, lt-ltb, le-ltb, eqb-true, eq-eqb}
+use Rattle.prelude.specs.Words.{ℕ, suc, _+_, _≤_, _<_, arith, _≡_, refl, sym, ap, _∙_, Bool, true, false, _&&_, _||_, true≢false, false≢true, not, List}
+use Rattle.prelude.specs.Words.{List·Memᴰ, ℤ, pos, negsuc, ltZ, _≤ℤ_, length, ltb-true, ltb-false, lt-ltb, le-ltb, eqb-true, eq-eqb}
+use lib.Signed.{ltZ-no}
 use Rattle.transport.specs.Laws.ListLaws.{member-at, member-place, and-left, and-right, StrictWeak, firstLeast-is}
 use Rattle.transport.specs.Lists.{leastOf}
 use Rattle.transport.specs.Amount.{Pair, eqZ, less, same}

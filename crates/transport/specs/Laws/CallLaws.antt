@@ -1,13 +1,6 @@
 -- Laws of Calls: the value or the first refusal, what a lent list then holds, and rooms.
-use mathlib.Core.Path.{_≡_, refl, sym, _∙_, ap}
-use mathlib.Core.Logic.{_↔_}
-use mathlib.Core.Bool.{Bool, true, false, _||_, true≢false}
-use mathlib.Core.List.{List, [], _∷_, _++_}
-use mathlib.Core.Option.{Option, none, some}
-use Prim.Native.Nat.{ℕ, _*_, _≤_, _<_}
-use native.Mathlib.Omega.{arith}
-use borrow.Author.Tests.{ltb-false, lt-ltb, le-ltb}
-use lib.ListN.{length, drop}
+use Rattle.prelude.specs.Words.{_≡_, refl, sym, _∙_, ap, _↔_, Bool, true, false, _||_, true≢false, List, [], _∷_, _++_, Option, none, some, ℕ, _*_, _≤_, _<_}
+use Rattle.prelude.specs.Words.{arith, ltb-false, lt-ltb, le-ltb, length, drop}
 use Rattle.transport.specs.Sheet.{Sheet, roasteries, cafes, refusal}
 use Rattle.transport.specs.Laws.SheetLaws.{refusal-yes, refusal-no, refusal-clear, refusal-pass, refusal-stands}
 use Rattle.transport.specs.Calls.{Refusal, refused, given, refusedBy, unless, lentAfter, tooShort, Solution}

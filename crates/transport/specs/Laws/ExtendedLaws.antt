@@ -1,15 +1,6 @@
 -- The laws of Extended: whether there is an extra café, what each column wants, and what each lane costs.
-use mathlib.Core.Path.{_≡_, refl, sym, ap, _∙_, subst}
-use mathlib.Core.Logic.{by-cases}
-use mathlib.Core.Bool.{Bool, true, false, cond}
-use mathlib.Core.List.{[], _∷_, _++_, append-nil}
-use Prim.Native.Nat.{ℕ, _+_, _*_, _-_, _≤_, _<_}
-use native.Mathlib.Omega.{arith}
-use native.Mathlib.Decide.{decLt}
-use lib.Dec.{eqb}
-use lib.IntN.{ℤ, pos}
-use lib.ListN.{length, getD, length-append, List·getD-append, List·getD-eq-default}
-use borrow.Author.Tests.{eqb-true, eqb-false, lt-ltb, le-ltb}
+use Rattle.prelude.specs.Words.{_≡_, refl, sym, ap, _∙_, subst, by-cases, Bool, true, false, cond, [], _∷_, _++_, append-nil, ℕ, _+_, _*_, _-_, _≤_, _<_, arith}
+use Rattle.prelude.specs.Words.{decLt, eqb, ℤ, pos, length, getD, length-append, List·getD-append, List·getD-eq-default, eqb-true, eqb-false, lt-ltb, le-ltb}
 use Rattle.transport.specs.Lists.{at, atZ, total}
 use Rattle.transport.specs.Problem.{sinks, place, laneCost}
 use Rattle.transport.specs.Sheet.{Sheet, roasteries, cafes}

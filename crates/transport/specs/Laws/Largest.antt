@@ -1,12 +1,6 @@
 -- The largest sheets: every count and amount at its limit, and every lane at one cost. The longest text, and the least and the greatest total, are of such.
-use mathlib.Core.Path.{_≡_}
-use mathlib.Core.Logic.{by-cases}
-use Prim.Native.Nat.{ℕ, _*_, _≤_, _<_}
-use native.Mathlib.Omega.{arith}
-use native.Mathlib.Decide.{decLt}
-use lib.IntN.{ℤ, pos, negℤ}
-use lib.Signed.{_≤ℤ_, leZ-yes}
-use lib.ListN.{length, getD, replicate, length-replicate, getD-replicate, List·getD-eq-default}
+use Rattle.prelude.specs.Words.{_≡_, by-cases, ℕ, _*_, _≤_, _<_, arith, decLt, ℤ, pos, negℤ, _≤ℤ_, leZ-yes, length, getD, replicate, length-replicate}
+use Rattle.prelude.specs.Words.{getD-replicate, List·getD-eq-default}
 use Rattle.transport.specs.Lists.{at, atZ, total}
 use Rattle.transport.specs.Limits.{maxSources, maxSinks, maxSide, maxAmount, maxCost}
 use Rattle.transport.specs.Sheet.{Sheet, roasteries, cafes}

@@ -1,17 +1,10 @@
 -- The laws of Lists: tables, tests of all elements, kept elements, sums, and the first least element.
-use Prim.Native.Nat.{ℕ, zero, suc, _+_, _*_, _-_, _≤_, _<_}
-use native.Mathlib.Omega.{arith}
-use native.Mathlib.Numerals.{add-one}
-use native.Mathlib.Nat.{eq-or-lt-of-le, mul-add, add-suc, add-zero, suc-mul, zero-mul}
-use native.Mathlib.Decide.{decLt}
-use mathlib.Core.Path.{_≡_, refl, sym, ap, _∙_}
-use mathlib.Core.Logic.{⊎-elim, _⊎_, inl, inr, by-cases}
-use mathlib.Core.Bool.{Bool, true, false, _&&_, cond, true≢false, false≢true}
-use mathlib.Core.List.{List, [], _∷_, _++_, map, flatMap, append-assoc, append-nil, List·Memᴰ, List·Memᴰ·head, List·Memᴰ·tail, List·Memᴰ·not-nil}
-use mathlib.Core.List.{List·Memᴰ·cases-cons, List·Memᴰ·append-cases, Memᴰ·append-left, Memᴰ·append-right}
-use lib.ListN.{length, drop, getD, set, length-append, length-drop, length-map, List·getD-append, List·getD-eq-default}
-use lib.Seq.{drop-cons, set-at, getD-at, getD-drop, getD-append-add, ext-getD}
-use lib.IntN.{ℤ, pos, _+ℤ_}
+use Rattle.prelude.specs.Words.{ℕ, zero, suc, _+_, _*_, _-_, _≤_, _<_, arith, add-one, eq-or-lt-of-le, mul-add, add-suc, add-zero, suc-mul, zero-mul, decLt}
+use Rattle.prelude.specs.Words.{_≡_, refl, sym, ap, _∙_, ⊎-elim, _⊎_, inl, inr, by-cases, Bool, true, false, _&&_, cond, true≢false, false≢true, List, [], _∷_}
+use Rattle.prelude.specs.Words.{_++_, map, flatMap, append-assoc, append-nil, List·Memᴰ, List·Memᴰ·head, List·Memᴰ·tail, List·Memᴰ·not-nil}
+use Rattle.prelude.specs.Words.{List·Memᴰ·cases-cons, List·Memᴰ·append-cases, Memᴰ·append-left, Memᴰ·append-right, length, drop, getD, set, length-append}
+use Rattle.prelude.specs.Words.{length-drop, length-map, List·getD-append, List·getD-eq-default, drop-cons, set-at, getD-at, getD-drop, ext-getD, ℤ, pos, _+ℤ_}
+use lib.Seq.{getD-append-add}
 use Rattle.transport.specs.Lists.{all, keep, leastFrom, firstLeast, table, below, sumTo, sumZ, at, atZ, total}
 
 -- ---- table

@@ -1,15 +1,7 @@
 -- The laws of OwnNumbers: own numbers and numbers among those left undo each other, and cells add up to the same under either.
-use mathlib.Core.Path.{_≡_, sym, ap, _∙_}
-use mathlib.Core.Logic.{_↔_, by-cases}
-use mathlib.Core.Bool.{Bool, true, _&&_}
-use mathlib.Core.List.{List, map, map-map, List·Memᴰ}
-use Prim.Native.Nat.{ℕ, _≤_, _<_}
-use native.Mathlib.Omega.{arith}
-use native.Mathlib.Decide.{decLt, ℕ-discrete}
-use lib.Dec.{eqb}
-use lib.ListN.{length, getD, length-map}
-use lib.Seq.{ext-getD}
-use borrow.Author.Tests.{eq-eqb, ne-eqb}
+use Rattle.prelude.specs.Words.{_≡_, sym, ap, _∙_, _↔_, by-cases, Bool, true, _&&_, List, map, List·Memᴰ, ℕ, _≤_, _<_, arith, decLt, ℕ-discrete, eqb, length}
+use Rattle.prelude.specs.Words.{getD, length-map, ext-getD, eq-eqb, ne-eqb}
+use mathlib.Core.List.{map-map}
 use Rattle.transport.specs.Lists.{all, keep, at}
 use Rattle.transport.specs.Problem.{Problem, sources, sinks}
 use Rattle.transport.specs.Parties.{isLeft, left, among, rowsLeft, columnsLeft, struck}

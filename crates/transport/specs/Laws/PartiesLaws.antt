@@ -1,17 +1,8 @@
 -- The laws of Parties: the own numbers of those left grow with their numbers among those left, the two undo each other, and a sum over all is one over those
 -- left, where a party at 0 adds nothing.
-use mathlib.Core.Path.{_≡_, refl, sym, ap, _∙_}
-use mathlib.Core.Logic.{by-cases}
-use mathlib.Core.Bool.{Bool, true, false}
-use mathlib.Core.List.{List, [], _∷_, _++_, map, append-nil}
-use Prim.Native.Nat.{ℕ, zero, suc, _+_, _≤_, _<_}
-use native.Mathlib.Omega.{arith}
-use native.Mathlib.Nat.{add-zero}
-use native.Mathlib.Decide.{decLt, ℕ-discrete}
-use lib.Dec.{ltb}
-use lib.IntN.{pos}
-use lib.ListN.{length, getD, length-append, length-map, List·getD-append}
-use borrow.Author.Tests.{eqb-true, eqb-false, ne-eqb, lt-ltb, le-ltb, not-true, not-false}
+use Rattle.prelude.specs.Words.{_≡_, refl, sym, ap, _∙_, by-cases, Bool, true, false, List, [], _∷_, _++_, map, append-nil, ℕ, zero, suc, _+_, _≤_, _<_, arith}
+use Rattle.prelude.specs.Words.{add-zero, decLt, ℕ-discrete, ltb, pos, length, getD, length-append, length-map, List·getD-append, eqb-true, eqb-false, ne-eqb}
+use Rattle.prelude.specs.Words.{lt-ltb, le-ltb, not-true, not-false}
 use Rattle.transport.specs.Lists.{keep, below, table, at, atZ, sumTo, total}
 use Rattle.transport.specs.Problem.{Problem, sources, sinks, laneCost}
 use Rattle.transport.specs.Parties.{isLeft, left, among, rowsLeft, columnsLeft, struck}

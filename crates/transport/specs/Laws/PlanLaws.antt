@@ -1,8 +1,5 @@
 -- The laws of Plan: of plans taken k times.
-use mathlib.Core.Path.{_≡_, refl, sym}
-use mathlib.Core.List.{List, [], _∷_}
-use Prim.Native.Nat.{ℕ, zero, suc, _*_}
-use native.Mathlib.Nat.{mul-zero}
+use Rattle.prelude.specs.Words.{_≡_, refl, sym, List, [], _∷_, ℕ, zero, suc, _*_, mul-zero}
 use Rattle.transport.specs.Lists.{at}
 use Rattle.transport.specs.Statements.{scaled}
 

@@ -1,15 +1,8 @@
 -- The laws of Problem: places and lanes in sheet order.
-use Prim.Native.Nat.{ℕ, zero, suc, _+_, _*_, _/_, _%_, _<_}
-use native.Mathlib.Omega.{arith}
-use native.Mathlib.Nat.{mul-le-mul-right, suc-mul, zero-mul, div-add-mod', mod-lt, div-lt-iff-lt-mul, eq-zero-or-pos, mul-zero, eq-or-lt-of-le}
-use native.Mathlib.Decide.{decLt}
-use mathlib.Core.Path.{_≡_, sym, ap, _∙_}
-use mathlib.Core.Logic.{_⊎_, inl, inr, ⊎-elim}
-use mathlib.Core.Bool.{Bool, true}
-use mathlib.Core.List.{List, [], _∷_, _++_, flatMap, append-nil}
-use lib.IntN.{ℤ}
-use lib.ListN.{length, getD, length-append, List·getD-append}
-use lib.Seq.{ext-getD}
+use Rattle.prelude.specs.Words.{ℕ, zero, suc, _+_, _*_, _/_, _%_, _<_, arith, mul-le-mul-right, suc-mul, zero-mul, div-add-mod', mod-lt, div-lt-iff-lt-mul}
+use Rattle.prelude.specs.Words.{mul-zero, eq-or-lt-of-le, decLt, _≡_, sym, ap, _∙_, _⊎_, inl, inr, ⊎-elim, Bool, true, List, [], _∷_, _++_, flatMap, append-nil}
+use Rattle.prelude.specs.Words.{ℤ, length, getD, length-append, List·getD-append, ext-getD}
+use native.Mathlib.Nat.{eq-zero-or-pos}
 use Rattle.transport.specs.Lists.{all, table, below, grid}
 use Rattle.transport.specs.Problem.{Problem, Lane, lanes, place}
 use Rattle.transport.specs.Laws.ListLaws.{flatMap-append, getD-append-at, length-table, getD-table, all-at, all-of}

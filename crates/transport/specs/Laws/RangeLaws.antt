@@ -1,13 +1,6 @@
 -- The range of signed numbers: bounds by absolute value, which `omega` reads, and what the code's tests and sums on bits say of the numbers.
-use Prim.Native.Nat.{ℕ, zero, suc, _+_, _*_, _-_, _<_, _≤_, _^_}
-use native.Mathlib.Omega.{arith}
-use native.Mathlib.Nat.{mul-le-mul-left}
-use mathlib.Core.Path.{_≡_, refl, _∙_}
-use mathlib.Core.Bool.{Bool, true, false, cond}
-use lib.Dec.{T, ltb, leb→le}
-use lib.IntN.{ℤ, pos, negsuc, natAbs, negℤ, subℕ, _+ℤ_, _-ℤ_, _*ℤ_}
-use lib.Signed.{mag, leZ, _≤ℤ_}
-use borrow.Author.Tests.{ltb-true}
+use Rattle.prelude.specs.Words.{ℕ, zero, suc, _+_, _*_, _-_, _<_, _≤_, _^_, arith, mul-le-mul-left, _≡_, refl, _∙_, Bool, true, false, cond, T, ltb, leb→le, ℤ}
+use Rattle.prelude.specs.Words.{pos, negsuc, natAbs, negℤ, subℕ, _+ℤ_, _-ℤ_, _*ℤ_, mag, leZ, _≤ℤ_, ltb-true}
 use mir.Syntax.{Width}
 use mir.Val.{SFits, hbits, toZ, ofZ}
 use mir.Facts.{toZ-ofZ}

@@ -1,12 +1,5 @@
 -- The laws of Round: the same lane, and the flow through one strike.
-use mathlib.Core.Path.{_≡_, refl, sym, ap, _∙_}
-use mathlib.Core.Logic.{_≢_}
-use mathlib.Core.Bool.{Bool, true, false, true≢false}
-use mathlib.Core.List.{List, _∷_}
-use Prim.Native.Nat.{ℕ}
-use borrow.Author.Tests.{eqb-true, eq-eqb}
-use lib.Dec.{eqb}
-use lib.IntN.{ℤ}
+use Rattle.prelude.specs.Words.{_≡_, refl, sym, ap, _∙_, _≢_, Bool, true, false, true≢false, List, _∷_, ℕ, eqb-true, eq-eqb, eqb, ℤ}
 use Rattle.transport.specs.Laws.ListLaws.{and-left, and-right}
 use Rattle.transport.specs.Problem.{Lane}
 use Rattle.transport.specs.Laws.ProblemLaws.{lane}

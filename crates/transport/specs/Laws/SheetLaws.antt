@@ -1,16 +1,7 @@
 -- The laws of Sheet: the first refusal, and what the sheet check says.
-use Prim.Native.Nat.{ℕ, _*_, _≤_, _<_}
-use native.Mathlib.Omega.{arith}
-use native.Mathlib.Decide.{decLt}
-use mathlib.Core.Path.{_≡_, refl, sym, ap, _∙_}
-use mathlib.Core.Bool.{Bool, true, false, not, _&&_, and-false, true≢false}
-use mathlib.Core.List.{List, [], _∷_, _++_, append-nil}
-use mathlib.Core.Option.{Option, none, some}
-use lib.Dec.{leb, eqb, ltb, T}
-use lib.IntN.{ℤ, pos, negsuc, negℤ}
-use lib.Signed.{leZ, ltZ, _≤ℤ_, leZ-yes}
-use lib.ListN.{length, getD}
-use borrow.Author.Tests.{leb-true, le-leb, lt-leb, eqb-true, eq-eqb, ne-eqb, le-ltb, lt-ltb, ltb-true, ltb-false, not-false}
+use Rattle.prelude.specs.Words.{ℕ, _*_, _≤_, _<_, arith, decLt, _≡_, refl, sym, ap, _∙_, Bool, true, false, not, _&&_, and-false, true≢false, List, [], _∷_}
+use Rattle.prelude.specs.Words.{_++_, append-nil, Option, none, some, leb, eqb, ltb, T, ℤ, pos, negsuc, negℤ, leZ, ltZ, _≤ℤ_, leZ-yes, length, getD, leb-true}
+use Rattle.prelude.specs.Words.{le-leb, lt-leb, eqb-true, eq-eqb, ne-eqb, le-ltb, lt-ltb, ltb-true, ltb-false, not-false}
 use Rattle.transport.specs.Lists.{all, at, atZ, total, atMost, within, withinZ}
 use Rattle.transport.specs.Limits.{maxSources, maxSinks, maxSide, maxAmount, maxCost}
 use Rattle.transport.specs.Sheet.{Sheet, roasteries, cafes, badSides, badLength, badAmount, badCost, lacking, crowded, idle}

@@ -1,16 +1,7 @@
 -- What the theory of rounds asks of a balanced problem; and the problem of the parties left of an accepted sheet has it. The bound on amounts is one on the
 -- total, and costs are bounded from both sides, so that the theory serves problems that are more than a sheet's.
-use Prim.Native.Nat.{ℕ, _*_, _≤_, _<_}
-use native.Mathlib.Omega.{arith}
-use native.Mathlib.Nat.{mul-le-mul-right}
-use mathlib.Core.Path.{_≡_, sym, ap, _∙_, subst}
-use mathlib.Core.Logic.{by-cases}
-use mathlib.Core.List.{List}
-use native.Mathlib.Decide.{decLt, ℕ-discrete}
-use lib.IntN.{ℤ, pos, negℤ}
-use lib.Signed.{_≤ℤ_, leZ-yes}
-use mathlib.Core.Option.{none}
-use lib.ListN.{length, getD, length-append, List·getD-eq-default}
+use Rattle.prelude.specs.Words.{ℕ, _*_, _≤_, _<_, arith, mul-le-mul-right, _≡_, sym, ap, _∙_, subst, by-cases, List, decLt, ℕ-discrete, ℤ, pos, negℤ, _≤ℤ_}
+use Rattle.prelude.specs.Words.{leZ-yes, none, length, getD, length-append, List·getD-eq-default}
 use Rattle.transport.specs.Lists.{at, atZ, grid, total}
 use Rattle.transport.specs.Limits.{maxSources, maxSinks, maxSide, maxAmount, maxBags, maxCost, costBelow, costAbove}
 use Rattle.transport.specs.Problem.{Problem, sources, sinks, laneCost}

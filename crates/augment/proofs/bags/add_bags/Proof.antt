@@ -1,11 +1,5 @@
 -- `augment::bags::add_bags` meets its contract: one lane is written, and the masks of its column and its row say whether bags are left on it.
-use mathlib.Core.Path.{_≡_}
-use Prim.Native.Nat.{_+_, _*_}
-use native.Mathlib.Omega.{arith}
-use borrow.Author.Needs.{needs}
-use lib.IntN.{pos, _+ℤ_}
-use lib.ListN.{getD, set}
-use lib.Seq.{getD-set-same}
+use Rattle.prelude.specs.Words.{_≡_, _+_, _*_, arith, needs, pos, _+ℤ_, getD, set, getD-set-same}
 use mir.Syntax.{w64}
 use mir.Val.{toZ, ofZ}
 use Rattle.transport.specs.Laws.RangeLaws.{abs-add, mag-abs, back, sum-in, sum-back}

@@ -1,6 +1,5 @@
 -- `augment::bags::hold` meets its contract. The loop's invariant: the columns that are not left have the row; the measure is the mask of those left.
-use Prim.Native.Nat.{ℕ, _<_}
-use native.Mathlib.Omega.{arith}
+use Rattle.prelude.specs.Words.{ℕ, _<_, arith}
 use Rattle.tree.specs.Mask.{put}
 use Rattle.tree.specs.Bits.{Least, has-least, Touching, touch-start, touch-still, touch-step, touch-end, rest-less}
 use Rattle.tree.specs.Layout.{stride}

@@ -1,9 +1,6 @@
 -- `augment::bags::mask_bags` meets its contract. The loop's invariant: the masks are right for the first i rows, and the others stand in no column's; the
 -- measure is what is left of the rows.
-use Prim.Native.Nat.{ℕ, _-_, _≤_, _<_}
-use mathlib.Core.Path.{_≡_, sym, _∙_}
-use mathlib.Core.Bool.{true}
-use native.Mathlib.Omega.{arith}
+use Rattle.prelude.specs.Words.{ℕ, _-_, _≤_, _<_, _≡_, sym, _∙_, true, arith}
 use Rattle.transport.specs.Laws.ListLaws.{and-left}
 use Rattle.tree.specs.Mask.{has}
 use Rattle.tree.specs.Layout.{stride}

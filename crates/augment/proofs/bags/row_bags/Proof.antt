@@ -1,11 +1,6 @@
 -- `augment::bags::row_bags` meets its contract. The loop's invariant: of the basic columns that are not left, just those with bags are in; the measure is the
 -- mask of those left.
-use mathlib.Core.Path.{_≡_}
-use Prim.Native.Nat.{_<_, _*_, _+_}
-use native.Mathlib.Omega.{arith}
-use borrow.Author.Needs.{needs}
-use lib.IntN.{pos}
-use lib.ListN.{getD}
+use Rattle.prelude.specs.Words.{_≡_, _<_, _*_, _+_, arith, needs, pos, getD}
 use mir.Syntax.{w64}
 use mir.Val.{toZ, ofZ}
 use Rattle.tree.specs.Bits.{Least, has-least, rest-less}

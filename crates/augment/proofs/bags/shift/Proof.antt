@@ -1,9 +1,5 @@
 -- `augment::bags::shift` meets its contract: x less on one lane, and x more on the other.
-use mathlib.Core.Path.{_≡_, _∙_}
-use Prim.Native.Nat.{_+_, _*_, _<_, _^_}
-use native.Mathlib.Omega.{arith}
-use borrow.Author.Needs.{needs}
-use lib.IntN.{ℤ, pos, natAbs, negℤ, _-ℤ_, +ℤ-idl}
+use Rattle.prelude.specs.Words.{_≡_, _∙_, _+_, _*_, _<_, _^_, arith, needs, ℤ, pos, natAbs, negℤ, _-ℤ_, +ℤ-idl}
 use mir.Syntax.{w64}
 use mir.Val.{toZ, ofZ}
 use Rattle.transport.specs.Laws.RangeLaws.{abs-neg, diff-in, diff-back}

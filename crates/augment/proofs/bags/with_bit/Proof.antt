@@ -1,5 +1,5 @@
 -- `augment::bags::with_bit` meets its contract, bit by bit.
-use borrow.Author.Needs.{needs}
+use Rattle.prelude.specs.Words.{needs}
 use Rattle.augment.specs.Bags.{bit-on, bit-off}
 use Rattle.augment.proofs.bags.with_bit.Statement.{statement}
 use Rattle.augment.proofs.bags.with_bit.Tie as tie

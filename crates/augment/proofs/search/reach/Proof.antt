@@ -1,7 +1,6 @@
 -- `augment::search::reach` meets its contract. The loop's invariant: the columns that are not left hang on the position, and their rows are gathered; the
 -- measure is the mask of those left.
-use Prim.Native.Nat.{ℕ, _<_}
-use native.Mathlib.Omega.{arith}
+use Rattle.prelude.specs.Words.{ℕ, _<_, arith}
 use Rattle.tree.specs.MaskLaws.{minus}
 use Rattle.tree.specs.Bits.{Least, has-least, Touching, touch-start, touch-step, touch-end, rest-less}
 use Rattle.tree.specs.Layout.{stride}

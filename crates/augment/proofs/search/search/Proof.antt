@@ -1,10 +1,6 @@
 -- `augment::search::search` meets its contract. The loop's invariant: whatever the bags are, the search has come so far (`Sweeping`). Each turn reaches a row,
 -- and the measure is what is left of the positions.
-use mathlib.Core.Path.{_≡_}
-use Prim.Native.Nat.{_-_, _<_}
-use native.Mathlib.Omega.{arith}
-use native.Mathlib.Numerals.{add-one}
-use borrow.Author.Needs.{needs}
+use Rattle.prelude.specs.Words.{_≡_, _-_, _<_, arith, add-one, needs}
 use lib.Bits.{bitAnd}
 use Rattle.tree.specs.Bits.{Least}
 use Rattle.tree.specs.Layout.{stride, nodeRoom}

@@ -1,11 +1,6 @@
 -- `augment::way::bring` meets its contract. The loop's invariant: whatever the bags were before the first move, they have moved along the way up to the
 -- position (`Bringing`), which is the measure.
-use mathlib.Core.Path.{_≡_}
-use mathlib.Core.List.{List}
-use Prim.Native.Nat.{ℕ, _<_}
-use native.Mathlib.Omega.{arith}
-use borrow.Author.Needs.{needs}
-use lib.IntN.{ℤ}
+use Rattle.prelude.specs.Words.{_≡_, List, ℕ, _<_, arith, needs, ℤ}
 use mir.Syntax.{w64}
 use mir.Val.{toZ, ofZ}
 use Rattle.tree.specs.Layout.{stride, nodeRoom}

@@ -1,9 +1,5 @@
 -- `augment::way::bring_least` meets its contract: the least bags on the way are what each lane has that it takes from.
-use mathlib.Core.Path.{_≡_}
-use native.Mathlib.Omega.{arith}
-use borrow.Author.Needs.{needs}
-use lib.IntN.{pos}
-use lib.ListN.{getD}
+use Rattle.prelude.specs.Words.{_≡_, arith, needs, pos, getD}
 use mir.Syntax.{w64}
 use mir.Val.{toZ, ofZ}
 use Rattle.augment.specs.Way.{way-rooted, least-inside, least-few}

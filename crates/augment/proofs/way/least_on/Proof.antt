@@ -1,12 +1,6 @@
 -- `augment::way::least_on` meets its contract. The loop's invariant: `least` is the place of the least of the lanes passed (`LeastTo`); the measure is the
 -- position.
-use mathlib.Core.Path.{_≡_}
-use mathlib.Core.Logic.{⊎-elim}
-use Prim.Native.Nat.{_+_, _*_, _<_}
-use native.Mathlib.Omega.{arith}
-use borrow.Author.Needs.{needs}
-use lib.IntN.{pos}
-use lib.ListN.{getD}
+use Rattle.prelude.specs.Words.{_≡_, ⊎-elim, _+_, _*_, _<_, arith, needs, pos, getD}
 use mir.Syntax.{w64}
 use mir.Val.{toZ, ofZ}
 use Rattle.tree.specs.Layout.{stride}

@@ -1,8 +1,5 @@
 -- `belonging::weights::put_from` meets its contract: `put-more` is a turn of the loop. The measure is what is left of the amounts.
-use Prim.Native.Nat.{_-_, _≤_}
-use mathlib.Core.Path.{_≡_}
-use native.Mathlib.Omega.{arith}
-use lib.ListN.{length}
+use Rattle.prelude.specs.Words.{_-_, _≤_, _≡_, arith, length}
 use mir.Syntax.{w64}
 use mir.Facts.{toZ-pos}
 use Rattle.transport.specs.Lists.{at}
@@ -20,30 +17,9 @@ abbrev μ-loop : tie.MeasureT-loop
 loop-holds : tie.Need-loop-holds Inv-loop μ-loop
 loop-holds c = (omega arith, put-none _ _ _ (c .pre .1 .1))
 
-mul-weight : tie.Need-mul-weight Inv-loop μ-loop
-mul-weight c = omega arith
-
-shared-slice-read-weight : tie.Need-shared-slice-read-weight Inv-loop μ-loop
-shared-slice-read-weight c = omega arith
-
 cast-weight : tie.Need-cast-weight Inv-loop μ-loop
 unfolding at maxBags maxSide maxAmount
 cast-weight c = omega (arith, c .before .before .before .pre .0 .high (c .before .before .loop .k))
-
-add-t10 : tie.Need-add-t10 Inv-loop μ-loop
-add-t10 c = omega arith
-
-mul-t11 : tie.Need-mul-t11 Inv-loop μ-loop
-mul-t11 c = omega arith
-
-element-set-from-weight : tie.Need-element-set-from-weight Inv-loop μ-loop
-element-set-from-weight c = omega arith
-
-add-k : tie.Need-add-k Inv-loop μ-loop
-add-k c = omega arith
-
-loop-less : tie.Need-loop-less Inv-loop μ-loop
-loop-less c = omega arith
 
 loop-again : tie.Need-loop-again Inv-loop μ-loop
 unfolding at
@@ -59,13 +35,13 @@ put-from-spec =
     Inv-loop
     μ-loop
     loop-holds
-    mul-weight
-    shared-slice-read-weight
+    (λ c. omega arith)
+    (λ c. omega arith)
     cast-weight
-    add-t10
-    mul-t11
-    element-set-from-weight
-    add-k
-    loop-less
+    (λ c. omega arith)
+    (λ c. omega arith)
+    (λ c. omega arith)
+    (λ c. omega arith)
+    (λ c. omega arith)
     loop-again
     returns)

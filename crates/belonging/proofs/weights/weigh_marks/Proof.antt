@@ -1,10 +1,6 @@
 -- `belonging::weights::weigh_marks` meets its contract: `marked-more` is a turn of the loop, and `marks-put` what follows it. The measure is what is left of
 -- the rows.
-use Prim.Native.Nat.{_-_, _≤_}
-use native.Mathlib.Omega.{arith}
-use mathlib.Core.Path.{_≡_, refl}
-use lib.IntN.{pos}
-use lib.ListN.{replicate}
+use Rattle.prelude.specs.Words.{_-_, _≤_, arith, _≡_, refl, pos, replicate}
 use mir.Syntax.{w64}
 use mir.Facts.{toZ-pos}
 use Rattle.tree.specs.Layout.{nodeRoom, getD-all}
@@ -21,35 +17,11 @@ abbrev μ-loop : tie.MeasureT-loop
 loop-holds : tie.Need-loop-holds Inv-loop μ-loop
 loop-holds c = (omega arith, marked-none (replicate nodeRoom (pos 0)) refl (λ j. getD-all nodeRoom j (pos 0)))
 
-mul-weight : tie.Need-mul-weight Inv-loop μ-loop
-mul-weight c = omega arith
-
-element-set-of-weight : tie.Need-element-set-of-weight Inv-loop μ-loop
-element-set-of-weight c = omega arith
-
-add-i : tie.Need-add-i Inv-loop μ-loop
-add-i c = omega arith
-
-loop-less : tie.Need-loop-less Inv-loop μ-loop
-loop-less c = omega arith
-
 loop-again : tie.Need-loop-again Inv-loop μ-loop
 loop-again c = (omega arith, marked-more (omega arith) (c .before .loop .inv .1))
 
 cast-weight : tie.Need-cast-weight Inv-loop μ-loop
 cast-weight c = omega arith
-
-add-t10 : tie.Need-add-t10 Inv-loop μ-loop
-add-t10 c = omega arith
-
-sub-t11 : tie.Need-sub-t11 Inv-loop μ-loop
-sub-t11 c = omega arith
-
-mul-t12 : tie.Need-mul-t12 Inv-loop μ-loop
-mul-t12 c = omega arith
-
-element-set-from-weight : tie.Need-element-set-from-weight Inv-loop μ-loop
-element-set-from-weight c = omega arith
 
 returns : tie.Need-returns Inv-loop μ-loop
 returns c =
@@ -65,14 +37,14 @@ weigh-marks-spec =
     Inv-loop
     μ-loop
     loop-holds
-    mul-weight
-    element-set-of-weight
-    add-i
-    loop-less
+    (λ c. omega arith)
+    (λ c. omega arith)
+    (λ c. omega arith)
+    (λ c. omega arith)
     loop-again
     cast-weight
-    add-t10
-    sub-t11
-    mul-t12
-    element-set-from-weight
+    (λ c. omega arith)
+    (λ c. omega arith)
+    (λ c. omega arith)
+    (λ c. omega arith)
     returns)

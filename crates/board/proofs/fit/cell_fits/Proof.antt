@@ -1,12 +1,9 @@
 -- `board::fit::cell_fits` meets its contract: on each way through the code its tests decide those of the definition.
-use Prim.Native.Nat.{_+_, _*_}
-use native.Mathlib.Omega.{arith}
-use borrow.Author.Tests.{lt-ltb, le-ltb, le-leb, lt-leb}
+use Rattle.prelude.specs.Words.{_+_, _*_, arith, lt-ltb, le-ltb, le-leb, lt-leb, needs}
 use Rattle.transport.specs.Amount.{nothing}
 use Rattle.transport.specs.Problem.{place}
 use Rattle.transport.specs.Belonging.{aboveZero}
 use Rattle.board.specs.CellTests.{fitsAt, row-small}
-use borrow.Author.Needs.{needs}
 use Rattle.board.proofs.fit.cell_fits.Statement.{statement}
 use Rattle.board.proofs.fit.cell_fits.Tie as tie
 

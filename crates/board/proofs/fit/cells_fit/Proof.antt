@@ -1,14 +1,7 @@
 -- `board::fit::cells_fit` meets its contract. The loop's invariant: all cells fit where those from number k on do, at `least` or later; the measure is how many
 -- are left.
-use Prim.Native.Nat.{suc, _*_, _-_, _≤_, _<_}
-use mathlib.Core.Path.{_≡_, refl, sym, ap, _∙_}
-use mathlib.Core.Bool.{true, false}
-use mathlib.Core.List.{[]}
-use native.Mathlib.Omega.{arith}
-use native.Mathlib.Numerals.{add-one}
-use borrow.Author.Needs.{needs}
-use borrow.Author.Tests.{not-true, not-false}
-use lib.ListN.{length, drop, getD, drop-of-length-le}
+use Rattle.prelude.specs.Words.{suc, _*_, _-_, _≤_, _<_, _≡_, refl, sym, ap, _∙_, true, false, [], arith, add-one, needs, not-true, not-false, length, drop}
+use Rattle.prelude.specs.Words.{getD, drop-of-length-le}
 use Rattle.transport.specs.Amount.{nothing}
 use Rattle.transport.specs.Problem.{place}
 use Rattle.transport.specs.Tableau.{noCell, cellsOf}
@@ -27,15 +20,6 @@ abbrev μ-loop : tie.MeasureT-loop
 
 loop-holds : tie.Need-loop-holds Inv-loop μ-loop
 loop-holds c = (omega arith, refl)
-
-mul-c : tie.Need-mul-c Inv-loop μ-loop
-mul-c c = omega arith
-
-element-copy-out-c : tie.Need-element-copy-out-c Inv-loop μ-loop
-element-copy-out-c c = omega arith
-
-cell-fits-requires : tie.Need-cell-fits-requires Inv-loop μ-loop
-cell-fits-requires c κs = (omega arith, omega arith)
 
 returns : tie.Need-returns Inv-loop μ-loop
 unfolding noCell nothing
@@ -80,12 +64,6 @@ add-least-2 : tie.Need-add-least-2 Inv-loop μ-loop
 unfolding noCell nothing
 add-least-2 c = omega (arith, small (c .before .before))
 
-add-k : tie.Need-add-k Inv-loop μ-loop
-add-k c = omega arith
-
-loop-less : tie.Need-loop-less Inv-loop μ-loop
-loop-less c = omega arith
-
 loop-again : tie.Need-loop-again Inv-loop μ-loop
 unfolding noCell nothing place
 loop-again c =
@@ -115,14 +93,14 @@ cells-fit-spec =
     Inv-loop
     μ-loop
     loop-holds
-    mul-c
-    element-copy-out-c
-    cell-fits-requires
+    (λ c. omega arith)
+    (λ c. omega arith)
+    (λ c κs. (omega arith, omega arith))
     returns
     mul-least
     add-least
     add-least-2
-    add-k
-    loop-less
+    (λ c. omega arith)
+    (λ c. omega arith)
     loop-again
     returns-2)

@@ -1,7 +1,5 @@
 -- `board::gather::basic_lanes` meets its contract. The loop's invariant: the lanes of the first i rows are listed; the measure is how many rows are left.
-use Prim.Native.Nat.{_-_, _≤_}
-use mathlib.Core.Path.{_≡_, sym}
-use native.Mathlib.Omega.{arith}
+use Rattle.prelude.specs.Words.{_-_, _≤_, _≡_, sym, arith}
 use Rattle.board.specs.Lanes.{lanesOf-zero, Lanes, lanes-room, lanes-more}
 use Rattle.board.proofs.gather.basic_lanes.Statement.{statement}
 use Rattle.board.proofs.gather.basic_lanes.Tie as tie
@@ -15,25 +13,10 @@ abbrev μ-loop : tie.MeasureT-loop
 loop-holds : tie.Need-loop-holds Inv-loop μ-loop
 loop-holds c = (omega arith, record { long = c .pre .1; many = rw lanesOf-zero; listed = sym (lanesOf-zero _) })
 
-mul-row-lanes : tie.Need-mul-row-lanes Inv-loop μ-loop
-mul-row-lanes c = omega arith
-
-element-copy-out-row-lanes : tie.Need-element-copy-out-row-lanes Inv-loop μ-loop
-element-copy-out-row-lanes c = omega arith
-
-mul-row-lanes-2 : tie.Need-mul-row-lanes-2 Inv-loop μ-loop
-mul-row-lanes-2 c = omega arith
-
 row-lanes-requires : tie.Need-row-lanes-requires Inv-loop μ-loop
 row-lanes-requires c κs =
     let i = c .before .before .before .loop in
     (i .inv .1 .long, omega (arith, lanes-room (c .before .before .before .before .pre .0) (omega arith) (i .inv .1)), omega arith)
-
-add-i : tie.Need-add-i Inv-loop μ-loop
-add-i c = omega arith
-
-loop-less : tie.Need-loop-less Inv-loop μ-loop
-loop-less c = omega arith
 
 loop-again : tie.Need-loop-again Inv-loop μ-loop
 loop-again c =
@@ -55,11 +38,11 @@ basic-lanes-spec =
     Inv-loop
     μ-loop
     loop-holds
-    mul-row-lanes
-    element-copy-out-row-lanes
-    mul-row-lanes-2
+    (λ c. omega arith)
+    (λ c. omega arith)
+    (λ c. omega arith)
     row-lanes-requires
-    add-i
-    loop-less
+    (λ c. omega arith)
+    (λ c. omega arith)
     loop-again
     returns)

@@ -1,8 +1,5 @@
 -- `board::gather::draw` meets its contract: `redraw-step` is a turn of the loop.
-use native.Mathlib.Omega.{arith}
-use borrow.Author.Needs.{needs}
-use Prim.Native.Nat.{_-_, _≤_}
-use mathlib.Core.Path.{_≡_, refl}
+use Rattle.prelude.specs.Words.{arith, needs, _-_, _≤_, _≡_, refl}
 use Rattle.tree.specs.Layout.{nodeRoom, getD-all}
 use Rattle.board.specs.Drawing.{Redrawn, redraw-start, redraw-step}
 use Rattle.board.proofs.gather.draw.Statement.{statement}
@@ -19,20 +16,8 @@ abbrev μ-loop : tie.MeasureT-loop
 loop-holds : tie.Need-loop-holds Inv-loop μ-loop
 loop-holds c = (omega arith, redraw-start _ _ _ refl (λ j. getD-all nodeRoom j 0))
 
-mul-l : tie.Need-mul-l Inv-loop μ-loop
-mul-l c = search needs
-
-element-copy-out-l : tie.Need-element-copy-out-l Inv-loop μ-loop
-element-copy-out-l c = search needs
-
 link-requires : tie.Need-link-requires Inv-loop μ-loop
 link-requires c κs = let s = c .before .before .before .before .before in (s .pre .2 (c .before .before .before .loop .k) (omega arith), s .pre .0, omega arith)
-
-add-k : tie.Need-add-k Inv-loop μ-loop
-add-k c = search needs
-
-loop-less : tie.Need-loop-less Inv-loop μ-loop
-loop-less c = search needs
 
 loop-again : tie.Need-loop-again Inv-loop μ-loop
 loop-again c = let s = c .before .before .before .before .before .before in (
@@ -51,10 +36,10 @@ draw-spec =
     Inv-loop
     μ-loop
     loop-holds
-    mul-l
-    element-copy-out-l
+    (λ c. search needs)
+    (λ c. search needs)
     link-requires
-    add-k
-    loop-less
+    (λ c. search needs)
+    (λ c. search needs)
     loop-again
     returns)

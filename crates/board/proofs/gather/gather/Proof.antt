@@ -1,7 +1,5 @@
 -- `board::gather::gather` meets its contract: with the masks drawn from the slots the arrays hold the tableau (`board-gathered`).
-use Prim.Native.Nat.{_≤_}
-use native.Mathlib.Omega.{arith}
-use mathlib.Core.Path.{_∙_, ap}
+use Rattle.prelude.specs.Words.{_≤_, arith, _∙_, ap}
 use Rattle.transport.specs.Tableau.{tableauOf}
 use Rattle.tree.specs.Layout.{stride}
 use Rattle.board.specs.Arrays.{sound-sides}

@@ -1,9 +1,5 @@
 -- `board::gather::gather_cells` meets its contract. The loop's invariant: the first k cells are those on the first k lanes; the measure is how many are left.
-use Prim.Native.Nat.{_-_, _≤_, _<_}
-use mathlib.Core.Path.{_≡_, refl, ap}
-use native.Mathlib.Omega.{arith}
-use lib.ListN.{getD}
-use borrow.Author.Needs.{needs}
+use Rattle.prelude.specs.Words.{_-_, _≤_, _<_, _≡_, refl, ap, arith, getD, needs}
 use Rattle.transport.specs.Amount.{nothing}
 use Rattle.transport.specs.Tableau.{noCell}
 use Rattle.transport.specs.declared.Pair.{Pair}
@@ -19,9 +15,6 @@ Inv-loop adj q e m lanes count t₀ k₀ t k = FilledTo lanes q e count k t
 abbrev μ-loop : tie.MeasureT-loop
 μ-loop adj q e m lanes count t₀ k₀ t k = count - k
 
-basic-lanes-requires : tie.Need-basic-lanes-requires Inv-loop μ-loop
-basic-lanes-requires c κs = (c .before .pre, refl)
-
 loop-holds : tie.Need-loop-holds Inv-loop μ-loop
 unfolding noCell nothing
 loop-holds c = filledTo-none _ _ _ _
@@ -32,15 +25,6 @@ few c = omega (arith, c .before .before .basic-lanes .ensures .many, c .before .
 
 inside : (c : tie.In-loop Inv-loop μ-loop) → getD (c .before .before .basic-lanes .last .1 .1 .0) (c .before .loop .k) 0 < laneRoom
 inside c = lane-in (c .before .before .before .before .pre) (c .before .before .basic-lanes .ensures) (c .before .loop .k) (omega arith)
-
-mul-l : tie.Need-mul-l Inv-loop μ-loop
-mul-l c = omega (arith, few c)
-
-array-read-l : tie.Need-array-read-l Inv-loop μ-loop
-array-read-l c = omega (arith, few c)
-
-pair-at-requires : tie.Need-pair-at-requires Inv-loop μ-loop
-pair-at-requires c κs = inside c
 
 loop-again : tie.Need-loop-again Inv-loop μ-loop
 loop-again c =
@@ -66,11 +50,11 @@ gather-cells-spec =
     (tie.spec
     Inv-loop
     μ-loop
-    basic-lanes-requires
+    (λ c κs. (c .before .pre, refl))
     loop-holds
-    mul-l
-    array-read-l
-    pair-at-requires
+    (λ c. omega (arith, few c))
+    (λ c. omega (arith, few c))
+    (λ c κs. inside c)
     (λ c. search needs)
     (λ c. search needs)
     (λ c. search needs)

@@ -1,12 +1,6 @@
 -- `board::gather::row_lanes` meets its contract. The loop's invariant: the lanes listed so far, and those of the bits that are left, make up the list; the
 -- measure is how many bits are left.
-use Prim.Native.Nat.{_+_}
-use mathlib.Core.Path.{_≡_, refl, sym, ap, _∙_}
-use mathlib.Core.List.{[], _∷_, _++_, append-assoc, append-nil}
-use native.Mathlib.Omega.{arith}
-use native.Mathlib.Numerals.{add-one}
-use lib.Seq.{take-suc-set}
-use lib.ListN.{length, take, length-set}
+use Rattle.prelude.specs.Words.{_+_, _≡_, refl, sym, ap, _∙_, [], _∷_, _++_, append-assoc, append-nil, arith, add-one, take-suc-set, length, take, length-set}
 use Rattle.tree.specs.Layout.{nodeRoom}
 use Rattle.board.specs.Lanes.{rowLanes, rowLanes-zero, rowLanes-first}
 use Rattle.board.proofs.gather.row_lanes.Statement.{statement}
@@ -22,12 +16,6 @@ abbrev μ-loop : tie.MeasureT-loop
 loop-holds : tie.Need-loop-holds Inv-loop μ-loop
 loop-holds c = (c .pre .0, refl, refl)
 
-first-bit-requires : tie.Need-first-bit-requires Inv-loop μ-loop
-first-bit-requires c κs = omega arith
-
-clear-bit-requires : tie.Need-clear-bit-requires Inv-loop μ-loop
-clear-bit-requires c κs = c .first-bit .ensures .0
-
 -- The lane of the least bit comes first.
 next : (c : tie.After-clear-bit Inv-loop μ-loop)
     → let first = c .before .before .before .before .args .first in
@@ -36,21 +24,6 @@ next c =
     let b = c .before .first-bit .ensures in
     rw (c .clear-bit .ensures) (rowLanes-first (c .before .before .before .before .args .first) (c .before .before .before .loop .bits)
     (c .before .first-bit .result) (b .0) (b .1) (b .2))
-
-add-lanes : tie.Need-add-lanes Inv-loop μ-loop
-add-lanes c = omega arith
-
-mul-lanes : tie.Need-mul-lanes Inv-loop μ-loop
-mul-lanes c = omega (arith, ap length (next c))
-
-element-write-lanes : tie.Need-element-write-lanes Inv-loop μ-loop
-element-write-lanes c = omega (arith, ap length (next c))
-
-add-k : tie.Need-add-k Inv-loop μ-loop
-add-k c = omega (arith, ap length (next c))
-
-loop-less : tie.Need-loop-less Inv-loop μ-loop
-loop-less c = omega (arith, ap length (next c))
 
 loop-again : tie.Need-loop-again Inv-loop μ-loop
 loop-again c =
@@ -75,12 +48,12 @@ row-lanes-spec =
     Inv-loop
     μ-loop
     loop-holds
-    first-bit-requires
-    clear-bit-requires
-    add-lanes
-    mul-lanes
-    element-write-lanes
-    add-k
-    loop-less
+    (λ c κs. omega arith)
+    (λ c κs. c .first-bit .ensures .0)
+    (λ c. omega arith)
+    (λ c. omega (arith, ap length (next c)))
+    (λ c. omega (arith, ap length (next c)))
+    (λ c. omega (arith, ap length (next c)))
+    (λ c. omega (arith, ap length (next c)))
     loop-again
     returns)

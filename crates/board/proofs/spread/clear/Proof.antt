@@ -1,7 +1,5 @@
 -- `board::spread::clear` meets its contract: lists of one number, of the arrays' lengths.
-use mathlib.Core.Path.{refl}
-use lib.IntN.{pos}
-use lib.ListN.{length-replicate}
+use Rattle.prelude.specs.Words.{refl, pos, length-replicate}
 use Rattle.tree.specs.Layout.{nodeRoom, laneRoom, getD-all}
 use Rattle.board.proofs.spread.clear.Statement.{statement}
 use Rattle.board.proofs.spread.clear.Tie as tie

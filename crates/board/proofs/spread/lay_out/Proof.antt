@@ -1,5 +1,5 @@
 -- `board::spread::lay_out` meets its contract: the arrays hold the cells, so that the masks are those of their lanes.
-use native.Mathlib.Omega.{arith}
+use Rattle.prelude.specs.Words.{arith}
 use Rattle.transport.specs.Tableau.{cellsOf}
 use Rattle.board.specs.Arrays.{basis-links, basis-masks, held-amounts}
 use Rattle.board.specs.Held.{Held}

@@ -1,9 +1,5 @@
 -- `board::spread::spread` meets its contract. The loop's invariant: the arrays hold the cells from number k on; the measure is k.
-use Prim.Native.Nat.{suc, _-_, _≤_, _<_}
-use mathlib.Core.Path.{_≡_}
-use native.Mathlib.Omega.{arith}
-use borrow.Author.Needs.{needs}
-use lib.ListN.{length, drop, getD, drop-of-length-le}
+use Rattle.prelude.specs.Words.{suc, _-_, _≤_, _<_, _≡_, arith, needs, length, drop, getD, drop-of-length-le}
 use Rattle.transport.specs.Amount.{nothing}
 use Rattle.transport.specs.Tableau.{noCell, cellsOf}
 use Rattle.tree.specs.Layout.{stride}
@@ -19,23 +15,11 @@ Inv-loop m adj₀ q₀ e₀ t k₀ adj q e k = (k ≤ t .count) × Held m stride
 abbrev μ-loop : tie.MeasureT-loop
 μ-loop m adj₀ q₀ e₀ t k₀ adj q e k = k
 
-clear-requires : tie.Need-clear-requires Inv-loop μ-loop
-clear-requires c κs = tt
-
 loop-holds : tie.Need-loop-holds Inv-loop μ-loop
 loop-holds c =
     let t = c .before .before .before .before .args .t1 in
     let l : length (t .cells) ≡ cellRoom = search (needs, length-mapped) in
     (omega arith, rw (drop-of-length-le (cellsOf t) {i = t .count} (omega (arith, length-cells t (omega arith)))) (held-none (c .clear .ensures)))
-
-sub-k : tie.Need-sub-k Inv-loop μ-loop
-sub-k c = omega arith
-
-mul-c : tie.Need-mul-c Inv-loop μ-loop
-mul-c c = omega arith
-
-element-copy-out-c : tie.Need-element-copy-out-c Inv-loop μ-loop
-element-copy-out-c c = omega arith
 
 -- The cell is on the sheet.
 inside : (c : tie.In-loop Inv-loop μ-loop)
@@ -52,9 +36,6 @@ unfolding noCell nothing
 put-cell-requires c κs =
     let h = inside (c .before .before .before .before) in
     (h .0, omega arith, h .1)
-
-loop-less : tie.Need-loop-less Inv-loop μ-loop
-loop-less c = omega arith
 
 loop-again : tie.Need-loop-again Inv-loop μ-loop
 unfolding noCell nothing
@@ -82,12 +63,12 @@ spread-spec =
     (tie.spec
     Inv-loop
     μ-loop
-    clear-requires
+    (λ c κs. tt)
     loop-holds
-    sub-k
-    mul-c
-    element-copy-out-c
+    (λ c. omega arith)
+    (λ c. omega arith)
+    (λ c. omega arith)
     put-cell-requires
-    loop-less
+    (λ c. omega arith)
     loop-again
     returns)

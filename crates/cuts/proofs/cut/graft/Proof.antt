@@ -1,8 +1,6 @@
 -- `cuts::cut::graft` meets its contract: `touch-step` is a turn of the loop. The measure is the bits that are left, as a number.
-use Prim.Native.Nat.{ℕ}
-use native.Mathlib.Omega.{arith}
+use Rattle.prelude.specs.Words.{ℕ, arith, needs}
 use lib.Bits.{bitXor}
-use borrow.Author.Needs.{needs}
 use Rattle.tree.specs.Bits.{Least, rest-less, Touching, touch-start, touch-still, touch-step, touch-end}
 use Rattle.cuts.proofs.cut.graft.Statement.{statement}
 use Rattle.cuts.proofs.cut.graft.Tie as tie

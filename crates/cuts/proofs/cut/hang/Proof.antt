@@ -1,8 +1,5 @@
 -- `cuts::cut::hang` meets its contract: `hang-step` is a turn of the loop, from the last strike back.
-use mathlib.Core.Path.{_≡_, refl}
-use Prim.Native.Nat.{suc, _-_}
-use native.Mathlib.Omega.{arith}
-use borrow.Author.Needs.{needs}
+use Rattle.prelude.specs.Words.{_≡_, refl, suc, _-_, arith, needs}
 use Rattle.tree.specs.Layout.{nodeRoom, getD-all}
 use Rattle.cuts.specs.Planting.{Hanging, hang-start, hang-step}
 use Rattle.cuts.proofs.cut.hang.Statement.{statement}

@@ -1,9 +1,5 @@
 -- `cuts::cut::loop_slots` meets its contract: `far-step` is a turn of the loop. The measure is the bits that are left, as a number.
-use mathlib.Core.Path.{_≡_}
-use Prim.Native.Nat.{_/_, _<_}
-use native.Mathlib.Omega.{arith}
-use lib.ListN.{getD}
-use borrow.Author.Needs.{needs}
+use Rattle.prelude.specs.Words.{_≡_, _/_, _<_, arith, getD, needs}
 use Rattle.tree.specs.Layout.{stride, nodeRoom}
 use Rattle.tree.specs.Bits.{Least, rest-less, has-least}
 use Rattle.cuts.specs.Cycle.{FarRows, far-start, far-step, loop-slots}
@@ -26,12 +22,6 @@ slot c = let f = c .before .first-bit .ensures in record { on = f .1; off = f .2
 row-room : (c : tie.After-l Inv-loop μ-loop)
     → getD (c .before .before .before .before .before .before .args .lane .now) (c .before .first-bit .result) 0 / stride < nodeRoom
 row-room c = c .before .before .before .before .before .before .pre .1 _ (c .before .before .before .loop .inv .part _ (has-least (slot c)))
-
-mul-far : tie.Need-mul-far Inv-loop μ-loop
-mul-far c = omega (arith, row-room c)
-
-element-copy-out-far : tie.Need-element-copy-out-far Inv-loop μ-loop
-element-copy-out-far c = omega (arith, row-room c)
 
 loop-less : tie.Need-loop-less Inv-loop μ-loop
 loop-less c = rw (c .rest .ensures) (rest-less _ (omega arith))
@@ -57,8 +47,8 @@ loop-slots-spec =
     (λ c κs. search needs)
     (λ c. search needs)
     (λ c. search needs)
-    mul-far
-    element-copy-out-far
+    (λ c. omega (arith, row-room c))
+    (λ c. omega (arith, row-room c))
     (λ c κs. search needs)
     (λ c κs. search needs)
     loop-less

@@ -1,6 +1,5 @@
 -- `cuts::cut::plant` meets its contract: the paths of the strikes, turned over, are a tree.
-use mathlib.Core.Path.{refl}
-use borrow.Author.Needs.{needs}
+use Rattle.prelude.specs.Words.{refl, needs}
 use Rattle.cuts.specs.Planting.{struck-order, planted}
 use Rattle.cuts.proofs.cut.plant.Statement.{statement}
 use Rattle.cuts.proofs.cut.plant.Tie as tie

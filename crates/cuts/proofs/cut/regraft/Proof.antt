@@ -1,6 +1,5 @@
 -- `cuts::cut::regraft` meets its contract, by what `clear_bit` and `graft` ensure.
-use mathlib.Core.Path.{refl}
-use borrow.Author.Needs.{needs}
+use Rattle.prelude.specs.Words.{refl, needs}
 use Rattle.cuts.proofs.cut.regraft.Statement.{statement}
 use Rattle.cuts.proofs.cut.regraft.Tie as tie
 

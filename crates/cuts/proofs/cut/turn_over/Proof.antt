@@ -1,8 +1,5 @@
 -- `cuts::cut::turn_over` meets its contract: `turning-step` is a turn of the loop.
-use mathlib.Core.Path.{_≡_, refl}
-use native.Mathlib.Omega.{arith}
-use borrow.Author.Needs.{needs}
-use Prim.Native.Nat.{_-_, _≤_}
+use Rattle.prelude.specs.Words.{_≡_, refl, arith, needs, _-_, _≤_}
 use Rattle.tree.specs.Layout.{nodeRoom, getD-all}
 use Rattle.cuts.specs.Planting.{Turning, turning-start, turning-step}
 use Rattle.cuts.proofs.cut.turn_over.Statement.{statement}

@@ -1,6 +1,5 @@
 -- Both pairs are those of the sheet whose lanes cost nothing.
-use native.Mathlib.Omega.{arith}
-use mathlib.Core.Path.{refl}
+use Rattle.prelude.specs.Words.{arith, refl}
 use Rattle.transport.specs.Laws.Sound.{supply-most, demand-most}
 use Rattle.transport.specs.Limits.{maxSide, maxAmount, maxBags}
 use Rattle.transport.specs.Problem.{sources, sinks}

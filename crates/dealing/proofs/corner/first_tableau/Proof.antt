@@ -1,9 +1,5 @@
 -- The loop's invariant: the rule stands at cell k of the start, and the array holds the cells before it.
-use Prim.Native.Nat.{_+_, _-_, _<_}
-use native.Mathlib.Omega.{arith}
-use mathlib.Core.Path.{_≡_, refl, sym, ap, _∙_}
-use borrow.Author.Needs.{needs}
-use lib.ListN.{length, set}
+use Rattle.prelude.specs.Words.{_+_, _-_, _<_, arith, _≡_, refl, sym, ap, _∙_, needs, length, set}
 use Rattle.transport.specs.Limits.{maxSide, maxCells}
 use Rattle.transport.specs.Problem.{Problem, sources, sinks}
 use Rattle.transport.specs.Tableau.{start}
@@ -44,9 +40,6 @@ sub-count : tie.Need-sub-count Inv-loop μ-loop
 unfolding sources
 sub-count c = omega (arith, c .before .before .pre .sourcesLow)
 
-empty-tableau-requires : tie.Need-empty-tableau-requires Inv-loop μ-loop
-empty-tableau-requires c κs = search needs
-
 first-corner-requires : tie.Need-first-corner-requires Inv-loop μ-loop
 first-corner-requires c κs = c .before .before .before .pre
 
@@ -56,26 +49,11 @@ loop-holds c =
     let S = costless (a .args .supply .now) (a .args .demand .now) in
     rw (c .before .empty-tableau .ensures, c .first-corner .ensures) (refl, standing-first S (a .pre), filled-none (start S))
 
-add-loop : tie.Need-add-loop Inv-loop μ-loop
-add-loop c = omega (arith, room c)
-
-put-requires : tie.Need-put-requires Inv-loop μ-loop
-put-requires c κs = search needs
-
-mul-t11 : tie.Need-mul-t11 Inv-loop μ-loop
-mul-t11 c = omega (arith, room (c .before .before))
-
-element-set-from-t : tie.Need-element-set-from-t Inv-loop μ-loop
-element-set-from-t c = omega (arith, room (c .before .before))
-
 next-requires : tie.Need-next-requires Inv-loop μ-loop
 next-requires c κs = (c .before .before .before .before .before .before .before .pre, (c .before .before .loop .inv .1, omega arith))
 
 add-k : tie.Need-add-k Inv-loop μ-loop
 add-k c = omega (arith, room (c .before .before .before))
-
-loop-less : tie.Need-loop-less Inv-loop μ-loop
-loop-less c = search needs
 
 loop-again : tie.Need-loop-again Inv-loop μ-loop
 unfolding sources sinks
@@ -85,15 +63,6 @@ loop-again c =
     let i = c .before .before .before .loop in
     rw (c .next .ensures, c .before .put .ensures)
     (omega (arith, next-number S (i .at)), standing-next S (a .pre) (i .at) (i .inv .1) (omega arith), stored (c .before .before .before))
-
-put-requires-2 : tie.Need-put-requires-2 Inv-loop μ-loop
-put-requires-2 c κs = search needs
-
-mul-t7 : tie.Need-mul-t7 Inv-loop μ-loop
-mul-t7 c = omega (arith, room (c .before .before))
-
-element-set-from-t-2 : tie.Need-element-set-from-t-2 Inv-loop μ-loop
-element-set-from-t-2 c = omega (arith, room (c .before .before))
 
 returns : tie.Need-returns Inv-loop μ-loop
 unfolding sources sinks
@@ -112,18 +81,18 @@ first-tableau-spec =
     μ-loop
     add-count
     sub-count
-    empty-tableau-requires
+    (λ c κs. search needs)
     first-corner-requires
     loop-holds
-    add-loop
-    put-requires
-    mul-t11
-    element-set-from-t
+    (λ c. omega (arith, room c))
+    (λ c κs. search needs)
+    (λ c. omega (arith, room (c .before .before)))
+    (λ c. omega (arith, room (c .before .before)))
     next-requires
     add-k
-    loop-less
+    (λ c. search needs)
     loop-again
-    put-requires-2
-    mul-t7
-    element-set-from-t-2
+    (λ c κs. search needs)
+    (λ c. omega (arith, room (c .before .before)))
+    (λ c. omega (arith, room (c .before .before)))
     returns)

@@ -1,15 +1,11 @@
 -- The numbers are in range, so their bits are the numbers; the test is that of the last column.
-use native.Mathlib.Omega.{arith}
-use Prim.Native.Nat.{_-_}
-use borrow.Author.Tests.{eq-eqb, ne-eqb}
-use lib.ListN.{length}
+use Rattle.prelude.specs.Words.{arith, _-_, eq-eqb, ne-eqb, length, needs}
 use mir.Syntax.{w64}
 use mir.Facts.{toZ-pos}
 use Rattle.transport.specs.Lists.{at}
 use Rattle.transport.specs.Limits.{maxAmount, maxBags, maxSide}
 use Rattle.transport.specs.Problem.{sources, sinks}
 use Rattle.transport.specs.Amount.{pairedDemand}
-use borrow.Author.Needs.{needs}
 use Rattle.dealing.proofs.corner.paired_demand.Statement.{statement}
 use Rattle.dealing.proofs.corner.paired_demand.Tie as tie
 

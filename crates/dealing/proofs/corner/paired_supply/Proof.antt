@@ -1,11 +1,10 @@
 -- The supply is in range, so its bits are the number.
-use native.Mathlib.Omega.{arith}
+use Rattle.prelude.specs.Words.{arith, needs}
 use mir.Syntax.{w64}
 use mir.Facts.{toZ-pos}
 use Rattle.transport.specs.Lists.{at}
 use Rattle.transport.specs.Limits.{maxAmount, maxBags, maxSide}
 use Rattle.transport.specs.Amount.{pairedSupply}
-use borrow.Author.Needs.{needs}
 use Rattle.dealing.proofs.corner.paired_supply.Statement.{statement}
 use Rattle.dealing.proofs.corner.paired_supply.Tie as tie
 

@@ -1,6 +1,5 @@
 -- Both ways out are cases of `smaller`.
-use mathlib.Core.Path.{sym, _∙_}
-use borrow.Author.Needs.{needs}
+use Rattle.prelude.specs.Words.{sym, _∙_, needs}
 use Rattle.tableaux.specs.Starting.{smaller-row, smaller-column}
 use Rattle.dealing.proofs.corner.smaller.Statement.{statement}
 use Rattle.dealing.proofs.corner.smaller.Tie as tie

@@ -1,10 +1,5 @@
 -- `dealing::prices::cafe_price` meets its contract. The loop's invariant: the least of the first k is found; the measure is how many are left.
-use Prim.Native.Nat.{ℕ, _-_, _≤_, _<_}
-use native.Mathlib.Omega.{arith}
-use mathlib.Core.Path.{_≡_, sym, ap, _∙_}
-use borrow.Author.Needs.{needs}
-use lib.IntN.{ℤ, natAbs, _-ℤ_}
-use lib.ListN.{length}
+use Rattle.prelude.specs.Words.{ℕ, _-_, _≤_, _<_, arith, _≡_, sym, ap, _∙_, needs, ℤ, natAbs, _-ℤ_, length}
 use mir.Syntax.{w64}
 use mir.Val.{toZ, ofZ}
 use Rattle.transport.specs.Lists.{at, atZ, table, leastOf}

@@ -1,8 +1,5 @@
 -- `dealing::prices::column_count` meets its contract.
-use mathlib.Core.Path.{_≡_}
-use native.Mathlib.Omega.{arith}
-use borrow.Author.Needs.{needs}
-use borrow.Author.Tests.{lt-ltb, le-ltb}
+use Rattle.prelude.specs.Words.{_≡_, arith, needs, lt-ltb, le-ltb}
 use Rattle.transport.specs.Limits.{maxSide}
 use Rattle.transport.specs.Lists.{at}
 use Rattle.dealing.proofs.prices.column_count.Statement.{statement}

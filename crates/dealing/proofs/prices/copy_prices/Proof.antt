@@ -1,11 +1,5 @@
 -- `dealing::prices::copy_prices` meets its contract. The loop's invariant: the list holds the first k prices.
-use borrow.Author.Needs.{needs}
-use mathlib.Core.Path.{_≡_, refl, _∙_}
-use mathlib.Core.List.{_++_}
-use Prim.Native.Nat.{_≤_, _-_}
-use native.Mathlib.Omega.{arith}
-use lib.IntN.{pos}
-use lib.ListN.{length, drop, getD, length-set}
+use Rattle.prelude.specs.Words.{needs, _≡_, refl, _∙_, _++_, _≤_, _-_, arith, pos, length, drop, getD, length-set}
 use mir.Syntax.{w64}
 use Rattle.transport.specs.Lists.{table}
 use Rattle.transport.specs.Laws.ListLaws.{table-zero, table-getD, fill-one}

@@ -1,8 +1,5 @@
 -- `dealing::prices::lesser` meets its contract: the test of the code is that of the definition.
-use mathlib.Core.Path.{_≡_, _∙_}
-use mathlib.Core.Bool.{true, false}
-use borrow.Author.Needs.{needs}
-use lib.Signed.{ltZ}
+use Rattle.prelude.specs.Words.{_≡_, _∙_, true, false, needs, ltZ}
 use mir.Syntax.{w64}
 use mir.Val.{toZ, ofZ}
 use Rattle.dealing.proofs.prices.lesser.Statement.{statement}

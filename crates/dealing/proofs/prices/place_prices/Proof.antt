@@ -1,9 +1,5 @@
 -- `dealing::prices::place_prices` meets its contract. The loop's invariant: the first k prices are written, and nothing else has changed.
-use Prim.Native.Nat.{_+_, _-_, _≤_, _<_, _^_}
-use native.Mathlib.Omega.{arith}
-use mathlib.Core.Path.{_≡_, ap, _∙_}
-use lib.IntN.{ℤ, pos, natAbs}
-use lib.ListN.{length, getD}
+use Rattle.prelude.specs.Words.{_+_, _-_, _≤_, _<_, _^_, arith, _≡_, ap, _∙_, ℤ, pos, natAbs, length, getD}
 use mir.Syntax.{w32, w64}
 use mir.Val.{toZ, ofZ}
 use Rattle.transport.specs.Limits.{maxCost, costAbove}
@@ -26,15 +22,6 @@ start c = c .before .before
 loop-holds : tie.Need-loop-holds Inv-loop μ-loop
 loop-holds c = (omega arith, placed-none)
 
-add-out : tie.Need-add-out Inv-loop μ-loop
-add-out c = omega (arith, start c .pre .room)
-
-mul-out : tie.Need-mul-out Inv-loop μ-loop
-mul-out c = omega (arith, start c .pre .room)
-
-element-copy-out-out : tie.Need-element-copy-out-out Inv-loop μ-loop
-element-copy-out-out c = omega (arith, start c .pre .room)
-
 -- The price of the node, which is small, so it is read and written as it is.
 abbrev node-price : tie.In-loop Inv-loop μ-loop → ℤ
 node-price c = getD (start c .args .price .now) (start c .args .from + c .before .loop .k) (pos 0)
@@ -49,28 +36,13 @@ whole c = back w32 (node-price c) (omega (arith, mag-abs (node-price c), small c
 cast-out : tie.Need-cast-out Inv-loop μ-loop
 cast-out c = rw (whole (c .before)) (abs-fits w64 (node-price (c .before)) (omega (arith, small (c .before))))
 
-mul-t13 : tie.Need-mul-t13 Inv-loop μ-loop
-mul-t13 c = omega arith
-
-shared-slice-read-t15 : tie.Need-shared-slice-read-t15 Inv-loop μ-loop
-shared-slice-read-t15 c = omega arith
-
 -- The own number is on the list.
 inside : (c : tie.In-loop Inv-loop μ-loop) → getD (start c .args .own .now) (c .before .loop .k) 0 < length (c .before .loop .out)
 unfolding at
 inside c = omega (arith, c .before .loop .inv .1 .long, start c .pre .inside (c .before .loop .k) (omega arith))
 
-mul-t16 : tie.Need-mul-t16 Inv-loop μ-loop
-mul-t16 c = omega (arith, inside (c .before .before))
-
 slice-set-from-out : tie.Need-slice-set-from-out Inv-loop μ-loop
 slice-set-from-out c = inside (c .before .before)
-
-add-k : tie.Need-add-k Inv-loop μ-loop
-add-k c = omega arith
-
-loop-less : tie.Need-loop-less Inv-loop μ-loop
-loop-less c = omega arith
 
 loop-again : tie.Need-loop-again Inv-loop μ-loop
 unfolding at
@@ -79,9 +51,6 @@ loop-again c =
     let z = node-price turn in
     let written = ap (λ (x : ℤ). toZ w64 (ofZ w64 x)) (whole turn) ∙ back w64 z (omega (arith, mag-abs z, small turn)) in
     (omega arith, placed-one (start turn .pre) (turn .before .loop .inv .1) (omega arith) _ written)
-
-same-length : tie.Need-same-length Inv-loop μ-loop
-same-length c = c .before .loop .inv .1 .long
 
 returns : tie.Need-returns Inv-loop μ-loop
 returns c =
@@ -95,16 +64,16 @@ place-prices-spec =
     Inv-loop
     μ-loop
     loop-holds
-    add-out
-    mul-out
-    element-copy-out-out
+    (λ c. omega (arith, start c .pre .room))
+    (λ c. omega (arith, start c .pre .room))
+    (λ c. omega (arith, start c .pre .room))
     cast-out
-    mul-t13
-    shared-slice-read-t15
-    mul-t16
+    (λ c. omega arith)
+    (λ c. omega arith)
+    (λ c. omega (arith, inside (c .before .before)))
     slice-set-from-out
-    add-k
-    loop-less
+    (λ c. omega arith)
+    (λ c. omega arith)
     loop-again
-    same-length
+    (λ c. c .before .loop .inv .1 .long)
     returns)

@@ -1,10 +1,5 @@
 -- `dealing::prices::price_cafes` meets its contract. The loop's invariant: of the first j cafés the struck ones have their prices.
-use Prim.Native.Nat.{_-_, _<_}
-use native.Mathlib.Omega.{arith}
-use mathlib.Core.Path.{_≡_, sym, _∙_}
-use mathlib.Core.Logic.{⊎-elim}
-use borrow.Author.Needs.{needs}
-use lib.ListN.{length}
+use Rattle.prelude.specs.Words.{_-_, _<_, arith, _≡_, sym, _∙_, ⊎-elim, needs, length}
 use mir.Syntax.{w64}
 use Rattle.transport.specs.Limits.{maxSide}
 use Rattle.transport.specs.Lists.{at}
@@ -27,9 +22,6 @@ start c = c .before .before .before .before
 
 loop-holds : tie.Need-loop-holds Inv-loop μ-loop
 loop-holds c = priced-none
-
-cafe-price-requires : tie.Need-cafe-price-requires Inv-loop μ-loop
-cafe-price-requires c κs = start (turn c) .pre .0
 
 room : (c : tie.In-loop Inv-loop μ-loop) → c .before .loop .j < 32
 unfolding maxSide
@@ -58,7 +50,7 @@ price-cafes-spec =
     loop-holds
     (λ c. omega arith)
     (λ c. omega arith)
-    cafe-price-requires
+    (λ c κs. start (turn c) .pre .0)
     (λ c. omega (arith, room (turn (c .before))))
     (λ c. room (turn (c .before)))
     (λ c. omega arith)

@@ -1,10 +1,5 @@
 -- `dealing::prices::price_roasteries` meets its contract. The loop's invariant: from where it began to i the struck roasteries have their prices.
-use Prim.Native.Nat.{_-_, _<_}
-use native.Mathlib.Omega.{arith}
-use mathlib.Core.Path.{_∙_}
-use mathlib.Core.Logic.{⊎-elim}
-use borrow.Author.Needs.{needs}
-use lib.ListN.{length}
+use Rattle.prelude.specs.Words.{_-_, _<_, arith, _∙_, ⊎-elim, needs, length}
 use mir.Syntax.{w64}
 use Rattle.transport.specs.Lists.{at}
 use Rattle.transport.specs.Laws.RangeLaws.{back}
@@ -43,9 +38,6 @@ loop-again c =
     (λ w. priced-left inv (omega arith) (w .0 .left) (w .1))
     (c .if1 .came)
 
-same-length : tie.Need-same-length Inv-loop μ-loop
-same-length c = c .before .loop .inv .long
-
 returns : tie.Need-returns Inv-loop μ-loop
 returns c = priced-all (omega arith) (c .before .loop .inv)
 
@@ -64,5 +56,5 @@ price-roasteries-spec =
     (λ c. omega arith)
     (λ c. omega arith)
     loop-again
-    same-length
+    (λ c. c .before .loop .inv .long)
     returns)

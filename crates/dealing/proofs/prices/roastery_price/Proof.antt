@@ -1,9 +1,5 @@
 -- `dealing::prices::roastery_price` meets its contract. The loop's invariant: the least of the first j columns is found.
-use Prim.Native.Nat.{ℕ, _-_, _≤_, _<_}
-use native.Mathlib.Omega.{arith}
-use mathlib.Core.Path.{_≡_, sym, _∙_}
-use borrow.Author.Needs.{needs}
-use lib.IntN.{ℤ, natAbs, _-ℤ_}
+use Rattle.prelude.specs.Words.{ℕ, _-_, _≤_, _<_, arith, _≡_, sym, _∙_, needs, ℤ, natAbs, _-ℤ_}
 use mir.Syntax.{w64}
 use mir.Val.{toZ, ofZ}
 use Rattle.transport.specs.Limits.{maxSide}

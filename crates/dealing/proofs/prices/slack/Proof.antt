@@ -1,11 +1,5 @@
 -- `dealing::prices::slack` meets its contract: the cost is that of the lane, and the difference is in range.
-use Prim.Native.Nat.{_+_, _*_, _<_, _^_}
-use native.Mathlib.Omega.{arith}
-use mathlib.Core.Path.{_≡_, refl, sym, ap, _∙_}
-use mathlib.Core.Logic.{⊎-elim}
-use borrow.Author.Tests.{lt-ltb, le-ltb}
-use lib.IntN.{ℤ, pos, natAbs}
-use lib.ListN.{length}
+use Rattle.prelude.specs.Words.{_+_, _*_, _<_, _^_, arith, _≡_, refl, sym, ap, _∙_, ⊎-elim, lt-ltb, le-ltb, ℤ, pos, natAbs, length}
 use mir.Syntax.{w64}
 use mir.Val.{toZ, ofZ}
 use Rattle.transport.specs.Limits.{maxCost, costAbove}

@@ -1,10 +1,5 @@
 -- `dealing::prices::write_prices` meets its contract: what each call ensures is handed to the laws of the prices that are given.
-use mathlib.Core.Path.{_≡_, refl, sym, ap, _∙_}
-use Prim.Native.Nat.{_≤_}
-use native.Mathlib.Omega.{arith}
-use borrow.Author.Needs.{needs}
-use lib.ListN.{length}
-use lib.Seq.{length-take-le}
+use Rattle.prelude.specs.Words.{_≡_, refl, sym, ap, _∙_, _≤_, arith, needs, length, length-take-le}
 use Rattle.transport.specs.Limits.{maxSide}
 use Rattle.transport.specs.Sheet.{Sheet, sheetOf, roasteries, cafes}
 use Rattle.transport.specs.Laws.ExtendedLaws.{width-low}

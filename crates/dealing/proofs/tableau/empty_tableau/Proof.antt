@@ -1,5 +1,5 @@
 -- Both sides are the same zeros.
-use mathlib.Core.Path.{refl}
+use Rattle.prelude.specs.Words.{refl}
 use Rattle.transport.specs.Lists.{padded}
 use Rattle.transport.specs.Limits.{maxCells, maxSide}
 use Rattle.transport.specs.Amount.{nothing}

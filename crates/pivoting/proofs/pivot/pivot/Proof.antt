@@ -1,8 +1,6 @@
 -- `pivoting::pivot::pivot` meets its contract: the loop's slots, the least of the minus slots and the amounts carried round the loop are those of the pivot
 -- (`pivot-is`). The hops lead from each call back to the one before it.
-use Prim.Native.Nat.{_<_, _≤_}
-use native.Mathlib.Omega.{arith}
-use mathlib.Core.Path.{_∙_}
+use Rattle.prelude.specs.Words.{_<_, _≤_, arith, _∙_}
 use Rattle.transport.specs.Amount.{nothing}
 use Rattle.tree.specs.Layout.{stride, nodeRoom}
 use Rattle.pivoting.specs.Pivoting.{pivot-room, loop-rows, loses-some, minus-slots, plus-slots, slot-room, held-inside, back-fits, minus-fits, plus-fits}
@@ -25,15 +23,6 @@ step c = c .before .before .before .before
 room : (c : tie.Start) → (c .args .row < stride) × (c .args .m ≤ stride) × (c .args .col < stride)
 room c = pivot-room (c .pre .3) (c .pre .4)
 
-add-sink : tie.Need-add-sink
-add-sink c = omega (arith, room c)
-
-mul-into : tie.Need-mul-into
-mul-into c = omega (arith, room c)
-
-add-into : tie.Need-add-into
-add-into c = omega (arith, room c)
-
 loop-slots-requires : tie.Need-loop-slots-requires
 loop-slots-requires c κs =
     let s = c .before .before in
@@ -48,12 +37,6 @@ least-slot-requires c κs =
 
 slot : (c : tie.After-least-slot) → c .least-slot .result < nodeRoom
 slot c = let s = start (loop c) in slot-room (s .pre .3) (s .pre .4) (loop c .loop-slots .ensures) (c .least-slot .ensures)
-
-mul-pair-at : tie.Need-mul-pair-at
-mul-pair-at c = omega (arith, slot (c .before .before))
-
-element-copy-out-pair-at : tie.Need-element-copy-out-pair-at
-element-copy-out-pair-at c = omega (arith, slot (c .before .before))
 
 pair-at-requires : tie.Need-pair-at-requires
 pair-at-requires c κs =
@@ -130,13 +113,13 @@ pub pivot-spec : {M : Type 1} → statement M
 pivot-spec =
     tie.close
     (tie.spec
-    add-sink
-    mul-into
-    add-into
+    (λ c. omega (arith, room c))
+    (λ c. omega (arith, room c))
+    (λ c. omega (arith, room c))
     loop-slots-requires
     least-slot-requires
-    mul-pair-at
-    element-copy-out-pair-at
+    (λ c. omega (arith, slot (c .before .before)))
+    (λ c. omega (arith, slot (c .before .before)))
     pair-at-requires
     subtract-requires
     carry-requires

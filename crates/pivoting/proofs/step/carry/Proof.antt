@@ -1,9 +1,6 @@
 -- `pivoting::step::carry` meets its contract: `add-step` is a turn of the loop, for the bags and for the marks. The measure is the bits that are left, as a
 -- number.
-use mathlib.Core.Path.{_≡_}
-use mathlib.Core.Bool.{true}
-use native.Mathlib.Omega.{arith}
-use borrow.Author.Needs.{needs}
+use Rattle.prelude.specs.Words.{_≡_, true, arith, needs}
 use Rattle.transport.specs.Amount.{add}
 use Rattle.tree.specs.Mask.{has}
 use Rattle.tree.specs.Bits.{Least, rest-less, has-least}

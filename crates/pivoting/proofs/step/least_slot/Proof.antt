@@ -1,9 +1,6 @@
 -- `pivoting::step::least_slot` meets its contract: `least-less` and `least-stays` are the turns of the loop. The measure is the bits that are left, as a
 -- number.
-use mathlib.Core.Path.{_≡_, sym, _∙_}
-use mathlib.Core.Logic.{⊎-elim}
-use native.Mathlib.Omega.{arith}
-use borrow.Author.Needs.{needs}
+use Rattle.prelude.specs.Words.{_≡_, sym, _∙_, ⊎-elim, arith, needs}
 use Rattle.tree.specs.Bits.{Least, rest-less, has-least}
 use Rattle.board.specs.Slots.{slotPair, LeastSlot, least-start, least-here, least-less, least-stays}
 use Rattle.pivoting.proofs.step.least_slot.Statement.{statement}

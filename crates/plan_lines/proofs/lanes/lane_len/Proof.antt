@@ -1,11 +1,8 @@
 -- The two cases of the definition.
-use mathlib.Core.Path.{refl, ap}
-use native.Mathlib.Omega.{arith}
-use lib.ListN.{length}
+use Rattle.prelude.specs.Words.{refl, ap, arith, length, needs}
 use Rattle.transport.specs.Text.{digits}
 use Rattle.sections.specs.Lines.{length-lines}
 use Rattle.plan_lines.specs.Lanes.{line-none, line-one}
-use borrow.Author.Needs.{needs}
 use Rattle.plan_lines.proofs.lanes.lane_len.Statement.{statement}
 use Rattle.plan_lines.proofs.lanes.lane_len.Tie as tie
 
@@ -13,15 +10,6 @@ returns : tie.Need-returns
 returns c =
     let a = c .before .args in
     rw (c .if1 .taken, line-none (a .n) (a .place)) (refl, omega arith)
-
-lane-numbers-requires : tie.Need-lane-numbers-requires
-lane-numbers-requires c κs = search needs
-
-slice-aggregate-numbers-len : tie.Need-slice-aggregate-numbers-len
-slice-aggregate-numbers-len c = search needs
-
-numbers-len-requires : tie.Need-numbers-len-requires
-numbers-len-requires c κs = search needs
 
 returns-2 : tie.Need-returns-2
 returns-2 c =
@@ -35,7 +23,7 @@ lane-len-spec =
     tie.close
     (tie.spec
     returns
-    lane-numbers-requires
-    slice-aggregate-numbers-len
-    numbers-len-requires
+    (λ c κs. search needs)
+    (λ c. search needs)
+    (λ c κs. search needs)
     returns-2)

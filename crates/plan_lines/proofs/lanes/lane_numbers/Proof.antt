@@ -1,9 +1,7 @@
 -- A row and a column are at most the place; one more fits.
-use native.Mathlib.Omega.{arith}
-use native.Mathlib.Numerals.{add-one}
+use Rattle.prelude.specs.Words.{arith, add-one, needs}
 use native.Mathlib.Nat.{div-le-self, mod-le}
 use Rattle.transport.specs.Limits.{maxSide}
-use borrow.Author.Needs.{needs}
 use Rattle.plan_lines.proofs.lanes.lane_numbers.Statement.{statement}
 use Rattle.plan_lines.proofs.lanes.lane_numbers.Tie as tie
 

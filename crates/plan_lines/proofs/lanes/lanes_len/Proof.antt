@@ -1,12 +1,8 @@
 -- The loop's invariant: the length is that of the lines so far, none of which has more than 63 bytes.
-use mathlib.Core.Path.{_≡_, refl}
-use Prim.Native.Nat.{_≤_, _*_, _-_}
-use native.Mathlib.Omega.{arith}
-use lib.ListN.{length, length-append}
+use Rattle.prelude.specs.Words.{_≡_, refl, _≤_, _*_, _-_, arith, length, length-append, needs}
 use Rattle.transport.specs.Limits.{maxSide}
 use Rattle.transport.specs.Lists.{at}
 use Rattle.plan_lines.specs.Lanes.{laneText, usedText, text-zero, text-next}
-use borrow.Author.Needs.{needs}
 use Rattle.plan_lines.proofs.lanes.lanes_len.Statement.{statement}
 use Rattle.plan_lines.proofs.lanes.lanes_len.Tie as tie
 
@@ -19,15 +15,6 @@ abbrev μ-loop : tie.MeasureT-loop
 loop-holds : tie.Need-loop-holds Inv-loop μ-loop
 loop-holds c = let a = c .before .args in rw (text-zero (a .n) (a .plan .now)) (omega arith, refl, omega arith)
 
-mul-lane-len : tie.Need-mul-lane-len Inv-loop μ-loop
-mul-lane-len c = search needs
-
-shared-slice-read-lane-len : tie.Need-shared-slice-read-lane-len Inv-loop μ-loop
-shared-slice-read-lane-len c = search needs
-
-lane-len-requires : tie.Need-lane-len-requires Inv-loop μ-loop
-lane-len-requires c κs = search needs
-
 -- From a lane's length to the turn of the loop.
 abbrev turn : tie.After-lane-len Inv-loop μ-loop → tie.At-loop Inv-loop μ-loop
 turn c = c .before .before .before
@@ -35,12 +22,6 @@ turn c = c .before .before .before
 add-len : tie.Need-add-len Inv-loop μ-loop
 unfolding maxSide
 add-len c = omega (arith, turn c .before .before .pre, c .lane-len .ensures .1)
-
-add-l : tie.Need-add-l Inv-loop μ-loop
-add-l c = search needs
-
-loop-less : tie.Need-loop-less Inv-loop μ-loop
-loop-less c = search needs
 
 loop-again : tie.Need-loop-again Inv-loop μ-loop
 unfolding at
@@ -64,11 +45,11 @@ lanes-len-spec =
     Inv-loop
     μ-loop
     loop-holds
-    mul-lane-len
-    shared-slice-read-lane-len
-    lane-len-requires
+    (λ c. search needs)
+    (λ c. search needs)
+    (λ c κs. search needs)
     add-len
-    add-l
-    loop-less
+    (λ c. search needs)
+    (λ c. search needs)
     loop-again
     returns)

@@ -1,12 +1,7 @@
 -- The loop's invariant: the count is that of the lanes so far.
-use mathlib.Core.Path.{_≡_, sym}
-use mathlib.Core.Logic.{⊎-elim}
-use Prim.Native.Nat.{_≤_, _-_}
-use native.Mathlib.Omega.{arith}
-use lib.ListN.{length}
+use Rattle.prelude.specs.Words.{_≡_, sym, ⊎-elim, _≤_, _-_, arith, length, needs}
 use Rattle.transport.specs.Lists.{at}
 use Rattle.plan_lines.specs.Lanes.{usedCount, count-zero, count-none, count-one}
-use borrow.Author.Needs.{needs}
 use Rattle.plan_lines.proofs.lanes.used_count.Statement.{statement}
 use Rattle.plan_lines.proofs.lanes.used_count.Tie as tie
 
@@ -18,21 +13,6 @@ abbrev μ-loop : tie.MeasureT-loop
 
 loop-holds : tie.Need-loop-holds Inv-loop μ-loop
 loop-holds c = (omega arith, omega arith, sym (count-zero (c .args .plan .now)))
-
-mul-if1 : tie.Need-mul-if1 Inv-loop μ-loop
-mul-if1 c = search needs
-
-shared-slice-read-if1 : tie.Need-shared-slice-read-if1 Inv-loop μ-loop
-shared-slice-read-if1 c = search needs
-
-add-count : tie.Need-add-count Inv-loop μ-loop
-add-count c = search needs
-
-add-l : tie.Need-add-l Inv-loop μ-loop
-add-l c = search needs
-
-loop-less : tie.Need-loop-less Inv-loop μ-loop
-loop-less c = search needs
 
 -- The lane carries a bag, or it carries none.
 loop-again : tie.Need-loop-again Inv-loop μ-loop
@@ -58,10 +38,10 @@ used-count-spec =
     Inv-loop
     μ-loop
     loop-holds
-    mul-if1
-    shared-slice-read-if1
-    add-count
-    add-l
-    loop-less
+    (λ c. search needs)
+    (λ c. search needs)
+    (λ c. search needs)
+    (λ c. search needs)
+    (λ c. search needs)
     loop-again
     returns)

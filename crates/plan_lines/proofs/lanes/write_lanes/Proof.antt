@@ -1,12 +1,8 @@
 -- The loop's invariant: the output holds the lines of the lanes so far.
-use mathlib.Core.Path.{_≡_, refl, sym, ap, _∙_}
-use Prim.Native.Nat.{_≤_, _+_, _-_}
-use native.Mathlib.Omega.{arith}
-use lib.ListN.{length}
+use Rattle.prelude.specs.Words.{_≡_, refl, sym, ap, _∙_, _≤_, _+_, _-_, arith, length, needs}
 use Rattle.transport.specs.Lists.{at}
 use Rattle.sections.specs.Front.{front, front-nil, length-front, FirstWritten, second-start, second-room, both-length, both-written}
 use Rattle.plan_lines.specs.Lanes.{laneText, usedText, text-zero, text-next, text-grows}
-use borrow.Author.Needs.{needs}
 use Rattle.plan_lines.proofs.lanes.write_lanes.Statement.{statement}
 use Rattle.plan_lines.proofs.lanes.write_lanes.Tie as tie
 
@@ -21,12 +17,6 @@ loop-holds : tie.Need-loop-holds Inv-loop μ-loop
 loop-holds c =
     let a = c .before .before .args in
     rw (text-zero (a .n) (a .plan .now)) (omega arith, refl, refl, sym (front-nil (a .out .now)))
-
-mul-write-lane : tie.Need-mul-write-lane Inv-loop μ-loop
-mul-write-lane c = search needs
-
-shared-slice-read-write-lane : tie.Need-shared-slice-read-write-lane Inv-loop μ-loop
-shared-slice-read-write-lane c = search needs
 
 -- From a turn of the loop to the start, and to the turn from the lane that it wrote.
 abbrev start : tie.In-loop Inv-loop μ-loop → tie.Start Inv-loop μ-loop
@@ -48,15 +38,6 @@ begun c =
       holds = l .inv .3;
     }
 
-sub-write-lane : tie.Need-sub-write-lane Inv-loop μ-loop
-sub-write-lane c = second-start (begun (c .before))
-
-part-write-lane-start : tie.Need-part-write-lane-start Inv-loop μ-loop
-part-write-lane-start c = second-start (begun (c .before))
-
-part-write-lane-end : tie.Need-part-write-lane-end Inv-loop μ-loop
-part-write-lane-end c = search needs
-
 write-lane-requires : tie.Need-write-lane-requires Inv-loop μ-loop
 unfolding at
 write-lane-requires c κs =
@@ -70,12 +51,6 @@ add-at c =
     let b = begun (turn w) in
     omega (arith, b .room, both-length b _ (w .write-lane .ensures .0))
 
-add-l : tie.Need-add-l Inv-loop μ-loop
-add-l c = search needs
-
-loop-less : tie.Need-loop-less Inv-loop μ-loop
-loop-less c = search needs
-
 loop-again : tie.Need-loop-again Inv-loop μ-loop
 unfolding at
 loop-again c =
@@ -85,9 +60,6 @@ loop-again c =
     let out = both-written b _ (w .write-lane .ensures .1) in
     rw (text-next (a .n) (a .plan .now) (turn w .before .loop .l))
     (omega arith, ap length out ∙ length-front _ _ (b .room), both-length b _ (w .write-lane .ensures .0), out)
-
-same-length : tie.Need-same-length Inv-loop μ-loop
-same-length c = c .before .loop .inv .1
 
 returns : tie.Need-returns Inv-loop μ-loop
 returns c =
@@ -102,15 +74,15 @@ write-lanes-spec =
     Inv-loop
     μ-loop
     loop-holds
-    mul-write-lane
-    shared-slice-read-write-lane
-    sub-write-lane
-    part-write-lane-start
-    part-write-lane-end
+    (λ c. search needs)
+    (λ c. search needs)
+    (λ c. second-start (begun (c .before)))
+    (λ c. second-start (begun (c .before)))
+    (λ c. search needs)
     write-lane-requires
     add-at
-    add-l
-    loop-less
+    (λ c. search needs)
+    (λ c. search needs)
     loop-again
-    same-length
+    (λ c. c .before .loop .inv .1)
     returns)

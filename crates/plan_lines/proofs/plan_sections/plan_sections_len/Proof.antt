@@ -1,8 +1,5 @@
 -- The lengths of the sections, added up; all of them together are far below 2 ^ 64.
-use mathlib.Core.Path.{_≡_}
-use mathlib.Core.List.{[], _∷_}
-use native.Mathlib.Omega.{arith}
-use lib.ListN.{length}
+use Rattle.prelude.specs.Words.{_≡_, [], _∷_, arith, length, needs}
 use mir.Syntax.{w64}
 use mir.Val.{toZ, ofZ}
 use Rattle.transport.specs.Laws.RangeLaws.{back}
@@ -10,7 +7,6 @@ use Rattle.transport.specs.Limits.{maxSide}
 use Rattle.transport.specs.Text.{bytes, digits, wholeDigits}
 use Rattle.sections.specs.Lines.{length-section}
 use Rattle.plan_lines.specs.Sections.{sections-length}
-use borrow.Author.Needs.{needs}
 use Rattle.plan_lines.proofs.plan_sections.plan_sections_len.Statement.{statement}
 use Rattle.plan_lines.proofs.plan_sections.plan_sections_len.Tie as tie
 
@@ -30,30 +26,6 @@ cafes c = c .before .before
 abbrev start : tie.After-section-len → tie.Start
 start c = total c .before .before .before .before .before
 
-slice-aggregate-whole-section-len : tie.Need-slice-aggregate-whole-section-len
-slice-aggregate-whole-section-len c = search needs
-
-slice-aggregate-whole-section-len-2 : tie.Need-slice-aggregate-whole-section-len-2
-slice-aggregate-whole-section-len-2 c = search needs
-
-whole-section-len-requires : tie.Need-whole-section-len-requires
-whole-section-len-requires c κs = search needs
-
-slice-aggregate-section-len : tie.Need-slice-aggregate-section-len
-slice-aggregate-section-len c = search needs
-
-slice-aggregate-section-len-2 : tie.Need-slice-aggregate-section-len-2
-slice-aggregate-section-len-2 c = search needs
-
-section-len-requires : tie.Need-section-len-requires
-section-len-requires c κs = search needs
-
-add-result : tie.Need-add-result
-add-result c = search needs
-
-slice-aggregate-whole-section-len-3 : tie.Need-slice-aggregate-whole-section-len-3
-slice-aggregate-whole-section-len-3 c = search needs
-
 whole-section-len-requires-2 : tie.Need-whole-section-len-requires-2
 unfolding maxSide
 whole-section-len-requires-2 c κs = omega (arith, start (c .before) .pre)
@@ -61,9 +33,6 @@ whole-section-len-requires-2 c κs = omega (arith, start (c .before) .pre)
 add-result-2 : tie.Need-add-result-2
 unfolding maxSide
 add-result-2 c = omega (arith, start (rounds c) .pre)
-
-slice-aggregate-whole-section-len-4 : tie.Need-slice-aggregate-whole-section-len-4
-slice-aggregate-whole-section-len-4 c = search needs
 
 whole-section-len-requires-3 : tie.Need-whole-section-len-requires-3
 unfolding maxSide
@@ -73,18 +42,9 @@ add-result-3 : tie.Need-add-result-3
 unfolding maxSide
 add-result-3 c = omega (arith, start (rounds (roasteries c)) .pre)
 
-slice-aggregate-head-len : tie.Need-slice-aggregate-head-len
-slice-aggregate-head-len c = search needs
-
-head-len-requires : tie.Need-head-len-requires
-head-len-requires c κs = search needs
-
 add-result-4 : tie.Need-add-result-4
 unfolding maxSide
 add-result-4 c = omega (arith, start (rounds (roasteries (cafes c))) .pre)
-
-lanes-len-requires : tie.Need-lanes-len-requires
-lanes-len-requires c κs = omega (arith, start (rounds (roasteries (cafes c))) .pre)
 
 add-result-5 : tie.Need-add-result-5
 unfolding maxSide
@@ -123,22 +83,22 @@ pub plan-sections-len-spec : {M : Type 1} → statement M
 plan-sections-len-spec =
     tie.close
     (tie.spec
-    slice-aggregate-whole-section-len
-    slice-aggregate-whole-section-len-2
-    whole-section-len-requires
-    slice-aggregate-section-len
-    slice-aggregate-section-len-2
-    section-len-requires
-    add-result
-    slice-aggregate-whole-section-len-3
+    (λ c. search needs)
+    (λ c. search needs)
+    (λ c κs. search needs)
+    (λ c. search needs)
+    (λ c. search needs)
+    (λ c κs. search needs)
+    (λ c. search needs)
+    (λ c. search needs)
     whole-section-len-requires-2
     add-result-2
-    slice-aggregate-whole-section-len-4
+    (λ c. search needs)
     whole-section-len-requires-3
     add-result-3
-    slice-aggregate-head-len
-    head-len-requires
+    (λ c. search needs)
+    (λ c κs. search needs)
     add-result-4
-    lanes-len-requires
+    (λ c κs. omega (arith, start (rounds (roasteries (cafes c))) .pre))
     add-result-5
     returns)

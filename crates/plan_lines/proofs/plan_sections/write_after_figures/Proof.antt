@@ -1,9 +1,7 @@
 -- The prices, and then the lanes in what is left of the output.
-use native.Mathlib.Omega.{arith}
-use lib.ListN.{length}
+use Rattle.prelude.specs.Words.{arith, length, needs}
 use Rattle.sections.specs.Front.{FirstWritten, first-room, second-start, second-room, both-length, both-written}
 use Rattle.plan_lines.specs.Sections.{pricesText, lanesText}
-use borrow.Author.Needs.{needs}
 use Rattle.plan_lines.proofs.plan_sections.write_after_figures.Statement.{statement}
 use Rattle.plan_lines.proofs.plan_sections.write_after_figures.Tie as tie
 
@@ -30,9 +28,6 @@ sub-write-lane-section c = second-start (begun (c .before .before))
 part-write-lane-section-start : tie.Need-part-write-lane-section-start
 part-write-lane-section-start c = second-start (begun (c .before .before))
 
-part-write-lane-section-end : tie.Need-part-write-lane-section-end
-part-write-lane-section-end c = search needs
-
 write-lane-section-requires : tie.Need-write-lane-section-requires
 write-lane-section-requires c κs =
     let b = c .before .before .before in
@@ -44,9 +39,6 @@ add-result c =
     let w = c .before .before in
     let b = begun (prices w) in
     omega (arith, b .room, both-length b _ (w .write-lane-section .ensures .0), start (prices w .before) .good)
-
-same-length : tie.Need-same-length
-same-length c = search needs
 
 returns : tie.Need-returns
 returns c =
@@ -61,8 +53,8 @@ write-after-figures-spec =
     write-price-sections-requires
     sub-write-lane-section
     part-write-lane-section-start
-    part-write-lane-section-end
+    (λ c. search needs)
     write-lane-section-requires
     add-result
-    same-length
+    (λ c. search needs)
     returns)

@@ -1,7 +1,5 @@
 -- The cost, and then the rounds in what is left of the output.
-use mathlib.Core.Path.{_≡_}
-use mathlib.Core.List.{[], _∷_}
-use native.Mathlib.Omega.{arith}
+use Rattle.prelude.specs.Words.{_≡_, [], _∷_, arith, needs}
 use mir.Syntax.{w64}
 use mir.Val.{toZ, ofZ}
 use Rattle.transport.specs.Laws.RangeLaws.{back}
@@ -9,15 +7,8 @@ use Rattle.transport.specs.Text.{bytes, digits, wholeDigits}
 use Rattle.sections.specs.Front.{FirstWritten, first-room, second-start, second-room, both-length, both-written}
 use Rattle.sections.specs.Lines.{sectionText}
 use Rattle.plan_lines.specs.Sections.{figuresText}
-use borrow.Author.Needs.{needs}
 use Rattle.plan_lines.proofs.plan_sections.write_figures.Statement.{statement}
 use Rattle.plan_lines.proofs.plan_sections.write_figures.Tie as tie
-
-slice-aggregate-write-whole-section : tie.Need-slice-aggregate-write-whole-section
-slice-aggregate-write-whole-section c = search needs
-
-slice-aggregate-write-whole-section-2 : tie.Need-slice-aggregate-write-whole-section-2
-slice-aggregate-write-whole-section-2 c = search needs
 
 -- The cost is passed on as it is.
 as-it-is : (c : tie.After-struct-told) → toZ w64 (ofZ w64 (c .before .before .args .figures .total)) ≡ c .before .before .args .figures .total
@@ -31,12 +22,6 @@ write-whole-section-requires c κs =
       rw (as-it-is (c .before .before .before)) (first-room (sectionText wholeDigits (bytes "total ") 1 1 (t .args .figures .total ∷ []))
           (sectionText digits (bytes "rounds ") 1 1 (t .args .figures .rounds ∷ [])) (t .args .out .now) (t .pre)),
     )
-
-slice-aggregate-write-section : tie.Need-slice-aggregate-write-section
-slice-aggregate-write-section c = search needs
-
-slice-aggregate-write-section-2 : tie.Need-slice-aggregate-write-section-2
-slice-aggregate-write-section-2 c = search needs
 
 begun : (c : tie.After-write-whole-section) → let t = c .before .before .before .before .before .before in
     FirstWritten (sectionText wholeDigits (bytes "total ") 1 1 (t .args .figures .total ∷ []))
@@ -57,9 +42,6 @@ sub-write-section c = second-start (begun (c .before .before .before .before))
 part-write-section-start : tie.Need-part-write-section-start
 part-write-section-start c = second-start (begun (c .before .before .before .before))
 
-part-write-section-end : tie.Need-part-write-section-end
-part-write-section-end c = search needs
-
 write-section-requires : tie.Need-write-section-requires
 unfolding figuresText bytes
 write-section-requires c κs = second-room (begun (c .before .before .before .before .before))
@@ -69,9 +51,6 @@ unfolding figuresText bytes
 add-result c =
     let b = begun (c .before .before .before .before .before .before .before .before) in
     omega (arith, b .room, both-length b _ (c .before .before .write-section .ensures .0))
-
-same-length : tie.Need-same-length
-same-length c = search needs
 
 returns : tie.Need-returns
 unfolding figuresText bytes
@@ -84,15 +63,15 @@ pub write-figures-spec : {M : Type 1} → statement M
 write-figures-spec =
     tie.close
     (tie.spec
-    slice-aggregate-write-whole-section
-    slice-aggregate-write-whole-section-2
+    (λ c. search needs)
+    (λ c. search needs)
     write-whole-section-requires
-    slice-aggregate-write-section
-    slice-aggregate-write-section-2
+    (λ c. search needs)
+    (λ c. search needs)
     sub-write-section
     part-write-section-start
-    part-write-section-end
+    (λ c. search needs)
     write-section-requires
     add-result
-    same-length
+    (λ c. search needs)
     returns)

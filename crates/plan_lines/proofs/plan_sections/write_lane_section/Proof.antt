@@ -1,13 +1,10 @@
 -- The head line, and then the lines of the lanes in what is left of the output.
-use mathlib.Core.List.{_++_}
-use native.Mathlib.Omega.{arith}
-use lib.ListN.{length}
+use Rattle.prelude.specs.Words.{_++_, arith, length, needs}
 use Rattle.transport.specs.Text.{bytes, digits}
 use Rattle.sections.specs.Front.{FirstWritten, first-room, second-start, second-room, both-length, both-written}
 use Rattle.sections.specs.Lines.{ended}
 use Rattle.plan_lines.specs.Lanes.{usedText}
 use Rattle.plan_lines.specs.Sections.{lanesText}
-use borrow.Author.Needs.{needs}
 use Rattle.plan_lines.proofs.plan_sections.write_lane_section.Statement.{statement}
 use Rattle.plan_lines.proofs.plan_sections.write_lane_section.Tie as tie
 
@@ -17,9 +14,6 @@ start c = c .before .before .before .before
 
 abbrev head : tie.After-write-lanes → tie.After-write-head
 head c = c .before .before .before .before
-
-slice-aggregate-write-head : tie.Need-slice-aggregate-write-head
-slice-aggregate-write-head c = search needs
 
 write-head-requires : tie.Need-write-head-requires
 unfolding lanesText bytes
@@ -39,9 +33,6 @@ sub-write-lanes c = second-start (begun (c .before .before))
 part-write-lanes-start : tie.Need-part-write-lanes-start
 part-write-lanes-start c = second-start (begun (c .before .before))
 
-part-write-lanes-end : tie.Need-part-write-lanes-end
-part-write-lanes-end c = search needs
-
 write-lanes-requires : tie.Need-write-lanes-requires
 write-lanes-requires c κs =
     let h = c .before .before .before in
@@ -54,9 +45,6 @@ add-result c =
     let b = begun (head w) in
     omega (arith, b .room, both-length b _ (w .write-lanes .ensures .0))
 
-same-length : tie.Need-same-length
-same-length c = search needs
-
 returns : tie.Need-returns
 unfolding lanesText bytes
 returns c =
@@ -68,12 +56,12 @@ pub write-lane-section-spec : {M : Type 1} → statement M
 write-lane-section-spec =
     tie.close
     (tie.spec
-    slice-aggregate-write-head
+    (λ c. search needs)
     write-head-requires
     sub-write-lanes
     part-write-lanes-start
-    part-write-lanes-end
+    (λ c. search needs)
     write-lanes-requires
     add-result
-    same-length
+    (λ c. search needs)
     returns)

@@ -1,11 +1,7 @@
 -- The figures, and then the other sections in what is left of the output.
-use mathlib.Core.List.{List, _++_}
-use Prim.Native.Nat.{ℕ}
-use native.Mathlib.Omega.{arith}
-use lib.ListN.{length}
+use Rattle.prelude.specs.Words.{List, _++_, ℕ, arith, length, needs}
 use Rattle.sections.specs.Front.{FirstWritten, first-room, second-start, second-room, both-length, both-written}
 use Rattle.plan_lines.specs.Sections.{figuresText, pricesText, lanesText, planSections}
-use borrow.Author.Needs.{needs}
 use Rattle.plan_lines.proofs.plan_sections.write_plan_sections.Statement.{statement}
 use Rattle.plan_lines.proofs.plan_sections.write_plan_sections.Tie as tie
 
@@ -35,9 +31,6 @@ sub-write-after-figures c = second-start (begun (c .before .before))
 part-write-after-figures-start : tie.Need-part-write-after-figures-start
 part-write-after-figures-start c = second-start (begun (c .before .before))
 
-part-write-after-figures-end : tie.Need-part-write-after-figures-end
-part-write-after-figures-end c = search needs
-
 write-after-figures-requires : tie.Need-write-after-figures-requires
 write-after-figures-requires c κs =
     let f = c .before .before .before in
@@ -49,9 +42,6 @@ add-result c =
     let w = c .before .before in
     let b = begun (figures w) in
     omega (arith, b .room, both-length b _ (w .write-after-figures .ensures .0), start (figures w .before) .good)
-
-same-length : tie.Need-same-length
-same-length c = search needs
 
 returns : tie.Need-returns
 unfolding planSections
@@ -67,8 +57,8 @@ write-plan-sections-spec =
     write-figures-requires
     sub-write-after-figures
     part-write-after-figures-start
-    part-write-after-figures-end
+    (λ c. search needs)
     write-after-figures-requires
     add-result
-    same-length
+    (λ c. search needs)
     returns)

@@ -1,14 +1,10 @@
 -- The prices of the sources, and then those of the sinks in what is left of the output.
-use native.Mathlib.Omega.{arith}
+use Rattle.prelude.specs.Words.{arith, needs}
 use Rattle.transport.specs.Text.{bytes}
 use Rattle.sections.specs.Front.{FirstWritten, first-room, second-start, second-room, both-length, both-written}
 use Rattle.plan_lines.specs.Sections.{priceSection, pricesText}
-use borrow.Author.Needs.{needs}
 use Rattle.plan_lines.proofs.plan_sections.write_price_sections.Statement.{statement}
 use Rattle.plan_lines.proofs.plan_sections.write_price_sections.Tie as tie
-
-slice-aggregate-write-whole-section : tie.Need-slice-aggregate-write-whole-section
-slice-aggregate-write-whole-section c = search needs
 
 write-whole-section-requires : tie.Need-write-whole-section-requires
 unfolding pricesText bytes
@@ -16,9 +12,6 @@ write-whole-section-requires c κs =
     let t = c .before .before .before in
     let first = priceSection (bytes "roasteries ") (t .args .u .now) in
     (omega arith, first-room first (priceSection (bytes "cafes ") (t .args .v .now)) (t .args .out .now) (t .pre))
-
-slice-aggregate-write-whole-section-2 : tie.Need-slice-aggregate-write-whole-section-2
-slice-aggregate-write-whole-section-2 c = search needs
 
 begun : (c : tie.After-write-whole-section) → let t = c .before .before .before .before in
     FirstWritten (priceSection (bytes "roasteries ") (t .args .u .now)) (priceSection (bytes "cafes ") (t .args .v .now)) (t .args .out .now)
@@ -32,9 +25,6 @@ sub-write-whole-section c = second-start (begun (c .before .before .before))
 part-write-whole-section-start : tie.Need-part-write-whole-section-start
 part-write-whole-section-start c = second-start (begun (c .before .before .before))
 
-part-write-whole-section-end : tie.Need-part-write-whole-section-end
-part-write-whole-section-end c = search needs
-
 write-whole-section-requires-2 : tie.Need-write-whole-section-requires-2
 unfolding pricesText bytes
 write-whole-section-requires-2 c κs = (omega arith, second-room (begun (c .before .before .before .before)))
@@ -44,9 +34,6 @@ unfolding pricesText bytes
 add-result c =
     let b = begun (c .before .before .before .before .before .before .before) in
     omega (arith, b .room, both-length b _ (c .before .before .write-whole-section2 .ensures .0))
-
-same-length : tie.Need-same-length
-same-length c = search needs
 
 returns : tie.Need-returns
 unfolding pricesText bytes
@@ -59,13 +46,13 @@ pub write-price-sections-spec : {M : Type 1} → statement M
 write-price-sections-spec =
     tie.close
     (tie.spec
-    slice-aggregate-write-whole-section
+    (λ c. search needs)
     write-whole-section-requires
-    slice-aggregate-write-whole-section-2
+    (λ c. search needs)
     sub-write-whole-section
     part-write-whole-section-start
-    part-write-whole-section-end
+    (λ c. search needs)
     write-whole-section-requires-2
     add-result
-    same-length
+    (λ c. search needs)
     returns)

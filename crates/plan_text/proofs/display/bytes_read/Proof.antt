@@ -1,5 +1,5 @@
 -- The two cases of the lesser.
-use native.Mathlib.Omega.{arith}
+use Rattle.prelude.specs.Words.{arith}
 use Rattle.transport.specs.Limits.{maxText}
 use Rattle.plan_text.proofs.display.bytes_read.Statement.{statement}
 use Rattle.plan_text.proofs.display.bytes_read.Tie as tie

@@ -1,11 +1,5 @@
 -- Each way out is a case of what the reader says of the bytes that are read.
-use mathlib.Core.Path.{_≡_, sym, _∙_}
-use mathlib.Core.List.{_++_}
-use Prim.Native.Nat.{suc, _*_, _-_, _≤_}
-use native.Mathlib.Omega.{arith}
-use native.Mathlib.Nat.{mul-le-mul}
-use lib.ListN.{length, take, drop, length-drop}
-use lib.Seq.{length-take-le}
+use Rattle.prelude.specs.Words.{_≡_, sym, _∙_, _++_, suc, _*_, _-_, _≤_, arith, mul-le-mul, length, take, drop, length-drop, length-take-le, needs}
 use Rattle.transport.specs.Limits.{maxSources, maxSinks, maxText}
 use Rattle.transport.specs.Sheet.{sheetOf}
 use Rattle.transport.specs.Text.{bytes, digits}
@@ -15,31 +9,15 @@ use Rattle.sections.specs.Front.{front}
 use Rattle.sections.specs.Lines.{ended}
 use Rattle.sheet_reader.specs.SheetAnswer.{SheetIn, sheet-in, supply-length, demand-length, cost-length}
 use Rattle.plan_text.specs.Shown.{sheetShown, take-min, shown-is, printed-place, printed-sheet, read-numbers}
-use borrow.Author.Needs.{needs}
 use Rattle.plan_text.proofs.display.show.Statement.{statement}
 use Rattle.plan_text.proofs.display.show.Tie as tie
-
-bytes-read-requires : tie.Need-bytes-read-requires
-bytes-read-requires c κs = search needs
 
 slice-aggregate-read-sections : tie.Need-slice-aggregate-read-sections
 slice-aggregate-read-sections c = sym (length-take-le _ _ (omega (arith, c .before .bytes-read .ensures)))
 
-slice-aggregate-read-sections-2 : tie.Need-slice-aggregate-read-sections-2
-slice-aggregate-read-sections-2 c = search needs
-
-slice-aggregate-read-sections-3 : tie.Need-slice-aggregate-read-sections-3
-slice-aggregate-read-sections-3 c = search needs
-
-slice-aggregate-read-sections-4 : tie.Need-slice-aggregate-read-sections-4
-slice-aggregate-read-sections-4 c = search needs
-
 read-sections-requires : tie.Need-read-sections-requires
 unfolding maxSources maxSinks
 read-sections-requires c κs = omega arith
-
-enum-known-answer : tie.Need-enum-known-answer
-enum-known-answer c = search needs
 
 -- What is read of the input.
 text-read : (c : tie.After-bytes-read) → take (c .bytes-read .result) (c .before .before .before .args .input .now)
@@ -123,33 +101,12 @@ array-share-prefix-cost c =
 slice-aggregate-show-plan-3 : tie.Need-slice-aggregate-show-plan-3
 slice-aggregate-show-plan-3 c = sym (length-take-le _ _ (array-share-prefix-cost (c .before)))
 
-show-plan-requires : tie.Need-show-plan-requires
-show-plan-requires c κs = search needs
-
-enum-known-answer-2 : tie.Need-enum-known-answer-2
-enum-known-answer-2 c = search needs
-
-slice-aggregate-show-refusal : tie.Need-slice-aggregate-show-refusal
-slice-aggregate-show-refusal c = search needs
-
-show-refusal-requires : tie.Need-show-refusal-requires
-show-refusal-requires c κs = search needs
-
-enum-told : tie.Need-enum-told
-enum-told c = search needs
-
-same-length : tie.Need-same-length
-same-length c = search needs
-
 returns : tie.Need-returns
 unfolding front
 returns c = rw (shown-is (c .before .before .before .before .before .before .before .before .before .before .before .before .before .before .before .before
     .before .before .before .before .before .args .input .now) (length (c .before .before .before .before .before .before .before .before .before .before
     .before .before .before .before .before .before .before .before .before .before .before .args .out .now)) _
     (the-plan (c .before .before .before .before .before .before .before .before))) (c .before .before .show-plan .ensures)
-
-same-length-2 : tie.Need-same-length-2
-same-length-2 c = search needs
 
 returns-2 : tie.Need-returns-2
 unfolding front bytes
@@ -165,13 +122,13 @@ pub show-spec : {M : Type 1} → statement M
 show-spec =
     tie.close
     (tie.spec
-    bytes-read-requires
+    (λ c κs. search needs)
     slice-aggregate-read-sections
-    slice-aggregate-read-sections-2
-    slice-aggregate-read-sections-3
-    slice-aggregate-read-sections-4
+    (λ c. search needs)
+    (λ c. search needs)
+    (λ c. search needs)
     read-sections-requires
-    enum-known-answer
+    (λ c. search needs)
     mul-lanes
     array-share-prefix-supply
     slice-aggregate-show-plan
@@ -179,13 +136,13 @@ show-spec =
     slice-aggregate-show-plan-2
     array-share-prefix-cost
     slice-aggregate-show-plan-3
-    show-plan-requires
-    enum-known-answer-2
-    slice-aggregate-show-refusal
-    show-refusal-requires
-    enum-told
-    same-length
+    (λ c κs. search needs)
+    (λ c. search needs)
+    (λ c. search needs)
+    (λ c κs. search needs)
+    (λ c. search needs)
+    (λ c. search needs)
     returns
-    same-length-2
+    (λ c. search needs)
     returns-2
     returns-3)

@@ -1,10 +1,8 @@
 -- Too short, or written.
-use mathlib.Core.List.{_++_}
-use native.Mathlib.Omega.{arith}
+use Rattle.prelude.specs.Words.{_++_, arith, needs}
 use Rattle.transport.specs.Text.{digits}
 use Rattle.sections.specs.Fitting.{put-nothing, put-whole}
 use Rattle.sections.specs.Lines.{ended}
-use borrow.Author.Needs.{needs}
 use Rattle.plan_text.proofs.display.show_refusal.Statement.{statement}
 use Rattle.plan_text.proofs.display.show_refusal.Tie as tie
 

@@ -1,12 +1,5 @@
 -- Each way out is a case of the call; the sections that are written are those of what solve found.
-use mathlib.Core.Path.{_≡_, sym, ap, _∙_}
-use mathlib.Core.List.{List}
-use Prim.Native.Nat.{ℕ, _*_, _≤_}
-use native.Mathlib.Omega.{arith}
-use native.Mathlib.Nat.{mul-le-mul}
-use lib.IntN.{ℤ}
-use lib.ListN.{length, take}
-use lib.Seq.{length-take-le}
+use Rattle.prelude.specs.Words.{_≡_, sym, ap, _∙_, List, ℕ, _*_, _≤_, arith, mul-le-mul, ℤ, length, take, length-take-le, needs}
 use mir.Syntax.{w64}
 use mir.Val.{toZ, ofZ}
 use Rattle.transport.specs.Laws.RangeLaws.{back}
@@ -19,27 +12,8 @@ use Rattle.sections.specs.WriteCall.{wrote-check, wrote-short, wrote-given}
 use Rattle.plan_lines.specs.Lanes.{usedCount}
 use Rattle.plan_lines.specs.Sections.{planSections}
 use Rattle.plan_text.specs.Solved.{FoundPlan, found, found-sections, refused-check}
-use borrow.Author.Needs.{needs}
 use Rattle.plan_text.proofs.writer.write_plan.Statement.{statement}
 use Rattle.plan_text.proofs.writer.write_plan.Tie as tie
-
-slice-aggregate-solve : tie.Need-slice-aggregate-solve
-slice-aggregate-solve c = search needs
-
-slice-aggregate-solve-2 : tie.Need-slice-aggregate-solve-2
-slice-aggregate-solve-2 c = search needs
-
-slice-aggregate-solve-3 : tie.Need-slice-aggregate-solve-3
-slice-aggregate-solve-3 c = search needs
-
-solve-requires : tie.Need-solve-requires
-solve-requires c κs = search needs
-
-enum-known-answer : tie.Need-enum-known-answer
-enum-known-answer c = search needs
-
-enum-known-answer-2 : tie.Need-enum-known-answer-2
-enum-known-answer-2 c = search needs
 
 -- From solve to the start, and from each step to the one before it: the answer of solve that was matched, the count of the lanes, the length of the text, and
 -- the text.
@@ -113,9 +87,6 @@ array-share-prefix-plan c =
 
 slice-aggregate-used-count : tie.Need-slice-aggregate-used-count
 slice-aggregate-used-count c = sym (length-take-le _ _ (array-share-prefix-plan (c .before)))
-
-used-count-requires : tie.Need-used-count-requires
-used-count-requires c κs = search needs
 
 array-share-prefix-u : tie.Need-array-share-prefix-u
 array-share-prefix-u c = omega (arith, m-few (answerOf c))
@@ -208,9 +179,6 @@ returns-2 c =
     let S = sheetAt (solveStart s) in
     wrote-check S (planText S) (solveStart s .args .out .now) _ (refused-check S _ (sym (c .before .answer .given .1) ∙ s .solve .ensures .0))
 
-same-length : tie.Need-same-length
-same-length c = search needs
-
 returns-3 : tie.Need-returns-3
 unfolding writePlanCall
 returns-3 c =
@@ -227,16 +195,16 @@ pub write-plan-spec : {M : Type 1} → statement M
 write-plan-spec =
     tie.close
     (tie.spec
-    slice-aggregate-solve
-    slice-aggregate-solve-2
-    slice-aggregate-solve-3
-    solve-requires
-    enum-known-answer
-    enum-known-answer-2
+    (λ c. search needs)
+    (λ c. search needs)
+    (λ c. search needs)
+    (λ c κs. search needs)
+    (λ c. search needs)
+    (λ c. search needs)
     mul-lanes
     array-share-prefix-plan
     slice-aggregate-used-count
-    used-count-requires
+    (λ c κs. search needs)
     array-share-prefix-u
     slice-aggregate-plan-sections-len
     array-share-prefix-v
@@ -253,5 +221,5 @@ write-plan-spec =
     slice-aggregate-write-plan-sections-3
     write-plan-sections-requires
     returns-2
-    same-length
+    (λ c. search needs)
     returns-3)

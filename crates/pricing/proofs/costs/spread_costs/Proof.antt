@@ -1,13 +1,5 @@
 -- `pricing::costs::spread_costs` meets its contract. The loops' invariants: the rows before i are filled in, and of row i the columns before j.
-use Prim.Native.Nat.{ℕ, _+_, _-_, _*_, _≤_, _<_, _^_}
-use native.Mathlib.Omega.{arith}
-use borrow.Author.Needs.{needs}
-use borrow.Author.Tests.{eqb-true}
-use mathlib.Core.Path.{_≡_, refl}
-use mathlib.Core.Bool.{true}
-use mathlib.Core.List.{List}
-use lib.IntN.{ℤ, pos, natAbs}
-use lib.ListN.{length, getD}
+use Rattle.prelude.specs.Words.{ℕ, _+_, _-_, _*_, _≤_, _<_, _^_, arith, needs, eqb-true, _≡_, refl, true, List, ℤ, pos, natAbs, length, getD}
 use mir.Syntax.{w32, w64}
 use mir.Val.{toZ, ofZ}
 use mir.Facts.{toZ-ofZ}

@@ -1,10 +1,5 @@
 -- `pricing::scan::entering` meets its contract: the row of the least reduced cost, and its column, are those of the laws of the scan.
-use Prim.Native.Nat.{_<_}
-use mathlib.Core.Path.{_≡_, _∙_}
-use native.Mathlib.Omega.{arith}
-use borrow.Author.Needs.{needs}
-use lib.ListN.{getD}
-use lib.IntN.{pos}
+use Rattle.prelude.specs.Words.{_<_, _≡_, _∙_, arith, needs, getD, pos}
 use mir.Syntax.{w32}
 use mir.Val.{toZ, ofZ}
 use mir.Facts.{toZ-ofZ}

@@ -1,11 +1,6 @@
 -- `pricing::scan::first_column` meets its contract. The loop's invariant: every column from where it began up to `col` has a
 -- greater slack; the measure is what is left of them.
-use Prim.Native.Nat.{_+_, _-_, _*_, _<_, _^_}
-use mathlib.Core.Path.{_≡_}
-use native.Mathlib.Omega.{arith}
-use borrow.Author.Needs.{needs}
-use lib.ListN.{getD}
-use lib.IntN.{pos, natAbs, _-ℤ_}
+use Rattle.prelude.specs.Words.{_+_, _-_, _*_, _<_, _^_, _≡_, arith, needs, getD, pos, natAbs, _-ℤ_}
 use mir.Syntax.{w32}
 use mir.Val.{toZ, ofZ}
 use Rattle.transport.specs.Limits.{maxCost, costAbove}
@@ -39,9 +34,6 @@ unfolding costAbove maxCost
 room c =
     let s = turn c .before in
     omega (arith, slack-room (s .pre .0) (s .args .row) (turn c .loop .col) (omega arith))
-
-sub-if1 : tie.Need-sub-if1 Inv-loop μ-loop
-sub-if1 c = search (needs, diff-in, room c)
 
 -- The slack in the column, as the code has it.
 slack-is : (c : tie.After-if13 Inv-loop μ-loop)
@@ -84,7 +76,7 @@ first-column-spec =
     (λ c. search needs)
     (λ c. search needs)
     (λ c. search needs)
-    sub-if1
+    (λ c. search (needs, diff-in, room c))
     (λ c. search needs)
     (λ c. search needs)
     loop-again

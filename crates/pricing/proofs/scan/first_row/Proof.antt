@@ -1,11 +1,6 @@
 -- `pricing::scan::first_row` meets its contract. The loop's invariant: every row from where it began up to `row` has a greater
 -- number; the measure is what is left of the rows.
-use Prim.Native.Nat.{_+_, _-_, _<_, _^_}
-use mathlib.Core.Path.{_≡_}
-use native.Mathlib.Omega.{arith}
-use borrow.Author.Needs.{needs}
-use lib.ListN.{getD}
-use lib.IntN.{pos, natAbs, _-ℤ_}
+use Rattle.prelude.specs.Words.{_+_, _-_, _<_, _^_, _≡_, arith, needs, getD, pos, natAbs, _-ℤ_}
 use mir.Syntax.{w32}
 use mir.Val.{toZ, ofZ}
 use Rattle.transport.specs.Limits.{maxCost, costAbove}
@@ -34,9 +29,6 @@ room : (c : tie.After-if13 Inv-loop μ-loop)
     natAbs (getD (a .slack .now) i (pos 0)) + natAbs (getD (a .price .now) i (pos 0)) < 2 ^ 31
 unfolding costAbove maxCost
 room c = omega (arith, turn c .before .pre .room (turn c .loop .row) (omega arith))
-
-sub-if1 : tie.Need-sub-if1 Inv-loop μ-loop
-sub-if1 c = search (needs, diff-in, room c)
 
 -- The number of the row, as the code has it.
 row-is : (c : tie.After-if13 Inv-loop μ-loop)
@@ -76,7 +68,7 @@ first-row-spec =
     (λ c. search needs)
     (λ c. search needs)
     (λ c. search needs)
-    sub-if1
+    (λ c. search (needs, diff-in, room c))
     (λ c. search needs)
     (λ c. search needs)
     loop-again

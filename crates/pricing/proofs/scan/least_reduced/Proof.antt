@@ -1,10 +1,5 @@
 -- `pricing::scan::least_reduced` meets its contract. The loop's invariant: the least of the rows before i; the measure is what is left of them.
-use Prim.Native.Nat.{_+_, _-_, _≤_, _<_, _^_}
-use mathlib.Core.Path.{_≡_, sym, _∙_}
-use native.Mathlib.Omega.{arith}
-use borrow.Author.Needs.{needs}
-use lib.ListN.{getD}
-use lib.IntN.{pos, natAbs}
+use Rattle.prelude.specs.Words.{_+_, _-_, _≤_, _<_, _^_, _≡_, sym, _∙_, arith, needs, getD, pos, natAbs}
 use mir.Syntax.{w32}
 use mir.Val.{toZ}
 use mir.Facts.{toZ-ofZ}
@@ -35,9 +30,6 @@ room : (c : tie.After-lesser-arg2 Inv-loop μ-loop)
 unfolding costAbove maxCost
 room c = omega (arith, turn c .before .pre .room (turn c .loop .i) (omega arith))
 
-sub-lesser : tie.Need-sub-lesser Inv-loop μ-loop
-sub-lesser c = search (needs, diff-in, room c)
-
 loop-again : tie.Need-loop-again Inv-loop μ-loop
 loop-again c =
     let a = turn (c .before) .before .args in
@@ -61,7 +53,7 @@ least-reduced-spec =
     (λ c. search needs)
     (λ c. search needs)
     (λ c. search needs)
-    sub-lesser
+    (λ c. search (needs, diff-in, room c))
     (λ c κs. search needs)
     (λ c. search needs)
     (λ c. search needs)

@@ -1,10 +1,5 @@
 -- `pricing::scan::raised` meets its contract. The loop's invariant: the rows before i are raised; the measure is what is left of them.
-use Prim.Native.Nat.{_+_, _-_, _≤_, _<_, _^_}
-use mathlib.Core.Path.{_≡_, sym, ap, _∙_}
-use native.Mathlib.Omega.{arith}
-use borrow.Author.Needs.{needs}
-use lib.ListN.{getD}
-use lib.IntN.{pos, natAbs, _+ℤ_}
+use Rattle.prelude.specs.Words.{_+_, _-_, _≤_, _<_, _^_, _≡_, sym, ap, _∙_, arith, needs, getD, pos, natAbs, _+ℤ_}
 use mir.Syntax.{w32}
 use mir.Val.{toZ, ofZ}
 use Rattle.transport.specs.Laws.RangeLaws.{sum-in, sum-back}
@@ -32,9 +27,6 @@ room c =
     let l = turn c .loop in
     rw (l .inv .1 .still (l .i) (omega arith)) (turn c .before .pre (l .i) (omega arith))
 
-add-higher : tie.Need-add-higher Inv-loop μ-loop
-add-higher c = search (needs, sum-in, room c)
-
 loop-again : tie.Need-loop-again Inv-loop μ-loop
 loop-again c =
     let l = turn c .loop in
@@ -61,7 +53,7 @@ raised-spec =
     loop-holds
     (λ c. search needs)
     (λ c. search needs)
-    add-higher
+    (λ c. search (needs, sum-in, room c))
     (λ c. search needs)
     (λ c. search needs)
     (λ c. search needs)

@@ -1,11 +1,6 @@
 -- `pricing::scan::refresh_slacks` meets its contract: where the row is among the nodes that moved, the columns rose (`slacks-risen`); where it is not, they
 -- fell (`slacks-fallen`).
-use Prim.Native.Nat.{_+_, _^_, _<_}
-use mathlib.Core.Path.{_≡_, sym, _∙_}
-use mathlib.Core.Bool.{true, false}
-use native.Mathlib.Omega.{arith}
-use borrow.Author.Needs.{needs}
-use lib.IntN.{pos, natAbs, negℤ, _-ℤ_, +ℤ-idl}
+use Rattle.prelude.specs.Words.{_+_, _^_, _<_, _≡_, sym, _∙_, true, false, arith, needs, pos, natAbs, negℤ, _-ℤ_, +ℤ-idl}
 use mir.Syntax.{w32}
 use mir.Val.{toZ, ofZ}
 use Rattle.transport.specs.Laws.RangeLaws.{abs-neg, diff-in, diff-back}

@@ -1,10 +1,5 @@
 -- `pricing::scan::relax_slacks` meets its contract. The loop's invariant: the columns of `bits` are still to be taken in; the measure is `bits`.
-use Prim.Native.Nat.{_+_, _<_}
-use mathlib.Core.Path.{_≡_}
-use native.Mathlib.Omega.{arith}
-use borrow.Author.Needs.{needs}
-use lib.ListN.{getD}
-use lib.IntN.{pos}
+use Rattle.prelude.specs.Words.{_+_, _<_, _≡_, arith, needs, getD, pos}
 use mir.Syntax.{w32}
 use mir.Val.{toZ, ofZ}
 use Rattle.tree.specs.Layout.{nodeRoom}

@@ -1,5 +1,5 @@
 -- `pricing::scan::scan_slacks` meets its contract: no column is in at first, and all are taken in.
-use borrow.Author.Needs.{needs}
+use Rattle.prelude.specs.Words.{needs}
 use Rattle.transport.specs.Limits.{maxCost, costAbove}
 use Rattle.pricing.specs.Slacks.{all-inside, slacks-anew}
 use Rattle.pricing.proofs.scan.scan_slacks.Statement.{statement}

@@ -1,10 +1,5 @@
 -- `pricing::scan::take_column` meets its contract. The loop's invariant: the column is taken in for the rows before i; the measure is what is left of them.
-use Prim.Native.Nat.{_+_, _-_, _*_, _≤_, _<_, _^_}
-use mathlib.Core.Path.{_≡_, _∙_}
-use native.Mathlib.Omega.{arith}
-use borrow.Author.Needs.{needs}
-use lib.ListN.{getD}
-use lib.IntN.{pos, natAbs, _-ℤ_}
+use Rattle.prelude.specs.Words.{_+_, _-_, _*_, _≤_, _<_, _^_, _≡_, _∙_, arith, needs, getD, pos, natAbs, _-ℤ_}
 use mir.Syntax.{w32}
 use mir.Val.{toZ, ofZ}
 use mir.Facts.{toZ-ofZ}
@@ -39,9 +34,6 @@ room c =
     let s = turn c .before in
     omega (arith, s .pre .2 (s .args .j * stride + turn c .loop .i))
 
-sub-lesser : tie.Need-sub-lesser Inv-loop μ-loop
-sub-lesser c = search (needs, diff-in, room c)
-
 loop-again : tie.Need-loop-again Inv-loop μ-loop
 loop-again c =
     let l = turn (c .before .before) .loop in
@@ -73,7 +65,7 @@ take-column-spec =
     (λ c. search needs)
     (λ c. search needs)
     (λ c. search needs)
-    sub-lesser
+    (λ c. search (needs, diff-in, room c))
     (λ c. search needs)
     (λ c. search needs)
     (λ c κs. search needs)

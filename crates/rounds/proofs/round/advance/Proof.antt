@@ -1,13 +1,6 @@
 -- `rounds::round::advance` meets its contract: what the pivot asks follows from what the scan ensures on a tableau that is not finished. The hops lead from
 -- each call back to the one before it.
-use Prim.Native.Nat.{_^_, _<_}
-use native.Mathlib.Omega.{arith}
-use mathlib.Core.Path.{_≡_, sym, _∙_}
-use mathlib.Core.Bool.{true}
-use borrow.Author.Needs.{needs}
-use borrow.Author.Tests.{not-true, not-false}
-use lib.IntN.{pos}
-use lib.Signed.{ltZ, mag}
+use Rattle.prelude.specs.Words.{_^_, _<_, arith, _≡_, sym, _∙_, true, needs, not-true, not-false, pos, ltZ, mag}
 use mir.Syntax.{w32}
 use mir.Val.{toZ, ofZ}
 use Rattle.transport.specs.Laws.RangeLaws.{back, mag-abs}

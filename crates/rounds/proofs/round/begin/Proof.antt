@@ -1,5 +1,5 @@
 -- `rounds::round::begin` meets its contract: the potentials by the strikes are the prices, and the strikes plant the tree (`begun-kept`).
-use native.Mathlib.Omega.{arith}
+use Rattle.prelude.specs.Words.{arith}
 use Rattle.rounds.specs.Begun.{begun-sides, begun-room, begun-range, begun-kept}
 use Rattle.rounds.proofs.round.begin.Statement.{statement}
 use Rattle.rounds.proofs.round.begin.Tie as tie

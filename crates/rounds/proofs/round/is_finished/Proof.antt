@@ -1,8 +1,5 @@
 -- `rounds::round::is_finished` meets its contract: what the scan finds on what `begin` gives.
-use Prim.Native.Nat.{_^_, _<_}
-use mathlib.Core.Path.{sym, _∙_}
-use borrow.Author.Needs.{needs}
-use lib.Signed.{mag}
+use Rattle.prelude.specs.Words.{_^_, _<_, sym, _∙_, needs, mag}
 use Rattle.rounds.specs.Kept.{sign-is, kept-range, scanned-done}
 use Rattle.rounds.specs.Begun.{verdict}
 use Rattle.rounds.proofs.round.is_finished.Statement.{statement}

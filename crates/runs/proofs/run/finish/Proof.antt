@@ -1,12 +1,6 @@
 -- `runs::run::finish` meets its contract. The loop's invariant: the run of the bound of rounds has come to the tableau that is kept; the measure is that
 -- tableau's valued cost, which falls in each round. That run ends, so there is a round left of the bound wherever one is made, and their count fits.
-use Prim.Native.Nat.{_+_, _-_}
-use native.Mathlib.Omega.{arith}
-use native.Mathlib.Nat.{sub-zero}
-use mathlib.Core.Path.{_≡_, refl, _∙_}
-use mathlib.Core.Bool.{false}
-use mathlib.Core.List.{List}
-use borrow.Author.Tests.{not-true, not-false}
+use Rattle.prelude.specs.Words.{_+_, _-_, arith, sub-zero, _≡_, refl, _∙_, false, List, not-true, not-false}
 use Rattle.transport.specs.Problem.{Problem}
 use Rattle.transport.specs.Round.{roundBound}
 use Rattle.transport.specs.declared.Cell.{Cell}

@@ -1,11 +1,6 @@
 -- `runs::run::rounds` meets its contract. The loop's invariant: the run of the allowance has come to the tableau that is kept; the measure is the rounds
 -- left.
-use Prim.Native.Nat.{_+_, _-_, _^_, _<_}
-use native.Mathlib.Omega.{arith}
-use mathlib.Core.Path.{_≡_, refl, sym, _∙_}
-use mathlib.Core.List.{List}
-use borrow.Author.Needs.{needs}
-use lib.Signed.{mag}
+use Rattle.prelude.specs.Words.{_+_, _-_, _^_, _<_, arith, _≡_, refl, sym, _∙_, List, needs, mag}
 use Rattle.transport.specs.Problem.{Problem}
 use Rattle.transport.specs.declared.Cell.{Cell}
 use Rattle.rounds.specs.Kept.{sign-is, kept-range, scanned-done, kept-still, kept-next}
@@ -49,14 +44,8 @@ returns c P T d =
     let r = c .before .advance .ensures P (g .here) (g .kept) in
     ran-done g (kept-still r (c .if1 .taken)) refl (r .done ∙ c .if1 .taken)
 
-sub-left : tie.Need-sub-left Inv-loop μ-loop
-sub-left c = omega arith
-
 add-made : tie.Need-add-made Inv-loop μ-loop
 add-made c = omega (arith, turn (c .before) .loop .inv .0, start (turn (c .before)) .fits .allowance .fits)
-
-loop-less : tie.Need-loop-less Inv-loop μ-loop
-loop-less c = omega arith
 
 loop-again : tie.Need-loop-again Inv-loop μ-loop
 loop-again c = (
@@ -92,9 +81,9 @@ rounds-spec =
     loop-holds
     advance-requires
     returns
-    sub-left
+    (λ c. omega arith)
     add-made
-    loop-less
+    (λ c. omega arith)
     loop-again
     entering-requires
     returns-2)

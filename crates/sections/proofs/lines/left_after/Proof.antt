@@ -1,6 +1,6 @@
 -- The two cases of the definition.
 use Rattle.sections.specs.Lines.{left-last, left-more}
-use borrow.Author.Needs.{needs}
+use Rattle.prelude.specs.Words.{needs}
 use Rattle.sections.proofs.lines.left_after.Statement.{statement}
 use Rattle.sections.proofs.lines.left_after.Tie as tie
 

@@ -1,9 +1,5 @@
 -- The loop's invariant: the count so far and the digits of what is left make up the digits of n, one of them counted twice.
-use borrow.Author.Needs.{needs}
-use mathlib.Core.Path.{_≡_}
-use Prim.Native.Nat.{_≤_, _+_}
-use native.Mathlib.Omega.{arith}
-use lib.ListN.{length}
+use Rattle.prelude.specs.Words.{needs, _≡_, _≤_, _+_, arith, length}
 use Rattle.transport.specs.Text.{digits}
 use Rattle.sections.specs.Digits.{length-digits-small, length-digits-more}
 use Rattle.sections.proofs.number.digit_count.Statement.{statement}

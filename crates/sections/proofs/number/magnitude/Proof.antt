@@ -1,14 +1,8 @@
 -- −1 − z is in range for every negative z, the least one too, and one less than its magnitude.
-use mathlib.Core.Path.{_≡_}
-use mathlib.Core.Bool.{true}
-use Prim.Native.Nat.{_<_, _^_}
-use native.Mathlib.Omega.{arith}
-use lib.IntN.{pos}
-use lib.Signed.{ltZ, mag}
+use Rattle.prelude.specs.Words.{_≡_, true, _<_, _^_, arith, pos, ltZ, mag, needs}
 use mir.Syntax.{w64}
 use Rattle.transport.specs.Laws.RangeLaws.{back}
 use Rattle.sections.specs.Whole.{turned-fits, turned-back, magnitude-le, magnitude-pos, not-negative}
-use borrow.Author.Needs.{needs}
 use Rattle.sections.proofs.number.magnitude.Statement.{statement}
 use Rattle.sections.proofs.number.magnitude.Tie as tie
 

@@ -1,17 +1,10 @@
 -- The digits of the magnitude, and one byte for the minus.
-use mathlib.Core.Path.{_≡_, sym, ap, _∙_}
-use mathlib.Core.Bool.{true, false}
-use Prim.Native.Nat.{_<_, _^_}
-use native.Mathlib.Omega.{arith}
-use lib.IntN.{pos, natAbs}
-use lib.ListN.{length}
-use lib.Signed.{ltZ, mag}
+use Rattle.prelude.specs.Words.{_≡_, sym, ap, _∙_, true, false, _<_, _^_, arith, pos, natAbs, length, ltZ, mag, needs}
 use mir.Syntax.{w64}
 use Rattle.transport.specs.Laws.RangeLaws.{back}
 use Rattle.transport.specs.Text.{digits}
 use Rattle.grammar.specs.Digits.{digits-length}
 use Rattle.sections.specs.Whole.{magnitude-le, whole-negative, whole-positive}
-use borrow.Author.Needs.{needs}
 use Rattle.sections.proofs.number.whole_count.Statement.{statement}
 use Rattle.sections.proofs.number.whole_count.Tie as tie
 

@@ -1,11 +1,6 @@
 -- The loop's invariant: the output holds the digits from place `at` on, and those before are the digits of what is left of n, which are one or more.
-use borrow.Author.Needs.{needs}
-use mathlib.Core.Path.{_≡_, refl, _∙_}
-use mathlib.Core.List.{_++_}
-use Prim.Native.Nat.{_≤_, _<_, _-_, _/_, suc}
-use native.Mathlib.Omega.{arith}
-use lib.ListN.{length, take, drop, length-set}
-use lib.Seq.{take-length, drop-length}
+use Rattle.prelude.specs.Words.{needs, _≡_, refl, _∙_, _++_, _≤_, _<_, _-_, _/_, suc, arith, length, take, drop, length-set, take-length}
+use lib.Seq.{drop-length}
 use Rattle.transport.specs.Text.{digits}
 use Rattle.grammar.specs.Digits.{digits-some}
 use Rattle.sections.specs.Front.{front}
@@ -20,9 +15,6 @@ Inv-loop n out₀ count at₀ rest₀ out at rest = (at ≤ count) × (length ou
 abbrev μ-loop : tie.MeasureT-loop
 μ-loop n out₀ count at₀ rest₀ out at rest = at
 
-digit-count-requires : tie.Need-digit-count-requires Inv-loop μ-loop
-digit-count-requires c κs = search needs
-
 loop-holds : tie.Need-loop-holds Inv-loop μ-loop
 loop-holds c =
     let a = c .before .before .args in
@@ -36,21 +28,6 @@ places c =
     let D = digits (c .before .before .before .before .args .n) in
     let left = digits-left D (l .at) (l .rest) (omega (arith, c .before .before .digit-count .ensures)) (l .inv .2) in
     omega (arith, left, length-digits-more (l .rest) (omega arith), digits-some (l .rest / 10))
-
-sub-at : tie.Need-sub-at Inv-loop μ-loop
-sub-at c = omega (arith, places c)
-
-cast-out : tie.Need-cast-out Inv-loop μ-loop
-cast-out c = search needs
-
-add-out : tie.Need-add-out Inv-loop μ-loop
-add-out c = search needs
-
-slice-write-out : tie.Need-slice-write-out Inv-loop μ-loop
-slice-write-out c = omega (arith, places c, c .before .before .digit-count .ensures)
-
-loop-less : tie.Need-loop-less Inv-loop μ-loop
-loop-less c = omega (arith, places c)
 
 loop-again : tie.Need-loop-again Inv-loop μ-loop
 loop-again c =
@@ -67,17 +44,8 @@ loop-again c =
       fill-back D (l .out) _ k _ p q (digit-last D (l .rest) k p t) (rw e at (l .inv .3)),
     )
 
-cast-out-2 : tie.Need-cast-out-2 Inv-loop μ-loop
-cast-out-2 c = search needs
-
-add-out-2 : tie.Need-add-out-2 Inv-loop μ-loop
-add-out-2 c = search needs
-
 slice-write-out-2 : tie.Need-slice-write-out-2 Inv-loop μ-loop
 slice-write-out-2 c = omega (arith, c .before .before .digit-count .ensures, digits-some (c .before .before .before .before .args .n))
-
-same-length : tie.Need-same-length Inv-loop μ-loop
-same-length c = search needs
 
 returns : tie.Need-returns Inv-loop μ-loop
 unfolding front
@@ -97,16 +65,16 @@ write-number-spec =
     (tie.spec
     Inv-loop
     μ-loop
-    digit-count-requires
+    (λ c κs. search needs)
     loop-holds
-    sub-at
-    cast-out
-    add-out
-    slice-write-out
-    loop-less
+    (λ c. omega (arith, places c))
+    (λ c. search needs)
+    (λ c. search needs)
+    (λ c. omega (arith, places c, c .before .before .digit-count .ensures))
+    (λ c. omega (arith, places c))
     loop-again
-    cast-out-2
-    add-out-2
+    (λ c. search needs)
+    (λ c. search needs)
     slice-write-out-2
-    same-length
+    (λ c. search needs)
     returns)

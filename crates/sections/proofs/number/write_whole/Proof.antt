@@ -1,18 +1,11 @@
 -- A negative number is its minus, and then its magnitude in what is left of the output.
-use mathlib.Core.Path.{_≡_, refl, sym, ap, _∙_}
-use mathlib.Core.List.{[], _∷_}
-use Prim.Native.Nat.{_<_, _≤_, _^_, _+_}
-use native.Mathlib.Omega.{arith}
-use lib.IntN.{natAbs}
+use Rattle.prelude.specs.Words.{_≡_, refl, sym, ap, _∙_, [], _∷_, _<_, _≤_, _^_, _+_, arith, natAbs, length, length-set, length-take, length-drop, mag, needs}
 use borrow.Rule.Slice.PartMut.{same-len-mid}
-use lib.ListN.{length, length-set, length-take, length-drop}
-use lib.Signed.{mag}
 use mir.Syntax.{w64}
 use Rattle.transport.specs.Laws.RangeLaws.{back}
 use Rattle.transport.specs.Text.{digits, wholeDigits}
 use Rattle.sections.specs.Front.{front-first, front-then}
 use Rattle.sections.specs.Whole.{whole-negative, whole-positive}
-use borrow.Author.Needs.{needs}
 use Rattle.sections.proofs.number.write_whole.Statement.{statement}
 use Rattle.sections.proofs.number.write_whole.Tie as tie
 
@@ -34,21 +27,6 @@ positive c =
 
 room : (c : tie.Then1) → length (digits (c .before .magnitude .result)) + 1 ≤ length (c .before .before .before .args .out .now)
 room c = omega (arith, ap length (negative c))
-
-magnitude-requires : tie.Need-magnitude-requires
-magnitude-requires c κs = search needs
-
-slice-write-out : tie.Need-slice-write-out
-slice-write-out c = omega (arith, room c)
-
-sub-write-number : tie.Need-sub-write-number
-sub-write-number c = simp length-set (omega (arith, room c))
-
-part-write-number-start : tie.Need-part-write-number-start
-part-write-number-start c = simp length-set (omega (arith, room c))
-
-part-write-number-end : tie.Need-part-write-number-end
-part-write-number-end c = search needs
 
 write-number-requires : tie.Need-write-number-requires
 write-number-requires c κs = simp (length-take, length-drop, length-set) (omega (arith, room (c .before)))
@@ -74,9 +52,6 @@ returns c =
 write-number-requires-2 : tie.Need-write-number-requires-2
 write-number-requires-2 c κs = omega (arith, ap length (positive (c .before)), c .before .before .before .before .pre)
 
-same-length-2 : tie.Need-same-length-2
-same-length-2 c = search needs
-
 returns-2 : tie.Need-returns-2
 returns-2 c =
     let t = c .before .before .before .before in
@@ -87,15 +62,15 @@ pub write-whole-spec : {M : Type 1} → statement M
 write-whole-spec =
     tie.close
     (tie.spec
-    magnitude-requires
-    slice-write-out
-    sub-write-number
-    part-write-number-start
-    part-write-number-end
+    (λ c κs. search needs)
+    (λ c. omega (arith, room c))
+    (λ c. simp length-set (omega (arith, room c)))
+    (λ c. simp length-set (omega (arith, room c)))
+    (λ c. search needs)
     write-number-requires
     add-result
     same-length
     returns
     write-number-requires-2
-    same-length-2
+    (λ c. search needs)
     returns-2)

@@ -1,11 +1,8 @@
 -- The lengths of the parts; a count has at most 20 digits.
-use Prim.Native.Nat.{_≤_}
-use native.Mathlib.Omega.{arith}
-use lib.ListN.{length-append}
+use Rattle.prelude.specs.Words.{_≤_, arith, length-append, needs}
 use Rattle.transport.specs.Text.{digits}
 use Rattle.grammar.specs.Digits.{digits-length}
 use Rattle.sections.specs.Lines.{ended, length-ended}
-use borrow.Author.Needs.{needs}
 use Rattle.sections.proofs.section.head_len.Statement.{statement}
 use Rattle.sections.proofs.section.head_len.Tie as tie
 

@@ -1,11 +1,8 @@
 -- The digits, and one byte more.
-use Prim.Native.Nat.{_<_}
-use native.Mathlib.Omega.{arith}
-use lib.ListN.{length}
+use Rattle.prelude.specs.Words.{_<_, arith, length, needs}
 use Rattle.transport.specs.Text.{digits}
 use Rattle.sections.specs.Front.{front-byte}
 use Rattle.sections.specs.Lines.{ended, length-ended}
-use borrow.Author.Needs.{needs}
 use Rattle.sections.proofs.section.write_ended.Statement.{statement}
 use Rattle.sections.proofs.section.write_ended.Tie as tie
 

@@ -1,9 +1,8 @@
 -- The name, and then the count in what is left of the output.
-use native.Mathlib.Omega.{arith}
+use Rattle.prelude.specs.Words.{arith, needs}
 use Rattle.transport.specs.Text.{digits}
 use Rattle.sections.specs.Front.{FirstWritten, first-room, second-start, second-room, both-length, both-written}
 use Rattle.sections.specs.Lines.{ended}
-use borrow.Author.Needs.{needs}
 use Rattle.sections.proofs.section.write_head.Statement.{statement}
 use Rattle.sections.proofs.section.write_head.Tie as tie
 
@@ -22,9 +21,6 @@ sub-write-ended c = second-start (begun (c .before .before))
 part-write-ended-start : tie.Need-part-write-ended-start
 part-write-ended-start c = second-start (begun (c .before .before))
 
-part-write-ended-end : tie.Need-part-write-ended-end
-part-write-ended-end c = search needs
-
 write-ended-requires : tie.Need-write-ended-requires
 write-ended-requires c κs = second-room (begun (c .before .before .before))
 
@@ -32,9 +28,6 @@ add-result : tie.Need-add-result
 add-result c =
     let b = begun (c .before .before .before .before .before .before) in
     omega (arith, b .room, both-length b _ (c .before .before .write-ended .ensures .0))
-
-same-length : tie.Need-same-length
-same-length c = search needs
 
 returns : tie.Need-returns
 returns c =
@@ -49,8 +42,8 @@ write-head-spec =
     write-bytes-requires
     sub-write-ended
     part-write-ended-start
-    part-write-ended-end
+    (λ c. search needs)
     write-ended-requires
     add-result
-    same-length
+    (λ c. search needs)
     returns)

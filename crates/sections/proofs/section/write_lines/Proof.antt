@@ -1,9 +1,5 @@
 -- The loop's invariant: the output holds the lines of the numbers so far.
-use borrow.Author.Needs.{needs}
-use mathlib.Core.Path.{refl}
-use Prim.Native.Nat.{_-_}
-use native.Mathlib.Omega.{arith}
-use lib.ListN.{length, take, getD}
+use Rattle.prelude.specs.Words.{needs, refl, _-_, arith, length, take, getD}
 use Rattle.transport.specs.Text.{digits}
 use Rattle.sections.specs.Front.{FirstWritten, second-start, second-room, both-length}
 use Rattle.sections.specs.Lines.{ended, linesFrom}
@@ -20,29 +16,11 @@ abbrev μ-loop : tie.MeasureT-loop
 loop-holds : tie.Need-loop-holds Inv-loop μ-loop
 loop-holds c = let t = c .before .before in lines-start digits (t .args .numbers .now) (t .args .width) (t .args .out .now) (t .pre)
 
-ending-requires : tie.Need-ending-requires Inv-loop μ-loop
-ending-requires c κs = search needs
-
-mul-write-ended : tie.Need-mul-write-ended Inv-loop μ-loop
-mul-write-ended c = search needs
-
-shared-slice-read-write-ended : tie.Need-shared-slice-read-write-ended Inv-loop μ-loop
-shared-slice-read-write-ended c = search needs
-
 -- The lines so far, and the next number.
 begun : (c : tie.After-ending Inv-loop μ-loop) → let a = c .before .before .before .before .before .args in let l = c .before .before .loop in
     FirstWritten (take (l .at) (linesFrom digits (a .width) (a .width) (a .numbers .now))) (ended digits (getD (a .numbers .now) (l .i) 0) (c .ending .result))
     (a .out .now) (l .out) (l .at)
 begun c = lines-begun (c .before .before .loop .inv) 0 _ _ (omega arith) refl (c .ending .ensures)
-
-sub-write-ended : tie.Need-sub-write-ended Inv-loop μ-loop
-sub-write-ended c = second-start (begun (c .before))
-
-part-write-ended-start : tie.Need-part-write-ended-start Inv-loop μ-loop
-part-write-ended-start c = second-start (begun (c .before))
-
-part-write-ended-end : tie.Need-part-write-ended-end Inv-loop μ-loop
-part-write-ended-end c = search needs
 
 write-ended-requires : tie.Need-write-ended-requires Inv-loop μ-loop
 write-ended-requires c κs = second-room (begun (c .before .before))
@@ -55,20 +33,11 @@ add-at c =
 left-after-requires : tie.Need-left-after-requires Inv-loop μ-loop
 left-after-requires c κs = c .before .before .before .before .before .before .before .loop .inv .onLine
 
-add-i : tie.Need-add-i Inv-loop μ-loop
-add-i c = search needs
-
-loop-less : tie.Need-loop-less Inv-loop μ-loop
-loop-less c = search needs
-
 loop-again : tie.Need-loop-again Inv-loop μ-loop
 loop-again c =
     let w = c .before .before .before .write-ended in
     lines-more (c .before .before .before .before .before .before .before .before .loop .inv) 0 _ _ (omega arith) refl
     (c .before .before .before .before .before .before .ending .ensures) _ _ _ (w .ensures .0) (w .ensures .1) (c .left-after .ensures)
-
-same-length : tie.Need-same-length Inv-loop μ-loop
-same-length c = lines-kept (c .before .loop .inv)
 
 returns : tie.Need-returns Inv-loop μ-loop
 returns c = lines-done (c .before .loop .inv) (omega arith)
@@ -80,17 +49,17 @@ write-lines-spec =
     Inv-loop
     μ-loop
     loop-holds
-    ending-requires
-    mul-write-ended
-    shared-slice-read-write-ended
-    sub-write-ended
-    part-write-ended-start
-    part-write-ended-end
+    (λ c κs. search needs)
+    (λ c. search needs)
+    (λ c. search needs)
+    (λ c. second-start (begun (c .before)))
+    (λ c. second-start (begun (c .before)))
+    (λ c. search needs)
     write-ended-requires
     add-at
     left-after-requires
-    add-i
-    loop-less
+    (λ c. search needs)
+    (λ c. search needs)
     loop-again
-    same-length
+    (λ c. lines-kept (c .before .loop .inv))
     returns)

@@ -1,10 +1,5 @@
 -- The loop's invariant: the length so far and that of the numbers left make up the whole; no number has more than 20 bytes.
-use borrow.Author.Needs.{needs}
-use mathlib.Core.Path.{_≡_}
-use Prim.Native.Nat.{_≤_, _+_, _-_, _*_}
-use native.Mathlib.Omega.{arith}
-use lib.IntN.{pos}
-use lib.ListN.{length, drop, getD}
+use Rattle.prelude.specs.Words.{needs, _≡_, _≤_, _+_, _-_, _*_, arith, pos, length, drop, getD}
 use mir.Syntax.{w64}
 use Rattle.transport.specs.Laws.RangeLaws.{back}
 use Rattle.transport.specs.Text.{wholeDigits}
@@ -20,18 +15,6 @@ Inv-loop wholes len₀ i₀ len i =
 abbrev μ-loop : tie.MeasureT-loop
 μ-loop wholes len₀ i₀ len i = length wholes - i
 
-loop-holds : tie.Need-loop-holds Inv-loop μ-loop
-loop-holds c = omega arith
-
-mul-whole-count : tie.Need-mul-whole-count Inv-loop μ-loop
-mul-whole-count c = search needs
-
-shared-slice-copy-out-whole-count : tie.Need-shared-slice-copy-out-whole-count Inv-loop μ-loop
-shared-slice-copy-out-whole-count c = search needs
-
-whole-count-requires : tie.Need-whole-count-requires Inv-loop μ-loop
-whole-count-requires c κs = search needs
-
 -- The count is that of the number in the list.
 counted : (c : tie.After-whole-count Inv-loop μ-loop) → c .whole-count .result
     ≡ length (wholeDigits (getD (c .before .before .before .before .args .wholes .now) (c .before .before .before .loop .i) (pos 0)))
@@ -44,18 +27,6 @@ few c = omega (
   counted c,
   whole-few (getD (c .before .before .before .before .args .wholes .now) (c .before .before .before .loop .i) (pos 0)) (search needs),
 )
-
-add-len : tie.Need-add-len Inv-loop μ-loop
-add-len c = omega (arith, few c)
-
-add-len-2 : tie.Need-add-len-2 Inv-loop μ-loop
-add-len-2 c = omega (arith, few c)
-
-add-i : tie.Need-add-i Inv-loop μ-loop
-add-i c = search needs
-
-loop-less : tie.Need-loop-less Inv-loop μ-loop
-loop-less c = search needs
 
 loop-again : tie.Need-loop-again Inv-loop μ-loop
 loop-again c = omega (
@@ -74,13 +45,13 @@ whole-lines-len-spec =
     (tie.spec
     Inv-loop
     μ-loop
-    loop-holds
-    mul-whole-count
-    shared-slice-copy-out-whole-count
-    whole-count-requires
-    add-len
-    add-len-2
-    add-i
-    loop-less
+    (λ c. omega arith)
+    (λ c. search needs)
+    (λ c. search needs)
+    (λ c κs. search needs)
+    (λ c. omega (arith, few c))
+    (λ c. omega (arith, few c))
+    (λ c. search needs)
+    (λ c. search needs)
     loop-again
     returns)

@@ -1,15 +1,10 @@
 -- The number, and one byte more.
-use mathlib.Core.Path.{_≡_}
-use Prim.Native.Nat.{_<_, _^_}
-use native.Mathlib.Omega.{arith}
-use lib.ListN.{length}
-use lib.Signed.{mag}
+use Rattle.prelude.specs.Words.{_≡_, _<_, _^_, arith, length, mag, needs}
 use mir.Syntax.{w64}
 use Rattle.transport.specs.Laws.RangeLaws.{back}
 use Rattle.transport.specs.Text.{wholeDigits}
 use Rattle.sections.specs.Front.{front, front-byte}
 use Rattle.sections.specs.Lines.{ended, length-ended}
-use borrow.Author.Needs.{needs}
 use Rattle.sections.proofs.wholes.write_whole_ended.Statement.{statement}
 use Rattle.sections.proofs.wholes.write_whole_ended.Tie as tie
 

@@ -1,11 +1,6 @@
 -- `settle::lanes::decide` meets its contract. The loop's invariant: the lanes before the target's are as they were, with bags still to be sought for it at the
 -- goals that are left. Each turn brings some, and the measure is what is left of the most that its lane can have.
-use mathlib.Core.Path.{_≡_, subst}
-use Prim.Native.Nat.{ℕ, _+_, _-_, _*_}
-use native.Mathlib.Omega.{arith}
-use borrow.Author.Needs.{needs}
-use lib.IntN.{pos, natAbs}
-use lib.ListN.{getD}
+use Rattle.prelude.specs.Words.{_≡_, subst, ℕ, _+_, _-_, _*_, arith, needs, pos, natAbs, getD}
 use Rattle.network.specs.Search.{Rooted}
 use Rattle.transport.specs.Limits.{maxBags}
 use Rattle.tree.specs.Layout.{stride}

@@ -1,10 +1,6 @@
 -- `settle::lanes::only_basics` meets its contract. The loop's invariant: the first i rows have only basic lanes; the measure is what is left of the rows.
-use mathlib.Core.Path.{_≡_, refl, sym}
-use mathlib.Core.Bool.{true≢false}
-use Prim.Native.Nat.{_-_, _<_, _≤_}
-use native.Mathlib.Omega.{arith}
+use Rattle.prelude.specs.Words.{_≡_, refl, sym, true≢false, _-_, _<_, _≤_, arith, needs}
 use borrow.Author.Count.{below-more}
-use borrow.Author.Needs.{needs}
 use Rattle.tree.specs.MaskLaws.{minus}
 use Rattle.augment.specs.Bags.{entry}
 use Rattle.settle.specs.Rows.{OnlyBasics, row-basics, row-others}

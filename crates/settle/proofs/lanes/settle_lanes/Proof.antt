@@ -1,7 +1,5 @@
 -- `settle::lanes::settle_lanes` meets its contract. The loop's invariant: the lanes are decided of all rows but those left; the measure is how many these are.
-use mathlib.Core.Path.{_≡_, refl}
-use Prim.Native.Nat.{_+_, _-_, _*_, _≤_}
-use native.Mathlib.Omega.{arith}
+use Rattle.prelude.specs.Words.{_≡_, refl, _+_, _-_, _*_, _≤_, arith}
 use Rattle.augment.specs.Sought.{Rooms}
 use Rattle.settle.specs.Stage.{Stage, Reaches, reaches-none, reaches-on}
 use Rattle.settle.specs.Rows.{settleable-done, settleable-stage}

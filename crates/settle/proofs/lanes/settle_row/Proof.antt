@@ -1,11 +1,6 @@
 -- `settle::lanes::settle_row` meets its contract. The loop's invariant: the lanes of the row before some column are decided, and `todo` are its tight columns
 -- from there on (`Along`); the measure is the mask of those left.
-use mathlib.Core.Path.{_≡_, sym, _∙_}
-use mathlib.Core.Bool.{true, true≢false}
-use Prim.Native.Nat.{_+_, _*_, _<_, _≤_}
-use native.Mathlib.Omega.{arith}
-use borrow.Author.Needs.{needs}
-use borrow.Author.Tests.{not-true, not-false}
+use Rattle.prelude.specs.Words.{_≡_, sym, _∙_, true, true≢false, _+_, _*_, _<_, _≤_, arith, needs, not-true, not-false}
 use Rattle.tree.specs.Mask.{has}
 use Rattle.tree.specs.MaskLaws.{firstBits, minus}
 use Rattle.tree.specs.Bits.{Least, rest-less}

@@ -1,16 +1,6 @@
 -- `settle::plan::store_plan` meets its contract. The loops' invariants: the places before l are cleared; then the rows before i are stored, and of row i the
 -- columns before j.
-use Prim.Native.Nat.{ℕ, _+_, _-_, _*_, _≤_, _<_, _^_}
-use native.Mathlib.Omega.{arith}
-use native.Mathlib.Nat.{mul-le-mul}
-use borrow.Author.Needs.{needs}
-use borrow.Author.Tests.{eqb-true}
-use mathlib.Core.Path.{_≡_, ap, _∙_}
-use mathlib.Core.Bool.{true}
-use mathlib.Core.List.{List}
-use lib.IntN.{pos, natAbs}
-use lib.Signed.{mag}
-use lib.ListN.{length, getD}
+use Rattle.prelude.specs.Words.{ℕ, _+_, _-_, _*_, _≤_, _<_, _^_, arith, mul-le-mul, needs, eqb-true, _≡_, ap, _∙_, true, List, pos, natAbs, mag, length, getD}
 use mir.Syntax.{w64}
 use mir.Val.{toZ, ofZ}
 use Rattle.transport.specs.Lists.{at}

@@ -1,12 +1,6 @@
 -- `settle::tight::tight_in_row` meets its contract. The loop's invariant: of the columns before j just the tight ones are in; the measure is what is left of
 -- them.
-use Prim.Native.Nat.{_+_, _-_, _*_, _≤_, _<_, _^_}
-use native.Mathlib.Omega.{arith}
-use borrow.Author.Needs.{needs}
-use mathlib.Core.Path.{_≡_, sym, ap, _∙_}
-use mathlib.Core.Logic.{⊎-elim}
-use lib.IntN.{pos, natAbs, _-ℤ_}
-use lib.ListN.{getD}
+use Rattle.prelude.specs.Words.{_+_, _-_, _*_, _≤_, _<_, _^_, arith, needs, _≡_, sym, ap, _∙_, ⊎-elim, pos, natAbs, _-ℤ_, getD}
 use mir.Syntax.{w32}
 use mir.Val.{toZ, ofZ}
 use mir.Facts.{toZ-ofZ}
@@ -23,35 +17,8 @@ Inv-loop cost price m n i own tight₀ j₀ tight j = (j ≤ n) × TightRow cost
 abbrev μ-loop : tie.MeasureT-loop
 μ-loop cost price m n i own tight₀ j₀ tight j = n - j
 
-mul-own : tie.Need-mul-own Inv-loop μ-loop
-mul-own c = omega arith
-
-element-copy-out-own : tie.Need-element-copy-out-own Inv-loop μ-loop
-element-copy-out-own c = omega arith
-
 loop-holds : tie.Need-loop-holds Inv-loop μ-loop
 loop-holds c = (omega arith, tight-none, search needs)
-
-mul-if1 : tie.Need-mul-if1 Inv-loop μ-loop
-mul-if1 c = omega arith
-
-add-if1 : tie.Need-add-if1 Inv-loop μ-loop
-add-if1 c = omega arith
-
-mul-if1-2 : tie.Need-mul-if1-2 Inv-loop μ-loop
-mul-if1-2 c = omega arith
-
-element-copy-out-if1 : tie.Need-element-copy-out-if1 Inv-loop μ-loop
-element-copy-out-if1 c = omega arith
-
-add-if1-2 : tie.Need-add-if1-2 Inv-loop μ-loop
-add-if1-2 c = omega arith
-
-mul-if1-3 : tie.Need-mul-if1-3 Inv-loop μ-loop
-mul-if1-3 c = omega arith
-
-element-copy-out-if1-2 : tie.Need-element-copy-out-if1-2 Inv-loop μ-loop
-element-copy-out-if1-2 c = omega arith
 
 room : (c : tie.After-if13 Inv-loop μ-loop)
     → let a = c .before .before .before .before .before .args in
@@ -68,15 +35,6 @@ room c =
 
 sub-if1 : tie.Need-sub-if1 Inv-loop μ-loop
 sub-if1 c = search (needs, diff-in, room c)
-
-set-bit-requires : tie.Need-set-bit-requires Inv-loop μ-loop
-set-bit-requires c κs = omega arith
-
-add-j : tie.Need-add-j Inv-loop μ-loop
-add-j c = omega arith
-
-loop-less : tie.Need-loop-less Inv-loop μ-loop
-loop-less c = omega arith
 
 slack-is : (c : tie.After-if13 Inv-loop μ-loop)
     → let a = c .before .before .before .before .before .args in
@@ -113,19 +71,19 @@ tight-in-row-spec =
     (tie.spec
     Inv-loop
     μ-loop
-    mul-own
-    element-copy-out-own
+    (λ c. omega arith)
+    (λ c. omega arith)
     loop-holds
-    mul-if1
-    add-if1
-    mul-if1-2
-    element-copy-out-if1
-    add-if1-2
-    mul-if1-3
-    element-copy-out-if1-2
+    (λ c. omega arith)
+    (λ c. omega arith)
+    (λ c. omega arith)
+    (λ c. omega arith)
+    (λ c. omega arith)
+    (λ c. omega arith)
+    (λ c. omega arith)
     sub-if1
-    set-bit-requires
-    add-j
-    loop-less
+    (λ c κs. omega arith)
+    (λ c. omega arith)
+    (λ c. omega arith)
     loop-again
     returns)

@@ -1,7 +1,5 @@
 -- `settle::tight::tight_lanes` meets its contract. The loop's invariant: the rows before i are done; the measure is how many are left.
-use Prim.Native.Nat.{_-_, _≤_}
-use native.Mathlib.Omega.{arith}
-use mathlib.Core.Path.{_≡_}
+use Rattle.prelude.specs.Words.{_-_, _≤_, arith, _≡_}
 use Rattle.settle.specs.Tight.{TightLanes, lanes-none, tight-more}
 use Rattle.settle.proofs.tight.tight_lanes.Statement.{statement}
 use Rattle.settle.proofs.tight.tight_lanes.Tie as tie
@@ -24,12 +22,6 @@ mul-tight c = omega (arith, c .before .before .before .before .pre .rows)
 element-write-tight : tie.Need-element-write-tight Inv-loop μ-loop
 element-write-tight c = omega (arith, c .before .before .loop .inv .1 .long, c .before .before .before .before .pre .rows)
 
-add-i : tie.Need-add-i Inv-loop μ-loop
-add-i c = omega arith
-
-loop-less : tie.Need-loop-less Inv-loop μ-loop
-loop-less c = omega arith
-
 loop-again : tie.Need-loop-again Inv-loop μ-loop
 loop-again c =
     let i = c .before .before .loop in
@@ -50,7 +42,7 @@ tight-lanes-spec =
     tight-in-row-requires
     mul-tight
     element-write-tight
-    add-i
-    loop-less
+    (λ c. omega arith)
+    (λ c. omega arith)
     loop-again
     returns)

@@ -1,10 +1,5 @@
 -- The loop's invariant: of the parties before k, those that are left are listed.
-use borrow.Author.Needs.{needs}
-use mathlib.Core.Path.{refl}
-use mathlib.Core.Logic.{⊎-elim}
-use Prim.Native.Nat.{_≤_, _<_, _-_}
-use native.Mathlib.Omega.{arith}
-use lib.ListN.{length}
+use Rattle.prelude.specs.Words.{needs, refl, ⊎-elim, _≤_, _<_, _-_, arith, length}
 use Rattle.transport.specs.Lists.{at}
 use Rattle.transport.specs.Limits.{maxSide}
 use Rattle.sheet.specs.Parties.{ListedBefore, listed-none, listed-room, listed-yes, listed-no, listed-all}

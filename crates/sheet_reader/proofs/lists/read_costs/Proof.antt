@@ -1,10 +1,6 @@
 -- The head line that must come is written first; then it is read as a word, and the lines after it.
 -- The head of either count has room: a program that writes the other one (must-fail/other_row_count) fails only where it returns.
-use mathlib.Core.Path.{sym, ap, _∙_}
-use Prim.Native.Nat.{ℕ, _≤_}
-use native.Mathlib.Omega.{arith}
-use lib.ListN.{length, drop}
-use lib.Seq.{length-take-le}
+use Rattle.prelude.specs.Words.{sym, ap, _∙_, ℕ, _≤_, arith, length, drop, length-take-le, needs}
 use Rattle.transport.specs.Limits.{maxSources, maxSinks, maxSide}
 use Rattle.transport.specs.Text.{bytes, digits}
 use Rattle.sheet.specs.Laws.{sides-product}
@@ -12,15 +8,8 @@ use Rattle.grammar.specs.Digits.{digits-length}
 use Rattle.sections.specs.Front.{length-front}
 use Rattle.sections.specs.Lines.{ended, length-ended}
 use Rattle.sheet_reader.specs.SheetRead.{head-read, cost-unnamed, cost-named}
-use borrow.Author.Needs.{needs}
 use Rattle.sheet_reader.proofs.lists.read_costs.Statement.{statement}
 use Rattle.sheet_reader.proofs.lists.read_costs.Tie as tie
-
-slice-aggregate-write-head : tie.Need-slice-aggregate-write-head
-slice-aggregate-write-head c = search needs
-
-slice-aggregate-write-head-2 : tie.Need-slice-aggregate-write-head-2
-slice-aggregate-write-head-2 c = search needs
 
 short : (k : ℕ) → k ≤ maxSide → length (ended digits k 10) ≤ 3
 unfolding maxSide
@@ -43,20 +32,11 @@ module _ (c : tie.After-write-head) where
     heads-short (c .before .before .before .before),
   )
 
-array-share-prefix-line : tie.Need-array-share-prefix-line
-array-share-prefix-line c = fits (c .before)
-
 slice-aggregate-read-word : tie.Need-slice-aggregate-read-word
 slice-aggregate-read-word c = sym (length-take-le _ _ (fits (c .before .before)))
 
 read-word-requires : tie.Need-read-word-requires
 read-word-requires c κs = c .before .before .before .before .before .before .pre .0
-
-enum-known-head : tie.Need-enum-known-head
-enum-known-head c = search needs
-
-enum-told : tie.Need-enum-told
-enum-told c = search needs
 
 returns : tie.Need-returns
 unfolding bytes
@@ -83,9 +63,6 @@ read-whole-lines-requires c κs =
       c .before .before .before .before .before .before .before .before .before .before .before .pre .4,
     )
 
-same-length : tie.Need-same-length
-same-length c = search needs
-
 returns-2 : tie.Need-returns-2
 unfolding bytes
 returns-2 c =
@@ -106,16 +83,16 @@ pub read-costs-spec : {M : Type 1} → statement M
 read-costs-spec =
     tie.close
     (tie.spec
-    slice-aggregate-write-head
-    slice-aggregate-write-head-2
+    (λ c. search needs)
+    (λ c. search needs)
     write-head-requires
-    array-share-prefix-line
+    (λ c. fits (c .before))
     slice-aggregate-read-word
     read-word-requires
-    enum-known-head
-    enum-told
+    (λ c. search needs)
+    (λ c. search needs)
     returns
     mul-read-whole-lines
     read-whole-lines-requires
-    same-length
+    (λ c. search needs)
     returns-2)

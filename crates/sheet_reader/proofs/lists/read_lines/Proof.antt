@@ -1,9 +1,5 @@
 -- The loop's invariant: the numbers read so far stand in the list, and the others are to be read from the present place on.
-use borrow.Author.Needs.{needs}
-use mathlib.Core.Path.{_≡_, refl, ap, _∙_}
-use Prim.Native.Nat.{_-_}
-use native.Mathlib.Omega.{arith}
-use lib.ListN.{length, drop, length-set}
+use Rattle.prelude.specs.Words.{needs, _≡_, refl, ap, _∙_, _-_, arith, length, drop, length-set}
 use Rattle.transport.specs.SheetText.{number}
 use Rattle.sections.specs.Lines.{ending}
 use Rattle.tokens.specs.Reading.{readingOf, endReading}
@@ -22,21 +18,6 @@ loop-holds c =
     let t = c .before .before in
     (refl, read-start number (t .args .text .now) (t .args .at) (t .args .width) (t .args .count) (t .pre .0) (t .pre .1) (t .args .list .now))
 
-read-number-requires : tie.Need-read-number-requires Inv-loop μ-loop
-read-number-requires c κs = c .before .loop .inv .1 .place
-
-read-end-requires : tie.Need-read-end-requires Inv-loop μ-loop
-read-end-requires c κs = c .read-number .ensures .1
-
-enum-known-number : tie.Need-enum-known-number Inv-loop μ-loop
-enum-known-number c = search needs
-
-enum-told : tie.Need-enum-told Inv-loop μ-loop
-enum-told c = search needs
-
-same-length : tie.Need-same-length Inv-loop μ-loop
-same-length c = search needs
-
 found : (c : tie.After-read-end Inv-loop μ-loop) → let l = c .before .before .before .loop in
     let text = c .before .before .before .before .before .before .args .text .now in
     endReading (ending (l .left)) (number (drop (l .next) text)) ≡ readingOf text (λ v. v) (c .read-end .result)
@@ -52,20 +33,8 @@ returns c =
       rw stopped tt,
     )
 
-mul-list : tie.Need-mul-list Inv-loop μ-loop
-mul-list c = search needs
-
-slice-write-list : tie.Need-slice-write-list Inv-loop μ-loop
-slice-write-list c = search needs
-
 left-after-requires : tie.Need-left-after-requires Inv-loop μ-loop
 left-after-requires c κs = c .before .before .before .before .before .before .loop .inv .1 .onLine
-
-add-i : tie.Need-add-i Inv-loop μ-loop
-add-i c = search needs
-
-loop-less : tie.Need-loop-less Inv-loop μ-loop
-loop-less c = search needs
 
 loop-again : tie.Need-loop-again Inv-loop μ-loop
 loop-again c =
@@ -75,9 +44,6 @@ loop-again c =
       simp length-set (l .inv .0),
       read-more (l .inv .1) (omega arith) _ _ _ (omega arith) (found t ∙ (rw is-number)) (rw is-number at (t .read-end .ensures .1)) (c .left-after .ensures),
     )
-
-same-length-2 : tie.Need-same-length-2 Inv-loop μ-loop
-same-length-2 c = search needs
 
 returns-2 : tie.Need-returns-2 Inv-loop μ-loop
 returns-2 c = let s = c .before .loop .inv .1 in (read-done s (omega arith), s .place, refl)
@@ -89,17 +55,17 @@ read-lines-spec =
     Inv-loop
     μ-loop
     loop-holds
-    read-number-requires
-    read-end-requires
-    enum-known-number
-    enum-told
-    same-length
+    (λ c κs. c .before .loop .inv .1 .place)
+    (λ c κs. c .read-number .ensures .1)
+    (λ c. search needs)
+    (λ c. search needs)
+    (λ c. search needs)
     returns
-    mul-list
-    slice-write-list
+    (λ c. search needs)
+    (λ c. search needs)
     left-after-requires
-    add-i
-    loop-less
+    (λ c. search needs)
+    (λ c. search needs)
     loop-again
-    same-length-2
+    (λ c. search needs)
     returns-2)

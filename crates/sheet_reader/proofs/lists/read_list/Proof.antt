@@ -1,25 +1,15 @@
 -- The word, the count and the lines, each from the place where the one before it ended.
-use mathlib.Core.Path.{_≡_, ap, _∙_}
-use Prim.Native.Nat.{ℕ, _≤_}
-use native.Mathlib.Omega.{arith}
-use lib.ListN.{length, drop}
+use Rattle.prelude.specs.Words.{_≡_, ap, _∙_, ℕ, _≤_, arith, length, drop, needs}
 use Rattle.transport.specs.SheetText.{got, word, line, side}
 use Rattle.transport.specs.Laws.SheetLaws.{within-true}
 use Rattle.sections.specs.Lines.{ending-last}
 use Rattle.tokens.specs.Reading.{readingOf, side-value, line-end, line-side-within}
 use Rattle.sheet_reader.specs.SheetRead.{list-unnamed, list-uncounted, list-counted}
-use borrow.Author.Needs.{needs}
 use Rattle.sheet_reader.proofs.lists.read_list.Statement.{statement}
 use Rattle.sheet_reader.proofs.lists.read_list.Tie as tie
 
 read-word-requires : tie.Need-read-word-requires
 read-word-requires c κs = c .before .before .before .pre .0
-
-enum-known-head : tie.Need-enum-known-head
-enum-known-head c = search needs
-
-enum-told : tie.Need-enum-told
-enum-told c = search needs
 
 returns : tie.Need-returns
 returns c =
@@ -44,15 +34,6 @@ module _ (c : tie.After-known-told) where
 
 read-side-requires : tie.Need-read-side-requires
 read-side-requires c κs = (next-inside c, c .before .before .before .before .before .before .before .pre .1)
-
-read-end-requires : tie.Need-read-end-requires
-read-end-requires c κs = c .read-side .ensures .1
-
-enum-known-count : tie.Need-enum-known-count
-enum-known-count c = search needs
-
-enum-told-2 : tie.Need-enum-told-2
-enum-told-2 c = search needs
 
 counted : (c : tie.After-read-end) → line (side (c .before .before .before .before .before .before .before .before .before .args .most))
     (drop (next (c .before .before)) (c .before .before .before .before .before .before .before .before .before .args .text .now))
@@ -100,9 +81,6 @@ read-lines-requires c κs = (
   omega (arith, sided (c .before), c .before .before .before .before .before .before .before .before .before .before .before .before .before .pre .2),
 )
 
-same-length : tie.Need-same-length
-same-length c = search needs
-
 returns-3 : tie.Need-returns-3
 returns-3 c =
     let w = c .before .before .read-lines in
@@ -119,14 +97,14 @@ read-list-spec =
     tie.close
     (tie.spec
     read-word-requires
-    enum-known-head
-    enum-told
+    (λ c. search needs)
+    (λ c. search needs)
     returns
     read-side-requires
-    read-end-requires
-    enum-known-count
-    enum-told-2
+    (λ c κs. c .read-side .ensures .1)
+    (λ c. search needs)
+    (λ c. search needs)
     returns-2
     read-lines-requires
-    same-length
+    (λ c. search needs)
     returns-3)

@@ -1,9 +1,5 @@
 -- The loop's invariant is that of `read_lines`, with whole numbers.
-use borrow.Author.Needs.{needs}
-use mathlib.Core.Path.{_≡_, refl, _∙_}
-use Prim.Native.Nat.{_-_}
-use native.Mathlib.Omega.{arith}
-use lib.ListN.{length, length-set}
+use Rattle.prelude.specs.Words.{needs, _≡_, refl, _∙_, _-_, arith, length, length-set}
 use mir.Syntax.{w64}
 use Rattle.transport.specs.Laws.RangeLaws.{back}
 use Rattle.transport.specs.SheetText.{whole}
@@ -22,24 +18,6 @@ loop-holds c =
     let t = c .before in
     (refl, read-start whole (t .args .text .now) (t .args .at) (t .args .width) (t .args .count) (t .pre .0) (t .pre .1) (t .args .list .now))
 
-read-whole-requires : tie.Need-read-whole-requires Inv-loop μ-loop
-read-whole-requires c κs = c .before .loop .inv .1 .place
-
-enum-known-number : tie.Need-enum-known-number Inv-loop μ-loop
-enum-known-number c = search needs
-
-mul-value : tie.Need-mul-value Inv-loop μ-loop
-mul-value c = search needs
-
-slice-set-from-value : tie.Need-slice-set-from-value Inv-loop μ-loop
-slice-set-from-value c = search needs
-
-enum-known-number-2 : tie.Need-enum-known-number-2 Inv-loop μ-loop
-enum-known-number-2 c = search needs
-
-same-length : tie.Need-same-length Inv-loop μ-loop
-same-length c = search needs
-
 returns : tie.Need-returns Inv-loop μ-loop
 returns c =
     let w = c .before .before .before .read-whole in
@@ -52,12 +30,6 @@ returns c =
 left-after-requires : tie.Need-left-after-requires Inv-loop μ-loop
 left-after-requires c κs = c .before .before .before .before .before .loop .inv .1 .onLine
 
-add-i : tie.Need-add-i Inv-loop μ-loop
-add-i c = search needs
-
-loop-less : tie.Need-loop-less Inv-loop μ-loop
-loop-less c = search needs
-
 loop-again : tie.Need-loop-again Inv-loop μ-loop
 loop-again c =
     let l = c .before .before .before .before .before .before .loop in
@@ -69,9 +41,6 @@ loop-again c =
           (c .left-after .ensures)),
     )
 
-same-length-2 : tie.Need-same-length-2 Inv-loop μ-loop
-same-length-2 c = search needs
-
 returns-2 : tie.Need-returns-2 Inv-loop μ-loop
 returns-2 c = let s = c .before .loop .inv .1 in (read-done s (omega arith), s .place, refl)
 
@@ -82,16 +51,16 @@ read-whole-lines-spec =
     Inv-loop
     μ-loop
     loop-holds
-    read-whole-requires
-    enum-known-number
-    mul-value
-    slice-set-from-value
-    enum-known-number-2
-    same-length
+    (λ c κs. c .before .loop .inv .1 .place)
+    (λ c. search needs)
+    (λ c. search needs)
+    (λ c. search needs)
+    (λ c. search needs)
+    (λ c. search needs)
     returns
     left-after-requires
-    add-i
-    loop-less
+    (λ c. search needs)
+    (λ c. search needs)
     loop-again
-    same-length-2
+    (λ c. search needs)
     returns-2)

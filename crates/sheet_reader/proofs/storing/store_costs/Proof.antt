@@ -1,13 +1,5 @@
 -- The list as it was, or the loop, whose invariant is that the list holds the first i costs.
-use borrow.Author.Needs.{needs}
-use mathlib.Core.Path.{_≡_, refl, sym, _∙_}
-use mathlib.Core.Bool.{true≢false}
-use mathlib.Core.List.{_++_}
-use Prim.Native.Nat.{_≤_, _-_}
-use native.Mathlib.Omega.{arith}
-use borrow.Author.Tests.{not-true, not-false}
-use lib.IntN.{pos}
-use lib.ListN.{length, drop, getD, length-set}
+use Rattle.prelude.specs.Words.{needs, _≡_, refl, sym, _∙_, true≢false, _++_, _≤_, _-_, arith, not-true, not-false, pos, length, drop, getD, length-set}
 use mir.Syntax.{w64}
 use Rattle.transport.specs.Laws.RangeLaws.{back}
 use Rattle.transport.specs.Lists.{table}
@@ -29,24 +21,6 @@ returns c = (λ e. absurd (true≢false (sym e ∙ not-true _ (c .if1 .taken))),
 loop-holds : tie.Need-loop-holds Inv-loop μ-loop
 loop-holds c = (omega arith, c .before .pre (not-false _ (c .if1 .left)), refl, rw table-zero)
 
-mul-list : tie.Need-mul-list Inv-loop μ-loop
-mul-list c = search needs
-
-shared-slice-copy-out-list : tie.Need-shared-slice-copy-out-list Inv-loop μ-loop
-shared-slice-copy-out-list c = search needs
-
-mul-t10 : tie.Need-mul-t10 Inv-loop μ-loop
-mul-t10 c = search needs
-
-slice-set-from-list : tie.Need-slice-set-from-list Inv-loop μ-loop
-slice-set-from-list c = search needs
-
-add-i : tie.Need-add-i Inv-loop μ-loop
-add-i c = search needs
-
-loop-less : tie.Need-loop-less Inv-loop μ-loop
-loop-less c = search needs
-
 loop-again : tie.Need-loop-again Inv-loop μ-loop
 loop-again c =
     let l = c .before .before .loop in
@@ -57,9 +31,6 @@ loop-again c =
       simp length-set (l .inv .2),
       rw (as-it-is, l .inv .3) (fill-one (λ k. getD (a .from .now) k (pos 0)) (a .list .now) (l .i) (pos 0) (omega (arith, l .inv .1))),
     )
-
-same-length : tie.Need-same-length Inv-loop μ-loop
-same-length c = search needs
 
 returns-2 : tie.Need-returns-2 Inv-loop μ-loop
 unfolding front
@@ -77,12 +48,12 @@ store-costs-spec =
     μ-loop
     returns
     loop-holds
-    mul-list
-    shared-slice-copy-out-list
-    mul-t10
-    slice-set-from-list
-    add-i
-    loop-less
+    (λ c. search needs)
+    (λ c. search needs)
+    (λ c. search needs)
+    (λ c. search needs)
+    (λ c. search needs)
+    (λ c. search needs)
     loop-again
-    same-length
+    (λ c. search needs)
     returns-2)

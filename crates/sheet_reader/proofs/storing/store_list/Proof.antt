@@ -1,7 +1,5 @@
 -- The copy, or the list as it was.
-use mathlib.Core.Path.{refl, sym, _∙_}
-use mathlib.Core.Bool.{true≢false}
-use borrow.Author.Needs.{needs}
+use Rattle.prelude.specs.Words.{refl, sym, _∙_, true≢false, needs}
 use Rattle.sections.specs.Front.{front}
 use Rattle.sheet_reader.proofs.storing.store_list.Statement.{statement}
 use Rattle.sheet_reader.proofs.storing.store_list.Tie as tie

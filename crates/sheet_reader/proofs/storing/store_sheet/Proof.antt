@@ -1,15 +1,7 @@
 -- A number that is refused is one case of the call. Past that, a flag is the verdict on the three rooms: by it each list is stored or kept, and the sheet is
 -- given or refused. Where the first copy's flag has to be set, `search` also takes the flag of its own room alone: a program that copies by that one
 -- (must-fail/refusal_after_store) fails only at the return that refuses.
-use mathlib.Core.Path.{_≡_, sym, _∙_}
-use mathlib.Core.Bool.{Bool, true, false, _&&_}
-use mathlib.Core.Logic.{⊎-elim}
-use mathlib.Core.Option.{none}
-use borrow.Author.Needs.{needs}
-use borrow.Author.Tests.{leb-true, not-true, not-false}
-use lib.Dec.{leb}
-use lib.ListN.{length}
-use native.Mathlib.Nat.{le-trans}
+use Rattle.prelude.specs.Words.{_≡_, sym, _∙_, Bool, true, false, _&&_, ⊎-elim, none, needs, leb-true, not-true, not-false, leb, length, le-trans}
 use Rattle.transport.specs.Laws.Sound.{sources-room, sinks-room}
 use Rattle.transport.specs.Sheet.{Sheet, refusal, numberTests, sheetOf}
 use Rattle.sheet.specs.Check.{accepted-none, refused-some}
@@ -37,16 +29,10 @@ check-numbers-requires c κs =
     let p = c .before .before .before .before .pre in
     (le-trans (p .0) sources-room, le-trans (p .1) sinks-room)
 
-enum-known-check : tie.Need-enum-known-check
-enum-known-check c = search needs
-
 returns : tie.Need-returns
 returns c = let s = c .before .before .before .before .before .before .before .before in
     stored-number (s .args .supply .now) (s .args .demand .now) (s .args .cost .now) (sheetAt s) _
     (refused-some _ _ (sym (c .before .before .before .check-numbers .ensures) ∙ c .before .check .given .1))
-
-enum-told : tie.Need-enum-told
-enum-told c = search needs
 
 accepted : (c : tie.After-enum-told) → refusal (numberTests (sheetAt (startOf c))) ≡ none
 accepted c = accepted-none _ (sym (c .before .before .check-numbers .ensures) ∙ c .enum-told .given .1)
@@ -66,23 +52,11 @@ each c e = let s = startOf (c .before .before) in all-fit (supplyFits s) (demand
 supply-set : (c : tie.Joined2) → c .if2 .fits ≡ true → supplyFits (startOf (c .before .before)) ≡ true
 supply-set c e = each c e .0
 
-store-list-requires : tie.Need-store-list-requires
-store-list-requires c κs = search (needs, supply-set (c .before))
-
 store-list-requires-2 : tie.Need-store-list-requires-2
 store-list-requires-2 c κs e = leb-true _ _ (each (c .before .before .before .before .before) e .1)
 
 store-costs-requires : tie.Need-store-costs-requires
 store-costs-requires c κs e = leb-true _ _ (each (c .before .before .before .before .before .before .before .before .before) e .2)
-
-same-length : tie.Need-same-length
-same-length c = search needs
-
-same-length-2 : tie.Need-same-length-2
-same-length-2 c = search needs
-
-same-length-3 : tie.Need-same-length-3
-same-length-3 c = search needs
 
 returns-2 : tie.Need-returns-2
 returns-2 c =
@@ -96,15 +70,6 @@ returns-2 c =
     )
     (stored-tight (s .args .supply .now) (s .args .demand .now) (s .args .cost .now) (sheetAt s) (accepted (j .before .before)) (s .pre .2) (sym (verdict j)
     ∙ off))
-
-same-length-4 : tie.Need-same-length-4
-same-length-4 c = search needs
-
-same-length-5 : tie.Need-same-length-5
-same-length-5 c = search needs
-
-same-length-6 : tie.Need-same-length-6
-same-length-6 c = search needs
 
 returns-3 : tie.Need-returns-3
 returns-3 c =
@@ -125,17 +90,17 @@ store-sheet-spec =
     tie.close
     (tie.spec
     check-numbers-requires
-    enum-known-check
+    (λ c. search needs)
     returns
-    enum-told
-    store-list-requires
+    (λ c. search needs)
+    (λ c κs. search (needs, supply-set (c .before)))
     store-list-requires-2
     store-costs-requires
-    same-length
-    same-length-2
-    same-length-3
+    (λ c. search needs)
+    (λ c. search needs)
+    (λ c. search needs)
     returns-2
-    same-length-4
-    same-length-5
-    same-length-6
+    (λ c. search needs)
+    (λ c. search needs)
+    (λ c. search needs)
     returns-3)

@@ -1,5 +1,5 @@
 -- The place is that of either case.
-use borrow.Author.Needs.{needs}
+use Rattle.prelude.specs.Words.{needs}
 use Rattle.sheet_reader.proofs.whole_text.not_sheet_text.Statement.{statement}
 use Rattle.sheet_reader.proofs.whole_text.not_sheet_text.Tie as tie
 

@@ -1,26 +1,9 @@
 -- The costs are stuck, or bytes follow them, or the text ends there: the cases of what is read after the demands.
-use mathlib.Core.Path.{refl}
-use lib.ListN.{drop}
+use Rattle.prelude.specs.Words.{refl, drop, needs}
 use Rattle.sheet_reader.specs.SheetRead.{costs-stuck}
 use Rattle.sheet_reader.specs.SheetAnswer.{CostsRead, costs-read, more-answer, end-answer, answer-stopped}
-use borrow.Author.Needs.{needs}
 use Rattle.sheet_reader.proofs.whole_text.read_after_demand.Statement.{statement}
 use Rattle.sheet_reader.proofs.whole_text.read_after_demand.Tie as tie
-
-read-costs-requires : tie.Need-read-costs-requires
-read-costs-requires c κs = search needs
-
-enum-known-costs : tie.Need-enum-known-costs
-enum-known-costs c = search needs
-
-enum-told : tie.Need-enum-told
-enum-told c = search needs
-
-not-sheet-text-requires : tie.Need-not-sheet-text-requires
-not-sheet-text-requires c κs = search needs
-
-same-length : tie.Need-same-length
-same-length c = search needs
 
 returns : tie.Need-returns
 returns c =
@@ -35,14 +18,8 @@ cost-read : (c : tie.After-known-told) → let t = c .before .before .before .be
 cost-read c = let w = c .before .before .before .before .read-costs in
     costs-read (w .ensures .0) (w .ensures .1) (w .ensures .2) (c .before .costs .given .1)
 
-same-length-2 : tie.Need-same-length-2
-same-length-2 c = search needs
-
 returns-2 : tie.Need-returns-2
 returns-2 c = more-answer (cost-read (c .before)) (c .if1 .taken)
-
-same-length-3 : tie.Need-same-length-3
-same-length-3 c = search needs
 
 returns-3 : tie.Need-returns-3
 returns-3 c = (end-answer (cost-read (c .before)) (c .if1 .left), (refl, refl))
@@ -51,13 +28,13 @@ pub read-after-demand-spec : {M : Type 1} → statement M
 read-after-demand-spec =
     tie.close
     (tie.spec
-    read-costs-requires
-    enum-known-costs
-    enum-told
-    not-sheet-text-requires
-    same-length
+    (λ c κs. search needs)
+    (λ c. search needs)
+    (λ c. search needs)
+    (λ c κs. search needs)
+    (λ c. search needs)
     returns
-    same-length-2
+    (λ c. search needs)
     returns-2
-    same-length-3
+    (λ c. search needs)
     returns-3)

@@ -1,33 +1,15 @@
 -- The demands are stuck, or the answer after them is the whole's.
-use native.Mathlib.Omega.{arith}
-use native.Mathlib.Nat.{le-trans, mul-le-mul}
-use lib.ListN.{drop}
+use Rattle.prelude.specs.Words.{arith, le-trans, mul-le-mul, drop, needs}
 use Rattle.transport.specs.Limits.{maxSinks}
 use Rattle.transport.specs.Text.{bytes}
 use Rattle.sheet_reader.specs.SheetRead.{demands-stuck}
 use Rattle.sheet_reader.specs.SheetAnswer.{ListRead, list-read, answer-stopped, demands-answer}
-use borrow.Author.Needs.{needs}
 use Rattle.sheet_reader.proofs.whole_text.read_after_supply.Statement.{statement}
 use Rattle.sheet_reader.proofs.whole_text.read_after_supply.Tie as tie
-
-slice-aggregate-read-list : tie.Need-slice-aggregate-read-list
-slice-aggregate-read-list c = search needs
 
 read-list-requires : tie.Need-read-list-requires
 unfolding maxSinks
 read-list-requires c κs = search needs
-
-enum-known-demands : tie.Need-enum-known-demands
-enum-known-demands c = search needs
-
-enum-told : tie.Need-enum-told
-enum-told c = search needs
-
-not-sheet-text-requires : tie.Need-not-sheet-text-requires
-not-sheet-text-requires c κs = search needs
-
-same-length : tie.Need-same-length
-same-length c = search needs
 
 returns : tie.Need-returns
 unfolding bytes maxSinks
@@ -56,12 +38,6 @@ read-after-demand-requires c κs =
     let p = c .before .before .before .before .before .before .before .before .before .before .before .pre in
     (l .inside, p .1, l .some, l .few, le-trans (mul-le-mul (p .1) (l .few)) (p .3))
 
-same-length-2 : tie.Need-same-length-2
-same-length-2 c = search needs
-
-same-length-3 : tie.Need-same-length-3
-same-length-3 c = search needs
-
 returns-2 : tie.Need-returns-2
 returns-2 c = let w = c .before .read-after-demand in
     demands-answer (demand-read (c .before .before .before)) _ _ (w .result) (w .ensures .0) (w .ensures .1)
@@ -70,14 +46,14 @@ pub read-after-supply-spec : {M : Type 1} → statement M
 read-after-supply-spec =
     tie.close
     (tie.spec
-    slice-aggregate-read-list
+    (λ c. search needs)
     read-list-requires
-    enum-known-demands
-    enum-told
-    not-sheet-text-requires
-    same-length
+    (λ c. search needs)
+    (λ c. search needs)
+    (λ c κs. search needs)
+    (λ c. search needs)
     returns
     read-after-demand-requires
-    same-length-2
-    same-length-3
+    (λ c. search needs)
+    (λ c. search needs)
     returns-2)

@@ -1,31 +1,15 @@
 -- The supplies are stuck, or the answer after them is the whole's.
-use native.Mathlib.Omega.{arith}
+use Rattle.prelude.specs.Words.{arith, needs}
 use Rattle.transport.specs.Limits.{maxSources}
 use Rattle.transport.specs.Text.{bytes}
 use Rattle.sheet_reader.specs.SheetRead.{sheet-stuck}
 use Rattle.sheet_reader.specs.SheetAnswer.{ListRead, list-read, answer-stopped, supplies-answer}
-use borrow.Author.Needs.{needs}
 use Rattle.sheet_reader.proofs.whole_text.read_sections.Statement.{statement}
 use Rattle.sheet_reader.proofs.whole_text.read_sections.Tie as tie
-
-slice-aggregate-read-list : tie.Need-slice-aggregate-read-list
-slice-aggregate-read-list c = search needs
 
 read-list-requires : tie.Need-read-list-requires
 unfolding maxSources
 read-list-requires c κs = search needs
-
-enum-known-supplies : tie.Need-enum-known-supplies
-enum-known-supplies c = search needs
-
-enum-told : tie.Need-enum-told
-enum-told c = search needs
-
-not-sheet-text-requires : tie.Need-not-sheet-text-requires
-not-sheet-text-requires c κs = search needs
-
-same-length : tie.Need-same-length
-same-length c = search needs
 
 returns : tie.Need-returns
 unfolding bytes maxSources
@@ -52,15 +36,6 @@ read-after-supply-requires c κs =
     let p = c .before .before .before .before .before .before .before .before .before .before .before .before .before .pre in
     (l .inside, l .few, p .1, p .2)
 
-same-length-2 : tie.Need-same-length-2
-same-length-2 c = search needs
-
-same-length-3 : tie.Need-same-length-3
-same-length-3 c = search needs
-
-same-length-4 : tie.Need-same-length-4
-same-length-4 c = search needs
-
 returns-2 : tie.Need-returns-2
 returns-2 c = let w = c .before .before .before .read-after-supply in
     supplies-answer (supply-read (c .before .before .before .before .before .before)) _ _ (w .result) (w .ensures .0) (w .ensures .1)
@@ -69,15 +44,15 @@ pub read-sections-spec : {M : Type 1} → statement M
 read-sections-spec =
     tie.close
     (tie.spec
-    slice-aggregate-read-list
+    (λ c. search needs)
     read-list-requires
-    enum-known-supplies
-    enum-told
-    not-sheet-text-requires
-    same-length
+    (λ c. search needs)
+    (λ c. search needs)
+    (λ c κs. search needs)
+    (λ c. search needs)
     returns
     read-after-supply-requires
-    same-length-2
-    same-length-3
-    same-length-4
+    (λ c. search needs)
+    (λ c. search needs)
+    (λ c. search needs)
     returns-2)

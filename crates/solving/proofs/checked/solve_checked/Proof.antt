@@ -1,6 +1,5 @@
 -- `solving::checked::solve_checked` meets its contract: the problem of the parties left is solved, and its prices and its plan are written at own numbers.
-use mathlib.Core.Path.{_≡_}
-use borrow.Author.Needs.{needs}
+use Rattle.prelude.specs.Words.{_≡_, needs}
 use Rattle.transport.specs.Sheet.{Sheet, roasteries, cafes, sheetOf}
 use Rattle.transport.specs.Parties.{problemOf}
 use Rattle.transport.specs.Statements.{Accepted}
@@ -17,9 +16,6 @@ sheetAt s = sheetOf (s .args .supply .now) (s .args .demand .now) (s .args .cost
 
 abbrev startBefore : tie.After-cols → tie.Start
 startBefore c = c .before .before .before .before .before .before .before
-
-number-parties-requires : tie.Need-number-parties-requires
-number-parties-requires c κs = (_, startBefore c .pre .0)
 
 -- ---- the parties are numbered
 
@@ -113,7 +109,7 @@ pub solve-checked-spec : {M : Type 1} → statement M
 solve-checked-spec =
     tie.close
     (tie.spec
-    number-parties-requires
+    (λ c κs. (_, startBefore c .pre .0))
     (λ c. parties c .rowsRoom)
     (λ c. rows-lent (parties (c .before)))
     (λ c. parties (c .before) .cafesRoom)

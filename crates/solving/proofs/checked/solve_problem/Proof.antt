@@ -1,7 +1,5 @@
 -- `solving::checked::solve_problem` meets its contract: the rounds come from the start to the finished tableau, whose bags are then settled.
-use mathlib.Core.Path.{_≡_, refl}
-use mathlib.Core.Bool.{true}
-use lib.ListN.{length}
+use Rattle.prelude.specs.Words.{_≡_, refl, true, length}
 use Rattle.transport.specs.Problem.{Problem}
 use Rattle.transport.specs.Laws.Sound.{Sound}
 use Rattle.transport.specs.Tableau.{start}

@@ -1,11 +1,5 @@
 -- `solving::cost::plan_cost` meets its contract. The loop's invariant: the sum over the lanes before l.
-use Prim.Native.Nat.{ℕ, _+_, _-_, _≤_, _<_, _^_}
-use native.Mathlib.Omega.{arith}
-use borrow.Author.Needs.{needs}
-use mathlib.Core.Path.{_≡_, refl, sym, ap, _∙_}
-use mathlib.Core.List.{List}
-use lib.IntN.{ℤ, pos, natAbs, _+ℤ_, _*ℤ_}
-use lib.ListN.{length, getD}
+use Rattle.prelude.specs.Words.{ℕ, _+_, _-_, _≤_, _<_, _^_, arith, needs, _≡_, refl, sym, ap, _∙_, List, ℤ, pos, natAbs, _+ℤ_, _*ℤ_, length, getD}
 use mir.Syntax.{w64}
 use mir.Val.{SFits, toZ, ofZ}
 use mir.Facts.{toZ-pos, toZ-ofZ}
@@ -31,23 +25,14 @@ mul-sum : tie.Need-mul-sum Inv-loop μ-loop
 unfolding maxSources maxSinks
 mul-sum c = omega (arith, c .before .before .pre .few)
 
-shared-slice-read-sum : tie.Need-shared-slice-read-sum Inv-loop μ-loop
-shared-slice-read-sum c = omega arith
-
 -- A quantity in the loop is small.
 few : (t : tie.In-loop Inv-loop μ-loop) → getD (t .before .before .args .plan .now) (t .before .loop .l) 0 < 2 ^ 63
 unfolding at maxAmount
 few t = omega (arith, t .before .before .pre .quantities (t .before .loop .l) (omega arith))
 
-cast-sum : tie.Need-cast-sum Inv-loop μ-loop
-cast-sum c = abs-fits w64 (pos _) (few (c .before))
-
 mul-sum-2 : tie.Need-mul-sum-2 Inv-loop μ-loop
 unfolding maxSources maxSinks
 mul-sum-2 c = omega (arith, c .before .before .before .pre .few)
-
-shared-slice-copy-out-sum : tie.Need-shared-slice-copy-out-sum Inv-loop μ-loop
-shared-slice-copy-out-sum c = omega arith
 
 -- What a turn adds is what its lane does, and then the sum is over one lane more.
 module _ (t : tie.In-loop Inv-loop μ-loop) where
@@ -84,12 +69,6 @@ mul-sum-3 c = product-fits (c .before .before)
 add-sum : tie.Need-add-sum Inv-loop μ-loop
 add-sum c = sum-fits (c .before .before)
 
-add-l : tie.Need-add-l Inv-loop μ-loop
-add-l c = search needs
-
-loop-less : tie.Need-loop-less Inv-loop μ-loop
-loop-less c = omega arith
-
 loop-again : tie.Need-loop-again Inv-loop μ-loop
 loop-again c = let t = c .before .before in (omega arith, toZ-ofZ {w = w64} (sum-fits t) ∙ sum-is t)
 
@@ -107,13 +86,13 @@ plan-cost-spec =
     μ-loop
     loop-holds
     mul-sum
-    shared-slice-read-sum
-    cast-sum
+    (λ c. omega arith)
+    (λ c. abs-fits w64 (pos _) (few (c .before)))
     mul-sum-2
-    shared-slice-copy-out-sum
+    (λ c. omega arith)
     mul-sum-3
     add-sum
-    add-l
-    loop-less
+    (λ c. search needs)
+    (λ c. omega arith)
     loop-again
     returns)

@@ -1,5 +1,5 @@
 -- `solving::finished::settle_board` meets its contract: settling starts from the tight lanes, and ends with the bags of the optimal plan.
-use native.Mathlib.Omega.{arith}
+use Rattle.prelude.specs.Words.{arith}
 use Rattle.tableaux.specs.PlanView.{supplies, demands}
 use Rattle.board.specs.Arrays.{Sides, sound-sides}
 use Rattle.board.specs.Drawing.{lane-rows}

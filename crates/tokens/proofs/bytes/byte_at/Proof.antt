@@ -1,7 +1,6 @@
 -- At the end no byte comes next, and before it the byte at the place does.
-use mathlib.Core.Path.{sym}
+use Rattle.prelude.specs.Words.{sym, needs}
 use Rattle.tokens.specs.Reading.{byte-end, byte-here}
-use borrow.Author.Needs.{needs}
 use Rattle.tokens.proofs.bytes.byte_at.Statement.{statement}
 use Rattle.tokens.proofs.bytes.byte_at.Tie as tie
 

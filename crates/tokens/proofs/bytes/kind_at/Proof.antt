@@ -1,7 +1,6 @@
 -- At the end no byte comes next, and before it the byte at the place does.
-use mathlib.Core.Path.{sym, _∙_}
+use Rattle.prelude.specs.Words.{sym, _∙_, needs}
 use Rattle.tokens.specs.Reading.{kind-end, kind-here}
-use borrow.Author.Needs.{needs}
 use Rattle.tokens.proofs.bytes.kind_at.Statement.{statement}
 use Rattle.tokens.proofs.bytes.kind_at.Tie as tie
 

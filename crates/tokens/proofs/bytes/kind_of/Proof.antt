@@ -1,6 +1,5 @@
 -- Each arm is a range of bytes, and `kindOf` is known on it.
-use mathlib.Core.Path.{sym}
-use native.Mathlib.Omega.{arith}
+use Rattle.prelude.specs.Words.{sym, arith}
 use Rattle.transport.specs.Lists.{within}
 use Rattle.transport.specs.Text.{kindOf}
 use Rattle.transport.specs.Laws.SheetLaws.{within-low, within-high}

@@ -1,14 +1,6 @@
 -- The loop's invariant: what is left of the word is to be read from the present place on.
-use borrow.Author.Needs.{needs}
-use mathlib.Core.Path.{_≡_, refl, sym, _∙_}
-use mathlib.Core.Bool.{true}
-use mathlib.Core.List.{_∷_}
-use Prim.Native.Nat.{_≤_, _-_, suc}
-use native.Mathlib.Omega.{arith}
-use native.Mathlib.Numerals.{add-one}
-use borrow.Author.Tests.{not-true, not-false}
-use lib.ListN.{length, drop, getD, drop-of-length-le}
-use lib.Seq.{drop-cons}
+use Rattle.prelude.specs.Words.{needs, _≡_, refl, sym, _∙_, true, _∷_, _≤_, _-_, suc, arith, add-one, not-true, not-false, length, drop, getD}
+use Rattle.prelude.specs.Words.{drop-of-length-le, drop-cons}
 use Rattle.transport.specs.SheetText.{word}
 use Rattle.tokens.specs.Reading.{byteNext, byte-inside, drop-next, word-nil, word-yes, word-no}
 use Rattle.tokens.proofs.bytes.read_word.Statement.{statement}
@@ -23,12 +15,6 @@ abbrev μ-loop : tie.MeasureT-loop
 
 loop-holds : tie.Need-loop-holds Inv-loop μ-loop
 loop-holds c = (omega arith, c .before .before .pre, refl)
-
-shared-slice-read-byte-at : tie.Need-shared-slice-read-byte-at Inv-loop μ-loop
-shared-slice-read-byte-at c = search needs
-
-byte-at-requires : tie.Need-byte-at-requires Inv-loop μ-loop
-byte-at-requires c κs = search needs
 
 returns : tie.Need-returns Inv-loop μ-loop
 returns c =
@@ -49,12 +35,6 @@ add-next c = omega (
   byte-inside (c .before .before .before .before .before .before .before .args .text .now)
       (c .before .before .before .before .loop .next) _ (next-byte c),
 )
-
-add-i : tie.Need-add-i Inv-loop μ-loop
-add-i c = search needs
-
-loop-less : tie.Need-loop-less Inv-loop μ-loop
-loop-less c = search needs
 
 loop-again : tie.Need-loop-again Inv-loop μ-loop
 loop-again c =
@@ -80,11 +60,11 @@ read-word-spec =
     Inv-loop
     μ-loop
     loop-holds
-    shared-slice-read-byte-at
-    byte-at-requires
+    (λ c. search needs)
+    (λ c κs. search needs)
     returns
     add-next
-    add-i
-    loop-less
+    (λ c. search needs)
+    (λ c. search needs)
     loop-again
     returns-2)

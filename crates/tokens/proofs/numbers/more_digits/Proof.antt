@@ -1,10 +1,5 @@
 -- The loop's invariant: the rest of the digits is to be read from the present place on; `count` digits make a value below 10 ^ count.
-use borrow.Author.Needs.{needs}
-use mathlib.Core.Path.{_≡_, refl, sym, _∙_}
-use Prim.Native.Nat.{_≤_, _<_, _+_, _*_, _-_, _^_, suc}
-use native.Mathlib.Omega.{arith}
-use borrow.Author.Tests.{not-true, not-false}
-use lib.ListN.{length, drop, getD}
+use Rattle.prelude.specs.Words.{needs, _≡_, refl, sym, _∙_, _≤_, _<_, _+_, _*_, _-_, _^_, suc, arith, not-true, not-false, length, drop, getD}
 use Rattle.transport.specs.SheetText.{moreDigits}
 use Rattle.tokens.specs.Reading.{always, DigitAt, digit-at, more-none, more-stop, more-step, value-next, value-fits}
 use Rattle.tokens.proofs.numbers.more_digits.Statement.{statement}
@@ -19,9 +14,6 @@ abbrev μ-loop : tie.MeasureT-loop
 
 loop-holds : tie.Need-loop-holds Inv-loop μ-loop
 loop-holds c = (omega arith, omega arith, c .before .pre .0, refl)
-
-digit-at-requires : tie.Need-digit-at-requires Inv-loop μ-loop
-digit-at-requires c κs = search needs
 
 returns : tie.Need-returns Inv-loop μ-loop
 returns c =
@@ -42,30 +34,6 @@ value-after c = value-next _ _ (c .before .before .before .loop .count) (c .befo
 small : (c : tie.Else1 Inv-loop μ-loop) → c .before .before .before .loop .value * 10
     + (getD (c .before .before .before .before .before .args .text .now) (c .before .before .before .loop .next) 0 - 48) < 10 ^ 19
 small c = value-fits _ (c .before .before .before .loop .count + 1) (value-after c) (omega arith)
-
-mul-value : tie.Need-mul-value Inv-loop μ-loop
-mul-value c = omega (arith, small c)
-
-shared-slice-read-value : tie.Need-shared-slice-read-value Inv-loop μ-loop
-shared-slice-read-value c = digit (c .before) .inside
-
-sub-value : tie.Need-sub-value Inv-loop μ-loop
-sub-value c = digit (c .before) .low
-
-cast-value : tie.Need-cast-value Inv-loop μ-loop
-cast-value c = omega (arith, small (c .before))
-
-add-value : tie.Need-add-value Inv-loop μ-loop
-add-value c = omega (arith, small (c .before))
-
-add-next : tie.Need-add-next Inv-loop μ-loop
-add-next c = omega (arith, digit (c .before) .inside)
-
-add-count : tie.Need-add-count Inv-loop μ-loop
-add-count c = search needs
-
-loop-less : tie.Need-loop-less Inv-loop μ-loop
-loop-less c = search needs
 
 loop-again : tie.Need-loop-again Inv-loop μ-loop
 loop-again c =
@@ -91,15 +59,15 @@ more-digits-spec =
     Inv-loop
     μ-loop
     loop-holds
-    digit-at-requires
+    (λ c κs. search needs)
     returns
-    mul-value
-    shared-slice-read-value
-    sub-value
-    cast-value
-    add-value
-    add-next
-    add-count
-    loop-less
+    (λ c. omega (arith, small c))
+    (λ c. digit (c .before) .inside)
+    (λ c. digit (c .before) .low)
+    (λ c. omega (arith, small (c .before)))
+    (λ c. omega (arith, small (c .before)))
+    (λ c. omega (arith, digit (c .before) .inside))
+    (λ c. search needs)
+    (λ c. search needs)
     loop-again
     returns-2)

@@ -1,13 +1,7 @@
 -- A number that was not read stays as it is; else what comes next decides.
-use mathlib.Core.Path.{_≡_, sym, _∙_}
-use mathlib.Core.Bool.{true}
-use Prim.Native.Nat.{_≤_}
-use native.Mathlib.Omega.{arith}
-use borrow.Author.Tests.{not-true, not-false}
-use lib.ListN.{length, drop}
+use Rattle.prelude.specs.Words.{_≡_, sym, _∙_, true, _≤_, arith, not-true, not-false, length, drop, needs}
 use Rattle.sections.specs.Lines.{ending}
 use Rattle.tokens.specs.Reading.{byteNext, byte-inside, drop-next, end-stuck, end-no, end-yes, Got}
-use borrow.Author.Needs.{needs}
 use Rattle.tokens.proofs.numbers.read_end.Statement.{statement}
 use Rattle.tokens.proofs.numbers.read_end.Tie as tie
 

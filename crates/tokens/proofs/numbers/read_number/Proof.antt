@@ -1,15 +1,9 @@
 -- The first digit is read here, and the others by more_digits.
-use mathlib.Core.Path.{sym, _∙_}
-use native.Mathlib.Omega.{arith}
-use borrow.Author.Tests.{not-true, not-false}
+use Rattle.prelude.specs.Words.{sym, _∙_, arith, not-true, not-false, needs}
 use Rattle.transport.specs.Limits.{maxDigits}
 use Rattle.tokens.specs.Reading.{DigitAt, digit-at, number-stuck, number-low, number-zero, number-more}
-use borrow.Author.Needs.{needs}
 use Rattle.tokens.proofs.numbers.read_number.Statement.{statement}
 use Rattle.tokens.proofs.numbers.read_number.Tie as tie
-
-digit-at-requires : tie.Need-digit-at-requires
-digit-at-requires c κs = search needs
 
 returns : tie.Need-returns
 returns c = (number-stuck _ _ (sym (c .before .digit-at .ensures) ∙ not-true _ (c .if1 .taken)), c .before .before .before .pre)
@@ -17,20 +11,8 @@ returns c = (number-stuck _ _ (sym (c .before .digit-at .ensures) ∙ not-true _
 digit : (c : tie.Else1) → DigitAt (c .before .before .before .args .text .now) (c .before .before .before .args .at)
 digit c = digit-at _ _ (sym (c .before .digit-at .ensures) ∙ not-false _ (c .if1 .left))
 
-shared-slice-read-leading : tie.Need-shared-slice-read-leading
-shared-slice-read-leading c = digit (c .before) .inside
-
-sub-leading : tie.Need-sub-leading
-sub-leading c = digit (c .before) .low
-
-cast-leading : tie.Need-cast-leading
-cast-leading c = omega (arith, digit (c .before) .high)
-
 returns-2 : tie.Need-returns-2
 returns-2 c = (number-low _ (digit (c .before .before)) (c .if2 .taken), c .before .before .before .before .before .pre)
-
-add-next : tie.Need-add-next
-add-next c = omega (arith, digit (c .before .before) .inside)
 
 returns-3 : tie.Need-returns-3
 returns-3 c = let d = digit (c .before .before .before) in (number-zero _ d (c .before .if2 .left) (c .if3 .taken), omega arith)
@@ -49,13 +31,13 @@ pub read-number-spec : {M : Type 1} → statement M
 read-number-spec =
     tie.close
     (tie.spec
-    digit-at-requires
+    (λ c κs. search needs)
     returns
-    shared-slice-read-leading
-    sub-leading
-    cast-leading
+    (λ c. digit (c .before) .inside)
+    (λ c. digit (c .before) .low)
+    (λ c. omega (arith, digit (c .before) .high))
     returns-2
-    add-next
+    (λ c. omega (arith, digit (c .before .before) .inside))
     returns-3
     more-digits-requires
     returns-4)

@@ -1,16 +1,9 @@
 -- The first digit decides whether there is a side, and the second belongs to it as long as it stays within the limit.
-use mathlib.Core.Path.{sym, _∙_}
-use Prim.Native.Nat.{_+_}
-use native.Mathlib.Omega.{arith}
-use borrow.Author.Tests.{not-true, not-false}
+use Rattle.prelude.specs.Words.{sym, _∙_, _+_, arith, not-true, not-false, needs}
 use Rattle.transport.specs.Laws.SheetLaws.{true-within, within-high}
 use Rattle.tokens.specs.Reading.{DigitAt, digit-at, more-none, more-stop, more-step, more-over, side-stuck, side-zero, side-more}
-use borrow.Author.Needs.{needs}
 use Rattle.tokens.proofs.numbers.read_side.Statement.{statement}
 use Rattle.tokens.proofs.numbers.read_side.Tie as tie
-
-digit-at-requires : tie.Need-digit-at-requires
-digit-at-requires c κs = search needs
 
 returns : tie.Need-returns
 returns c = (side-stuck _ _ (sym (c .before .digit-at .ensures) ∙ not-true _ (c .if1 .taken)), c .before .before .before .pre .0)
@@ -18,23 +11,8 @@ returns c = (side-stuck _ _ (sym (c .before .digit-at .ensures) ∙ not-true _ (
 first : (c : tie.Else1) → DigitAt (c .before .before .before .args .text .now) (c .before .before .before .args .at)
 first c = digit-at _ _ (sym (c .before .digit-at .ensures) ∙ not-false _ (c .if1 .left))
 
-shared-slice-read-first : tie.Need-shared-slice-read-first
-shared-slice-read-first c = first (c .before) .inside
-
-sub-first : tie.Need-sub-first
-sub-first c = first (c .before) .low
-
-cast-first : tie.Need-cast-first
-cast-first c = omega (arith, first (c .before) .high)
-
 returns-2 : tie.Need-returns-2
 returns-2 c = (side-zero _ (first (c .before .before)) (c .if2 .taken), c .before .before .before .before .before .pre .0)
-
-add-next : tie.Need-add-next
-add-next c = omega (arith, first (c .before .before) .inside)
-
-digit-at-requires-2 : tie.Need-digit-at-requires-2
-digit-at-requires-2 c κs = search needs
 
 returns-3 : tie.Need-returns-3
 returns-3 c =
@@ -50,15 +28,6 @@ second c = digit-at _ _ (sym (c .before .digit-at2 .ensures) ∙ not-false _ (c 
 mul-both : tie.Need-mul-both
 mul-both c = omega (arith, first (c .before .before .before .before) .high)
 
-shared-slice-read-both : tie.Need-shared-slice-read-both
-shared-slice-read-both c = second (c .before) .inside
-
-sub-both : tie.Need-sub-both
-sub-both c = second (c .before) .low
-
-cast-both : tie.Need-cast-both
-cast-both c = omega (arith, second (c .before) .high)
-
 add-both : tie.Need-add-both
 add-both c = omega (arith, first (c .before .before .before .before .before) .high, second (c .before) .high)
 
@@ -69,9 +38,6 @@ returns-4 c =
           ∙ more-over _ _ 0 (second (c .before .before)) (within-high 1 _ _ (c .if4 .taken)),
       omega (arith, first e .inside),
     )
-
-add-t15 : tie.Need-add-t15
-add-t15 c = search needs
 
 returns-5 : tie.Need-returns-5
 returns-5 c =
@@ -86,20 +52,20 @@ pub read-side-spec : {M : Type 1} → statement M
 read-side-spec =
     tie.close
     (tie.spec
-    digit-at-requires
+    (λ c κs. search needs)
     returns
-    shared-slice-read-first
-    sub-first
-    cast-first
+    (λ c. first (c .before) .inside)
+    (λ c. first (c .before) .low)
+    (λ c. omega (arith, first (c .before) .high))
     returns-2
-    add-next
-    digit-at-requires-2
+    (λ c. omega (arith, first (c .before .before) .inside))
+    (λ c κs. search needs)
     returns-3
     mul-both
-    shared-slice-read-both
-    sub-both
-    cast-both
+    (λ c. second (c .before) .inside)
+    (λ c. second (c .before) .low)
+    (λ c. omega (arith, second (c .before) .high))
     add-both
     returns-4
-    add-t15
+    (λ c. search needs)
     returns-5)

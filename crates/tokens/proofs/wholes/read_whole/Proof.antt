@@ -1,31 +1,17 @@
 -- The minus, and then the number that comes after it.
-use mathlib.Core.Path.{sym, ap, _∙_}
-use native.Mathlib.Omega.{arith}
+use Rattle.prelude.specs.Words.{sym, ap, _∙_, arith, needs}
 use Rattle.sections.specs.Lines.{ending}
 use Rattle.tokens.specs.Reading.{endReading}
 use Rattle.tokens.specs.Wholes.{signed-reading, signed-place, number-value, minus-few, minus-fits, whole-read}
-use borrow.Author.Needs.{needs}
 use Rattle.tokens.proofs.wholes.read_whole.Statement.{statement}
 use Rattle.tokens.proofs.wholes.read_whole.Tie as tie
-
-byte-at-requires : tie.Need-byte-at-requires
-byte-at-requires c κs = search needs
-
-cast-first : tie.Need-cast-first
-cast-first c = search needs
 
 add-first : tie.Need-add-first
 add-first c =
     let t = c .before .before in omega (arith, minus-fits (t .args .text .now) (t .args .at) _ (t .pre) (sym (c .byte-at .ensures)))
 
-cast-least : tie.Need-cast-least
-cast-least c = search needs
-
 read-number-requires : tie.Need-read-number-requires
 read-number-requires c κs = let t = c .before .before in minus-fits (t .args .text .now) (t .args .at) _ (t .pre) (sym (c .byte-at .ensures))
-
-read-end-requires : tie.Need-read-end-requires
-read-end-requires c κs = search needs
 
 -- Whatever its first digit is, a number fits.
 signed-requires : tie.Need-signed-requires
@@ -49,11 +35,11 @@ pub read-whole-spec : {M : Type 1} → statement M
 read-whole-spec =
     tie.close
     (tie.spec
-    byte-at-requires
-    cast-first
+    (λ c κs. search needs)
+    (λ c. search needs)
     add-first
-    cast-least
+    (λ c. search needs)
     read-number-requires
-    read-end-requires
+    (λ c κs. search needs)
     signed-requires
     returns)

@@ -1,24 +1,11 @@
 -- A number that was read is below 2 ^ 63, so that it and its opposite have 64 bits.
-use Prim.Native.Nat.{_<_, _^_}
+use Rattle.prelude.specs.Words.{_<_, _^_, needs}
 use Rattle.tokens.specs.Wholes.{number-fits, number-back, opposite-fits, opposite-back}
-use borrow.Author.Needs.{needs}
 use Rattle.tokens.proofs.wholes.signed.Statement.{statement}
 use Rattle.tokens.proofs.wholes.signed.Tie as tie
 
-enum-known-number : tie.Need-enum-known-number
-enum-known-number c = search needs
-
 small : (c : tie.After-known-told) → c .before .number .given .0 .0 < 2 ^ 63
 small c = rw (c .before .number .given .1) at (c .before .before .before .pre)
-
-cast-size : tie.Need-cast-size
-cast-size c = number-fits (small c)
-
-sub-value : tie.Need-sub-value
-sub-value c = opposite-fits (small (c .before))
-
-enum-known-number-2 : tie.Need-enum-known-number-2
-enum-known-number-2 c = search needs
 
 returns : tie.Need-returns
 returns c = rw (c .before .before .number .given .1, c .if1 .taken, opposite-back (small (c .before)))
@@ -33,10 +20,10 @@ pub signed-spec : {M : Type 1} → statement M
 signed-spec =
     tie.close
     (tie.spec
-    enum-known-number
-    cast-size
-    sub-value
-    enum-known-number-2
+    (λ c. search needs)
+    (λ c. number-fits (small c))
+    (λ c. opposite-fits (small (c .before)))
+    (λ c. search needs)
     returns
     returns-2
     returns-3)

@@ -1,5 +1,5 @@
 -- `tree::mask::clear_bit` meets its contract: `cut-shl`. Assumes nothing.
-use borrow.Author.Needs.{needs}
+use Rattle.prelude.specs.Words.{needs}
 use Rattle.tree.specs.Mask.{unset-shl}
 use Rattle.tree.proofs.mask.clear_bit.Statement.{statement}
 use Rattle.tree.proofs.mask.clear_bit.Tie as tie

@@ -1,5 +1,5 @@
 -- `tree::mask::first_bit` meets its contract: the count of trailing zeros is the least bit. Assumes nothing.
-use native.Mathlib.Omega.{arith}
+use Rattle.prelude.specs.Words.{arith}
 use lib.Count.{trailing-le}
 use Rattle.tree.specs.Mask.{first-lt, first-in, first-least}
 use Rattle.tree.proofs.mask.first_bit.Statement.{statement}

@@ -1,8 +1,7 @@
 -- `tree::mask::first_bits` meets its contract: `first-shl`.
-use native.Mathlib.Omega.{arith}
+use Rattle.prelude.specs.Words.{arith, needs}
 use lib.Pow.{pow-pos, shl-exact}
 use Rattle.tree.specs.MaskLaws.{first-shl}
-use borrow.Author.Needs.{needs}
 use Rattle.tree.proofs.mask.first_bits.Statement.{statement}
 use Rattle.tree.proofs.mask.first_bits.Tie as tie
 

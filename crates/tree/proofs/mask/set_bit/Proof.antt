@@ -1,5 +1,5 @@
 -- `tree::mask::set_bit` meets its contract: `put-shl`. Assumes nothing.
-use borrow.Author.Needs.{needs}
+use Rattle.prelude.specs.Words.{needs}
 use Rattle.tree.specs.Mask.{put-shl}
 use Rattle.tree.proofs.mask.set_bit.Statement.{statement}
 use Rattle.tree.proofs.mask.set_bit.Tie as tie

@@ -1,11 +1,6 @@
 -- `tree::potential::potentials` meets its contract. The loop's invariant: each node has its potential by the strikes from number k on; the measure is k.
-use Prim.Native.Nat.{suc, _+_, _-_, _≤_, _<_, _^_}
-use mathlib.Core.Path.{_≡_, refl, _∙_}
-use native.Mathlib.Omega.{arith}
-use lib.ListN.{length, getD, getD-replicate, length-set}
-use lib.IntN.{pos, natAbs}
+use Rattle.prelude.specs.Words.{suc, _+_, _-_, _≤_, _<_, _^_, _≡_, refl, _∙_, arith, length, getD, getD-replicate, length-set, pos, natAbs, needs}
 use mir.Syntax.{w32}
-use borrow.Author.Needs.{needs}
 use Rattle.transport.specs.Limits.{maxCost, costAbove}
 use Rattle.transport.specs.Laws.RangeLaws.{diff-in, diff-back}
 use Rattle.tree.specs.Layout.{nodeRoom, laneRoom, laneAt, costOf, strikesFrom-nil}
@@ -34,18 +29,6 @@ lane-in : (c : tie.After-l Inv-loop μ-loop) → getD (c .before .before .before
     (c .before .before .before .before .loop .k - 1) 0 < laneRoom
 lane-in c = c .before .before .before .before .before .before .pre .0 .laneIn (c .before .before .before .before .loop .k - 1) (omega arith)
 
-mul-price : tie.Need-mul-price Inv-loop μ-loop
-mul-price c = omega (arith, lane-in c)
-
-add-price : tie.Need-add-price Inv-loop μ-loop
-add-price c = omega (arith, lane-in c)
-
-mul-price-2 : tie.Need-mul-price-2 Inv-loop μ-loop
-mul-price-2 c = omega (arith, lane-in c)
-
-element-copy-out-price : tie.Need-element-copy-out-price Inv-loop μ-loop
-element-copy-out-price c = omega (arith, lane-in c)
-
 mul-price-3 : tie.Need-mul-price-3 Inv-loop μ-loop
 mul-price-3 c = let l = c .before .before .before .before .before .before .before .pre .0 .otherIn (c .before .before .before .before .before .loop .k - 1)
     (omega arith) in omega arith
@@ -65,9 +48,6 @@ room c =
     let i = c .before .before .before .before .before .before .loop in
     let e : i .k ≡ suc (i .k - 1) = omega arith in
     omega (arith, priced-room _ _ _ _ _ (i .price) (i .k - 1) costAbove (s .pre .0) (s .pre .1) (omega arith) (rw e at (i .inv .2)))
-
-sub-price : tie.Need-sub-price Inv-loop μ-loop
-sub-price c = search (needs, diff-in, room c)
 
 mul-t31 : tie.Need-mul-t31 Inv-loop μ-loop
 mul-t31 c = let l = c .before .before .before .before .before .before .before .before .pre .0 .leafIn
@@ -109,13 +89,13 @@ potentials-spec =
     (λ c. omega arith)
     (λ c. omega arith)
     (λ c. omega arith)
-    mul-price
-    add-price
-    mul-price-2
-    element-copy-out-price
+    (λ c. omega (arith, lane-in c))
+    (λ c. omega (arith, lane-in c))
+    (λ c. omega (arith, lane-in c))
+    (λ c. omega (arith, lane-in c))
     mul-price-3
     element-copy-out-price-2
-    sub-price
+    (λ c. search (needs, diff-in, room c))
     mul-t31
     element-set-from-price
     (λ c. omega arith)

@@ -1,10 +1,5 @@
 -- `tree::potential::raise` meets its contract: `touch-step` is a turn of the loop.
-use native.Mathlib.Omega.{arith}
-use borrow.Author.Needs.{needs}
-use Prim.Native.Nat.{_+_, _<_, _^_}
-use mathlib.Core.Path.{_≡_}
-use lib.IntN.{pos, natAbs, _+ℤ_}
-use lib.ListN.{getD}
+use Rattle.prelude.specs.Words.{arith, needs, _+_, _<_, _^_, _≡_, pos, natAbs, _+ℤ_, getD}
 use mir.Syntax.{w32}
 use mir.Val.{toZ, ofZ}
 use Rattle.transport.specs.Laws.RangeLaws.{sum-in, sum-back}
@@ -30,9 +25,6 @@ room : (c : tie.After-price Inv-loop μ-loop) → natAbs (getD (c .before .befor
 room c =
     let i = c .before .before .before .loop .inv in
     rw (touch-still i (slot c)) (c .before .before .before .before .pre .1 _ (c .before .first-bit .ensures .0) (i .part _ (has-least (slot c))))
-
-add-price : tie.Need-add-price Inv-loop μ-loop
-add-price c = search (needs, sum-in, room c)
 
 loop-less : tie.Need-loop-less Inv-loop μ-loop
 loop-less c = rw (c .rest .ensures) (rest-less _ (omega arith))
@@ -64,7 +56,7 @@ raise-spec =
     (λ c κs. search needs)
     (λ c. search needs)
     (λ c. search needs)
-    add-price
+    (λ c. search (needs, sum-in, room c))
     (λ c. search needs)
     (λ c. search needs)
     (λ c κs. search needs)

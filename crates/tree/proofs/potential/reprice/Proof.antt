@@ -1,13 +1,8 @@
 -- `tree::potential::reprice` meets its contract: first the rows, then the columns.
-use mathlib.Core.Bool.{cond}
+use Rattle.prelude.specs.Words.{cond, pos, natAbs, negℤ, _+ℤ_, _-ℤ_, +ℤ-idl, _≡_, _∙_, _^_, _≤_, arith, needs}
 use mir.Val.{toZ, ofZ}
 use mir.Syntax.{w32}
-use lib.IntN.{pos, natAbs, negℤ, _+ℤ_, _-ℤ_, +ℤ-idl}
 use lib.Bits.{bitAnd}
-use mathlib.Core.Path.{_≡_, _∙_}
-use Prim.Native.Nat.{_^_, _≤_}
-use native.Mathlib.Omega.{arith}
-use borrow.Author.Needs.{needs}
 use Rattle.tree.specs.Mask.{has}
 use Rattle.transport.specs.Laws.RangeLaws.{abs-neg, mag-abs, back, diff-in, diff-back}
 use Rattle.tree.specs.MaskLaws.{firstBits}

@@ -1,9 +1,6 @@
 -- `tree::potential::toward` meets its contract.
 use mir.Syntax.{w32}
-use lib.IntN.{pos, negℤ, +ℤ-idl}
-use mathlib.Core.Path.{sym, _∙_}
-use native.Mathlib.Omega.{arith}
-use borrow.Author.Needs.{needs}
+use Rattle.prelude.specs.Words.{pos, negℤ, +ℤ-idl, sym, _∙_, arith, needs}
 use Rattle.transport.specs.Laws.RangeLaws.{mag-abs, back, diff-in, diff-back}
 use Rattle.tree.proofs.potential.toward.Statement.{statement}
 use Rattle.tree.proofs.potential.toward.Tie as tie

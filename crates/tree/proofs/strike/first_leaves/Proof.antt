@@ -1,10 +1,6 @@
 -- `tree::strike::first_leaves` meets its contract. The loop's invariant: the queue holds the leaves among the nodes passed; the measure is what is left of the
 -- nodes.
-use mathlib.Core.Path.{_≡_}
-use Prim.Native.Nat.{_+_, _-_, _≤_, _<_}
-use native.Mathlib.Omega.{arith}
-use borrow.Author.Needs.{needs}
-use lib.ListN.{length, set, length-set}
+use Rattle.prelude.specs.Words.{_≡_, _+_, _-_, _≤_, _<_, arith, needs, length, set, length-set}
 use Rattle.tree.specs.Layout.{nodeRoom}
 use Rattle.tree.specs.Queue.{Queue, room, queue-start, queue-next}
 use Rattle.tree.proofs.strike.first_leaves.Statement.{statement}
@@ -25,27 +21,9 @@ loop-holds c = (
   queue-start (c .args .live .now) (c .args .leaf .now),
 )
 
-add-loop : tie.Need-add-loop Inv-loop μ-loop
-add-loop c = omega arith
-
 -- There is room for one node more.
 tail-room : (c : tie.In-loop Inv-loop μ-loop) → c .before .loop .tail < nodeRoom
 tail-room c = omega (arith, room (c .before .loop .inv .0) (c .before .loop .inv .4))
-
-mul-leaf : tie.Need-mul-leaf Inv-loop μ-loop
-mul-leaf c = omega (arith, tail-room c)
-
-element-write-leaf : tie.Need-element-write-leaf Inv-loop μ-loop
-element-write-leaf c = tail-room c
-
-mul-joins-queue : tie.Need-mul-joins-queue Inv-loop μ-loop
-mul-joins-queue c = omega arith
-
-element-copy-out-joins-queue : tie.Need-element-copy-out-joins-queue Inv-loop μ-loop
-element-copy-out-joins-queue c = omega arith
-
-joins-queue-requires : tie.Need-joins-queue-requires Inv-loop μ-loop
-joins-queue-requires c κs = search needs
 
 again : (c : tie.After-joins-queue Inv-loop μ-loop)
     → let a = c .before .before .before .before .args in
@@ -54,15 +32,6 @@ again : (c : tie.After-joins-queue Inv-loop μ-loop)
 again c =
     let i = c .before .before .before .loop in
     rw (c .joins-queue .ensures) (queue-next (i .node) (i .inv .0) (omega arith) (i .inv .3) (i .inv .4))
-
-add-tail : tie.Need-add-tail Inv-loop μ-loop
-add-tail c = omega (arith, room (omega arith) (again c))
-
-add-node : tie.Need-add-node Inv-loop μ-loop
-add-node c = omega arith
-
-loop-less : tie.Need-loop-less Inv-loop μ-loop
-loop-less c = omega arith
 
 loop-again : tie.Need-loop-again Inv-loop μ-loop
 loop-again c = (omega arith, omega arith, omega arith, simp length-set (c .before .before .before .loop .inv .3), again c)
@@ -78,14 +47,14 @@ first-leaves-spec =
     Inv-loop
     μ-loop
     loop-holds
-    add-loop
-    mul-leaf
-    element-write-leaf
-    mul-joins-queue
-    element-copy-out-joins-queue
-    joins-queue-requires
-    add-tail
-    add-node
-    loop-less
+    (λ c. omega arith)
+    (λ c. omega (arith, tail-room c))
+    (λ c. tail-room c)
+    (λ c. omega arith)
+    (λ c. omega arith)
+    (λ c κs. search needs)
+    (λ c. omega (arith, room (omega arith) (again c)))
+    (λ c. omega arith)
+    (λ c. omega arith)
     loop-again
     returns)

@@ -1,9 +1,5 @@
 -- `tree::strike::joins_queue` meets its contract, by the cases of its tests. Assumes nothing.
-use mathlib.Core.Path.{_≡_, sym, _∙_}
-use mathlib.Core.Bool.{true, false}
-use borrow.Author.Needs.{needs}
-use borrow.Author.Tests.{eq-eqb, ne-eqb}
-use lib.Dec.{eqb}
+use Rattle.prelude.specs.Words.{_≡_, sym, _∙_, true, false, needs, eq-eqb, ne-eqb, eqb}
 use lib.Count.{ones}
 use Rattle.tree.proofs.strike.joins_queue.Statement.{statement}
 use Rattle.tree.proofs.strike.joins_queue.Tie as tie

@@ -1,6 +1,5 @@
 -- `tree::strike::other_end` meets its contract, in the two cases of a row and a column. Assumes nothing.
-use borrow.Author.Needs.{needs}
-use borrow.Author.Tests.{lt-ltb, le-ltb}
+use Rattle.prelude.specs.Words.{needs, lt-ltb, le-ltb}
 use Rattle.tree.proofs.strike.other_end.Statement.{statement}
 use Rattle.tree.proofs.strike.other_end.Tie as tie
 

@@ -1,5 +1,5 @@
 -- `tree::strike::own_bit` meets its contract, in the two cases of a row and a column. Assumes nothing.
-use borrow.Author.Tests.{lt-ltb, le-ltb}
+use Rattle.prelude.specs.Words.{lt-ltb, le-ltb}
 use Rattle.tree.proofs.strike.own_bit.Statement.{statement}
 use Rattle.tree.proofs.strike.own_bit.Tie as tie
 

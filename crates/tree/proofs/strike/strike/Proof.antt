@@ -1,11 +1,5 @@
 -- `tree::strike::strike` meets its contract. The loop's invariant is `StrikeState`; the measure is what is left of the room for nodes.
-use mathlib.Core.Path.{_≡_}
-use mathlib.Core.Bool.{true}
-use Prim.Native.Nat.{_+_, _-_, _<_}
-use native.Mathlib.Omega.{arith}
-use borrow.Author.Needs.{needs}
-use borrow.Author.Tests.{eq-eqb}
-use lib.ListN.{getD, set}
+use Rattle.prelude.specs.Words.{_≡_, true, _+_, _-_, _<_, arith, needs, eq-eqb, getD, set}
 use Rattle.tree.specs.Layout.{nodeRoom}
 use Rattle.tree.specs.Mask.{bit}
 use Rattle.tree.specs.Links.{tied, end-below, own-le}
@@ -35,30 +29,15 @@ tail-room c = let s = c .loop .inv in omega (arith, room (omega (arith, s .links
 k-room : (c : tie.In-loop Inv-loop μ-loop) → c .before .loop .k < nodeRoom
 k-room c = omega (arith, tail-room (c .before))
 
-mul-node : tie.Need-mul-node Inv-loop μ-loop
-mul-node c = omega (arith, k-room c)
-
-element-copy-out-node : tie.Need-element-copy-out-node Inv-loop μ-loop
-element-copy-out-node c = k-room c
-
 -- The node that waits is one of the m + n.
 node-room : (c : tie.In-loop Inv-loop μ-loop) → getD (c .before .loop .leaf) (c .before .loop .k) 0 < nodeRoom
 node-room c = let s = c .before .loop .inv in
     omega (arith, s .queue .nodes (c .before .loop .k) (c .loop-test .taken) .1, s .links .rowsHigh, s .links .colsHigh)
 
-mul-lanes : tie.Need-mul-lanes Inv-loop μ-loop
-mul-lanes c = omega (arith, node-room (c .before))
-
-array-read-lanes : tie.Need-array-read-lanes Inv-loop μ-loop
-array-read-lanes c = node-room (c .before)
-
 returns : tie.Need-returns Inv-loop μ-loop
 returns c =
     let s = c .before .before .before .loop .inv in
     ((s .leafSize, s .otherSize, s .laneSize), λ B M. state-lost s B M (c .before .before .loop-test .taken) (c .if1 .taken))
-
-first-bit-requires : tie.Need-first-bit-requires Inv-loop μ-loop
-first-bit-requires c κs = omega arith
 
 -- It has the lane that is found ..
 chosen : (c : tie.After-first-bit Inv-loop μ-loop)
@@ -83,15 +62,6 @@ end-in c =
       s .links .rowsHigh,
       s .links .colsHigh,
     )
-
-mul-clear-bit : tie.Need-mul-clear-bit Inv-loop μ-loop
-mul-clear-bit c = omega (arith, end-in c)
-
-array-read-clear-bit : tie.Need-array-read-clear-bit Inv-loop μ-loop
-array-read-clear-bit c = end-in c
-
-own-bit-requires : tie.Need-own-bit-requires Inv-loop μ-loop
-own-bit-requires c κs = search needs
 
 clear-bit-requires : tie.Need-clear-bit-requires Inv-loop μ-loop
 clear-bit-requires c κs =
@@ -141,9 +111,6 @@ mul-leaf c = omega (arith, tail-room (c .before .before .before .before .before 
 element-write-leaf : tie.Need-element-write-leaf Inv-loop μ-loop
 element-write-leaf c = tail-room (c .before .before .before .before .before .before .before .before)
 
-joins-queue-requires : tie.Need-joins-queue-requires Inv-loop μ-loop
-joins-queue-requires c κs = search needs
-
 -- The state after the strike.
 next : (c : tie.After-joins-queue Inv-loop μ-loop)
     → let a = c .before .before .before .before .before .before .before .before .before .before .before .before .before .args in
@@ -189,16 +156,16 @@ strike-spec =
     μ-loop
     first-leaves-requires
     loop-holds
-    mul-node
-    element-copy-out-node
-    mul-lanes
-    array-read-lanes
+    (λ c. omega (arith, k-room c))
+    (λ c. k-room c)
+    (λ c. omega (arith, node-room (c .before)))
+    (λ c. node-room (c .before))
     returns
-    first-bit-requires
+    (λ c κs. omega arith)
     other-end-requires
-    mul-clear-bit
-    array-read-clear-bit
-    own-bit-requires
+    (λ c. omega (arith, end-in c))
+    (λ c. end-in c)
+    (λ c κs. search needs)
     clear-bit-requires
     mul-other
     element-write-other
@@ -211,7 +178,7 @@ strike-spec =
     array-write-live-2
     mul-leaf
     element-write-leaf
-    joins-queue-requires
+    (λ c κs. search needs)
     add-tail
     add-k
     loop-less

@@ -1,14 +1,10 @@
 -- Each way out is a case of `nextCorner`; that the next row or column is there, and that the pairs are in range, follows from where the rule stands.
-use native.Mathlib.Omega.{arith}
-use native.Mathlib.Numerals.{add-one}
-use mathlib.Core.Path.{_≡_, refl, sym, _∙_}
-use mathlib.Core.Bool.{true, false}
+use Rattle.prelude.specs.Words.{arith, add-one, _≡_, refl, sym, _∙_, true, false, needs}
 use Rattle.transport.specs.Laws.Sound.{supply-most, demand-most}
 use Rattle.transport.specs.Limits.{maxSide, maxAmount, maxBags}
 use Rattle.transport.specs.Problem.{sources, sinks}
 use Rattle.transport.specs.Amount.{less}
 use Rattle.dealing.specs.Corner.{costless, next-right, next-down, standing-fit, right-inside, down-inside}
-use borrow.Author.Needs.{needs}
 use Rattle.dealing.proofs.corner.Corner.next.Statement.{statement}
 use Rattle.dealing.proofs.corner.Corner.next.Tie as tie
 
@@ -21,16 +17,10 @@ fewer : (c : tie.After-subtract2) → less (c .before .before .before .before .b
     (c .before .before .before .before .before .before .before .args .self .supply) ≡ false
 fewer c = sym (c .before .before .less .ensures) ∙ c .before .if1 .left
 
-less-requires : tie.Need-less-requires
-less-requires c κs = search needs
-
 subtract-requires : tie.Need-subtract-requires
 subtract-requires c κs =
     let s = c .before .before .before .before .before .before in
     standing-fit _ (s .pre .0) _ (s .pre .1 .0) .0
-
-add-paired-demand : tie.Need-add-paired-demand
-add-paired-demand c = search needs
 
 paired-demand-requires : tie.Need-paired-demand-requires
 unfolding sources sinks maxSide maxBags maxAmount
@@ -38,9 +28,6 @@ paired-demand-requires c κs =
     let s = c .before .before .before .before .before .before .before in
     let ok = s .pre .0 in
     (right-inside _ ok _ (s .pre .1 .0) (s .pre .1 .1) (more c), demand-most ok _, omega (arith, ok .sourcesHigh))
-
-add-t13 : tie.Need-add-t13
-add-t13 c = search needs
 
 returns : tie.Need-returns
 unfolding sources
@@ -54,18 +41,12 @@ subtract-requires-2 c κs =
     let s = c .before .before .before .before .before .before in
     standing-fit _ (s .pre .0) _ (s .pre .1 .0) .1
 
-add-paired-supply : tie.Need-add-paired-supply
-add-paired-supply c = search needs
-
 paired-supply-requires : tie.Need-paired-supply-requires
 unfolding sources sinks
 paired-supply-requires c κs =
     let s = c .before .before .before .before .before .before .before in
     let ok = s .pre .0 in
     (down-inside _ ok _ (s .pre .1 .0) (s .pre .1 .1) (fewer c), supply-most ok _)
-
-add-t15 : tie.Need-add-t15
-add-t15 c = search needs
 
 returns-2 : tie.Need-returns-2
 returns-2 c =
@@ -77,14 +58,14 @@ pub next-spec : {M : Type 1} → statement M
 next-spec =
     tie.close
     (tie.spec
-    less-requires
+    (λ c κs. search needs)
     subtract-requires
-    add-paired-demand
+    (λ c. search needs)
     paired-demand-requires
-    add-t13
+    (λ c. search needs)
     returns
     subtract-requires-2
-    add-paired-supply
+    (λ c. search needs)
     paired-supply-requires
-    add-t15
+    (λ c. search needs)
     returns-2)

@@ -1,5 +1,5 @@
 -- The cell's amount is what `smaller` gives.
-use borrow.Author.Needs.{needs}
+use Rattle.prelude.specs.Words.{needs}
 use Rattle.dealing.proofs.corner.Corner.put.Statement.{statement}
 use Rattle.dealing.proofs.corner.Corner.put.Tie as tie
 

@@ -1,0 +1,1 @@
+// The words of the libraries; nothing runs here.
