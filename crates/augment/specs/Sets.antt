@@ -1,6 +1,6 @@
 -- Masks as sets of their bits: what is in a mask that is made of others.
 use Rattle.prelude.specs.Words.{_≡_, sym, _∙_, _↔_, _≢_, _⊎_, inl, inr, ⊎-elim, by-cases, true, false≢true, ℕ, _-_, _<_, _≤_, arith, ℕ-discrete, decLt}
-use Rattle.prelude.specs.Words.{eqb-true, eq-eqb, ne-eqb}
+use Rattle.prelude.specs.Words.{eqb-true, eq-eqb, ne-eqb, clash}
 use lib.Bits.{bitAnd, bitOr}
 use Rattle.tree.specs.Mask.{bit, has, bit-or, bit-and, put, put-here, put-there, unset, unset-here, unset-there, has-zero}
 use Rattle.tree.specs.MaskLaws.{firstBits, first-below, first-above, minus, bit-minus}
@@ -58,7 +58,7 @@ in-unset x j k = (
 pub in-rest : (x r k : ℕ) → Least x r → (has (bitAnd x (x - 1)) k ≡ true) ↔ ((k ≢ r) × (has x k ≡ true))
 in-rest x r k w = (
   (λ e. by-cases (ℕ-discrete k r)
-      (λ s. absurd (false≢true (sym (has-rest x r k w ∙ rw (eq-eqb k r s)) ∙ e)))
+      (λ s. clash e (has-rest x r k w ∙ rw (eq-eqb k r s)))
       (λ s. (s, sym (has-rest x r k w ∙ rw (ne-eqb k r s)) ∙ e))),
   (λ e. has-rest x r k w ∙ rw (ne-eqb k r (e .0)) (e .1)),
 )

@@ -1,6 +1,6 @@
 -- Whether lanes carry the flow of weights, in the arrays of the code.
 use Rattle.prelude.specs.Words.{ℕ, _+_, _^_, _<_, _≤_, arith, decLt, _≡_, refl, sym, ap, _∙_, by-cases, Bool, true, false, List, ℤ, pos, _-ℤ_, length, getD}
-use Rattle.prelude.specs.Words.{set, mag}
+use Rattle.prelude.specs.Words.{set, mag, by-test}
 use mir.Syntax.{w64}
 use mir.Val.{toZ, ofZ}
 use Rattle.transport.specs.Laws.RangeLaws.{back}
@@ -40,11 +40,7 @@ module _ (weight : ℕ → ℤ) (ss : List Strike) (amount : List ℤ) (lane : L
       eqZ-true _ _ (all-below-at (λ k. eqZ (getD amount (getD lane k 0) (pos 0)) (flow weight ss (laneAt (getD lane k 0)))) count k e l)
 
   pub carriesFlow-false : (count k : ℕ) → k < count → (CarriedAt k → ⊥) → carriesFlow weight ss amount lane count ≡ false
-  carriesFlow-false count k l n = go (carriesFlow weight ss amount lane count) refl
-    where
-      go : (b : Bool) → carriesFlow weight ss amount lane count ≡ b → carriesFlow weight ss amount lane count ≡ false
-      go true e = absurd (n (carriesFlow-at count e k l))
-      go false e = e
+  carriesFlow-false count k l n = by-test (carriesFlow weight ss amount lane count) (λ e. absurd (n (carriesFlow-at count e k l))) (λ e. e)
 
 -- ---- forwards through the strikes
 

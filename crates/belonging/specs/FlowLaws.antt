@@ -1,6 +1,6 @@
 -- The laws of flows by strikes: the step through one strike, that the weights that are left never grow, and the same on the arrays of the code.
 use Rattle.prelude.specs.Words.{ℕ, zero, suc, _+_, _*_, _<_, _≤_, arith, add-one, eq-or-lt-of-le, _≡_, refl, sym, ap, _∙_, _≢_, ⊎-elim, Bool, true, false, cond}
-use Rattle.prelude.specs.Words.{List, eqb, ℤ, pos, natAbs, _-ℤ_, length, getD, set, length-set, lt-length-set, eqb-true, eq-eqb, ne-eqb}
+use Rattle.prelude.specs.Words.{List, eqb, ℤ, pos, natAbs, _-ℤ_, length, getD, set, length-set, lt-length-set, eqb-true, eq-eqb, ne-eqb, by-test}
 use lib.IntN.{+ℤ-invr}
 use Rattle.transport.specs.Lists.{sumTo}
 use Rattle.transport.specs.Laws.ListLaws.{sumTo-each, sumTo-cong}
@@ -9,8 +9,8 @@ use Rattle.transport.specs.Leaf.{Strike}
 use Rattle.transport.specs.Round.{takeFrom, flow}
 use Rattle.transport.specs.Laws.RoundLaws.{leftBy, flow-here, flow-later}
 use Rattle.transport.specs.Laws.RangeLaws.{abs-diff}
-use Rattle.tree.specs.Layout.{nodeRoom, laneAt, laneIndex, laneIndex-at, strikeOf, strikesOf, strikesFrom, strikesFrom-cons, getD-set}
-use Rattle.tree.specs.Layout.{LanesApart, StrikesInRoom}
+use Rattle.tree.specs.Layout.{nodeRoom, laneAt, laneIndex, laneIndex-at, strikeOf, strikesOf, strikesFrom, strikesFrom-cons, getD-set, LanesApart}
+use Rattle.tree.specs.Layout.{StrikesInRoom}
 
 -- ---- one strike
 
@@ -20,11 +20,7 @@ places-apart k l n e = n (sym (laneIndex-at k) ∙ ap laneIndex e ∙ laneIndex-
 
 takeFrom-cond : (weight : ℕ → ℤ) (k : ℕ) (y : ℤ) (j : ℕ) → takeFrom weight k y j ≡ cond (eqb j k) (weight j -ℤ y) (weight j)
 unfolding takeFrom
-takeFrom-cond weight k y j = go (eqb j k) refl
-  where
-    go : (b : Bool) → eqb j k ≡ b → takeFrom weight k y j ≡ cond b (weight j -ℤ y) (weight j)
-    go true e = rw (takeFrom, e)
-    go false e = rw (takeFrom, e)
+takeFrom-cond weight k y j = by-test (eqb j k) (λ e. rw (takeFrom, e)) (λ e. rw (takeFrom, e))
 
 -- ---- the size of weights: the sum of their absolute values
 

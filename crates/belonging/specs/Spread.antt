@@ -1,10 +1,10 @@
 -- A tableau in the flat arrays: whether its lanes span and its amounts add up, as the code finds it.
 use Rattle.prelude.specs.Words.{ℕ, _+_, _-_, _*_, _<_, _≡_, refl, sym, ap, _∙_, subst, _↔_, Bool, true, false, _&&_, List, eqb, ltb, ltb-true, eq-eqb, ne-eqb}
-use Rattle.prelude.specs.Words.{ℤ, pos, length, getD, length-map}
+use Rattle.prelude.specs.Words.{ℤ, pos, length, getD, length-map, by-test}
 use Rattle.transport.specs.Lists.{all, at, total}
 use Rattle.transport.specs.Laws.ListLaws.{and-left, and-right, all-at, member-table, table-member}
 use Rattle.transport.specs.Problem.{Problem, sources, sinks}
-use Rattle.transport.specs.Laws.ProblemLaws.{lane}
+use Rattle.transport.specs.Laws.ProblemLaws.{lane, problem}
 use Rattle.transport.specs.Laws.Sound.{Sound, supply-most, demand-most}
 use Rattle.transport.specs.Tableau.{noCell, laneOf, basisOf, basisSize, cellsOf}
 use Rattle.transport.specs.Belonging.{onSheet, inOrder, aboveZero, balanced, spans, cellsBelong, belongs}
@@ -12,7 +12,6 @@ use Rattle.transport.specs.Round.{flow}
 use Rattle.transport.specs.declared.Pair.{Pair}
 use Rattle.transport.specs.declared.Cell.{Cell}
 use Rattle.transport.specs.declared.Tableau.{Tableau}
-use Rattle.transport.specs.Laws.ProblemLaws.{problem}
 use Rattle.tableaux.specs.View.{Distinct, Inside, rowOf, colOf, amountAt}
 use Rattle.tableaux.specs.Belonging.{fits-inside, order-true}
 use Rattle.tableaux.specs.Order.{ordered-by, ordered-distinct}
@@ -43,11 +42,7 @@ module _ {m n : ℕ} (T : List Cell) (sides : Sides m n) (inside : Inside m n T)
     (leaf other lanes : List ℕ) (r : ℕ) (w : Stripped m n (basisOf T) (strikesOf leaf other lanes r) r) where
   -- All lanes are struck off if they span ..
   pub struck-apart : (r ≡ basisSize m n → ⊥) → spans m n (basisOf T) ≡ false
-  struck-apart d = go (spans m n (basisOf T)) refl
-    where
-      go : (b : Bool) → spans m n (basisOf T) ≡ b → spans m n (basisOf T) ≡ false
-      go true s = absurd (d (w .complete s .0))
-      go false s = s
+  struck-apart d = by-test (spans m n (basisOf T)) (λ s. absurd (d (w .complete s .0))) (λ s. s)
 
   -- .. and only then.
   pub struck-spans : r ≡ basisSize m n → Spanning m n T (strikesOf leaf other lanes (basisSize m n))

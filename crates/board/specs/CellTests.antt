@@ -1,6 +1,6 @@
 -- The tests of belonging that look at cells one by one, made in one pass.
 use Rattle.prelude.specs.Words.{ℕ, _+_, _*_, _<_, _≤_, arith, mul-le-mul, _≡_, refl, _∙_, Bool, true, false, _&&_, List, [], _∷_, ltb, leb, ltb-true, ltb-false}
-use Rattle.prelude.specs.Words.{lt-leb, le-leb}
+use Rattle.prelude.specs.Words.{lt-leb, le-leb, by-test}
 use Rattle.transport.specs.Lists.{all}
 use Rattle.transport.specs.Laws.ListLaws.{and-left, and-right}
 use Rattle.transport.specs.Problem.{place}
@@ -59,11 +59,9 @@ orderFrom n least [] = true
 orderFrom n least (c ∷ cs) = leb least (place n (c .row) (c .col)) && orderFrom n (place n (c .row) (c .col) + 1) cs
 
 leb-ltb : (a b : ℕ) → leb (a + 1) b ≡ ltb a b
-leb-ltb a b = go (ltb a b) refl
-  where
-    go : (t : Bool) → ltb a b ≡ t → leb (a + 1) b ≡ t
-    go true e = le-leb (a + 1) b (omega (arith, ltb-true a b e))
-    go false e = lt-leb (a + 1) b (omega (arith, ltb-false a b e))
+leb-ltb a b = by-test (ltb a b)
+    (λ e. rw e (le-leb (a + 1) b (omega (arith, ltb-true a b e))))
+    (λ e. rw e (lt-leb (a + 1) b (omega (arith, ltb-false a b e))))
 
 order-next : (n : ℕ) (c : Cell) (cs : List Cell) → orderFrom n (place n (c .row) (c .col) + 1) cs ≡ inOrder n (c ∷ cs)
 unfolding orderFrom inOrder

@@ -1,7 +1,7 @@
 -- How the flat arrays of a run hold a list of cells: a mask of basic lanes for each node, and an amount for each lane.
 use Rattle.prelude.specs.Words.{ℕ, zero, suc, _+_, _*_, _<_, _≤_, arith, _≡_, refl, sym, ap, _∙_, Bool, true, false, _&&_, _||_, cond, false≢true, or-true}
 use Rattle.prelude.specs.Words.{and-comm, List, [], _∷_, _↔_, _≢_, _⊎_, inl, inr, eqb, ℤ, pos, length, getD, set, length-set, length-map, lt-length-set}
-use Rattle.prelude.specs.Words.{getD-set-same, getD-set-other, eqb-true, eqb-false, eq-eqb, ne-eqb}
+use Rattle.prelude.specs.Words.{getD-set-same, getD-set-other, eqb-true, eqb-false, eq-eqb, ne-eqb, by-test}
 use lib.ListN.{List·getD-map}
 use Rattle.transport.specs.Laws.ListLaws.{and-left, and-right}
 use Rattle.transport.specs.Problem.{Lane}
@@ -36,8 +36,7 @@ isBasic-true (c ∷ cs) i j e = go (or-cases (eqb (c .row) i && eqb (c .col) j) 
       index = 0;
       below = omega arith;
       row = eqb-true _ _ (and-left _ (eqb (c .col) j) h);
-      column =
-          eqb-true _ _ (and-right (eqb (c .row) i) _ h);
+      column = eqb-true _ _ (and-right (eqb (c .row) i) _ h);
     }
     go (inr h) rest = basic-later c cs i j (rest h)
 
@@ -118,20 +117,14 @@ unfolding linked
 length-linked m i j adj = simp length-set
 
 eqb-turn : (a b : ℕ) → eqb a b ≡ eqb b a
-eqb-turn a b = go (eqb b a) refl
-  where
-    go : (t : Bool) → eqb b a ≡ t → eqb a b ≡ t
-    go true s = eq-eqb a b (sym (eqb-true b a s))
-    go false s = ne-eqb a b (λ r. eqb-false b a s (sym r))
+eqb-turn a b = by-test (eqb b a) (λ s. rw s (eq-eqb a b (sym (eqb-true b a s)))) (λ s. rw s (ne-eqb a b (λ r. eqb-false b a s (sym r))))
 
 has-set-put : (adj : List ℕ) (i j h k : ℕ) → i < length adj → has (getD (set adj i (put (getD adj i 0) j)) h 0) k ≡ eqb i h && eqb j k || has (getD adj h 0) k
-has-set-put adj i j h k p = go (eqb h i) refl
-  where
-    go : (t : Bool) → eqb h i ≡ t → has (getD (set adj i (put (getD adj i 0) j)) h 0) k ≡ eqb i h && eqb j k || has (getD adj h 0) k
-    go true s =
-        let r : h ≡ i = eqb-true h i s in
-        rw (r, getD-set-same adj i (put (getD adj i 0) j) 0 p, has-put (getD adj i 0) j k, eq-eqb i i refl, eqb-turn j k)
-    go false s = rw (getD-set-other adj i h (put (getD adj i 0) j) 0 (eqb-false h i s), eqb-turn i h, s)
+has-set-put adj i j h k p = by-test (eqb h i)
+    (λ s.
+    let r : h ≡ i = eqb-true h i s in
+    rw (r, getD-set-same adj i (put (getD adj i 0) j) 0 p, has-put (getD adj i 0) j k, eq-eqb i i refl, eqb-turn j k))
+    (λ s. rw (getD-set-other adj i h (put (getD adj i 0) j) 0 (eqb-false h i s), eqb-turn i h, s))
 
 module _ (m i j : ℕ) (adj : List ℕ) (p : i < m) where
   pub linked-row : (h k : ℕ) → i < length adj → h < m → has (getD (linked m i j adj) h 0) k ≡ eqb i h && eqb j k || has (getD adj h 0) k

@@ -1,6 +1,6 @@
 -- Amounts by lane, and what is done to the lanes of slots: the slot with the least pair, and a pair added to each of some slots.
 use Rattle.prelude.specs.Words.{_≡_, refl, sym, ap, _∙_, _≢_, by-cases, true, false, true≢false, List, ℕ, _-_, _<_, arith, ℕ-discrete, eq-eqb, ne-eqb, ℤ, pos}
-use Rattle.prelude.specs.Words.{_+ℤ_, length, getD, set, length-set, getD-set-same, getD-set-other}
+use Rattle.prelude.specs.Words.{_+ℤ_, length, getD, set, length-set, getD-set-same, getD-set-other, clash}
 use lib.Bits.{bitAnd}
 use Rattle.transport.specs.Amount.{less}
 use Rattle.transport.specs.Laws.ListLaws.{is-false}
@@ -25,7 +25,7 @@ pub record Slotted (lanes : List ℕ) (slots : ℕ) : Type 0 where
 module _ {bits r : ℕ} (w : Least bits r) (t : ℕ) where
   left-was : has (bitAnd bits (bits - 1)) t ≡ true → (has bits t ≡ true) × (t ≢ r)
   left-was e = by-cases (ℕ-discrete t r)
-      (λ s. absurd (true≢false (sym e ∙ has-rest bits r t w ∙ rw (eq-eqb t r s))))
+      (λ s. clash e (has-rest bits r t w ∙ rw (eq-eqb t r s)))
       (λ d. (sym ((rw (ne-eqb t r d))) ∙ sym (has-rest bits r t w) ∙ e, d))
 
   gone-was : has (bitAnd bits (bits - 1)) t ≡ false → t ≢ r → has bits t ≡ false
@@ -51,7 +51,7 @@ module _ (q e : List ℤ) (lanes : List ℕ) where
     inside = has-least w;
     least = λ t h g. by-cases (ℕ-discrete t r)
         (λ s. rw s (less-weak .irreflexive (slotPair r)))
-        (λ d. absurd (true≢false (sym h ∙ gone-was w t g d)));
+        (λ d. clash h (gone-was w t g d));
   }
 
   module _ {slots bits r t : ℕ} (g : LeastSlot slots bits r) (w : Least bits t) where
@@ -91,7 +91,7 @@ pub add-start : (x : ℤ) (lanes : List ℕ) (slots : ℕ) (old : List ℤ) → 
 add-start x lanes slots old = record {
   part = λ t h. h;
   long = refl;
-  on = λ t h b. absurd (true≢false (sym h ∙ b));
+  on = λ t h b. clash h b;
   still = λ t h. refl;
   off = λ l h. refl;
 }

@@ -1,5 +1,5 @@
 -- The declared answers of round, run, settle and the two writers cross the border as Border says.
-use Rattle.prelude.specs.Words.{_≡_, refl, Bool, true, false, List, ℕ, ℤ}
+use Rattle.prelude.specs.Words.{_≡_, refl, true, false, List, ℕ, ℤ, by-test}
 use Rattle.transport.specs.declared.Tableau.{Tableau}
 use Rattle.transport.specs.declared.RoundOutcome.{RoundOutcome}
 use Rattle.transport.specs.declared.RoundOutcome.the-variants as RoundOutcome
@@ -33,11 +33,7 @@ ran (RunOutcome.Refused k) t = record { refusal = k; finished = false; rounds = 
 pub ran-is : (a : Answer Run) → ran (runAnswer a .outcome) (runAnswer a .tableau) ≡ runOut a
 unfolding runAnswer runOut runOutcome
 ran-is (refused r) = refl
-ran-is (given r) = go (r .finished) refl
-  where
-    go : (b : Bool) → r .finished ≡ b → ran (runAnswer (given r) .outcome) (runAnswer (given r) .tableau) ≡ runOut (given r)
-    go true e = rw (e, runOutcome)
-    go false e = rw (e, runOutcome)
+ran-is (given r) = by-test (r .finished) (λ e. rw (e, runOutcome)) (λ e. rw (e, runOutcome))
 
 abbrev pub settledAs : SettleAnswer → ℕ
 settledAs SettleAnswer.Settled = 0

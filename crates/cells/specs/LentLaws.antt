@@ -1,7 +1,7 @@
 -- The laws of Lent: a list's cells, added to no tableau, make the tableau that the list is; and what the calls make of that tableau.
-use Rattle.prelude.specs.Words.{ℕ, zero, suc, _+_, _-_, _<_, _≤_, _^_, arith, decLt, _≡_, refl, sym, ap, _∙_, by-cases, Bool, true, false, _&&_, true≢false}
-use Rattle.prelude.specs.Words.{List, [], _∷_, _++_, append-assoc, eqb, length, take, getD, set, replicate, length-append, length-map, take-all, take-suc}
-use Rattle.prelude.specs.Words.{take-length, take-append-seam, length-take-le, set-at, lt-ltb, le-ltb, ne-eqb}
+use Rattle.prelude.specs.Words.{ℕ, zero, suc, _+_, _-_, _<_, _≤_, _^_, arith, decLt, _≡_, refl, sym, ap, _∙_, by-cases, Bool, true, false, _&&_, List, [], _∷_}
+use Rattle.prelude.specs.Words.{_++_, append-assoc, eqb, length, take, getD, set, replicate, length-append, length-map, take-all, take-suc, take-length}
+use Rattle.prelude.specs.Words.{take-append-seam, length-take-le, set-at, lt-ltb, le-ltb, ne-eqb, by-test, clash}
 use lib.Seq.{take-append-le}
 use Rattle.transport.specs.Lists.{all, padded}
 use Rattle.transport.specs.Limits.{maxCells}
@@ -90,12 +90,9 @@ module _ (P : Problem) (T : List Cell) where
 
   few-belong : length T ≤ maxCells → belongs P (lentTableau T) ≡ cellsBelong P T
   unfolding belongs lentTableau
-  few-belong l = rw (cells-back T l) (go (eqb (length T) (basisSize (sources P) (sinks P))) refl)
-    where
-      go : (b : Bool) → eqb (length T) (basisSize (sources P) (sinks P)) ≡ b → eqb (length T) (basisSize (sources P) (sinks P)) && cellsBelong P T
-          ≡ cellsBelong P T
-      go true e = ap (λ (b : Bool). b && cellsBelong P T) e
-      go false e = ap (λ (b : Bool). b && cellsBelong P T) e ∙ sym (other-count e)
+  few-belong l = rw (cells-back T l) (by-test (eqb (length T) (basisSize (sources P) (sinks P)))
+      (λ e. ap (λ (b : Bool). b && cellsBelong P T) e)
+      (λ e. ap (λ (b : Bool). b && cellsBelong P T) e ∙ sym (other-count e)))
 
   -- More cells than the array has room for are more than a sound problem asks for.
   too-many : Sound P → maxCells < length T → eqb (length T) (basisSize (sources P) (sinks P)) ≡ false
@@ -113,5 +110,5 @@ module _ (P : Problem) (T : List Cell) where
   pub lent-cells : Sound P → cellsBelong P T ≡ true → cellsOf (lentTableau T) ≡ T
   lent-cells e b =
       by-cases (decLt maxCells (length T))
-      (λ l. absurd (true≢false (sym b ∙ other-count (too-many e l))))
+      (λ l. clash b (other-count (too-many e l)))
       (λ l. cells-back T (omega arith))

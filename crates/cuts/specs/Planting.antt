@@ -1,7 +1,7 @@
 -- The first tree: strikes of a basis, read backwards, hang each leaf with its lane on the node at the other end.
-use Rattle.prelude.specs.Words.{_≡_, refl, ap, sym, _∙_, _≢_, _⊎_, inl, inr, ⊎-elim, by-cases, Bool, true, false, xor, _&&_, _||_, and-false, and-true}
-use Rattle.prelude.specs.Words.{false≢true, List, List·Memᴰ, ℕ, zero, suc, _+_, _-_, _<_, _≤_, arith, ℕ-discrete, decLt, eqb-true, eq-eqb, ne-eqb, lt-ltb}
-use Rattle.prelude.specs.Words.{le-ltb, eqb, ltb, length, getD, set, length-set, getD-set-same, getD-set-other}
+use Rattle.prelude.specs.Words.{_≡_, refl, ap, sym, _∙_, _≢_, _⊎_, inl, inr, ⊎-elim, by-cases, Bool, true, false, xor, _&&_, _||_, and-false, and-true, List}
+use Rattle.prelude.specs.Words.{List·Memᴰ, ℕ, zero, suc, _+_, _-_, _<_, _≤_, arith, ℕ-discrete, decLt, eqb-true, eq-eqb, ne-eqb, lt-ltb, le-ltb, eqb, ltb}
+use Rattle.prelude.specs.Words.{length, getD, set, length-set, getD-set-same, getD-set-other, clash}
 use Rattle.transport.specs.Laws.ListLaws.{member-at, member-table, table-member}
 use Rattle.transport.specs.Problem.{Lane}
 use Rattle.transport.specs.Leaf.{Strike}
@@ -104,7 +104,7 @@ module _ {leaf other : List ℕ} {count : ℕ} (o : Order leaf other count) wher
   above : {path : List ℕ} {k : ℕ} → Hanging leaf other count path (suc k) → k < count → (t : ℕ) → has (getD path (getD other k 0) 0) t ≡ true
       → (k < t) × (t < count)
   above {path} {k} h l t e = ⊎-elim
-      (λ z. absurd (false≢true (sym (has-zero t) ∙ ap (λ (x : ℕ). has x t) (sym (ap (λ (j : ℕ). getD path j 0) z ∙ h .root)) ∙ e)))
+      (λ z. clash (ap (λ (x : ℕ). has x t) (sym (ap (λ (j : ℕ). getD path j 0) z ∙ h .root)) ∙ e) (has-zero t))
       (λ (i, p, q, s). let (a, b) = h .within i t (omega arith) q (rw s at e) in (omega arith, b))
       (o .later k l)
 
@@ -237,7 +237,7 @@ planted {m} {n} {B} leaf other lanes path sub count c l st o h w = record {
   laneLong = l;
   cuts = rw (← c) (hung-cuts leaf other lanes path count st o h);
   slots = λ p t q e. by-cases (ℕ-discrete p 0)
-      (λ z. absurd (false≢true (sym (has-zero t) ∙ ap (λ (x : ℕ). has x t) (sym (ap (λ (j : ℕ). getD path j 0) z ∙ h .root)) ∙ e)))
+      (λ z. clash (ap (λ (x : ℕ). has x t) (sym (ap (λ (j : ℕ). getD path j 0) z ∙ h .root)) ∙ e) (has-zero t))
       (λ z. at p t e (st .leaves p z q));
   turns = λ t p q. w .each t p;
 }

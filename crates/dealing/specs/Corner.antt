@@ -1,6 +1,6 @@
 -- The corner rule step by step: where it stands, what it puts there, where it goes on, and that its numbers stay small.
 use Rattle.prelude.specs.Words.{ℕ, zero, suc, _+_, _*_, _-_, _≤_, _<_, arith, add-suc, suc-add, _≡_, refl, sym, ap, _∙_, Bool, true, false, cond, List, _∷_}
-use Rattle.prelude.specs.Words.{eqb, pos, negℤ, natAbs, _≤ℤ_, length, drop, getD, replicate, length-replicate, drop-cons}
+use Rattle.prelude.specs.Words.{eqb, pos, negℤ, natAbs, _≤ℤ_, length, drop, getD, replicate, length-replicate, drop-cons, by-test}
 pub use Rattle.dealing.specs.declared.corner.Corner.{Corner}
 use Rattle.transport.specs.Lists.{atZ}
 use Rattle.transport.specs.Limits.{maxSide, maxAmount, maxCells, maxBags, costBelow, costAbove}
@@ -73,12 +73,9 @@ module _ (P : Problem) where
   corner-costless : (left i j : ℕ) (s d : Pair) → corner free left i j s d ≡ corner P left i j s d
   unfolding corner pairedSupply pairedDemand sources sinks
   corner-costless zero i j s d = refl
-  corner-costless (suc left) i j s d = go (less d s) refl (corner-costless left)
-    where
-      go : (b : Bool) → less d s ≡ b → ((i j : ℕ) (s d : Pair) → corner free left i j s d ≡ corner P left i j s d)
-          → corner free (suc left) i j s d ≡ corner P (suc left) i j s d
-      go true e rest = rw (corner-right free left i j s d e, corner-right P left i j s d e, rest i (suc j) (subtract s d) (pairedDemand P (suc j)))
-      go false e rest = rw (corner-down free left i j s d e, corner-down P left i j s d e, rest (suc i) j (pairedSupply P (suc i)) (subtract d s))
+  corner-costless (suc left) i j s d = by-test (less d s)
+      (λ e. rw (corner-right free left i j s d e, corner-right P left i j s d e, corner-costless left i (suc j) (subtract s d) (pairedDemand P (suc j))))
+      (λ e. rw (corner-down free left i j s d e, corner-down P left i j s d e, corner-costless left (suc i) j (pairedSupply P (suc i)) (subtract d s)))
 
   pub start-costless : start free ≡ start P
   unfolding start pairedSupply pairedDemand sources sinks
@@ -112,11 +109,9 @@ next-down P p e = rw e
 
 -- One cell further on.
 pub next-number : (P : Problem) (p : Corner) → nextCorner P p .row + nextCorner P p .col ≡ p .row + p .col + 1
-next-number P p = go (less (p .demand) (p .supply)) refl
-  where
-    go : (b : Bool) → less (p .demand) (p .supply) ≡ b → nextCorner P p .row + nextCorner P p .col ≡ p .row + p .col + 1
-    go true e = rw (next-right P p e) (omega arith)
-    go false e = rw (next-down P p e) (omega arith)
+next-number P p = by-test (less (p .demand) (p .supply))
+    (λ e. rw (next-right P p e) (omega arith))
+    (λ e. rw (next-down P p e) (omega arith))
 
 abbrev cornerFrom : Problem → ℕ → Corner → List Cell
 cornerFrom P left p = corner P left (p .row) (p .col) (p .supply) (p .demand)
@@ -125,11 +120,9 @@ abbrev StateAt : Problem → ℕ → Corner → Type 0
 StateAt P left p = State P left (p .row) (p .col) (p .supply) (p .demand)
 
 corner-next : (P : Problem) (left : ℕ) (p : Corner) → cornerFrom P (suc left) p ≡ cellOf p ∷ cornerFrom P left (nextCorner P p)
-corner-next P left p = go (less (p .demand) (p .supply)) refl
-  where
-    go : (b : Bool) → less (p .demand) (p .supply) ≡ b → cornerFrom P (suc left) p ≡ cellOf p ∷ cornerFrom P left (nextCorner P p)
-    go true e = rw (next-right P p e, smaller-column (p .supply) (p .demand) e) (corner-right P left (p .row) (p .col) (p .supply) (p .demand) e)
-    go false e = rw (next-down P p e, smaller-row (p .supply) (p .demand) e) (corner-down P left (p .row) (p .col) (p .supply) (p .demand) e)
+corner-next P left p = by-test (less (p .demand) (p .supply))
+    (λ e. rw (next-right P p e, smaller-column (p .supply) (p .demand) e) (corner-right P left (p .row) (p .col) (p .supply) (p .demand) e))
+    (λ e. rw (next-down P p e, smaller-row (p .supply) (p .demand) e) (corner-down P left (p .row) (p .col) (p .supply) (p .demand) e))
 
 -- ---- where the rule stands
 
@@ -236,8 +229,6 @@ module _ (P : Problem) (ok : Sound P) where
         }
 
       pub standing-next : Standing P (nextCorner P p)
-      standing-next = go (less (p .demand) (p .supply)) refl
-        where
-          go : (b : Bool) → less (p .demand) (p .supply) ≡ b → Standing P (nextCorner P p)
-          go true e = rw (next-right P p e) (standing-right e)
-          go false e = rw (next-down P p e) (standing-down e)
+      standing-next = by-test (less (p .demand) (p .supply))
+          (λ e. rw (next-right P p e) (standing-right e))
+          (λ e. rw (next-down P p e) (standing-down e))

@@ -1,21 +1,15 @@
 -- Lists of prices, as the code reads and writes them: prices of nodes written at their own numbers, and those at 0 priced by the least slack.
-use Rattle.prelude.specs.Words.{_≡_, refl, sym, ap, _∙_, by-cases, Bool, true, false, cond, List, [], _∷_, _++_, map, ℕ, zero, suc, _+_, _*_, _-_, _≤_, _<_}
-use Rattle.prelude.specs.Words.{arith, add-one, decLt, ℕ-discrete, ltb, ℤ, pos, natAbs, _-ℤ_, ltZ, length, take, drop, getD, set, length-set, getD-set-same}
-use Rattle.prelude.specs.Words.{getD-set-other}
+use Rattle.prelude.specs.Words.{_≡_, refl, sym, _∙_, by-cases, Bool, true, false, cond, List, ℕ, zero, suc, _+_, _*_, _≤_, _<_, arith, add-one, ℕ-discrete, ltb}
+use Rattle.prelude.specs.Words.{ℤ, pos, natAbs, _-ℤ_, ltZ, length, getD, set, length-set, getD-set-same, getD-set-other}
 use mir.Syntax.{w64}
 use mir.Val.{toZ, ofZ}
 use Rattle.transport.specs.Limits.{maxSide, maxCost, costAbove}
 use Rattle.transport.specs.Lists.{at, atZ, table, leastOf, firstLeast, leastFrom}
 use Rattle.transport.specs.Problem.{place}
-use Rattle.transport.specs.Sheet.{Sheet}
-use Rattle.transport.specs.Extended.{extended}
-use Rattle.transport.specs.Parties.{isLeft, rowsLeft, columnsLeft, problemOf}
-use Rattle.transport.specs.Potential.{potential}
+use Rattle.transport.specs.Parties.{isLeft}
 use Rattle.transport.specs.Laws.ListLaws.{table-one, length-table, firstLeast-more}
 use Rattle.transport.specs.Laws.RangeLaws.{mag-abs, back}
 use Rattle.transport.specs.Laws.PartiesLaws.{left-yes, left-no}
-use Rattle.transport.specs.Statements.{Accepted}
-use Rattle.transport.specs.declared.Cell.{Cell}
 use Rattle.tree.specs.Layout.{nodeRoom, maxPotential}
 
 -- ---- what the code reads

@@ -1,27 +1,27 @@
 -- The prices that a call gives: those of the parties left at their own numbers, then those of struck cafés, then those of struck roasteries.
 use Rattle.prelude.specs.Words.{_≡_, refl, sym, ap, _∙_, by-cases, Bool, true, false, cond, List, [], _∷_, _++_, map, ℕ, _+_, _-_, _≤_, _<_, arith, decLt, ltb}
 use Rattle.prelude.specs.Words.{ℤ, pos, natAbs, _-ℤ_, length, take, drop, getD, replicate, length-replicate, length-append, take-at, getD-at, length-take-le}
-use Rattle.prelude.specs.Words.{lt-ltb, le-ltb}
-use Rattle.transport.specs.Limits.{maxSide, maxSources, maxSinks, maxCost}
+use Rattle.prelude.specs.Words.{lt-ltb, le-ltb, by-test}
+use Rattle.transport.specs.Limits.{maxSide}
 use Rattle.transport.specs.Lists.{at, atZ, table, leastOf}
-use Rattle.transport.specs.Problem.{Problem, sources, sinks, laneCost, place}
+use Rattle.transport.specs.Problem.{Problem, sources, sinks, laneCost}
 use Rattle.transport.specs.Sheet.{Sheet, roasteries, cafes}
 use Rattle.transport.specs.Extended.{surplus, wanted, costAt, extended}
 use Rattle.transport.specs.Parties.{isLeft, left, among, rowsLeft, columnsLeft, struck, problemOf}
 use Rattle.transport.specs.OwnNumbers.{rowPrice, columnPrice, cafePrice, roasteryPrice, roasteryPrices, cafePrices}
 use Rattle.transport.specs.Potential.{potential}
 use Rattle.transport.specs.Statements.{Accepted}
-use Rattle.transport.specs.Laws.ListLaws.{length-table, getD-table, table-cong, table-getD, map-table, filled-is}
+use Rattle.transport.specs.Laws.ListLaws.{length-table, table-cong, table-getD, map-table, filled-is}
 use Rattle.transport.specs.Laws.ProblemLaws.{lane}
 use Rattle.transport.specs.Laws.RangeLaws.{abs-between, abs-diff}
-use Rattle.transport.specs.Laws.PartiesLaws.{left-yes, is-left, not-left, left-at, length-left, left-grows, left-append, among-left}
-use Rattle.transport.specs.Laws.PartiesLaws.{struck-sources, struck-sinks}
+use Rattle.transport.specs.Laws.PartiesLaws.{left-yes, is-left, not-left, left-at, length-left, left-grows, left-append, among-left, struck-sources}
+use Rattle.transport.specs.Laws.PartiesLaws.{struck-sinks}
 use Rattle.transport.specs.Laws.ExtendedLaws.{Extra, without, with, extra, width-low, wanted-at, beyond, laneCost-at}
 use Rattle.transport.specs.Laws.Sound.{sound, wanted-room, sources-room, sinks-room}
 use Rattle.transport.specs.declared.Cell.{Cell}
-use Rattle.tree.specs.Layout.{stride, stride-is, nodeRoom, maxPotential, getD-all}
-use Rattle.dealing.specs.PriceLists.{maxPrice, Costs, RowPrices, ColumnPrices, costIn, costIn-small, rowSlack, rowsLeast, columnSlack, columnsLeast}
-use Rattle.dealing.specs.PriceLists.{least-small, Placing, PlacedTo, Placed, StruckPriced}
+use Rattle.tree.specs.Layout.{maxPotential, getD-all}
+use Rattle.dealing.specs.PriceLists.{maxPrice, Costs, RowPrices, costIn, costIn-small, rowSlack, rowsLeast, columnSlack, columnsLeast, least-small}
+use Rattle.dealing.specs.PriceLists.{Placing, Placed, StruckPriced}
 
 -- The own numbers of the nodes of the problem behind an accepted sheet, and the prices of a tableau of it.
 pub record NodesPriced (S : Sheet) (T : List Cell) (ownRows ownCols : List ℕ) (price : List ℤ) : Type 0 where
@@ -167,11 +167,9 @@ module _ {S : Sheet} {T : List Cell} {rows cols : List ℕ} {price : List ℤ} (
         ∙ getD-all maxSide j (pos 0)
 
     pub placed-small : (j : ℕ) → natAbs (atZ placed j) ≤ maxPrice
-    placed-small j = go (isLeft (wanted S) j) refl
-      where
-        go : (b : Bool) → isLeft (wanted S) j ≡ b → natAbs (atZ placed j) ≤ maxPrice
-        go true e = let (k, is-k, inside, here) = col-here j e in rw here (omega (arith, w .small (length rows + k) (omega arith)))
-        go false e = rw (placed-zero j e) (omega arith)
+    placed-small j = by-test (isLeft (wanted S) j)
+        (λ e. let (k, is-k, inside, here) = col-here j e in rw here (omega (arith, w .small (length rows + k) (omega arith))))
+        (λ e. rw (placed-zero j e) (omega arith))
 
   -- ---- struck cafés, from the prices of the roasteries left
 
@@ -216,11 +214,9 @@ module _ {S : Sheet} {T : List Cell} {rows cols : List ℕ} {price : List ℤ} (
       -- Every column has its price: a café ..
       cafe-here : (j : ℕ) → j < cafes S → atZ columns j ≡ cafePrice E T j
       unfolding cafes
-      cafe-here j l = go (isLeft (wanted S) j) refl
-        where
-          go : (b : Bool) → isLeft (wanted S) j ≡ b → atZ columns j ≡ cafePrice E T j
-          go true e = r .done j (omega arith) l l ∙ rw (cafe-same j l, e) (column-price q j e ∙ sym (cafe-left j e))
-          go false e = r .done j (omega arith) l l ∙ rw (cafe-same j l, e) (rows-least j (omega (arith, width-low S)) ∙ sym (cafe-struck j e))
+      cafe-here j l = by-test (isLeft (wanted S) j)
+          (λ e. r .done j (omega arith) l l ∙ rw (cafe-same j l, e) (column-price q j e ∙ sym (cafe-left j e)))
+          (λ e. r .done j (omega arith) l l ∙ rw (cafe-same j l, e) (rows-least j (omega (arith, width-low S)) ∙ sym (cafe-struck j e)))
 
       -- .. and the extra one.
       column-here : (j : ℕ) → j < length (wanted S) → atZ columns j ≡ cafePrice E T j
@@ -284,11 +280,9 @@ module _ {S : Sheet} {T : List Cell} {rows cols : List ℕ} {price : List ℤ} (
           (s : StruckPriced (S .supply) (columnsLeast (S .cost) (cafes S) columns width) 0 (roasteries S) u′ u″) where
         roastery-here : (i : ℕ) → i < roasteries S → atZ u″ i ≡ roasteryPrice E T i
         unfolding roasteries
-        roastery-here i l = go (isLeft (S .supply) i) refl
-          where
-            go : (b : Bool) → isLeft (S .supply) i ≡ b → atZ u″ i ≡ roasteryPrice E T i
-            go true e = s .done i (omega arith) l l ∙ rw e (row-price p i e ∙ sym (roastery-left i e))
-            go false e = s .done i (omega arith) l l ∙ rw (e, is-width) (columns-least i l ∙ sym (roastery-struck i e))
+        roastery-here i l = by-test (isLeft (S .supply) i)
+            (λ e. s .done i (omega arith) l l ∙ rw e (row-price p i e ∙ sym (roastery-left i e)))
+            (λ e. s .done i (omega arith) l l ∙ rw (e, is-width) (columns-least i l ∙ sym (roastery-struck i e)))
 
         pub roasteries-given : roasteries S ≤ length u → u″ ≡ roasteryPrices S T ++ drop (roasteries S) u
         unfolding roasteryPrices atZ roasteries

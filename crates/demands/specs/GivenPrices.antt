@@ -1,7 +1,7 @@
 -- The prices that are given (02, Four), those of struck parties among them: none passes the bound of prices, and no lane's reduced cost is negative with them
 -- once the tableau is finished.
 use Rattle.prelude.specs.Words.{_≡_, refl, sym, ap, _∙_, Bool, true, false, List, map, List·Memᴰ, Memᴰ·cast, ℕ, suc, _+_, _*_, _≤_, _<_, arith, ℤ, pos, natAbs}
-use Rattle.prelude.specs.Words.{negℤ, _+ℤ_, _-ℤ_, _≤ℤ_, length, length-map}
+use Rattle.prelude.specs.Words.{negℤ, _+ℤ_, _-ℤ_, _≤ℤ_, length, length-map, by-test}
 use Rattle.integers.specs.Integer.{_≈_, _≼_, _⊕_}
 use Rattle.integers.specs.Bridge.{toZ, z-neg, z-add, z-eq, z-le, le-z}
 use Rattle.transport.specs.declared.Cell.{Cell}
@@ -113,11 +113,9 @@ module _ {S : Sheet} (ok : Accepted S) {T : List Cell} (w : Belongs (problemOf S
   -- No price of a café passes 63,000,000 in size: with one struck, at most 63 parties are left ..
   pub cafe-size : (j : ℕ) → j < sinks E → natAbs (cafePrice E T j) ≤ maxCells * costAbove
   unfolding basisSize maxCells maxSide costAbove maxCost
-  cafe-size j l = go (isLeft (E .demand) j) refl
-    where
-      go : (b : Bool) → isLeft (E .demand) j ≡ b → natAbs (cafePrice E T j) ≤ maxCells * costAbove
-      go true e = omega (arith, cafe-left-size j e, sound ok .sourcesHigh, sound ok .sinksHigh)
-      go false e = omega (arith, cafe-struck-size j e, sound ok .sourcesHigh, column-struck j l e)
+  cafe-size j l = by-test (isLeft (E .demand) j)
+      (λ e. omega (arith, cafe-left-size j e, sound ok .sourcesHigh, sound ok .sinksHigh))
+      (λ e. omega (arith, cafe-struck-size j e, sound ok .sourcesHigh, column-struck j l e))
 
   -- .. and none of a roastery: its price, if it is struck, is a cost less the price of a café left, and then at most 63 parties are left, or of a struck one,
   -- and then at most 62.

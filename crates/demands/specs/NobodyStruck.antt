@@ -2,6 +2,7 @@
 -- the prices are its potentials.
 use Rattle.prelude.specs.Words.{_≡_, refl, sym, ap, _∙_, by-cases, Bool, true, false, not, _&&_, _||_, and-false, and-true, List, [], _∷_, _++_, Option, none}
 use Rattle.prelude.specs.Words.{some, ℕ, suc, _+_, _*_, _≤_, _<_, arith, decLt, eqb, ltb, ℤ, pos, length, getD, ext-getD, le-leb, lt-ltb, le-ltb, not-false}
+use Rattle.prelude.specs.Words.{by-test}
 use Rattle.transport.specs.declared.Cell.{Cell}
 use Rattle.transport.specs.declared.Tableau.{Tableau}
 use Rattle.transport.specs.Lists.{all, grid, at, atZ, below, table, within, atMost, total}
@@ -16,8 +17,8 @@ use Rattle.transport.specs.Potential.{potential, sourcePrices, isFinished}
 use Rattle.transport.specs.OwnNumbers.{own, renumbered, covers, belongsTo, rowPrice, columnPrice, cafePrice, roasteryPrice, roasteryPrices, cafePrices}
 use Rattle.transport.specs.Round.{next, run, roundBound}
 use Rattle.transport.specs.Plan.{planCost, settled}
-use Rattle.transport.specs.Calls.{Answer, refused, given, unless, tableauTests, inside, tooShort, startCall, Round, finished, moved, round, roundCall}
-use Rattle.transport.specs.Calls.{runFrom, runCall, settleCall, Solution, solutionFrom, solution, solveCall}
+use Rattle.transport.specs.Calls.{Answer, refused, given, unless, tableauTests, inside, tooShort, startCall, Round, finished, moved, round, roundCall, runFrom}
+use Rattle.transport.specs.Calls.{runCall, settleCall, Solution, solutionFrom, solution, solveCall}
 use Rattle.transport.specs.SheetText.{sheetText, writeSheetCall, readTests, readSheetCall}
 use Rattle.transport.specs.PlanText.{planText, writePlanCall, refusedLine, printed}
 use Rattle.transport.specs.Statements.{Belongs, SheetTextOf}
@@ -307,11 +308,9 @@ module _ {S : Sheet} (each : NoZero S) where
 
   round-same : (T : List Cell) → Sound E → Belongs E T → round S T ≡ roundBefore S T
   unfolding round roundBefore
-  round-same T ok w = go (isFinished E T) refl
-    where
-      go : (b : Bool) → isFinished E T ≡ b → round S T ≡ roundBefore S T
-      go true e = rw (problem-same, e, round, roundBefore) (λ t. finished (source-prices T t) (cafe-prices T t))
-      go false e = rw (problem-same, e, round, roundBefore) (rw problem-same (ap moved (own-of (next-belongs ok w e))))
+  round-same T ok w = by-test (isFinished E T)
+      (λ e. rw (problem-same, e, round, roundBefore) (λ t. finished (source-prices T t) (cafe-prices T t)))
+      (λ e. rw (problem-same, e, round, roundBefore) (rw problem-same (ap moved (own-of (next-belongs ok w e)))))
 
   run-same : (T : List Cell) (allowance : ℕ) → Sound E → Belongs E T → runFrom S allowance T ≡ run E allowance T
   unfolding runFrom

@@ -4,7 +4,7 @@
 -- and what is given stands in front, a tableau's cells in its array, as many as it counts, prices, plan, sheet and text in their lists, as many as m, n, m ×
 -- n or the length in the answer.
 use Rattle.prelude.specs.Words.{_≡_, refl, ap, sym, _∙_, Bool, true, false, Option, none, some, List, _++_, ℕ, _+_, _*_, _≤_, _<_, ℤ, pos, length, take}
-use Rattle.prelude.specs.Words.{take-at, take-append-seam}
+use Rattle.prelude.specs.Words.{take-at, take-append-seam, by-test}
 use Rattle.transport.specs.declared.Cell.{Cell}
 use Rattle.transport.specs.declared.Tableau.{Tableau}
 use Rattle.transport.specs.Lists.{at, atZ, padded}
@@ -18,8 +18,8 @@ use Rattle.transport.specs.Tableau.{cellsOf, tableauOf, start}
 use Rattle.transport.specs.Potential.{potential, sourcePrices, sinkPrices, isFinished}
 use Rattle.transport.specs.Round.{Run}
 use Rattle.transport.specs.Plan.{settled}
-use Rattle.transport.specs.Calls.{Answer, given, refusedBy, unless, lentAfter, tableauTests, inside, startCall, round, roundCall, runFrom, runCall}
-use Rattle.transport.specs.Calls.{settleCall, solutionFrom, solution, solveCall}
+use Rattle.transport.specs.Calls.{Answer, given, refusedBy, unless, lentAfter, tableauTests, inside, startCall, round, roundCall, runFrom, runCall, settleCall}
+use Rattle.transport.specs.Calls.{solutionFrom, solution, solveCall}
 use Rattle.transport.specs.Laws.SheetLaws.{refusal-stands}
 use Rattle.transport.specs.Laws.ExtendedLaws.{wanted-at}
 use Rattle.transport.specs.Laws.PartiesLaws.{left-yes, among-left, struck-sources, struck-sinks}
@@ -86,16 +86,14 @@ start-says S =
 
 round-back : (S : Sheet) (T : List Cell) → roundSays (roasteries S) (cafes S) (roundAnswer (given (round S T))) ≡ given (round S T)
 unfolding round roundAnswer roundSays roasteryPrices cafePrices
-round-back S T = go (isFinished (problemOf S) T) refl
-  where
-    go : (b : Bool) → isFinished (problemOf S) T ≡ b → roundSays (roasteries S) (cafes S) (roundAnswer (given (round S T))) ≡ given (round S T)
-    go true e = rw (
+round-back S T = by-test (isFinished (problemOf S) T)
+    (λ e. rw (
       e,
       round,
       prices-front (roasteryPrices S T) (roasteries S) (length-table _ (roasteries S)),
       prices-front (cafePrices S T) (cafes S) (length-table _ (cafes S)),
-    )
-    go false e = rw (e, round, cells-of)
+    ))
+    (λ e. rw (e, round, cells-of))
 
 pub round-says : (S : Sheet) (t : Tableau) → roundSays (roasteries S) (cafes S) (roundAnswer (roundCall S t)) ≡ roundCall S t
 unfolding roundCall roundAnswer roundSays refusedBy

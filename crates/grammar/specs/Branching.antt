@@ -1,6 +1,7 @@
 -- A reader that goes one way after a byte b, and another way on every text that does not begin with b. It is exact where both ways are, and b begins no text of
 -- the other way.
-use Rattle.prelude.specs.Words.{_≡_, refl, sym, _∙_, ap, _⊎_, inl, inr, Bool, true, false, cond, List, [], _∷_, _++_, ℕ, arith, eqb, eqb-true, eq-eqb, ne-eqb}
+use Rattle.prelude.specs.Words.{_≡_, refl, sym, _∙_, ap, _⊎_, inl, inr, true, false, cond, List, [], _∷_, _++_, ℕ, arith, eqb, eqb-true, eq-eqb, ne-eqb}
+use Rattle.prelude.specs.Words.{by-test}
 use Rattle.transport.specs.SheetText.{stuck, got, Reader}
 use Rattle.grammar.specs.Exact.{Exact, Taken, Stopped, Any}
 
@@ -50,20 +51,18 @@ module _ {A : Type 0} (b : ℕ) {r s : Reader A} {L M : A → List ℕ → Type 
   branch-taken [] a rest e =
       let h = y .taken [] a rest (sym (branch-none b r s) ∙ e) in
       record { part = h .part; member = inr (h .member); split = h .split; after = tt }
-  branch-taken (d ∷ t) a rest e = go (eqb b d) refl
-    where
-      go : (o : Bool) → eqb b d ≡ o → Taken Either Any a (d ∷ t) rest
-      go true f =
-          let h = x .taken t a rest (sym (branch-here b r s d t f) ∙ e) in
-          record {
-            part = d ∷ h .part;
-            member = inl (record { back = h .part; text = begun d f (h .part); member = h .member });
-            split = ap (λ (l : List ℕ). d ∷ l) (h .split);
-            after = tt;
-          }
-      go false f =
-          let h = y .taken (d ∷ t) a rest (sym (branch-else b r s d t f) ∙ e) in
-          record { part = h .part; member = inr (h .member); split = h .split; after = tt }
+  branch-taken (d ∷ t) a rest e = by-test (eqb b d)
+      (λ f.
+      let h = x .taken t a rest (sym (branch-here b r s d t f) ∙ e) in
+      record {
+        part = d ∷ h .part;
+        member = inl (record { back = h .part; text = begun d f (h .part); member = h .member });
+        split = ap (λ (l : List ℕ). d ∷ l) (h .split);
+        after = tt;
+      })
+      (λ f.
+      let h = y .taken (d ∷ t) a rest (sym (branch-else b r s d t f) ∙ e) in
+      record { part = h .part; member = inr (h .member); split = h .split; after = tt })
 
   -- The other way is stuck on a text that does not begin with b: nor does what it has read, or, where that is nothing, what comes next.
   other-closed : (d : ℕ) (t rest : List ℕ) → eqb b d ≡ false → (h : Stopped s M (d ∷ t) rest)
@@ -94,29 +93,27 @@ module _ {A : Type 0} (b : ℕ) {r s : Reader A} {L M : A → List ℕ → Type 
       nothing-left : (p : List ℕ) (c : ℕ) (old : List ℕ) → [] ≡ p ++ c ∷ old → ⊥
       nothing-left [] c old e = let n : _≡_ {A = ℕ} 0 1 = cc in omega arith
       nothing-left (q ∷ p) c old e = let n : _≡_ {A = ℕ} 0 1 = cc in omega arith
-  branch-stopped (d ∷ t) rest e = go (eqb b d) refl
-    where
-      go : (o : Bool) → eqb b d ≡ o → Stopped (branch b r s) Either (d ∷ t) rest
-      go true f =
-          let h = x .stopped t rest (sym (branch-here b r s d t f) ∙ e) in
-          record {
-            part = d ∷ h .part;
-            split = ap (λ (l : List ℕ). d ∷ l) (h .split);
-            value = h .value;
-            more = h .more;
-            completed = inl (record { back = h .part ++ h .more; text = begun d f (h .part ++ h .more); member = h .completed });
-            closed = λ c old new i. branch-here b r s d (h .part ++ c ∷ new) f ∙ h .closed c old new i;
-          }
-      go false f =
-          let h = y .stopped (d ∷ t) rest (sym (branch-else b r s d t f) ∙ e) in
-          record {
-            part = h .part;
-            split = h .split;
-            value = h .value;
-            more = h .more;
-            completed = inr (h .completed);
-            closed = other-closed d t rest f h;
-          }
+  branch-stopped (d ∷ t) rest e = by-test (eqb b d)
+      (λ f.
+      let h = x .stopped t rest (sym (branch-here b r s d t f) ∙ e) in
+      record {
+        part = d ∷ h .part;
+        split = ap (λ (l : List ℕ). d ∷ l) (h .split);
+        value = h .value;
+        more = h .more;
+        completed = inl (record { back = h .part ++ h .more; text = begun d f (h .part ++ h .more); member = h .completed });
+        closed = λ c old new i. branch-here b r s d (h .part ++ c ∷ new) f ∙ h .closed c old new i;
+      })
+      (λ f.
+      let h = y .stopped (d ∷ t) rest (sym (branch-else b r s d t f) ∙ e) in
+      record {
+        part = h .part;
+        split = h .split;
+        value = h .value;
+        more = h .more;
+        completed = inr (h .completed);
+        closed = other-closed d t rest f h;
+      })
 
   pub branch-exact : Exact (branch b r s) Either Any
   branch-exact = record { takes = branch-takes; taken = branch-taken; stopped = branch-stopped }

@@ -1,5 +1,6 @@
 -- Digits and the byte that closes a number. A number alone has no end of its own: its reader is exact with the byte after it.
 use Rattle.prelude.specs.Words.{_≡_, refl, sym, _∙_, ap, _↔_, Bool, true, false, _&&_, and-eq-true-iff, List, [], _∷_, _++_, ℕ, zero, suc, _+_, _*_, arith, eqb}
+use Rattle.prelude.specs.Words.{by-test}
 use Rattle.transport.specs.Text.{digits}
 use Rattle.transport.specs.SheetText.{Reading, stuck, got, Reader, _>>=_, _>>_, pure, byteThat, word, isDigit, digitValue, moreDigits}
 use Rattle.grammar.specs.Digits.{value-of}
@@ -126,21 +127,19 @@ module _ (test : ℕ → Bool) (c : ℕ) (plain : isDigit c ≡ false) where
     tail-taken : (text : List ℕ) (y : ℕ) (rest : List ℕ) → closedBy c (moreDigits test (suc k) x) text ≡ got y rest
         → Taken (Tail test c (suc k) x) Any y text rest
     tail-taken [] y rest e = absurd (stuck≢got (sym (last-end x) ∙ sym (more-end k x) ∙ e))
-    tail-taken (b ∷ t) y rest e = go (isDigit b && test (x * 10 + digitValue b)) refl
-      where
-        go : (o : Bool) → isDigit b && test (x * 10 + digitValue b) ≡ o → Taken (Tail test c (suc k) x) Any y (b ∷ t) rest
-        go true f =
-            let h = ih (x * 10 + digitValue b) .taken t y rest (sym (more-digit k x b t f) ∙ e) in
-            let both = and-eq-true-iff (isDigit b) (test (x * 10 + digitValue b)) .0 f in
-            record {
-              part = b ∷ h .part;
-              member = longer b (both .0) (both .1) y (h .part) (h .member);
-              split = ap (λ (l : List ℕ). b ∷ l) (h .split);
-              after = tt;
-            }
-        go false f =
-            let h = last-exact x .taken (b ∷ t) y rest (sym (more-last k x b t f) ∙ e) in
-            record { part = h .part; member = closed y (h .part) (h .member); split = h .split; after = tt }
+    tail-taken (b ∷ t) y rest e = by-test (isDigit b && test (x * 10 + digitValue b))
+        (λ f.
+        let h = ih (x * 10 + digitValue b) .taken t y rest (sym (more-digit k x b t f) ∙ e) in
+        let both = and-eq-true-iff (isDigit b) (test (x * 10 + digitValue b)) .0 f in
+        record {
+          part = b ∷ h .part;
+          member = longer b (both .0) (both .1) y (h .part) (h .member);
+          split = ap (λ (l : List ℕ). b ∷ l) (h .split);
+          after = tt;
+        })
+        (λ f.
+        let h = last-exact x .taken (b ∷ t) y rest (sym (more-last k x b t f) ∙ e) in
+        record { part = h .part; member = closed y (h .part) (h .member); split = h .split; after = tt })
 
     tail-stopped : (text rest : List ℕ) → closedBy c (moreDigits test (suc k) x) text ≡ stuck rest
         → Stopped (closedBy c (moreDigits test (suc k) x)) (Tail test c (suc k) x) text rest

@@ -1,6 +1,6 @@
 -- Laws of decimal digits: how they grow, how many there are, and the number that they give back.
 use Rattle.prelude.specs.Words.{_≡_, refl, sym, _∙_, ap, _↔_, Bool, true, false, List, [], _∷_, _++_, ℕ, zero, suc, _+_, _*_, _/_, _%_, _^_, _≤_, _<_, arith}
-use Rattle.prelude.specs.Words.{decLt, ltb, eqb, length, length-append, ltb-true, ltb-false}
+use Rattle.prelude.specs.Words.{decLt, ltb, eqb, length, length-append, ltb-true, ltb-false, by-test}
 use Rattle.transport.specs.Lists.{within}
 use Rattle.transport.specs.Text.{kindOf, digitsUpTo, digits}
 use Rattle.transport.specs.SheetText.{isDigit, digitValue}
@@ -10,19 +10,11 @@ use Rattle.grammar.specs.Numbers.{within-iff}
 
 upTo-small : (k n : ℕ) → n < 10 → digitsUpTo (suc k) n ≡ (48 + n) ∷ []
 unfolding digitsUpTo
-upTo-small k n h = go (ltb n 10) refl
-  where
-    go : (b : Bool) → ltb n 10 ≡ b → digitsUpTo (suc k) n ≡ (48 + n) ∷ []
-    go true e = rw (e, digitsUpTo)
-    go false e = absurd (omega (arith, ltb-false n 10 e))
+upTo-small k n h = by-test (ltb n 10) (λ e. rw (e, digitsUpTo)) (λ e. absurd (omega (arith, ltb-false n 10 e)))
 
 upTo-large : (k n : ℕ) → 10 ≤ n → digitsUpTo (suc k) n ≡ digitsUpTo k (n / 10) ++ ((48 + n % 10) ∷ [])
 unfolding digitsUpTo
-upTo-large k n h = go (ltb n 10) refl
-  where
-    go : (b : Bool) → ltb n 10 ≡ b → digitsUpTo (suc k) n ≡ digitsUpTo k (n / 10) ++ ((48 + n % 10) ∷ [])
-    go true e = absurd (omega (arith, ltb-true n 10 e))
-    go false e = rw (e, digitsUpTo)
+upTo-large k n h = by-test (ltb n 10) (λ e. absurd (omega (arith, ltb-true n 10 e))) (λ e. rw (e, digitsUpTo))
 
 -- More room than n changes nothing.
 upTo-enough : (k l n : ℕ) → n < k → n < l → digitsUpTo k n ≡ digitsUpTo l n

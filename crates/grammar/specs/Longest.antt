@@ -21,8 +21,7 @@ pub lines-length : {A : Type 0} (Good : A → Type 0) (write : A → List ℕ) (
     → (xs : List A) → Every Good xs → length (flatMap write xs) ≤ length xs * most
 unfolding flatMap
 lines-length Good write most h [] e = omega arith
-lines-length Good write most h (x ∷ xs) e =
-    simp length-append (omega (arith, h x (e .0), lines-length Good write most h xs (e .1)))
+lines-length Good write most h (x ∷ xs) e = simp length-append (omega (arith, h x (e .0), lines-length Good write most h xs (e .1)))
 
 -- A line of one number.
 pub line-length : (k x : ℕ) → x < 10 ^ suc k → length (numberLine x) ≤ suc (suc k)

@@ -37,8 +37,7 @@ value-digits n = below (suc n) n (omega arith)
 abbrev pub Follows : (ℕ → Bool) → ℕ → ℕ → List ℕ → Type 0
 Follows test k x [] = Unit {0}
 Follows test zero x (b ∷ ds) = ⊥
-Follows test (suc k) x (b ∷ ds) =
-    (isDigit b ≡ true) × (test (x * 10 + digitValue b) ≡ true) × Follows test k (x * 10 + digitValue b) ds
+Follows test (suc k) x (b ∷ ds) = (isDigit b ≡ true) × (test (x * 10 + digitValue b) ≡ true) × Follows test k (x * 10 + digitValue b) ds
 
 pub follows-length : (test : ℕ → Bool) (k x : ℕ) (ds : List ℕ) → Follows test k x ds → length ds ≤ k
 follows-length test k x [] h = omega arith

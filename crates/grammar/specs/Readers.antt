@@ -1,6 +1,6 @@
 -- The readers that the sheet's reader is made of are exact.
-use Rattle.prelude.specs.Words.{_≡_, refl, sym, _∙_, ap, _↔_, Bool, true, false, List, [], _∷_, append-nil, flatMap, ℕ, zero, suc, arith, eqb, length, eqb-true}
-use Rattle.prelude.specs.Words.{eq-eqb}
+use Rattle.prelude.specs.Words.{_≡_, refl, sym, _∙_, ap, _↔_, Bool, true, List, [], _∷_, append-nil, flatMap, ℕ, zero, suc, arith, eqb, length, eqb-true}
+use Rattle.prelude.specs.Words.{eq-eqb, by-test}
 use mathlib.Core.List.{cons≢nil, nil≢cons}
 use Rattle.transport.specs.SheetText.{Reading, stuck, got, Reader, _>>_, pure, byteThat, word, end, times}
 use Rattle.grammar.specs.Every.{Count}
@@ -31,14 +31,12 @@ module _ (test : ℕ → Bool) (c : ℕ) (passes : test c ≡ true) where
   byte-taken : (text : List ℕ) (b : ℕ) (rest : List ℕ) → byteThat test text ≡ got b rest → Taken (Byte test) Any b text rest
   unfolding byteThat
   byte-taken [] b rest e = absurd (stuck≢got e)
-  byte-taken (d ∷ t) b rest e = go (test d) refl
-    where
-      go : (o : Bool) → test d ≡ o → Taken (Byte test) Any b (d ∷ t) rest
-      go true f =
-          let g : got d t ≡ got b rest = rw f at e in
-          let same : d ≡ b = cc in
-          record { part = b ∷ []; member = (rw (← same) f, refl); split = cc; after = tt }
-      go false f = absurd (stuck≢got (rw f at e))
+  byte-taken (d ∷ t) b rest e = by-test (test d)
+      (λ f.
+      let g : got d t ≡ got b rest = rw f at e in
+      let same : d ≡ b = cc in
+      record { part = b ∷ []; member = (rw (← same) f, refl); split = cc; after = tt })
+      (λ f. absurd (stuck≢got (rw f at e)))
 
   byte-stopped : (text rest : List ℕ) → byteThat test text ≡ stuck rest → Stopped (byteThat test) (Byte test) text rest
   unfolding byteThat
@@ -50,20 +48,18 @@ module _ (test : ℕ → Bool) (c : ℕ) (passes : test c ≡ true) where
     completed = (passes, refl);
     closed = λ b old new f. let h : [] ≡ rest = cc in absurd (nil≢cons (h ∙ f));
   }
-  byte-stopped (d ∷ t) rest e = go (test d) refl
-    where
-      go : (o : Bool) → test d ≡ o → Stopped (byteThat test) (Byte test) (d ∷ t) rest
-      go true f = absurd (stuck≢got (sym (rw f at e)))
-      go false f =
-          let g : _≡_ {A = Reading ℕ} (stuck (d ∷ t)) (stuck rest) = rw f at e in
-          record {
-            part = [];
-            split = let h : d ∷ t ≡ rest = cc in h;
-            value = c;
-            more = c ∷ [];
-            completed = (passes, refl);
-            closed = λ b old new h. let same : b ≡ d = cc in rw (same, f);
-          }
+  byte-stopped (d ∷ t) rest e = by-test (test d)
+      (λ f. absurd (stuck≢got (sym (rw f at e))))
+      (λ f.
+      let g : _≡_ {A = Reading ℕ} (stuck (d ∷ t)) (stuck rest) = rw f at e in
+      record {
+        part = [];
+        split = let h : d ∷ t ≡ rest = cc in h;
+        value = c;
+        more = c ∷ [];
+        completed = (passes, refl);
+        closed = λ b old new h. let same : b ≡ d = cc in rw (same, f);
+      })
 
   pub byte-exact : Exact (byteThat test) (Byte test) Any
   unfolding byteThat

@@ -1,6 +1,6 @@
 -- The reader of a cost is exact with the byte after it (paper 02, Two): after a minus it goes on as a number from 1, and without one as any number.
 use Rattle.prelude.specs.Words.{_≡_, refl, sym, _∙_, ap, fun-ext, _⊎_, inl, inr, Bool, true, false, cond, true≢false, List, [], _∷_, _++_, append-nil, ℕ, zero}
-use Rattle.prelude.specs.Words.{suc, arith, eqb, ℤ, pos, negsuc, length, length-append}
+use Rattle.prelude.specs.Words.{suc, arith, eqb, ℤ, pos, negsuc, length, length-append, by-test}
 use Rattle.transport.specs.Text.{bytes, digits, wholeDigits, kindOf}
 use Rattle.transport.specs.Lists.{within}
 use Rattle.transport.specs.SheetText.{Reader, _>>=_, pure, isDigit, numberFrom, minus, signed, whole}
@@ -34,11 +34,7 @@ module _ (c : ℕ) (plain : isDigit c ≡ false) where
   by-minus : (t : List ℕ) → (minus >>= λ negative. afterSign negative) t ≡ branch 45 (afterSign true) (afterSign false) t
   unfolding minus branch _>>=_
   by-minus [] = refl
-  by-minus (b ∷ t) = go (eqb 45 b) refl
-    where
-      go : (o : Bool) → eqb 45 b ≡ o → (minus >>= λ negative. afterSign negative) (b ∷ t) ≡ branch 45 (afterSign true) (afterSign false) (b ∷ t)
-      go true e = rw (e, _>>=_)
-      go false e = rw (e, _>>=_)
+  by-minus (b ∷ t) = by-test (eqb 45 b) (λ e. rw (e, _>>=_)) (λ e. rw (e, _>>=_))
 
   sign-whole : (t : List ℕ) → branch 45 (afterSign true) (afterSign false) t ≡ closedBy c whole t
   unfolding whole

@@ -5,8 +5,8 @@ use Rattle.prelude.specs.Words.{_+_, _*_, _-_, _≤_, _<_, arith, ℕ-discrete,
 use Rattle.integers.specs.Integer.{Z, _≈_, ≈-dec, _⊖_, _⊗_, nat}
 use Rattle.integers.specs.IntegerLaws.{⊗-cong, ⊗-zero}
 use Rattle.integers.specs.Sum.{sum, point}
-use Rattle.integers.specs.SumLaws.{sum-cong, sum-zero, sum-sub, sum-scale, sum-swap, sum-one, sum-point, point-at, point-off}
-use Rattle.integers.specs.SumLaws.{sum₂-cong, sum₂-rows, sum₂-cols, sum-runs}
+use Rattle.integers.specs.SumLaws.{sum-cong, sum-zero, sum-sub, sum-scale, sum-swap, sum-one, sum-point, point-at, point-off, sum₂-cong, sum₂-rows, sum₂-cols}
+use Rattle.integers.specs.SumLaws.{sum-runs}
 use Rattle.transport.specs.Problem.{Lane, lanes, place}
 use Rattle.transport.specs.Laws.ProblemLaws.{lane, getD-lanes}
 use Rattle.network.specs.Finite.{some-or-all}

@@ -1,6 +1,6 @@
 -- A tableau that a caller hands over belongs to the sheet exactly if, under the numbers of those left, it belongs to the problem of these: a cell at a struck
 -- party, or off the sheet, has a number that is off that problem's sheet.
-use Rattle.prelude.specs.Words.{_≡_, refl, sym, ap, _∙_, Bool, true, false, _&&_, List, [], _∷_, map, ℕ, _≤_, arith, eqb, ltb, length, lt-ltb, le-ltb}
+use Rattle.prelude.specs.Words.{_≡_, refl, sym, ap, _∙_, Bool, true, false, _&&_, List, [], _∷_, map, ℕ, _≤_, arith, eqb, ltb, length, lt-ltb, le-ltb, by-test}
 use Rattle.transport.specs.Limits.{maxSide, maxCells}
 use Rattle.transport.specs.Lists.{all, at}
 use Rattle.transport.specs.Problem.{Problem, sources, sinks}
@@ -29,11 +29,9 @@ module _ (xs : List ℕ) (few : length xs ≤ maxSide) where
   number-struck k e = numberIn-none (left xs) k (λ h l s. omega (arith, left-at xs h l .1, not-left xs k e, ap (at xs) s))
 
   number-inside : (k : ℕ) → ltb (numberIn (left xs) k) (length (left xs)) ≡ isLeft xs k
-  number-inside k = go (isLeft xs k) refl
-    where
-      go : (b : Bool) → isLeft xs k ≡ b → ltb (numberIn (left xs) k) (length (left xs)) ≡ b
-      go true e = rw (number-among k e) (lt-ltb (among xs k) (length (left xs)) (among-left xs k (is-left xs k e) .inside))
-      go false e = rw (number-struck k e) (le-ltb maxSide (length (left xs)) (omega (arith, length-left xs)))
+  number-inside k = by-test (isLeft xs k)
+      (λ e. rw e (rw (number-among k e) (lt-ltb (among xs k) (length (left xs)) (among-left xs k (is-left xs k e) .inside))))
+      (λ e. rw e (rw (number-struck k e) (le-ltb maxSide (length (left xs)) (omega (arith, length-left xs)))))
 
 -- ---- the cells of a tableau
 

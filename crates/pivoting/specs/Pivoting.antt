@@ -1,8 +1,8 @@
 -- A pivot on the arrays that hold a tableau: its amounts by lane, and its tree. What the loop's slots, the slot with the least pair and the amounts after the
 -- step are, in the terms of the specification; and that the arrays then hold the next tableau, with its tree.
-use Rattle.prelude.specs.Words.{_≡_, refl, sym, ap, _∙_, _≢_, _⊎_, inl, inr, ⊎-elim, by-cases, Dec·and, Bool, true, false, not, cond, xor, _&&_, true≢false}
-use Rattle.prelude.specs.Words.{false≢true, List, List·Memᴰ, ℕ, zero, suc, _+_, _-_, _*_, _/_, _%_, _<_, _≤_, arith, ℕ-discrete, decLt, lt-ltb, le-ltb, ℤ, pos}
-use Rattle.prelude.specs.Words.{negsuc, natAbs, negℤ, _+ℤ_, _-ℤ_, +ℤ-idl, ltZ, length, getD, set, length-set, getD-set-same, getD-set-other}
+use Rattle.prelude.specs.Words.{_≡_, refl, sym, ap, _∙_, _≢_, _⊎_, inl, inr, ⊎-elim, by-cases, Dec·and, Bool, true, false, not, cond, xor, _&&_, List}
+use Rattle.prelude.specs.Words.{List·Memᴰ, ℕ, zero, suc, _+_, _-_, _*_, _/_, _%_, _<_, _≤_, arith, ℕ-discrete, decLt, lt-ltb, le-ltb, ℤ, pos, negsuc, natAbs}
+use Rattle.prelude.specs.Words.{negℤ, _+ℤ_, _-ℤ_, +ℤ-idl, ltZ, length, getD, set, length-set, getD-set-same, getD-set-other, by-test, clash}
 use Rattle.integers.specs.Integer.{Z, _≈_, _⊕_, _⊖_, neg, nat, Within}
 use Rattle.integers.specs.Bridge.{toZ, eq-z, z-add, z-neg}
 use Rattle.transport.specs.Limits.{maxSide, maxAmount, maxBags}
@@ -85,8 +85,8 @@ less-tie : (a b : Pair) → less a b ≡ false → less b a ≡ false → a ≡ 
 less-tie a b p r = go (compared (a .q) (b .q))
   where
     go : Compared (a .q) (b .q) → a ≡ b
-    go (fewer s) = absurd (true≢false (sym (less-q a b s) ∙ p))
-    go (more s) = absurd (true≢false (sym (less-q b a s) ∙ r))
+    go (fewer s) = clash (less-q a b s) p
+    go (more s) = clash (less-q b a s) r
     go (equal s) =
         let t : a .e ≡ b .e = ltZ-tie (a .e) (b .e) (sym (less-e a b s) ∙ p) (sym (less-e b a (sym s)) ∙ r) in
         λ i. record { q = s i; e = t i }
@@ -241,7 +241,7 @@ module _ {P : Problem} {T : List Cell} {q e : List ℤ} {sub path lanes : List �
 
     some-minus : 0 < minus
     some-minus = let (t, s, is) = out-slot in by-cases (decLt 0 minus) (λ l. l)
-        (λ l. let z : minus ≡ 0 = omega arith in absurd (false≢true (sym (has-zero t) ∙ ap (λ (x : ℕ). has x t) (sym z) ∙ s)))
+        (λ l. let z : minus ≡ 0 = omega arith in clash (ap (λ (x : ℕ). has x t) (sym z) ∙ s) (has-zero t))
 
     -- The slot with the least pair among the minus slots is the leaving lane's: the leaving cell holds the step, and no other minus cell does.
     module _ {s : ℕ} (f : LeastSlot q e lanes minus 0 s) where
@@ -288,7 +288,7 @@ module _ {P : Problem} {T : List Cell} {q e : List ℤ} {sub path lanes : List �
       amount-gains i j d = go (basic-dec T i j) (stands-dec out i j)
         where
           gains-minus : (z : ℤ) (a : Pair) → isMinus z ≡ true → gain z a a ≡ nothing
-          gains-minus (pos k) a p = absurd (true≢false (sym p ∙ le-ltb k 0 (omega arith)))
+          gains-minus (pos k) a p = clash p (le-ltb k 0 (omega arith))
           gains-minus (negsuc k) a p = subtract-self a
 
           go : Dec (Basic T i j) → Dec (Stands out i j) → amountAt (pivot M N T enter) i j ≡ gain (signOf (lane i j)) (out .amount) (amountAt T i j)
@@ -302,13 +302,11 @@ module _ {P : Problem} {T : List Cell} {q e : List ℤ} {sub path lanes : List �
       -- What an addition on slots does to the lane of any slot.
       added-at : {x : ℤ} {slots : ℕ} {old new : List ℤ} → ((t : ℕ) → has slots t ≡ true → t < count) → Added x lanes slots 0 old new → (t : ℕ) → t < count
           → getD new (getD lanes t 0) (pos 0) ≡ cond (has slots t) (getD old (getD lanes t 0) (pos 0) +ℤ x) (getD old (getD lanes t 0) (pos 0))
-      added-at {x} {slots} {old} {new} w a t p = go (has slots t) refl
-        where
-          go : (v : Bool) → has slots t ≡ v
-              → getD new (getD lanes t 0) (pos 0) ≡ cond v (getD old (getD lanes t 0) (pos 0) +ℤ x) (getD old (getD lanes t 0) (pos 0))
-          go true s = a .on t s (has-zero t)
-          go false s = a .off (getD lanes t 0) (λ k r is.
-              absurd (true≢false (sym r ∙ ap (has slots) (slots-apart (b .tree .cuts) t k p (w k r) (ap laneAt is)) ∙ s)))
+      added-at {x} {slots} {old} {new} w a t p = by-test (has slots t)
+          (λ s. rw s (a .on t s (has-zero t)))
+          (λ s. rw s
+          (a .off (getD lanes t 0) (λ k r is.
+          clash r (ap (has slots) (slots-apart (b .tree .cuts) t k p (w k r) (ap laneAt is)) ∙ s))))
 
       -- One part of the amounts, after the step went round and came to lie on the entering lane, is that of the pivot.
       turned-part : (part : Pair → ℤ) → ((a c : Pair) → part (add a c) ≡ part a +ℤ part c) → ((a c : Pair) → part (subtract a c) ≡ part a -ℤ part c)

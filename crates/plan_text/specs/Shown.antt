@@ -1,6 +1,6 @@
 -- What is shown of a sheet that was read, and of a text that is no sheet text.
-use Rattle.prelude.specs.Words.{_≡_, refl, sym, ap, _∙_, by-cases, Bool, true, false, Option, none, some, List, [], _∷_, _++_, ℕ, suc, min, _*_, _-_, _≤_}
-use Rattle.prelude.specs.Words.{arith, decLe, length, take, take-all, eq-eqb}
+use Rattle.prelude.specs.Words.{_≡_, refl, sym, ap, _∙_, by-cases, Bool, Option, none, some, List, [], _∷_, _++_, ℕ, suc, min, _*_, _-_, _≤_, arith, decLe}
+use Rattle.prelude.specs.Words.{length, take, take-all, eq-eqb, by-test}
 use Rattle.transport.specs.declared.WriteAnswer.the-variants.{Written, Refused}
 use Rattle.transport.specs.Limits.{maxSources, maxSinks, maxText}
 use Rattle.transport.specs.Sheet.{Sheet, sheetTests, numberTests, badSides, badLength, badAmount, badCost, lacking, crowded, idle, refusal}
@@ -50,11 +50,9 @@ shown-refusal S k e = rw (e, sheetShown)
 refusal-number : (Good : ℕ → Type 0) (ts : List (Bool × ℕ)) → Every (λ t. Good (t .1)) ts → (k : ℕ) → refusal ts ≡ some k → Good k
 unfolding refusal
 refusal-number Good [] e k h = absurd (some≢none (sym h))
-refusal-number Good (t ∷ ts) e k h = go (t .0) refl (refusal-number Good ts (e .1) k)
-  where
-    go : (b : Bool) → t .0 ≡ b → (refusal ts ≡ some k → Good k) → Good k
-    go true p rest = let same : some (t .1) ≡ some k = sym (refusal-yes t ts p) ∙ h in let n : t .1 ≡ k = cc in rw (← n) (e .0)
-    go false p rest = rest (sym (refusal-no t ts p) ∙ h)
+refusal-number Good (t ∷ ts) e k h = by-test (t .0)
+    (λ p. let same : some (t .1) ≡ some k = sym (refusal-yes t ts p) ∙ h in let n : t .1 ≡ k = cc in rw (← n) (e .0))
+    (λ p. refusal-number Good ts (e .1) k (sym (refusal-no t ts p) ∙ h))
 
 -- The sheet check has no number above 11, and not 8.
 pub check-number : (S : Sheet) (k : ℕ) → refusal (sheetTests S) ≡ some k → (k ≤ 11) × (k ≡ 8 → ⊥)
@@ -104,8 +102,7 @@ module _ (S : Sheet) (out after : List ℕ) where
       go none e = room (decLe (length (planText S)) (length out))
         where
           room : Dec (length (planText S) ≤ length out) → Case
-          room (yes p) =
-              written (rw (shown-plan S e) (fitting-fits (length out) (planText S) p)) (call-written S (planText S) out e p)
+          room (yes p) = written (rw (shown-plan S e) (fitting-fits (length out) (planText S) p)) (call-written S (planText S) out e p)
           room (no p) =
               short (rw (shown-plan S e) (fitting-short (length out) (planText S) (omega arith))) (call-short S (planText S) out e (omega arith))
 

@@ -112,8 +112,7 @@ ahead-cons x xs ys a =
     record {
       lane = suc (a .lane);
       difference = record { lane = omega (arith, a .difference .lane); differ = a .difference .differ; before = before };
-      more =
-          a .more;
+      more = a .more;
     }
   where
     before : (h : ℕ) → h < suc (a .lane) → getD (x ∷ xs) h 0 ≡ getD (x ∷ ys) h 0

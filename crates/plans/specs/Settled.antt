@@ -42,8 +42,7 @@ settled-first S x b =
         inside = inside;
         stands = stands;
         least = least;
-        first =
-            λ h l. first k inside stands h l (ltZ (planCost S x) (planCost S (getD (plans S) h []))) refl;
+        first = λ h l. first k inside stands h l (ltZ (planCost S x) (planCost S (getD (plans S) h []))) refl;
       },
     )
   where

@@ -1,6 +1,6 @@
 -- The least of some numbers: taken number by number, kept where all of them rise or some fall, and the first place that has it.
-use Rattle.prelude.specs.Words.{_≡_, refl, sym, ap, _∙_, _≢_, _⊎_, inl, inr, ⊎-elim, by-cases, Bool, true, false, cond, true≢false, ℕ, zero, suc, _+_, _-_, _<_}
-use Rattle.prelude.specs.Words.{_≤_, arith, add-one, ℕ-discrete, eq-or-lt-of-le, ne-eqb, ℤ, _+ℤ_, ltZ}
+use Rattle.prelude.specs.Words.{_≡_, refl, sym, ap, _∙_, _≢_, _⊎_, inl, inr, ⊎-elim, by-cases, Bool, true, false, cond, ℕ, zero, suc, _+_, _-_, _<_, _≤_, arith}
+use Rattle.prelude.specs.Words.{add-one, ℕ-discrete, eq-or-lt-of-le, ne-eqb, ℤ, _+ℤ_, ltZ, clash}
 use lib.Bits.{bitAnd}
 use Rattle.integers.specs.Integer.{_≼_, _≺_}
 use Rattle.integers.specs.Bridge.{toZ, eq-z, z-eq, z-add}
@@ -79,7 +79,7 @@ pub record LeastOver (f : ℕ → ℤ) (at bits : ℕ) (s r : ℤ) : Type 0 wher
 
 -- The numbers are taken in one by one ..
 pub over-start : (f : ℕ → ℤ) (at : ℕ) (s : ℤ) → LeastOver f at at s s
-over-start f at s = record { cap = omega arith; least = λ k e d. absurd (true≢false (sym e ∙ d)); meets = inl refl }
+over-start f at s = record { cap = omega arith; least = λ k e d. clash e d; meets = inl refl }
 
 pub over-step : {f : ℕ → ℤ} {at bits j : ℕ} {s r : ℤ} → LeastOver f at bits s r → Least bits j → has at j ≡ true
     → LeastOver f at (bitAnd bits (bits - 1)) s (lesser (f j) r)

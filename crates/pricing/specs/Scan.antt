@@ -1,6 +1,6 @@
 -- The scan: the lane of least reduced cost, and the first such in the order of rows and columns, from the least slack of each row.
-use Rattle.prelude.specs.Words.{_≡_, sym, ap, _∙_, true, false, true≢false, by-cases, List, ℕ, _+_, _*_, _<_, _≤_, arith, decLt, ℤ, pos, natAbs, negℤ, _-ℤ_}
-use Rattle.prelude.specs.Words.{getD, ltZ}
+use Rattle.prelude.specs.Words.{_≡_, sym, ap, true, false, true≢false, by-cases, List, ℕ, _+_, _*_, _<_, _≤_, arith, decLt, ℤ, pos, natAbs, negℤ, _-ℤ_, getD}
+use Rattle.prelude.specs.Words.{ltZ, clash}
 use Rattle.transport.specs.Limits.{costAbove}
 use Rattle.integers.specs.Integer.{_≈_, _≼_, _≺_, _⊖_}
 use Rattle.integers.specs.Bridge.{toZ, eq-z, z-eq, z-add, z-neg, z-ev, !, _-'_}
@@ -75,7 +75,7 @@ module _ {cost price slack : List ℤ} {m n : ℕ} (w : InRange cost price m n) 
       rows = low-first best-low (lt-yes best (pos 0) h) a
 
       pub scanned-yes : (col : ℕ) → FirstAt (slackAt cost price m row) (getD slack row (pos 0)) n col → Scanned cost price m n row col best
-      scanned-yes col b = record { finished = λ q. absurd (true≢false (sym h ∙ q)); found = λ q. found }
+      scanned-yes col b = record { finished = λ q. clash h q; found = λ q. found }
         where
           u : ℤ
           u = getD price row (pos 0)

@@ -1,9 +1,9 @@
 -- Slacks: what is left of a lane's cost when the potential of its sink is taken off. The least slack of each row is kept between rounds. Where the prices of
 -- some columns rise, it falls to the least of what it was and of the new slacks of those columns. Where they fall, all slacks are raised by as much, and it is
 -- the other columns that are lower then.
-use Rattle.prelude.specs.Words.{_≡_, refl, sym, ap, _∙_, inl, ⊎-elim, by-cases, Bool, true, false, cond, not, xor, true≢false, List, ℕ, _+_, _-_, _*_, _/_, _^_}
-use Rattle.prelude.specs.Words.{_<_, _≤_, arith, ℕ-discrete, decLt, ltb-true, lt-ltb, le-ltb, not-true, not-false, eqb, ltb, ℤ, pos, natAbs, negℤ, _+ℤ_, _-ℤ_}
-use Rattle.prelude.specs.Words.{length, getD, set, replicate, length-set, getD-replicate, getD-set-same, getD-set-other, ltZ}
+use Rattle.prelude.specs.Words.{_≡_, refl, sym, ap, _∙_, inl, ⊎-elim, by-cases, Bool, true, false, cond, not, xor, List, ℕ, _+_, _-_, _*_, _/_, _^_, _<_, _≤_}
+use Rattle.prelude.specs.Words.{arith, ℕ-discrete, decLt, ltb-true, lt-ltb, le-ltb, not-true, not-false, eqb, ltb, ℤ, pos, natAbs, negℤ, _+ℤ_, _-ℤ_, length}
+use Rattle.prelude.specs.Words.{getD, set, replicate, length-set, getD-replicate, getD-set-same, getD-set-other, ltZ, clash}
 use lib.Bits.{bitAnd, bitXor}
 use Rattle.integers.specs.Integer.{_≼_, _≺_}
 use Rattle.integers.specs.Bridge.{toZ, z-eq, z-add, z-neg, eq!, !, _+'_, _-'_, neg'}
@@ -150,7 +150,7 @@ module _ (n : ℕ) {first : ℕ} (all : first ≡ firstBits n) where
       (λ i p. rw (getD-replicate stride i (pos far) (pos 0) p) none)
       all-inside
       (λ i j e. omega (arith, slack-far w i j (all-inside j e)))
-      (λ i j l e. absurd (true≢false (sym (has-all j ∙ lt-ltb j n l) ∙ e)))
+      (λ i j l e. clash (has-all j ∙ lt-ltb j n l) e)
     where
       none : Low (pos far) (λ j. pos far) n (pos far)
       none = record { cap = omega arith; least = λ k l. omega arith; meets = inl refl }

@@ -1,6 +1,6 @@
 -- Belonging under own numbers (02, Four): the literal statement is the belonging of the problem of the parties left, after renumbering.
-use Rattle.prelude.specs.Words.{_≡_, refl, sym, ap, _∙_, _↔_, inl, inr, by-cases, Bool, true, false, not, _&&_, true≢false, and-false, List, List·Memᴰ, ℕ, suc}
-use Rattle.prelude.specs.Words.{_-_, _≤_, _<_, arith, decLt, ℕ-discrete, pos, length, eq-eqb, ne-eqb, not-true}
+use Rattle.prelude.specs.Words.{_≡_, sym, ap, _∙_, _↔_, inl, inr, by-cases, Bool, true, false, not, _&&_, and-false, List, List·Memᴰ, ℕ, suc, _-_, _≤_, _<_}
+use Rattle.prelude.specs.Words.{arith, decLt, ℕ-discrete, pos, length, eq-eqb, ne-eqb, not-true, by-test, clash}
 use Rattle.transport.specs.declared.Cell.{Cell}
 use Rattle.transport.specs.declared.Tableau.{Tableau}
 use Rattle.transport.specs.Lists.{all, at}
@@ -188,13 +188,11 @@ module _ (E : Problem) (T : List Cell) (covered : Covered E T) where
 
   -- .. and one that has it on its other side has all on that one.
   joined-to : Joined (sources (struck E)) (sinks (struck E)) (Basic there) → JoinedLeft E T
-  joined-to w A B split p h e = go (A (at (rowsLeft E) 0)) refl
-    where
-      go : (b : Bool) → A (at (rowsLeft E) 0) ≡ b → ((i : ℕ) → Left (E .supply) i → A i ≡ true) × ((j : ℕ) → Left (E .demand) j → B j ≡ true)
-      go true f = joined-first w A B split f
-      go false f =
-          let other = joined-first w (λ i. not (A i)) (λ j. not (B j)) (λ i j b. ap not (split i j b)) (ap not f) .0 p h in
-          absurd (true≢false (sym e ∙ not-true _ other))
+  joined-to w A B split p h e = by-test (A (at (rowsLeft E) 0))
+      (λ f. joined-first w A B split f)
+      (λ f.
+      let other = joined-first w (λ i. not (A i)) (λ j. not (B j)) (λ i j b. ap not (split i j b)) (ap not f) .0 p h in
+      clash e (not-true _ other))
 
   joined-from : 1 ≤ length (rowsLeft E) → JoinedLeft E T → Joined (sources (struck E)) (sinks (struck E)) (Basic there)
   unfolding rowsLeft columnsLeft
@@ -302,13 +300,11 @@ own-belongs E T some w = struck-belongs E (own E T) some (own-covered E T (w .on
 -- A cell at a struck party, or at none: the tableau does not belong (and is refused by 6).
 pub struck-cell : (E : Problem) (t : Tableau) (c : Cell) → List·Memᴰ c (cellsOf t) → covers E c ≡ false → belongsTo E t ≡ false
 unfolding belongsTo
-struck-cell E t c m e = go (all (covers E) (cellsOf t)) refl
-  where
-    go : (b : Bool) → all (covers E) (cellsOf t) ≡ b → belongsTo E t ≡ false
-    go true f =
-        let (k, l, s) = member-place noCell m in
-        absurd (true≢false (sym (all-at (covers E) (cellsOf t) noCell k f l) ∙ ap (covers E) s ∙ e))
-    go false f = rw (f, and-false)
+struck-cell E t c m e = by-test (all (covers E) (cellsOf t))
+    (λ f.
+    let (k, l, s) = member-place noCell m in
+    clash (all-at (covers E) (cellsOf t) noCell k f l) (ap (covers E) s ∙ e))
+    (λ f. rw (f, and-false))
 
 -- ---- what calls give
 

@@ -13,8 +13,8 @@ use Rattle.transport.specs.Statements.{FirstDifference, scaled}
 use Rattle.transport.specs.Laws.ListLaws.{sumTo-cong, sumTo-none, sumTo-each}
 use Rattle.transport.specs.Laws.ProblemLaws.{place-of, place-below, length-grid, getD-grid}
 use Rattle.transport.specs.Laws.PlanLaws.{scaled-at}
-use Rattle.transport.specs.Laws.PartiesLaws.{left-yes, left-no, left-at, among-at, left-grows, sum-left, among-left}
-use Rattle.transport.specs.Laws.PartiesLaws.{struck-sources, struck-sinks, struck-supply, struck-demand, struck-lane}
+use Rattle.transport.specs.Laws.PartiesLaws.{left-yes, left-no, left-at, among-at, left-grows, sum-left, among-left, struck-sources, struck-sinks}
+use Rattle.transport.specs.Laws.PartiesLaws.{struck-supply, struck-demand, struck-lane}
 use Rattle.tableaux.specs.ProblemPlans.{flowCost, Fulfils, Optimal}
 use Rattle.tableaux.specs.PlanView.{carried, costs, cost-flowCost}
 use Rattle.reduction.specs.SheetLanes.{Earlier, place-earlier, earlier-place}

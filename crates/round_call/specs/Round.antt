@@ -1,15 +1,15 @@
 -- Round, case by case: the answers of the call.
-use Rattle.prelude.specs.Words.{ℕ, _+_, _<_, arith, _≡_, refl, ap, Bool, true, false, not, cond, none, some, List, _++_, ℤ, pos, take, drop, getD, replicate}
+use Rattle.prelude.specs.Words.{ℕ, _+_, _<_, arith, _≡_, refl, Bool, true, false, cond, none, some, List, _++_, ℤ, pos, take, drop, getD, replicate}
 use Rattle.transport.specs.declared.RoundOutcome.the-variants as RoundOutcome
 use Rattle.transport.specs.declared.Cell.{Cell}
 use Rattle.transport.specs.declared.Tableau.{Tableau}
 use Rattle.transport.specs.Limits.{maxSide}
-use Rattle.transport.specs.Sheet.{Sheet, roasteries, cafes, sheetTests, refusal}
+use Rattle.transport.specs.Sheet.{Sheet, roasteries, cafes, refusal}
 use Rattle.transport.specs.Extended.{extended}
 use Rattle.transport.specs.Parties.{problemOf}
 use Rattle.transport.specs.Tableau.{tableauOf, noTableau}
 use Rattle.transport.specs.Potential.{potential, isFinished}
-use Rattle.transport.specs.OwnNumbers.{own, belongsTo, roasteryPrice, cafePrice, roasteryPrices, cafePrices}
+use Rattle.transport.specs.OwnNumbers.{own, roasteryPrice, cafePrice, roasteryPrices, cafePrices}
 use Rattle.transport.specs.Round.{next}
 use Rattle.transport.specs.Calls.{given, refusedBy, finished, round, tableauTests, inside, roundCall}
 use Rattle.transport.specs.Laws.CallLaws.{unless-given, unless-refused}

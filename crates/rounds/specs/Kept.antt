@@ -1,6 +1,6 @@
 -- What a run keeps from round to round: the board of a tableau with its prices and the least slacks of its rows. What the scan finds on it, and one round.
-use Rattle.prelude.specs.Words.{ℕ, _+_, _-_, _*_, _^_, _<_, _≤_, arith, decLt, _≡_, refl, sym, ap, _∙_, by-cases, Bool, true, false, not, cond, true≢false}
-use Rattle.prelude.specs.Words.{List, ℤ, pos, negsuc, natAbs, negℤ, _+ℤ_, _-ℤ_, ltZ, leZ, nonNeg, mag, ltb, length, getD, lt-ltb, le-ltb, le-leb}
+use Rattle.prelude.specs.Words.{ℕ, _+_, _*_, _^_, _<_, _≤_, arith, decLt, _≡_, refl, sym, ap, _∙_, by-cases, Bool, true, false, not, cond, true≢false, List, ℤ}
+use Rattle.prelude.specs.Words.{pos, negsuc, natAbs, negℤ, _+ℤ_, _-ℤ_, ltZ, leZ, nonNeg, mag, ltb, length, getD, lt-ltb, le-ltb, le-leb, by-test, clash}
 use mir.Syntax.{w32}
 use mir.Val as bits
 use Rattle.integers.specs.Integer.{_≈_, _⊕_, _⊖_, neg, nat}
@@ -154,19 +154,17 @@ module _ {P : Problem} {T : List Cell} {bags marks cost price slack : List ℤ} 
 
     pub scanned-done : isFinished P T ≡ not (ltZ reduced (pos 0))
     unfolding isFinished
-    scanned-done = go (ltZ reduced (pos 0)) refl
-      where
-        go : (v : Bool) → ltZ reduced (pos 0) ≡ v → isFinished P T ≡ not v
-        go false s = all-lanes (λ l. nonNeg (reducedCost P T l)) (sources P) (sinks P)
-            (λ i j x y. not-negative (reducedCost P T (lane i j)) (rw (← reduced-are i j (omega (arith, b .rows)) (omega (arith, b .columns)))
-            (w .finished s i j (omega (arith, b .rows)) (omega (arith, b .columns)))))
-        go true s = unless (isFinished P T) refl
-          where
-            unless : (v : Bool) → isFinished P T ≡ v → isFinished P T ≡ false
-            unless false r = r
-            unless true r =
-                let one = all-lanes-at (λ l. nonNeg (reducedCost P T l)) (sources P) (sinks P) row col r (on-sheet s .0) (on-sheet s .1) in
-                absurd (true≢false (sym one ∙ negative (reducedCost P T (lane row col)) (rw (is-reduced s) s)))
+    scanned-done = by-test (ltZ reduced (pos 0))
+        (λ s. rw s
+        (by-test (isFinished P T)
+        (λ r.
+        let one = all-lanes-at (λ l. nonNeg (reducedCost P T l)) (sources P) (sinks P) row col r (on-sheet s .0) (on-sheet s .1) in
+        clash one (negative (reducedCost P T (lane row col)) (rw (is-reduced s) s)))
+        (λ r. r)))
+        (λ s. rw s
+        (all-lanes (λ l. nonNeg (reducedCost P T l)) (sources P) (sinks P)
+        (λ i j x y. not-negative (reducedCost P T (lane i j)) (rw (← reduced-are i j (omega (arith, b .rows)) (omega (arith, b .columns)))
+        (w .finished s i j (omega (arith, b .rows)) (omega (arith, b .columns)))))))
 
     -- ---- one round
 
@@ -259,7 +257,7 @@ module _ {P : Problem} {T : List Cell} {bags marks cost price slack : List ℤ} 
           small = reduced-small;
           moved = r;
           nodes = λ k s. by-cases (decLt k (m + n)) (λ l. l)
-              (λ l. absurd (true≢false (sym s ∙ v .inside k (omega arith))));
+              (λ l. clash s (v .inside k (omega arith)));
         }
 
         pub advanced-moves : {slack′ : List ℤ} → Slacks cost price′ m n slack′

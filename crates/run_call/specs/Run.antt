@@ -1,12 +1,12 @@
 -- Run, case by case: the answers of the call.
-use Rattle.prelude.specs.Words.{ℕ, _≡_, refl, ap, Bool, true, false, not, none, some, List}
+use Rattle.prelude.specs.Words.{ℕ, _≡_, refl, Bool, true, false, none, some, List}
 use Rattle.transport.specs.declared.RunOutcome.the-variants as RunOutcome
 use Rattle.transport.specs.declared.Cell.{Cell}
 use Rattle.transport.specs.declared.Tableau.{Tableau}
-use Rattle.transport.specs.Sheet.{Sheet, sheetTests, refusal}
+use Rattle.transport.specs.Sheet.{Sheet, refusal}
 use Rattle.transport.specs.Extended.{extended}
 use Rattle.transport.specs.Parties.{problemOf}
-use Rattle.transport.specs.OwnNumbers.{own, belongsTo}
+use Rattle.transport.specs.OwnNumbers.{own}
 use Rattle.transport.specs.Tableau.{tableauOf, noTableau}
 use Rattle.transport.specs.Round.{run}
 use Rattle.transport.specs.Calls.{given, refusedBy, tableauTests, inside, runFrom, runCall}

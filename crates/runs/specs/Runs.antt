@@ -1,6 +1,5 @@
 -- Runs on what is kept: what falls in each round, and how they end.
-use Rattle.prelude.specs.Words.{ℕ, zero, suc, _+_, _*_, _-_, _<_, arith, mul-le-mul-left, _≡_, refl, sym, ap, _∙_, Bool, true, false, true≢false, List, ℤ, pos}
-use Rattle.prelude.specs.Words.{getD}
+use Rattle.prelude.specs.Words.{ℕ, zero, suc, _+_, _*_, _-_, _<_, arith, mul-le-mul-left, _≡_, refl, ap, _∙_, Bool, true, false, List, ℤ, pos, getD, clash}
 use Rattle.integers.specs.Integer.{Z, _≈_, _⊗_}
 use Rattle.integers.specs.Bridge.{toZ}
 use Rattle.integers.specs.SumLaws.{sum₂-cong}
@@ -120,7 +119,7 @@ module _ {P : Problem} {T : List Cell} {allowance : ℕ} {q e cost price slack :
     going-left d f = go left refl
       where
         go : (k : ℕ) → left ≡ k → 0 < left
-        go zero z = absurd (true≢false (sym d ∙ g .done ∙ ap (λ (a : ℕ). run P a (g .here) .finished) z ∙ ap (λ x. x .finished) (run-none P (g .here) f)))
+        go zero z = clash d (g .done ∙ ap (λ (a : ℕ). run P a (g .here) .finished) z ∙ ap (λ x. x .finished) (run-none P (g .here) f))
         go (suc k) s = omega arith
 
     module _ {q′ e′ price′ slack′ : List ℤ} {sub′ path′ tree′ : List ℕ} {finished : Bool}

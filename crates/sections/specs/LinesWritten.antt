@@ -18,8 +18,7 @@ module _ {A : Type 0} (write : A → List ℕ) (xs : List A) (width : ℕ) (out�
     pub holds : out ≡ front (take at T) out₀
 
   pub lines-start : (1 ≤ width) × (length T ≤ length out₀) → LinesWritten out₀ 0 width 0
-  lines-start p =
-      record { room = p; inside = omega arith; onLine = p .0; within = omega arith; rest = refl; holds = sym (front-nil out₀) }
+  lines-start p = record { room = p; inside = omega arith; onLine = p .0; within = omega arith; rest = refl; holds = sym (front-nil out₀) }
 
 module _ {A : Type 0} {write : A → List ℕ} {xs : List A} {width : ℕ} {out₀ out : List ℕ} {at left i : ℕ}
     (w : LinesWritten write xs width out₀ out at left i) where

@@ -1,6 +1,6 @@
 -- Whole numbers of 64 bits: their magnitude, and the laws of their digits.
-use Rattle.prelude.specs.Words.{_≡_, refl, sym, ap, _∙_, true, false, true≢false, _∷_, ℕ, suc, _-_, _^_, _≤_, _<_, arith, T, ℤ, pos, negsuc, _-ℤ_, natAbs}
-use Rattle.prelude.specs.Words.{length, ltZ, mag, nonNeg, le-ltb}
+use Rattle.prelude.specs.Words.{_≡_, refl, ap, _∙_, true, false, true≢false, _∷_, ℕ, suc, _-_, _^_, _≤_, _<_, arith, T, ℤ, pos, negsuc, _-ℤ_, natAbs, length}
+use Rattle.prelude.specs.Words.{ltZ, mag, nonNeg, le-ltb, clash}
 use mir.Syntax.{w64}
 use mir.Val.{toZ, ofZ, SFits}
 use mir.Facts.{toZ-ofZ}
@@ -20,7 +20,7 @@ module _ (z : ℤ) (p : mag z < 2 ^ 63) where
   turned-is h = rw (back w64 z p) (go z h)
     where
       go : (z : ℤ) → ltZ z (pos 0) ≡ true → negsuc 0 -ℤ z ≡ pos (natAbs z - 1)
-      go (pos n) h = absurd (true≢false (sym h ∙ le-ltb n 0 (omega arith)))
+      go (pos n) h = clash h (le-ltb n 0 (omega arith))
       go (negsuc n) h = flip n ∙ ap pos (omega arith)
 
   pub turned-fits : ltZ z (pos 0) ≡ true → SFits w64 turned
@@ -41,7 +41,7 @@ module _ (z : ℤ) (p : mag z < 2 ^ 63) where
       go (negsuc n) p = omega arith
 
 pub magnitude-pos : (z : ℤ) → ltZ z (pos 0) ≡ true → 1 ≤ natAbs z
-magnitude-pos (pos n) h = absurd (true≢false (sym h ∙ le-ltb n 0 (omega arith)))
+magnitude-pos (pos n) h = clash h (le-ltb n 0 (omega arith))
 magnitude-pos (negsuc n) h = omega arith
 
 pub not-negative : (z : ℤ) → ltZ z (pos 0) ≡ false → T (nonNeg z)
@@ -50,7 +50,7 @@ not-negative (negsuc n) h = absurd (true≢false h)
 
 pub whole-negative : (z : ℤ) → ltZ z (pos 0) ≡ true → wholeDigits z ≡ 45 ∷ digits (natAbs z)
 unfolding wholeDigits bytes
-whole-negative (pos n) h = absurd (true≢false (sym h ∙ le-ltb n 0 (omega arith)))
+whole-negative (pos n) h = clash h (le-ltb n 0 (omega arith))
 whole-negative (negsuc n) h = refl
 
 pub whole-positive : (z : ℤ) → ltZ z (pos 0) ≡ false → wholeDigits z ≡ digits (natAbs z)

@@ -1,16 +1,14 @@
 -- Settle, case by case: its refusals in their order, and the plan that it writes.
 use Rattle.prelude.specs.Words.{_≡_, refl, _∙_, Bool, true, false, not, List, [], _∷_, _++_, none, some, ℕ, _*_, _<_, _≤_, drop}
-use Rattle.transport.specs.Sheet.{Sheet, roasteries, cafes, sheetTests, refusal}
-use Rattle.transport.specs.Extended.{extended}
+use Rattle.transport.specs.Sheet.{Sheet, roasteries, cafes, refusal}
 use Rattle.transport.specs.Parties.{problemOf}
 use Rattle.transport.specs.Statements.{Accepted}
 use Rattle.transport.specs.Laws.Sound.{sound}
 use Rattle.transport.specs.Laws.SheetLaws.{refusal-yes, refusal-no, refusal-pass, refusal-stands}
-use Rattle.transport.specs.OwnNumbers.{belongsTo}
 use Rattle.transport.specs.Potential.{isFinished}
 use Rattle.transport.specs.Plan.{settled}
 use Rattle.transport.specs.Calls.{refusedBy, lentAfter, tableauTests, inside, tooShort, settleCall}
-use Rattle.transport.specs.Laws.CallLaws.{unless-given, unless-refused, refusal-last, short-yes, short-no}
+use Rattle.transport.specs.Laws.CallLaws.{unless-given, unless-refused, short-yes, short-no}
 use Rattle.transport.specs.Answers.{settleAnswer}
 use Rattle.transport.specs.declared.Tableau.{Tableau}
 use Rattle.transport.specs.declared.SettleAnswer.the-variants.{Settled, Refused}

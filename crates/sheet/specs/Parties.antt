@@ -11,8 +11,8 @@ use Rattle.transport.specs.Parties.{left, rowsLeft, columnsLeft, struck, proble
 use Rattle.transport.specs.Laws.ListLaws.{getD-map}
 use Rattle.transport.specs.Laws.ProblemLaws.{problem}
 use Rattle.transport.specs.Laws.ExtendedLaws.{Extra, without, with, extra}
-use Rattle.transport.specs.Laws.PartiesLaws.{amountsLeft, length-amounts, left-at, length-left, left-append}
-use Rattle.transport.specs.Laws.PartiesLaws.{leftBefore, before-none, before-yes, before-no, before-most, left-before}
+use Rattle.transport.specs.Laws.PartiesLaws.{amountsLeft, length-amounts, left-at, length-left, left-append, leftBefore, before-none, before-yes, before-no}
+use Rattle.transport.specs.Laws.PartiesLaws.{before-most, left-before}
 use Rattle.transport.specs.Laws.Sound.{wanted-room}
 use Rattle.transport.specs.Statements.{Accepted}
 use Rattle.sheet.specs.declared.parties.Parties.{Parties}

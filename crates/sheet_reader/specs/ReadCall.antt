@@ -1,6 +1,6 @@
 -- Read sheet: a sheet that was read and is stored, and the call case by case.
 use Rattle.prelude.specs.Words.{_≡_, refl, ap, _∙_, List, ℕ, _*_, _-_, _≤_, arith, Bool, true, false, not, _&&_, _||_, and-eq-true-iff, none, some, leb-true}
-use Rattle.prelude.specs.Words.{leb, ℤ, length, drop, length-drop}
+use Rattle.prelude.specs.Words.{leb, ℤ, length, drop, length-drop, by-test}
 use borrow.Author.Tests.{leb-false}
 use Rattle.transport.specs.declared.ReadAnswer.{ReadAnswer}
 use Rattle.transport.specs.declared.ReadAnswer.the-variants as ReadAnswer
@@ -14,11 +14,9 @@ use Rattle.sections.specs.Front.{front}
 -- ---- rooms
 
 short-not : (room needed : ℕ) → tooShort room needed ≡ not (leb needed room)
-short-not room needed = go (leb needed room) refl
-  where
-    go : (b : Bool) → leb needed room ≡ b → tooShort room needed ≡ not (leb needed room)
-    go true e = rw e (short-no room needed (leb-true needed room e))
-    go false e = rw e (short-yes room needed (leb-false needed room e))
+short-not room needed = by-test (leb needed room)
+    (λ e. rw e (short-no room needed (leb-true needed room e)))
+    (λ e. rw e (short-yes room needed (leb-false needed room e)))
 
 not-all : (a b c : Bool) → not a || not b || not c ≡ not (a && b && c)
 not-all true true c = refl

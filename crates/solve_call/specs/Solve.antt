@@ -1,5 +1,5 @@
 -- Solve, case by case: its refusals in their order, and the solution that it gives.
-use Rattle.prelude.specs.Words.{_≡_, refl, Bool, true, false, _||_, none, some, List, _++_, ℕ, _+_, _*_, _-_, _≤_, _<_, arith, ℤ, length, drop}
+use Rattle.prelude.specs.Words.{_≡_, refl, Bool, _||_, none, some, List, _++_, ℕ, _+_, _*_, _-_, _≤_, _<_, arith, ℤ, length, drop, by-test}
 use Rattle.transport.specs.declared.SolveAnswer.{SolveAnswer}
 use Rattle.transport.specs.declared.SolveAnswer.the-variants.{Solved, Refused}
 use Rattle.transport.specs.Lists.{sumZ}
@@ -29,11 +29,9 @@ module _ (S : Sheet) (uRoom vRoom planRoom : ℕ) where
 
   pub solve-short : refusal (sheetTests S) ≡ none → 0 < lacks → solveCall S uRoom vRoom planRoom ≡ refusedBy 8
   unfolding solveCall
-  solve-short e p = unless-last (sheetTests S) short 8 (solution S) e (go short refl)
-    where
-      go : (b : Bool) → short ≡ b → short ≡ true
-      go true h = h
-      go false h = let r = rooms-iff uRoom (roasteries S) vRoom (cafes S) planRoom (roasteries S * cafes S) .0 h in absurd (omega arith)
+  solve-short e p = unless-last (sheetTests S) short 8 (solution S) e (by-test short
+      (λ h. h)
+      (λ h. let r = rooms-iff uRoom (roasteries S) vRoom (cafes S) planRoom (roasteries S * cafes S) .0 h in absurd (omega arith)))
 
   pub solve-given : refusal (sheetTests S) ≡ none → (roasteries S ≤ uRoom) × (cafes S ≤ vRoom) × (roasteries S * cafes S ≤ planRoom)
       → solveCall S uRoom vRoom planRoom ≡ given (solution S)

@@ -1,5 +1,5 @@
 -- The board of a finished tableau: from it settling starts, and what it ends with are the bags of the optimal plan.
-use Rattle.prelude.specs.Words.{_≡_, sym, _∙_, _↔_, by-cases, true, false≢true, List, ℕ, _+_, _*_, _-_, _<_, _≤_, arith, decLt, ℤ, pos, getD}
+use Rattle.prelude.specs.Words.{_≡_, _∙_, _↔_, by-cases, true, List, ℕ, _+_, _*_, _-_, _<_, arith, decLt, ℤ, pos, getD, clash}
 use Rattle.integers.specs.Integer.{_≈_, nat}
 use Rattle.integers.specs.IntegerLaws.{⊗-cong}
 use Rattle.network.specs.Flow.{Plan, Tight}
@@ -101,7 +101,7 @@ module _ {P : Problem} {T : List Cell} {adj : List ℕ} {q e cost price : List �
     finished-settleable = record {
       plan = start;
       most = λ i hi. omega (arith, supply-most (f .sound) i);
-      inside = λ i j hi h. by-cases (decLt j n) (λ l. l) (λ l. absurd (false≢true (sym (t .rows i hi .past j (omega arith)) ∙ h)));
+      inside = λ i j hi h. by-cases (decLt j n) (λ l. l) (λ l. clash h (t .rows i hi .past j (omega arith)));
       onBasics = on-basics;
       single = λ k y g i j hi hj.
           let g : Plan (sources P) (sinks P) (Basic T) k y (supplies P) (demands P) =

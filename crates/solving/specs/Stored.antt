@@ -1,5 +1,5 @@
 -- What solve has stored before its cost is told: the prices of the first finished tableau and the settled plan, each in its list, with the rounds made.
-use Rattle.prelude.specs.Words.{_≡_, sym, ap, _∙_, true, List, _++_, ℕ, _+_, _*_, _-_, _≤_, _<_, ℤ, pos, natAbs, length, take, drop, getD}
+use Rattle.prelude.specs.Words.{_≡_, sym, ap, _∙_, true, List, _++_, ℕ, _+_, _*_, _≤_, _<_, ℤ, pos, natAbs, length, take, drop, getD}
 use Rattle.transport.specs.Laws.ListLaws.{length-table}
 use Rattle.transport.specs.Problem.{Problem, sources, sinks}
 use Rattle.transport.specs.Sheet.{Sheet, roasteries, cafes}

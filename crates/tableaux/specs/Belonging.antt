@@ -185,8 +185,7 @@ module _ {P : Problem} {T : List Cell} (c : Sound P) (b : Belongs P T) where
   bags-flow = record {
     on = on-basis (λ a. a .q) refl (λ a b. refl);
     rows = row-of (λ a. a .q) refl (λ a b. refl);
-    cols =
-        column-of (λ a. a .q) refl (λ a b. refl);
+    cols = column-of (λ a. a .q) refl (λ a b. refl);
   }
 
   -- .. and the marks that of one mark from each row to the last column.

@@ -1,6 +1,6 @@
 -- Rounds end: the valued cost falls in each of them and stays within bounds.
-use Rattle.prelude.specs.Words.{_≡_, refl, _∙_, ⊎-elim, Bool, true, false, List, ℕ, zero, suc, _+_, _*_, _^_, _≤_, _<_, arith, mul-le-mul-left}
-use Rattle.prelude.specs.Words.{mul-le-mul-right, pos}
+use Rattle.prelude.specs.Words.{_≡_, _∙_, ⊎-elim, true, false, List, ℕ, zero, suc, _+_, _*_, _^_, _≤_, _<_, arith, mul-le-mul-left, mul-le-mul-right, pos}
+use Rattle.prelude.specs.Words.{by-test}
 use Rattle.integers.specs.Integer.{Z, _≈_, _≼_, _⊕_, _⊗_, neg, nat}
 use Rattle.integers.specs.Bridge.{z-le, z-neg}
 use Rattle.integers.specs.IntegerLaws.{⊗-cong}
@@ -95,17 +95,12 @@ module _ {P : Problem} (ok : Sound P) where
   -- Every run ends. The measure is a natural number that falls by 1 or more in each round, so no more rounds than it says are made before a tableau is
   -- finished.
   pub ends : (k : ℕ) (T : List Cell) → Belongs P T → raised T ≼ nat k → (h : ℕ) × (h ≤ k) × FirstFinished P T h
-  ends zero T w l = go (isFinished P T) refl
-    where
-      go : (b : Bool) → isFinished P T ≡ b → (h : ℕ) × (h ≤ 0) × FirstFinished P T h
-      go true e = (0, omega arith, reached-now P T e)
-      go false e = absurd (omega (arith, next-falls w e, raised-nonneg (next-belongs w e)))
-  ends (suc k) T w l = go (isFinished P T) refl (ends k (next P T))
-    where
-      go : (b : Bool) → isFinished P T ≡ b → (Belongs P (next P T) → raised (next P T) ≼ nat k → (h : ℕ) × (h ≤ k) × FirstFinished P (next P T) h)
-          → (h : ℕ) × (h ≤ suc k) × FirstFinished P T h
-      go true e rest = (0, omega arith, reached-now P T e)
-      go false e rest = let (h, q, r) = rest (next-belongs w e) (omega (arith, next-falls w e)) in (suc h, omega arith, reached-later P T h e r)
+  ends zero T w l = by-test (isFinished P T)
+      (λ e. (0, omega arith, reached-now P T e))
+      (λ e. absurd (omega (arith, next-falls w e, raised-nonneg (next-belongs w e))))
+  ends (suc k) T w l = by-test (isFinished P T)
+      (λ e. (0, omega arith, reached-now P T e))
+      (λ e. let (h, q, r) = (ends k (next P T)) (next-belongs w e) (omega (arith, next-falls w e)) in (suc h, omega arith, reached-later P T h e r))
 
   -- So from every tableau that belongs, a run of the bound of rounds comes to a finished one.
   bound-reached : (T : List Cell) → Belongs P T → (h : ℕ) × (h ≤ roundBound P) × FirstFinished P T h

@@ -1,6 +1,6 @@
 -- The entering lane: it is on the sheet, and on an unfinished tableau its reduced cost is negative, so that it is not basic.
-use Rattle.prelude.specs.Words.{_≡_, refl, ap, sym, _∙_, Bool, true, false, true≢false, List, ℕ, _<_, arith, mul-le-mul-right, ℤ, pos, negsuc, ltZ, nonNeg}
-use Rattle.prelude.specs.Words.{getD}
+use Rattle.prelude.specs.Words.{_≡_, refl, ap, sym, _∙_, Bool, true, false, List, ℕ, _<_, arith, mul-le-mul-right, ℤ, pos, negsuc, ltZ, nonNeg, getD, by-test}
+use Rattle.prelude.specs.Words.{clash}
 use Rattle.integers.specs.Integer.{_≺_, _⊕_}
 use Rattle.integers.specs.Tests.{lt-yes, lt-no}
 use Rattle.transport.specs.Laws.ListLaws.{by-key, FirstLeast, firstLeast-is}
@@ -55,12 +55,10 @@ module _ {P : Problem} (ok : Sound P) (T : List Cell) where
     -- If it were not negative, none would be.
     entering-negative : ltZ (reducedCost P T (entering P T)) (pos 0) ≡ true
     unfolding isFinished
-    entering-negative = go (ltZ (reducedCost P T (entering P T)) (pos 0)) refl
-      where
-        go : (b : Bool) → ltZ (reducedCost P T (entering P T)) (pos 0) ≡ b → ltZ (reducedCost P T (entering P T)) (pos 0) ≡ true
-        go true p = p
-        go false p = absurd (true≢false (sym (all-lanes (λ l. nonNeg (reducedCost P T l)) m n
-            (λ i j hi hj. not-negative (reducedCost P T (entering P T)) (reducedCost P T (lane i j)) p (entering-least i j hi hj))) ∙ unfinished))
+    entering-negative = by-test (ltZ (reducedCost P T (entering P T)) (pos 0))
+        (λ p. p)
+        (λ p. clash (all-lanes (λ l. nonNeg (reducedCost P T l)) m n
+        (λ i j hi hj. not-negative (reducedCost P T (entering P T)) (reducedCost P T (lane i j)) p (entering-least i j hi hj))) unfinished)
 
     pub entering-below : costs P (entering P T .row) (entering P T .col) ≺ rowPotential P T (entering P T .row) ⊕ columnPotential P T (entering P T .col)
     entering-below = omega (arith, reduced-parts P T (entering P T .row) (entering P T .col), lt-yes (reducedCost P T (entering P T)) (pos 0) entering-negative)

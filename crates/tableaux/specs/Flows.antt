@@ -1,5 +1,5 @@
 -- Flows through the strikes have the margins asked for; and so the loop's signs are the flow of −1 at the two nodes of the entering lane.
-use Rattle.prelude.specs.Words.{_≡_, refl, ap, sym, _∙_, _≢_, _⊎_, ⊎-elim, by-cases, true, List, [], _∷_, List·Memᴰ, List·Memᴰ·head, List·Memᴰ·tail}
+use Rattle.prelude.specs.Words.{_≡_, refl, ap, sym, _∙_, _≢_, ⊎-elim, by-cases, true, List, [], _∷_, List·Memᴰ, List·Memᴰ·head, List·Memᴰ·tail}
 use Rattle.prelude.specs.Words.{List·Memᴰ·not-nil, List·Memᴰ·cases-cons, ℕ, suc, _+_, _-_, _≤_, _<_, arith, ℕ-discrete, eq-eqb, ne-eqb, ℤ, pos, negℤ, _-ℤ_}
 use Rattle.integers.specs.Integer.{Z, _≈_, _⊕_, _⊖_, _⊗_, neg, nat}
 use Rattle.integers.specs.Bridge.{toZ, z-add, z-neg, z-eq}

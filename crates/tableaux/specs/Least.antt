@@ -1,6 +1,6 @@
 -- The bags of a finished tableau are a plan of least cost, and the plans of least cost are exactly those on lanes with reduced cost 0.
-use Rattle.prelude.specs.Words.{ℕ, suc, _+_, _*_, _≤_, _<_, arith, ℕ-discrete, _≡_, ap, _∙_, _↔_, by-cases, Dec·and, ⊎-elim, true, false≢true, List, [], _∷_}
-use Rattle.prelude.specs.Words.{map, ℤ, pos, negsuc, natAbs, _*ℤ_, nonNeg, _≤ℤ_, length, getD, length-map}
+use Rattle.prelude.specs.Words.{ℕ, suc, _+_, _*_, _<_, arith, ℕ-discrete, _≡_, ap, _∙_, _↔_, by-cases, Dec·and, ⊎-elim, true, false≢true, List, [], _∷_, map, ℤ}
+use Rattle.prelude.specs.Words.{pos, negsuc, natAbs, _*ℤ_, nonNeg, _≤ℤ_, length, getD, length-map}
 use Rattle.integers.specs.Integer.{Z, _≈_, _≼_, ≈-dec, _⊖_, _⊗_, nat}
 use Rattle.integers.specs.IntegerLaws.{⊗-cong}
 use Rattle.integers.specs.Bridge.{toZ, z-mul, z-eq, eq-z, le-z, z-ev, !, _-'_}

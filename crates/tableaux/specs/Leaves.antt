@@ -2,7 +2,7 @@
 -- left.
 use Rattle.prelude.specs.Words.{_≡_, refl, ap, sym, _∙_, _↔_, _≢_, _⊎_, inl, inr, by-cases, Bool, true, false, not, _&&_, _||_, cond, true≢false, List, [], _∷_}
 use Rattle.prelude.specs.Words.{List·Memᴰ, List·Memᴰ·head, List·Memᴰ·tail, List·Memᴰ·not-nil, List·Memᴰ·cases-cons, List·Memᴰ·eq-of-singleton, Option, none}
-use Rattle.prelude.specs.Words.{some, ℕ, zero, suc, _+_, _*_, _≤_, _<_, arith, ℕ-discrete, eqb-true, eqb-false, eq-eqb, ne-eqb, not-true, eqb, length}
+use Rattle.prelude.specs.Words.{some, ℕ, zero, suc, _+_, _*_, _≤_, _<_, arith, ℕ-discrete, eqb-true, eqb-false, eq-eqb, ne-eqb, not-true, eqb, length, by-test}
 use Rattle.transport.specs.Lists.{keep, sumTo}
 use Rattle.transport.specs.Laws.ListLaws.{keep-yes, keep-no, keep-member, member-keep, and-left, and-right, sumTo-cong, sumTo-none, sumTo-add, sumTo-le}
 use Rattle.transport.specs.Laws.ListLaws.{sumTo-scale}
@@ -142,11 +142,9 @@ touches-bits m k l h = by-cases (ℕ-discrete (l .row) k)
     (λ e. rw (ne-eqb (l .row) k e) (omega arith))
 
 degree-cons : (m k : ℕ) (l : Lane) (ls : List Lane) → degree m (l ∷ ls) k ≡ cond (touches m k l) 1 0 + degree m ls k
-degree-cons m k l ls = go (touches m k l) refl
-  where
-    go : (b : Bool) → touches m k l ≡ b → degree m (l ∷ ls) k ≡ cond (touches m k l) 1 0 + degree m ls k
-    go true e = rw (keep-yes (touches m k) l ls e, e) (omega arith)
-    go false e = rw (keep-no (touches m k) l ls e, e) (omega arith)
+degree-cons m k l ls = by-test (touches m k l)
+    (λ e. rw (keep-yes (touches m k) l ls e, e) (omega arith))
+    (λ e. rw (keep-no (touches m k) l ls e, e) (omega arith))
 
 degrees : (m n : ℕ) (B : List Lane) → Fits m n B → sumTo (m + n) (degree m B) ≡ 2 * length B
 unfolding keep
@@ -220,11 +218,9 @@ module _ {m n : ℕ} {left : ℕ → Bool} {B : List Lane} (w : Linked m n left 
       enough : firstLeaf m nodes B ≡ none → (k : ℕ) → k < m + n → 2 * cond (left k) 1 0 ≤ degree m B k + one-at 0 k
       enough e k q = by-cases (ℕ-discrete k 0)
           (λ z. rw z (omega (arith, bit-le (left 0), root-has-lane p l h, one-here 0)))
-          (λ z. at (left k) refl z)
-        where
-          at : (b : Bool) → left k ≡ b → k ≢ 0 → 2 * cond (left k) 1 0 ≤ degree m B k + one-at 0 k
-          at true t z = rw t (omega (arith, has-lane k z q t, missed m nodes B e k (others k .1 (z, q))))
-          at false t z = rw t (omega arith)
+          (λ z. by-test (left k)
+          (λ t. rw t (omega (arith, has-lane k z q t, missed m nodes B e k (others k .1 (z, q)))))
+          (λ t. rw t (omega arith)))
 
       go : (o : Option Strike) → firstLeaf m nodes B ≡ o → (s : Strike) × (firstLeaf m nodes B ≡ some s)
       go (some s) e = (s, e)
@@ -243,12 +239,7 @@ module _ {m n : ℕ} {left : ℕ → Bool} {B : List Lane} (w : Linked m n left 
 keep-split : {A : Type 0} (p : A → Bool) (xs : List A) → length (keep p xs) + length (keep (λ x. not (p x)) xs) ≡ length xs
 unfolding keep
 keep-split p [] = refl
-keep-split p (x ∷ xs) = go (p x) refl (keep-split p xs)
-  where
-    go : (b : Bool) → p x ≡ b → length (keep p xs) + length (keep (λ x. not (p x)) xs) ≡ length xs
-        → length (keep p (x ∷ xs)) + length (keep (λ x. not (p x)) (x ∷ xs)) ≡ suc (length xs)
-    go true e h = rw e (omega arith)
-    go false e h = rw e (omega arith)
+keep-split p (x ∷ xs) = let h = keep-split p xs in by-test (p x) (λ e. rw e (omega arith)) (λ e. rw e (omega arith))
 
 -- A lane is left exactly if it is there and does not touch the leaf.
 pub without-member : (m k : ℕ) (B : List Lane) (l : Lane) → List·Memᴰ l (without m k B) → List·Memᴰ l B × (touches m k l ≡ false)
@@ -334,10 +325,8 @@ leaf-struck {m} {n} {left} {nodes} {B} {s} w others f = record {
 
     all-closed : (side : ℕ → Bool) → ((l : Lane) → List·Memᴰ l (without m (s .leaf) B) → side (l .row) ≡ side (m + l .col))
         → (l : Lane) → List·Memᴰ l B → moved side (l .row) ≡ moved side (m + l .col)
-    all-closed side closed l h = go (touches m (s .leaf) l) refl
-      where
-        go : (b : Bool) → touches m (s .leaf) l ≡ b → moved side (l .row) ≡ moved side (m + l .col)
-        go true e = rw (leaf-lane f l h e) (own side (f .ends))
-        go false e =
-            let (a, b) = touches-false m (s .leaf) l e in
-            moved-off side (l .row) (λ p. a (sym p)) ∙ closed l (member-without m (s .leaf) B l h e) ∙ sym (moved-off side (m + l .col) (λ p. b (sym p)))
+    all-closed side closed l h = by-test (touches m (s .leaf) l)
+        (λ e. rw (leaf-lane f l h e) (own side (f .ends)))
+        (λ e.
+        let (a, b) = touches-false m (s .leaf) l e in
+        moved-off side (l .row) (λ p. a (sym p)) ∙ closed l (member-without m (s .leaf) B l h e) ∙ sym (moved-off side (m + l .col) (λ p. b (sym p))))

@@ -1,5 +1,5 @@
 -- The loop that the entering lane closes with the basic lanes: there is one, and the signs alternate round it and are 0 off it.
-use Rattle.prelude.specs.Words.{_≡_, refl, ap, sym, _∙_, _≢_, _⊎_, inl, inr, ⊎-elim, by-cases, List, [], _∷_, _++_, List·Memᴰ, List·Memᴰ·head, List·Memᴰ·tail}
+use Rattle.prelude.specs.Words.{_≡_, refl, ap, sym, _∙_, _≢_, inl, inr, ⊎-elim, by-cases, List, [], _∷_, _++_, List·Memᴰ, List·Memᴰ·head, List·Memᴰ·tail}
 use Rattle.prelude.specs.Words.{List·Memᴰ·not-nil, List·Memᴰ·cases-cons, List·Memᴰ·append-cases, List·Memᴰ·eq-of-singleton, Memᴰ·cast, ℕ, _+_, _<_, arith}
 use Rattle.prelude.specs.Words.{ℕ-discrete, ℤ, pos, negsuc}
 use Rattle.integers.specs.Integer.{Z, _≈_, _⊕_, neg, nat}

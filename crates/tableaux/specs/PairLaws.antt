@@ -1,6 +1,6 @@
 -- Pairs over the integers of the theory: their parts, their sums and differences, and their order as `PairLess`; and those of paired supplies and demands.
-use Rattle.prelude.specs.Words.{ℕ, suc, _-_, _<_, arith, ℕ-discrete, _≡_, refl, ap, sym, _∙_, _⊎_, inl, inr, ⊎-elim, by-cases, true, false, true≢false, eq-eqb}
-use Rattle.prelude.specs.Words.{ne-eqb}
+use Rattle.prelude.specs.Words.{ℕ, suc, _-_, _<_, arith, ℕ-discrete, _≡_, refl, ap, sym, _∙_, _⊎_, inl, inr, ⊎-elim, by-cases, true, false, eq-eqb, ne-eqb}
+use Rattle.prelude.specs.Words.{clash}
 use Rattle.integers.specs.Integer.{Z, _≈_, _≼_, _≺_, _⊕_, _⊖_, nat}
 use Rattle.integers.specs.Bridge.{toZ, z-eq, eq-z, z-add, z-ev, !, _-'_}
 use Rattle.integers.specs.Sum.{point}
@@ -74,13 +74,13 @@ less-true a b p = go (compared (a .q) (b .q))
     go : Compared (a .q) (b .q) → Less a b
     go (fewer s) = inl (lt-yes (a .q) (b .q) s)
     go (equal s) = inr (z-eq s, lt-yes (a .e) (b .e) (sym (less-e a b s) ∙ p))
-    go (more s) = absurd (true≢false (sym p ∙ less-no a b s))
+    go (more s) = clash p (less-no a b s)
 
 pub less-false : (a b : Pair) → less a b ≡ false → AtMost b a
 less-false a b p = go (compared (a .q) (b .q))
   where
     go : Compared (a .q) (b .q) → AtMost b a
-    go (fewer s) = absurd (true≢false (sym (less-q a b s) ∙ p))
+    go (fewer s) = clash (less-q a b s) p
     go (equal s) = inr (z-eq (sym s), lt-no (a .e) (b .e) (sym (less-e a b s) ∙ p))
     go (more s) = inl (lt-yes (b .q) (a .q) s)
 

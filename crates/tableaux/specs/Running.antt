@@ -1,5 +1,5 @@
 -- Runs of rounds: a run ends at the first finished tableau, if that comes within its allowance, and else after exactly its allowance.
-use Rattle.prelude.specs.Words.{_≡_, refl, ap, sym, _∙_, _⊎_, inl, inr, ⊎-elim, _↔_, Bool, true, false, true≢false, List, ℕ, zero, suc, _≤_, _<_, arith}
+use Rattle.prelude.specs.Words.{_≡_, refl, ap, _∙_, _⊎_, inl, inr, ⊎-elim, _↔_, Bool, true, false, List, ℕ, zero, suc, _≤_, _<_, arith, clash}
 use Rattle.transport.specs.Problem.{Problem}
 use Rattle.transport.specs.Potential.{isFinished}
 use Rattle.transport.specs.Round.{next, run}
@@ -84,7 +84,7 @@ module _ (P : Problem) where
   -- It is done exactly if a finished tableau is reached within its allowance; else it is the tableau after exactly that many rounds.
   pub run-done-iff : (k : ℕ) (T : List Cell) → (run P k T .finished ≡ true) ↔ ((h : ℕ) × (h ≤ k) × FirstFinished P T h)
   run-done-iff k T = (
-    (λ e. ⊎-elim (λ r. r) (λ none. absurd (true≢false (sym e ∙ ap (λ x. x .finished) (run-spent k T none)))) (reached-or k T)),
+    (λ e. ⊎-elim (λ r. r) (λ none. clash e (ap (λ x. x .finished) (run-spent k T none))) (reached-or k T)),
     (λ (h, l, r). ap (λ x. x .finished) (run-reached h k T l r)),
   )
 

@@ -1,6 +1,6 @@
 -- The start belongs to its sheet, and the corner rule empties a row and a column together at the last cell only.
 use Rattle.prelude.specs.Words.{ℕ, zero, suc, _+_, _-_, _≤_, _<_, arith, decLt, ℕ-discrete, _≡_, refl, ap, sym, _∙_, _≢_, _↔_, _⊎_, inl, inr, ⊎-elim, by-cases}
-use Rattle.prelude.specs.Words.{Bool, true, false, true≢false, List, [], _∷_, map, eq-eqb, ne-eqb, eqb, length, getD, drop, drop-cons}
+use Rattle.prelude.specs.Words.{Bool, true, false, true≢false, List, [], _∷_, map, eq-eqb, ne-eqb, eqb, length, getD, drop, drop-cons, by-test, clash}
 use Rattle.integers.specs.Integer.{_≈_, _≼_, ≼-dec, _⊕_, nat}
 use Rattle.network.specs.Basis.{Basis}
 use Rattle.network.specs.Staircase.{Step, staircase}
@@ -35,12 +35,9 @@ smaller-column s d p = rw p
 
 -- A pair from which a smaller one is taken is not empty then.
 not-empty : (s d : Pair) → less d s ≡ true → same (subtract s d) nothing ≡ false
-not-empty s d p = go (same (subtract s d) nothing) refl
-  where
-    go : (b : Bool) → same (subtract s d) nothing ≡ b → same (subtract s d) nothing ≡ false
-    go true q =
-        absurd (true≢false (sym (subtract-above d s p) ∙ rw (same-true (subtract s d) nothing q) (less-weak .irreflexive nothing)))
-    go false q = q
+not-empty s d p = by-test (same (subtract s d) nothing)
+    (λ q. clash (subtract-above d s p) (rw (same-true (subtract s d) nothing q) (less-weak .irreflexive nothing)))
+    (λ q. q)
 
 pub corner-down : (P : Problem) (left i j : ℕ) (s d : Pair) → less d s ≡ false
     → corner P (suc left) i j s d ≡ cell i j s ∷ corner P left (suc i) j (pairedSupply P (suc i)) (subtract d s)
@@ -180,12 +177,9 @@ corner-stairs : (P : Problem) → Sound P → (left i j : ℕ) (s d : Pair) → 
 corner-stairs P ok zero i j s d st =
     rw (last-even P ok 0 i j s d st refl, corner-last P i j d)
     (last {i = i} {j = j} (omega (arith, st .row, st .column, st .size)) (omega (arith, st .row, st .column, st .size)) (st .columnLeft))
-corner-stairs P ok (suc left) i j s d st = go (less d s) refl (corner-stairs P ok left)
-  where
-    go : (b : Bool) → less d s ≡ b → ((i j : ℕ) (s d : Pair) → State P left i j s d → Stairs P i j s d (corner P (suc left) i j s d))
-        → Stairs P i j s d (corner P (suc (suc left)) i j s d)
-    go true p rest = rw (corner-right P (suc left) i j s d p) (right (st .columnLeft) (rest i (suc j) _ _ (state-right P ok left i j s d st p)))
-    go false p rest = rw (corner-down P (suc left) i j s d p) (down (st .rowLeft) (rest (suc i) j _ _ (state-down P ok left i j s d st p)))
+corner-stairs P ok (suc left) i j s d st = by-test (less d s)
+    (λ p. rw (corner-right P (suc left) i j s d p) (right (st .columnLeft) (corner-stairs P ok left i (suc j) _ _ (state-right P ok left i j s d st p))))
+    (λ p. rw (corner-down P (suc left) i j s d p) (down (st .rowLeft) (corner-stairs P ok left (suc i) j _ _ (state-down P ok left i j s d st p))))
 
 pub size-suc : (P : Problem) → Sound P → basisSize (sources P) (sinks P) ≡ suc (basisSize (sources P) (sinks P) - 1)
 unfolding basisSize
@@ -406,16 +400,12 @@ start-put P ok (suc k) l =
 
 passes-state : (P : Problem) → Sound P → {left i j : ℕ} {s d : Pair} → PassesBy P left i j s d → (k : ℕ) → left ≡ suc k → State P k i j s d
 passes-state P ok begins k e = begin P ok k e
-passes-state P ok (rowEmpty {left} {i} {j} {s} {d} w p) k e = go (less d s) refl (passes-state P ok w (suc k) (ap suc e))
-  where
-    go : (b : Bool) → less d s ≡ b → State P (suc k) i j s d → State P k (suc i) j (pairedSupply P (suc i)) (subtract d (smaller s d))
-    go true q st = absurd (row-left s d q p)
-    go false q st = rw (smaller-row s d q) (state-down P ok k i j s d st q)
-passes-state P ok (rowNotEmpty {left} {i} {j} {s} {d} w p) k e = go (less d s) refl (passes-state P ok w (suc k) (ap suc e))
-  where
-    go : (b : Bool) → less d s ≡ b → State P (suc k) i j s d → State P k i (suc j) (subtract s (smaller s d)) (pairedDemand P (suc j))
-    go true q st = rw (smaller-column s d q) (state-right P ok k i j s d st q)
-    go false q st = absurd (p (row-empty s d q))
+passes-state P ok (rowEmpty {left} {i} {j} {s} {d} w p) k e = by-test (less d s)
+    (λ q. absurd (row-left s d q p))
+    (λ q. rw (smaller-row s d q) (state-down P ok k i j s d (passes-state P ok w (suc k) (ap suc e)) q))
+passes-state P ok (rowNotEmpty {left} {i} {j} {s} {d} w p) k e = by-test (less d s)
+    (λ q. rw (smaller-column s d q) (state-right P ok k i j s d (passes-state P ok w (suc k) (ap suc e)) q))
+    (λ q. absurd (p (row-empty s d q)))
 
 -- Both are empty together at the last cell, and only there: with equal pairs left, the marks of the rows so far, 1 to m, are those of the columns so far, 0
 -- or m.

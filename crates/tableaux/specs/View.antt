@@ -1,5 +1,5 @@
 -- A tableau as amounts on rows and columns: the view in which the theory of networks speaks of it.
-use Rattle.prelude.specs.Words.{_≡_, refl, sym, _∙_, _↔_, by-cases, Dec·and, _&&_, cond, List, [], _∷_, map, ℕ, zero, suc, _+_, _<_, arith, ℕ-discrete, eq-eqb}
+use Rattle.prelude.specs.Words.{_≡_, refl, sym, _∙_, _↔_, by-cases, Dec·and, _&&_, cond, List, [], _∷_, map, ℕ, zero, suc, _<_, arith, ℕ-discrete, eq-eqb}
 use Rattle.prelude.specs.Words.{ne-eqb, eqb, ℤ, pos, _+ℤ_, length, getD}
 use Rattle.integers.specs.Integer.{Z, _≈_, _⊕_, _⊗_, nat}
 use Rattle.integers.specs.Bridge.{toZ, z-add}

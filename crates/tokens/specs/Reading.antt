@@ -1,7 +1,7 @@
 -- What a reader of the code found, as a reading of the specification; and the readers' laws, by what comes next in the text.
 use Rattle.prelude.specs.Words.{_≡_, refl, sym, _∙_, by-cases, Bool, true, false, not, _&&_, cond, true≢false, List, [], _∷_, ℕ, zero, suc, _+_, _*_, _-_, _≤_}
 use Rattle.prelude.specs.Words.{_<_, _^_, arith, ℕ-discrete, decLt, pow-suc, add-one, eqb, leb, length, drop, getD, drop-of-length-le, drop-cons, drop-drop}
-use Rattle.prelude.specs.Words.{ne-eqb, le-leb, lt-leb}
+use Rattle.prelude.specs.Words.{ne-eqb, le-leb, lt-leb, by-test, clash}
 use native.Mathlib.Nat.{pow-le-pow-right, lt-of-lt-of-le}
 use Rattle.transport.specs.Lists.{within}
 use Rattle.transport.specs.Laws.ListLaws.{and-right}
@@ -88,7 +88,7 @@ module _ (text : List ℕ) (at : ℕ) where
     where
       go : Dec (at < length text) → at < length text
       go (yes p) = p
-      go (no p) = absurd (true≢false (sym e ∙ byte-end b (omega arith)))
+      go (no p) = clash e (byte-end b (omega arith))
 
   pub drop-next : drop 1 (drop at text) ≡ drop (at + 1) text
   drop-next = drop-drop 1 at text
@@ -170,7 +170,7 @@ pub record DigitAt (text : List ℕ) (at : ℕ) : Type 0 where
   pub high : getD text at 0 ≤ 57
 
 pub digit-at : (text : List ℕ) (at : ℕ) → digitNext (drop at text) ≡ true → DigitAt text at
-digit-at text at e = by-cases (decLt at (length text)) there (λ p. absurd (true≢false (sym e ∙ digit-end text at (omega arith))))
+digit-at text at e = by-cases (decLt at (length text)) there (λ p. clash e (digit-end text at (omega arith)))
   where
     there : at < length text → DigitAt text at
     there p =
@@ -314,11 +314,9 @@ module _ (test : ℕ → Bool) where
   -- A first digit that was read passed the test.
   starts-got : (t : List ℕ) (b : ℕ) (rest : List ℕ) → byteThat (startsBy test) t ≡ got b rest → startsBy test b ≡ true
   starts-got [] b rest e = let s = byte-none (startsBy test) in let z : _≡_ {A = ℕ} 0 1 = cc in absurd (omega arith)
-  starts-got (c ∷ t) b rest e = go (startsBy test c) refl
-    where
-      go : (v : Bool) → startsBy test c ≡ v → startsBy test b ≡ true
-      go true h = let s = byte-yes (startsBy test) c t h in let z : c ≡ b = cc in rw z at h
-      go false h = let s = byte-no (startsBy test) c t h in let z : _≡_ {A = ℕ} 0 1 = cc in absurd (omega arith)
+  starts-got (c ∷ t) b rest e = by-test (startsBy test c)
+      (λ h. let s = byte-yes (startsBy test) c t h in let z : c ≡ b = cc in rw z at h)
+      (λ h. let s = byte-no (startsBy test) c t h in let z : _≡_ {A = ℕ} 0 1 = cc in absurd (omega arith))
 
 -- The first digit decides how many may follow.
 abbrev afterFirst : ℕ → Reader ℕ
@@ -414,17 +412,14 @@ more-passes : (test : ℕ → Bool) (k x : ℕ) (t : List ℕ) (m : ℕ) (rest :
 unfolding moreDigits
 more-passes test zero x t m rest p e = let z : x ≡ m = cc in rw z at p
 more-passes test (suc k) x [] m rest p e = let z : x ≡ m = cc in rw z at p
-more-passes test (suc k) x (b ∷ t) m rest p e = go (isDigit b && test (x * 10 + digitValue b)) refl (more-passes test k (x * 10 + digitValue b) t m rest)
-  where
-    go : (v : Bool) → (isDigit b && test (x * 10 + digitValue b)) ≡ v
-        → (test (x * 10 + digitValue b) ≡ true → moreDigits test k (x * 10 + digitValue b) t ≡ got m rest → test m ≡ true) → test m ≡ true
-    go true h ih =
-        let s : moreDigits test (suc k) x (b ∷ t) ≡ moreDigits test k (x * 10 + digitValue b) t = rw (moreDigits, h) in
-        ih (and-right (isDigit b) (test (x * 10 + digitValue b)) h) (sym s ∙ e)
-    go false h ih =
-        let s : moreDigits test (suc k) x (b ∷ t) ≡ got x (b ∷ t) = rw (moreDigits, h) in
-        let z : x ≡ m = cc in
-        rw z at p
+more-passes test (suc k) x (b ∷ t) m rest p e = by-test (isDigit b && test (x * 10 + digitValue b))
+    (λ h.
+    let s : moreDigits test (suc k) x (b ∷ t) ≡ moreDigits test k (x * 10 + digitValue b) t = rw (moreDigits, h) in
+    more-passes test k (x * 10 + digitValue b) t m rest (and-right (isDigit b) (test (x * 10 + digitValue b)) h) (sym s ∙ e))
+    (λ h.
+    let s : moreDigits test (suc k) x (b ∷ t) ≡ got x (b ∷ t) = rw (moreDigits, h) in
+    let z : x ≡ m = cc in
+    rw z at p)
 
 module _ (most : ℕ) where
   abbrev afterSide : ℕ → Reader ℕ
@@ -463,11 +458,9 @@ module _ (most : ℕ) where
 end-value : (m : ℕ) (rest : List ℕ) (end : ℕ) (r : Reading ℕ) → endReading end r ≡ got m rest → (u : List ℕ) × (r ≡ got m u)
 unfolding endReading
 end-value m rest end (stuck u) e = let z : _≡_ {A = ℕ} 0 1 = cc in absurd (omega arith)
-end-value m rest end (got x u) e = go (byteNext end u) refl
-  where
-    go : (b : Bool) → byteNext end u ≡ b → (v : List ℕ) × (got x u ≡ got m v)
-    go true h = let s : endReading end (got x u) ≡ got x (drop 1 u) = end-yes end x u h in let z : x ≡ m = cc in (u, rw z)
-    go false h = let s : endReading end (got x u) ≡ stuck u = end-no end x u h in let z : _≡_ {A = ℕ} 0 1 = cc in absurd (omega arith)
+end-value m rest end (got x u) e = by-test (byteNext end u)
+    (λ h. let s : endReading end (got x u) ≡ got x (drop 1 u) = end-yes end x u h in let z : x ≡ m = cc in (u, rw z))
+    (λ h. let s : endReading end (got x u) ≡ stuck u = end-no end x u h in let z : _≡_ {A = ℕ} 0 1 = cc in absurd (omega arith))
 
 pub line-side-within : (most m : ℕ) (rest t : List ℕ) → line (side most) t ≡ got m rest → within 1 most m ≡ true
 line-side-within most m rest t e = let v = end-value m rest 10 (side most t) (sym (line-end (side most) t) ∙ e) in side-within most m (v .0) t (v .1)

@@ -1,6 +1,6 @@
 -- Whole numbers: a number that was read, with the sign before it.
 use Rattle.prelude.specs.Words.{_≡_, refl, sym, ap, _∙_, Bool, true, false, cond, List, [], _∷_, ℕ, zero, suc, _+_, _≤_, _<_, _^_, arith, eqb, ℤ, pos, negsuc}
-use Rattle.prelude.specs.Words.{negℤ, _-ℤ_, length, drop, drop-drop, lt-ltb}
+use Rattle.prelude.specs.Words.{negℤ, _-ℤ_, length, drop, drop-drop, lt-ltb, by-test}
 use mir.Syntax.{w64}
 use mir.Val.{toZ, ofZ, SFits, boolByte}
 use mir.Facts.{toZ-ofZ, toZ-pos}
@@ -78,11 +78,9 @@ changed-pure f r t = go (r t) refl
 changed-end : {A B : Type 0} (f : A → B) (end : ℕ) (r : Reading A) → endReading end (changed f r) ≡ changed f (endReading end r)
 unfolding changed
 changed-end f end (stuck rest) = end-stuck end rest ∙ ap (changed f) (sym (end-stuck end rest))
-changed-end f end (got x t) = go (byteNext end t) refl
-  where
-    go : (b : Bool) → byteNext end t ≡ b → endReading end (got (f x) t) ≡ changed f (endReading end (got x t))
-    go true e = end-yes end (f x) t e ∙ ap (changed f) (sym (end-yes end x t e))
-    go false e = end-no end (f x) t e ∙ ap (changed f) (sym (end-no end x t e))
+changed-end f end (got x t) = by-test (byteNext end t)
+    (λ e. end-yes end (f x) t e ∙ ap (changed f) (sym (end-yes end x t e)))
+    (λ e. end-no end (f x) t e ∙ ap (changed f) (sym (end-no end x t e)))
 
 changed-reading : {A : Type 0} (text : List ℕ) (f : ℕ → A) (r : Taken) → changed f (readingOf text (λ v. v) r) ≡ readingOf text f r
 unfolding changed

@@ -1,7 +1,7 @@
 -- The bits of a mask, one after the other, least first: a mask without its least bit, and a change of the array at each bit.
 use Rattle.prelude.specs.Words.{_≡_, refl, sym, ap, _∙_, _≢_, by-cases, Bool, true, false, not, cond, xor, _&&_, _||_, or-false, List, ℕ, zero, suc, _-_, _/_}
 use Rattle.prelude.specs.Words.{_<_, min, max, arith, ℕ-discrete, decLt, eqb, ltb, length, getD, set, length-set, eqb-true, eqb-false, eq-eqb, ne-eqb, lt-ltb}
-use Rattle.prelude.specs.Words.{le-ltb, getD-set-same, getD-set-other}
+use Rattle.prelude.specs.Words.{le-ltb, getD-set-same, getD-set-other, by-test}
 use lib.Bits.{bitAnd, bitOr, bitXor, differ, and-le-r}
 use Rattle.tree.specs.Mask.{bit, has, put, has-put, has-zero, bit-suc, bit-and, bit-or, bit-xor}
 use Rattle.tree.specs.MaskLaws.{firstBits, first-below, first-above}
@@ -61,11 +61,9 @@ less-one-there x (suc r) (suc k) w d =
     rw (bit-suc x k, bit-suc (x - 1) k, e) (less-one-there (x / 2) r k (least-half w) (λ s. d (ap suc s)))
 
 pub has-rest : (x r k : ℕ) → Least x r → has (bitAnd x (x - 1)) k ≡ not (eqb k r) && has x k
-has-rest x r k w = rw (bit-and x (x - 1) k) (go (eqb k r) refl)
-  where
-    go : (b : Bool) → eqb k r ≡ b → eqb (min (bit x k) (bit (x - 1) k)) 1 ≡ not b && has x k
-    go true e = let s : k ≡ r = eqb-true k r e in rw (s, less-one-here x r w)
-    go false e = rw (less-one-there x r k w (eqb-false k r e))
+has-rest x r k w = rw (bit-and x (x - 1) k) (by-test (eqb k r)
+    (λ e. rw e (let s : k ≡ r = eqb-true k r e in rw (s, less-one-here x r w)))
+    (λ e. rw e (rw (less-one-there x r k w (eqb-false k r e)))))
 
 pub has-least : {x r : ℕ} → Least x r → has x r ≡ true
 has-least w = rw (w .on)

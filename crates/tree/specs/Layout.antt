@@ -1,6 +1,6 @@
 -- How a round's numbers lie in the flat arrays, and what the arrays stand for.
-use Rattle.prelude.specs.Words.{_≡_, refl, Bool, true, false, cond, List, [], _∷_, ℕ, zero, suc, _+_, _*_, _/_, _%_, _<_, _≤_, arith, div-add-mod', ℤ, pos}
-use Rattle.prelude.specs.Words.{_-ℤ_, eqb, length, drop, getD, set, replicate, drop-of-length-le, drop-cons, getD-set-same, getD-set-other, eqb-true, eqb-false}
+use Rattle.prelude.specs.Words.{_≡_, refl, cond, List, [], _∷_, ℕ, zero, suc, _+_, _*_, _/_, _%_, _<_, _≤_, arith, div-add-mod', ℤ, pos, _-ℤ_, eqb, length}
+use Rattle.prelude.specs.Words.{drop, getD, set, replicate, drop-of-length-le, drop-cons, getD-set-same, getD-set-other, eqb-true, eqb-false, by-test}
 use Rattle.transport.specs.Limits.{maxSide, costAbove}
 use Rattle.transport.specs.Lists.{table}
 use Rattle.transport.specs.Laws.ListLaws.{length-table, getD-table}
@@ -90,11 +90,9 @@ strikesFrom-nil leaf other lane count =
 -- ---- one element of an array is written
 
 pub getD-set : {A : Type 0} (xs : List A) (i k : ℕ) (v d : A) → i < length xs → getD (set xs i v) k d ≡ cond (eqb k i) v (getD xs k d)
-getD-set xs i k v d p = go (eqb k i) refl
-  where
-    go : (b : Bool) → eqb k i ≡ b → getD (set xs i v) k d ≡ cond b v (getD xs k d)
-    go true e = let s : k ≡ i = eqb-true k i e in rw s (getD-set-same xs i v d p)
-    go false e = getD-set-other xs i k v d (eqb-false k i e)
+getD-set xs i k v d p = by-test (eqb k i)
+    (λ e. rw e (let s : k ≡ i = eqb-true k i e in rw s (getD-set-same xs i v d p)))
+    (λ e. rw e (getD-set-other xs i k v d (eqb-false k i e)))
 
 -- An array of one number, also past its end.
 pub getD-all : {A : Type 0} (n k : ℕ) (d : A) → getD (replicate n d) k d ≡ d

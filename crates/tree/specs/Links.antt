@@ -1,7 +1,7 @@
 -- Masks as lanes: bit y of the mask of node x is the lane from x to the node `otherEnd m x y`.
-use Rattle.prelude.specs.Words.{_≡_, refl, sym, ap, _∙_, _↔_, _≢_, by-cases, Bool, true, false, not, _&&_, cond, false≢true, List, ℕ, zero, suc, _+_, _-_, _*_}
-use Rattle.prelude.specs.Words.{_/_, _^_, _<_, _≤_, arith, ℕ-discrete, decLt, lt-ltb, le-ltb, eqb-true, eqb-false, eq-eqb, ne-eqb, not-true, eqb, ltb, length}
-use Rattle.prelude.specs.Words.{getD, set, length-set, getD-set-same, getD-set-other}
+use Rattle.prelude.specs.Words.{_≡_, refl, sym, ap, _∙_, _↔_, _≢_, by-cases, Bool, true, false, not, _&&_, cond, List, ℕ, zero, suc, _+_, _-_, _*_, _/_, _^_}
+use Rattle.prelude.specs.Words.{_<_, _≤_, arith, ℕ-discrete, decLt, lt-ltb, le-ltb, eqb-true, eqb-false, eq-eqb, ne-eqb, not-true, eqb, ltb, length, getD, set}
+use Rattle.prelude.specs.Words.{length-set, getD-set-same, getD-set-other, clash}
 use lib.Count.{ones, ones-step, trailingZeros}
 use Rattle.transport.specs.Problem.{Lane}
 use Rattle.transport.specs.Laws.ProblemLaws.{lane}
@@ -178,7 +178,7 @@ module _ {m n : ℕ} {live : List ℕ} (w : Links m n live) (p b : ℕ) (len : l
   -- A lane is left exactly if it is there and touches the leaf at neither end.
   pub gone-from : (x y : ℕ) → x < m + n → tied (without-lane m live p b) x y ≡ true → (tied live x y ≡ true) × (x ≢ p) × (otherEnd m x y ≢ p)
   gone-from x y l h = by-cases (ℕ-discrete x p)
-      (λ s. absurd (false≢true (sym (has-zero y) ∙ ap (λ z. has z y) (sym at-leaf) ∙ ap (λ z. tied (without-lane m live p b) z y) (sym s) ∙ h)))
+      (λ s. clash (ap (λ z. has z y) (sym at-leaf) ∙ ap (λ z. tied (without-lane m live p b) z y) (sym s) ∙ h) (has-zero y))
       (λ s. by-cases (ℕ-discrete x (otherEnd m p b)) (at s) (off s))
     where
       at : x ≢ p → x ≡ otherEnd m p b → (tied live x y ≡ true) × (x ≢ p) × (otherEnd m x y ≢ p)

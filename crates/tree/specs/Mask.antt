@@ -1,6 +1,6 @@
 -- A mask: a number as the set of its bits. Bit k is in the mask x where the binary digit k of x is 1.
 use Rattle.prelude.specs.Words.{ℕ, zero, suc, _+_, _-_, _*_, _/_, _%_, _^_, _<_, _≤_, min, max, arith, pow-suc, div-eq-of-lt, one-mul, eq-or-lt-of-le, decLt}
-use Rattle.prelude.specs.Words.{_≡_, refl, sym, ap, _∙_, subst, Bool, true, false, not, _&&_, _||_, eqb-true, eqb-false, ⊎-elim, _⊎_, inl, inr, eqb}
+use Rattle.prelude.specs.Words.{_≡_, refl, sym, ap, _∙_, subst, Bool, false, not, _&&_, _||_, eqb-true, eqb-false, ⊎-elim, _⊎_, inl, inr, eqb, by-test}
 use lib.Bits.{bitAnd, bitOr, bitXor, differ, or-shr, or-step, and-shr, and-step, xor-shr, xor-step}
 use native.Mathlib.Numerals.{one-add}
 use lib.Pow.{shr-shr, shl-shr, shl-exact, pow-lt, pow-add}
@@ -151,18 +151,14 @@ ones-zero = refl
 -- ---- the same as tests
 
 pub has-put : (x j k : ℕ) → has (put x j) k ≡ eqb k j || has x k
-has-put x j k = go (eqb k j) refl
-  where
-    go : (b : Bool) → eqb k j ≡ b → has (put x j) k ≡ b || has x k
-    go true e = let s : k ≡ j = eqb-true k j e in rw (s, put-here x j)
-    go false e = rw (put-there x j k (eqb-false k j e))
+has-put x j k = by-test (eqb k j)
+    (λ e. rw e (let s : k ≡ j = eqb-true k j e in rw (s, put-here x j)))
+    (λ e. rw e (rw (put-there x j k (eqb-false k j e))))
 
 pub has-unset : (x j k : ℕ) → has (unset x j) k ≡ not (eqb k j) && has x k
-has-unset x j k = go (eqb k j) refl
-  where
-    go : (b : Bool) → eqb k j ≡ b → has (unset x j) k ≡ not b && has x k
-    go true e = let s : k ≡ j = eqb-true k j e in rw (s, unset-here x j)
-    go false e = rw (unset-there x j k (eqb-false k j e))
+has-unset x j k = by-test (eqb k j)
+    (λ e. rw e (let s : k ≡ j = eqb-true k j e in rw (s, unset-here x j)))
+    (λ e. rw e (rw (unset-there x j k (eqb-false k j e))))
 
 pub has-zero : (k : ℕ) → has 0 k ≡ false
 has-zero k = rw (none 0 k ones-zero)

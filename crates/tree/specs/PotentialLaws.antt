@@ -1,24 +1,12 @@
 -- The laws of potentials by strikes: the step back through one strike, and a bound on their size.
 use Rattle.prelude.specs.Words.{ℕ, suc, _+_, _*_, _-_, _/_, _%_, _<_, _≤_, arith, suc-mul, mul-le-mul-right, _≡_, refl, ap, _∙_, Bool, true, false, cond, List}
-use Rattle.prelude.specs.Words.{[], _∷_, eqb, ℤ, pos, natAbs, _-ℤ_, length, getD, set, length-drop, getD-drop}
+use Rattle.prelude.specs.Words.{[], _∷_, eqb, ℤ, pos, natAbs, _-ℤ_, length, getD, set, length-drop, getD-drop, by-test}
 use Rattle.transport.specs.Problem.{Lane}
 use Rattle.transport.specs.Leaf.{Strike}
 use Rattle.transport.specs.Potential.{potentialBy}
 use Rattle.transport.specs.Laws.RangeLaws.{abs-diff}
-use Rattle.tree.specs.Layout.{
-  stride,
-  nodeRoom,
-  costOf,
-  laneAt,
-  strikeOf,
-  strikesOf,
-  strikesFrom,
-  strikesFrom-cons,
-  length-strikes,
-  getD-strikes,
-  getD-set,
-}
-use Rattle.tree.specs.Layout.{StrikesInRoom}
+use Rattle.tree.specs.Layout.{stride, nodeRoom, costOf, laneAt, strikeOf, strikesOf, strikesFrom, strikesFrom-cons, length-strikes, getD-strikes}
+use Rattle.tree.specs.Layout.{getD-set, StrikesInRoom}
 
 module _ (cost : Lane → ℤ) where
   pub potentialBy-nil : (k : ℕ) → potentialBy cost [] k ≡ pos 0
@@ -28,11 +16,7 @@ module _ (cost : Lane → ℤ) where
   potentialBy-cons : (s : Strike) (ss : List Strike) (k : ℕ)
       → potentialBy cost (s ∷ ss) k ≡ cond (eqb k (s .leaf)) (cost (s .lane) -ℤ potentialBy cost ss (s .other)) (potentialBy cost ss k)
   unfolding potentialBy
-  potentialBy-cons s ss k = go (eqb k (s .leaf)) refl
-    where
-      go : (b : Bool) → eqb k (s .leaf) ≡ b → potentialBy cost (s ∷ ss) k ≡ cond b (cost (s .lane) -ℤ potentialBy cost ss (s .other)) (potentialBy cost ss k)
-      go true e = rw (potentialBy, e)
-      go false e = rw (potentialBy, e)
+  potentialBy-cons s ss k = by-test (eqb k (s .leaf)) (λ e. rw (potentialBy, e)) (λ e. rw (potentialBy, e))
 
   -- After t strikes no potential passes t times the greatest cost.
   potentialBy-abs : (most : ℕ) (d : Strike) (ss : List Strike) → ((k : ℕ) → k < length ss → natAbs (cost (getD ss k d .lane)) ≤ most)

@@ -1,16 +1,15 @@
 -- The queue of leaves: distinct nodes, those before place k struck and without a lane, those from k up to tail with at most one. Every leaf that is left
 -- waits in it.
-use Rattle.prelude.specs.Words.{_≡_, refl, sym, ap, _∙_, _≢_, _⊎_, inl, inr, ⊎-elim, by-cases, Bool, true, false, not, _&&_, cond, true≢false, false≢true, List}
-use Rattle.prelude.specs.Words.{ℕ, zero, suc, _+_, _<_, _≤_, arith, ℕ-discrete, decLt, eqb-true, eqb-false, eq-eqb, ne-eqb, not-true, eqb, length, getD, set}
-use Rattle.prelude.specs.Words.{getD-set-same, getD-set-other}
+use Rattle.prelude.specs.Words.{_≡_, refl, sym, ap, _∙_, _≢_, _⊎_, inl, inr, ⊎-elim, by-cases, Bool, true, false, not, _&&_, cond, true≢false, List, ℕ, zero}
+use Rattle.prelude.specs.Words.{suc, _+_, _<_, _≤_, arith, ℕ-discrete, decLt, eqb-true, eqb-false, eq-eqb, ne-eqb, not-true, eqb, length, getD, set}
+use Rattle.prelude.specs.Words.{getD-set-same, getD-set-other, by-test, clash}
 use lib.Count.{ones}
 use Rattle.transport.specs.Lists.{sumTo}
 use Rattle.transport.specs.Laws.ListLaws.{and-left, and-right, sumTo-cong, sumTo-add, sumTo-each}
 use Rattle.tree.specs.Mask.{bit, has, unset, has-unset, has-zero, ones-zero, only}
 use Rattle.tree.specs.Layout.{nodeRoom}
 use Rattle.tableaux.specs.Leaves.{one-at, sum-one-at, sum-ones, unless, unless-bits}
-use Rattle.tree.specs.Links.{Links, otherEnd, ownBit, joins, tied, ones-some, end-below, end-back, without-lane, at-leaf, at-end, at-rest}
-use Rattle.tree.specs.Links.{gone-from}
+use Rattle.tree.specs.Links.{Links, otherEnd, ownBit, joins, tied, ones-some, end-below, end-back, without-lane, at-leaf, at-end, at-rest, gone-from}
 
 -- The queue holds nodes below N, and every leaf that P says.
 pub record QueueOf (N : ℕ) (P : ℕ → Type 0) (live leaf : List ℕ) (k tail : ℕ) : Type 0 where
@@ -77,7 +76,10 @@ module _ {N N′ : ℕ} {P P′ : ℕ → Type 0} {live leaf : List ℕ} {k tail
         dead = λ t l. rw (before t (omega (arith, q .order))) (q .dead t l);
         few = λ t l r. rw (before t (omega arith)) (q .few t l (omega arith));
         listed = λ x z p u. ⊎-elim
-            (λ s. absurd (false≢true (sym e ∙ rw (ne-eqb o 0 (λ g. z (s ∙ g)), eq-eqb (ones (getD live o 0)) 1 (ap (λ y. ones (getD live y 0)) (sym s) ∙ u)))))
+            (λ s. clash {b = joins o (getD live o 0)} (rw (
+              ne-eqb o 0 (λ g. z (s ∙ g)),
+              eq-eqb (ones (getD live o 0)) 1 (ap (λ y. ones (getD live y 0)) (sym s) ∙ u),
+            )) e)
             (λ s. let (t, a, b, c) = q .listed x z s u in (t, a, omega arith, before t b ∙ c))
             (rest x p);
       }
@@ -145,11 +147,9 @@ module _ {m n : ℕ} {live leaf : List ℕ} {k tail : ℕ} (w : Links m n live) 
 
   -- A node without a lane stays so.
   never : (x y : ℕ) → x < m + n → tied live x y ≡ false → tied live-next x y ≡ false
-  never x y l f = go (tied live-next x y) refl
-    where
-      go : (t : Bool) → tied live-next x y ≡ t → tied live-next x y ≡ false
-      go true h = absurd (true≢false (sym (gone-from w leaf-now b len leaf-low e leaf-few x y l h .0) ∙ f))
-      go false h = h
+  never x y l f = by-test (tied live-next x y)
+      (λ h. clash (gone-from w leaf-now b len leaf-low e leaf-few x y l h .0) f)
+      (λ h. h)
 
   after-strike : QueueOf (m + n) (λ x. (x < m + n) × (x ≢ otherEnd m leaf-now b)) live-next leaf (k + 1) tail
   after-strike = record {

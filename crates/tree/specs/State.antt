@@ -34,8 +34,7 @@ state-start {leaf = leaf} {other = other} {lane = lane} a b c d w q =
       laneSize = d;
       links = w;
       queue = q;
-      strip =
-          λ B M. rw (table-zero (strikeOf leaf other lane)) (strip-start M leaf w);
+      strip = λ B M. rw (table-zero (strikeOf leaf other lane)) (strip-start M leaf w);
     }
 
 module _ {m n : ℕ} {adj live leaf other lane : List ℕ} {k tail : ℕ} (s : StrikeState m n adj live leaf other lane k tail) where

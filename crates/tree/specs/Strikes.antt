@@ -10,8 +10,7 @@ use Rattle.tableaux.specs.Striking.{StrikeStep, Peeled, bare, peel, Struck, ste
 lanes-apart : {m n : ℕ} {ss : List Strike} (d : Strike) → Peeled m n ss → (i k : ℕ) → i < k → k < length ss → getD ss k d .lane ≢ getD ss i d .lane
 lanes-apart d bare i k l r = absurd (omega arith)
 lanes-apart d (peel {s} {later} st rest) i zero l r = absurd (omega arith)
-lanes-apart d (peel {s} {later} st rest) zero (suc k) l r =
-    lane-once st rest (getD later k d) (member-at later d k (omega arith))
+lanes-apart d (peel {s} {later} st rest) zero (suc k) l r = lane-once st rest (getD later k d) (member-at later d k (omega arith))
 lanes-apart d (peel {s} {later} st rest) (suc i) (suc k) l r = lanes-apart d rest i k (omega arith) (omega arith)
 
 module _ (m n : ℕ) (leaf other lane : List ℕ) (count : ℕ) (p : Peeled m n (strikesOf leaf other lane count)) where

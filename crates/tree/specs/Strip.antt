@@ -2,7 +2,7 @@
 use Rattle.prelude.specs.Words.{_≡_, refl, sym, ap, _∙_, _≢_, _⊎_, inl, inr, ⊎-elim, by-cases, Bool, true, false, not, _&&_, cond, true≢false, List, [], _∷_}
 use Rattle.prelude.specs.Words.{_++_, List·Memᴰ, List·Memᴰ·head, List·Memᴰ·tail, List·Memᴰ·not-nil, List·Memᴰ·cases-cons, List·Memᴰ·append-cases}
 use Rattle.prelude.specs.Words.{Memᴰ·append-left, Memᴰ·append-right, List·Memᴰ·eq-of-singleton, Memᴰ·cast, ℕ, suc, _+_, _-_, _<_, _≤_, arith, decLt, lt-ltb}
-use Rattle.prelude.specs.Words.{le-ltb, eq-eqb, ne-eqb, not-true, ltb, length, getD, set, getD-set-other}
+use Rattle.prelude.specs.Words.{le-ltb, eq-eqb, ne-eqb, not-true, ltb, length, getD, set, getD-set-other, clash}
 use Rattle.transport.specs.Lists.{keep, table}
 use Rattle.transport.specs.Laws.ListLaws.{keep-yes, keep-no, keep-none, keep-all, keep-cong, keep-keep, keep-member, member-keep, all-members, member-place}
 use Rattle.transport.specs.Laws.ListLaws.{member-at, and-left, and-right}
@@ -40,7 +40,7 @@ keep-single {A} p d y (x ∷ xs) distinct h e u = go (p x) refl (keep-single p d
         other k l true r = absurd (distinct 0 (suc k) (omega arith) (omega arith) (same ∙ sym (u (getD xs k d) (List·Memᴰ·tail (member-at xs d k l)) r)))
         other k l false r = r
     go false q rest =
-        keep-no p x xs q ∙ rest (⊎-elim (λ r. absurd (true≢false (sym e ∙ ap p r ∙ q))) (λ r. r) (List·Memᴰ·cases-cons h)) e (λ z m. u z (List·Memᴰ·tail m))
+        keep-no p x xs q ∙ rest (⊎-elim (λ r. clash e (ap p r ∙ q)) (λ r. r) (List·Memᴰ·cases-cons h)) e (λ z m. u z (List·Memᴰ·tail m))
 
 -- ---- one strike more at the end
 

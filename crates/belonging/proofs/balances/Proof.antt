@@ -67,13 +67,5 @@ returns-2 c cost T h =
 
 pub balances-spec : {M : Type 1} → statement M
 balances-spec =
-    tie.close
-    (tie.spec
-    weigh-bags-requires
-    weigh-marks-requires
-    (λ c. search needs)
-    sub-count
-    flows-match-requires
-    returns
-    flows-match-requires-2
-    returns-2)
+    tie.close (tie.spec weigh-bags-requires weigh-marks-requires (λ c. search needs) sub-count flows-match-requires returns
+    flows-match-requires-2 returns-2)

@@ -102,16 +102,5 @@ returns-4 c =
 
 pub load-spec : {M : Type 1} → statement M
 load-spec =
-    tie.close
-    (tie.spec
-    (λ c. search needs)
-    (λ c. omega (arith, sides (c .before .before) .rowsLow))
-    returns
-    cells-fit-requires
-    returns-2
-    lay-out-requires
-    (λ c. search needs)
-    (λ c. omega (arith, sides (startOf c) .rowsLow))
-    returns-3
-    balances-requires
-    returns-4)
+    tie.close (tie.spec (λ c. search needs) (λ c. omega (arith, sides (c .before .before) .rowsLow)) returns cells-fit-requires returns-2
+    lay-out-requires (λ c. search needs) (λ c. omega (arith, sides (startOf c) .rowsLow)) returns-3 balances-requires returns-4)

@@ -34,5 +34,4 @@ returns-3 c =
     rw (le-ltb k maxCells (omega (arith, c .before .if1 .left)), le-ltb k maxCount (omega (arith, c .if2 .left)))
 
 pub add-cell-spec : {M : Type 1} → statement M
-add-cell-spec =
-    tie.close (tie.spec mul-c element-set-from-c add-u returns add-u-2 returns-2 returns-3)
+add-cell-spec = tie.close (tie.spec mul-c element-set-from-c add-u returns add-u-2 returns-2 returns-3)

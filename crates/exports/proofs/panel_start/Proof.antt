@@ -37,5 +37,4 @@ returns-2 c =
     ∙ ap (λ (x : StartAnswer). started (x .outcome) (x .tableau)) (w .ensures) ∙ started-is a
 
 pub panel-start-spec : {M : Type 1} → statement M
-panel-start-spec =
-    tie.close (tie.spec start-requires enum-told enum-known-outcome returns returns-2)
+panel-start-spec = tie.close (tie.spec start-requires enum-told enum-known-outcome returns returns-2)

@@ -25,5 +25,4 @@ returns c =
     (c .write-out .ensures ∙ ap written (e .0) ∙ written-is (writePlanCall (sheetAt t) (length (t .args .out .now))), e .1)
 
 pub panel-write-plan-spec : {M : Type 1} → statement M
-panel-write-plan-spec =
-    tie.close (tie.spec write-plan-requires write-out-requires same-length returns)
+panel-write-plan-spec = tie.close (tie.spec write-plan-requires write-out-requires same-length returns)

@@ -25,5 +25,4 @@ returns c =
     (c .write-out .ensures ∙ ap written (e .0) ∙ written-is (writeSheetCall (sheetAt t) (length (t .args .out .now))), e .1)
 
 pub panel-write-sheet-spec : {M : Type 1} → statement M
-panel-write-sheet-spec =
-    tie.close (tie.spec write-sheet-requires write-out-requires same-length returns)
+panel-write-sheet-spec = tie.close (tie.spec write-sheet-requires write-out-requires same-length returns)

@@ -1,5 +1,5 @@
 -- `loading::load_sheet` meets its contract: what the sheet check refuses is refused, and else the tableau is tested and loaded.
-use Rattle.prelude.specs.Words.{_≡_, sym, ap, _∙_, needs}
+use Rattle.prelude.specs.Words.{sym, ap, _∙_, needs}
 use Rattle.transport.specs.Sheet.{Sheet, sheetOf}
 use Rattle.transport.specs.Laws.SheetLaws.{accepted}
 use Rattle.transport.specs.Laws.CallLaws.{some≢none}

@@ -1,5 +1,5 @@
 -- `loading::load_tableau` meets its contract: among those left the caller's tableau belongs exactly if it belongs to the sheet under own numbers.
-use Rattle.prelude.specs.Words.{_≡_, sym, ap, _∙_, true, map, needs, not-true, not-false}
+use Rattle.prelude.specs.Words.{_≡_, sym, ap, _∙_, map, not-true, not-false}
 use Rattle.transport.specs.Sheet.{Sheet, cafes, sheetOf}
 use Rattle.transport.specs.Extended.{extended}
 use Rattle.transport.specs.Parties.{rowsLeft, columnsLeft, problemOf}
@@ -139,23 +139,10 @@ returns-2 c =
 
 pub load-tableau-spec : {M : Type 1} → statement M
 load-tableau-spec =
-    tie.close
-    (tie.spec
-    (λ c κs. (_, startBefore c .pre .0))
-    (λ c. parties c .rowsRoom)
-    (λ c. rows-lent (parties (c .before)))
-    (λ c. parties (c .before) .colsRoom)
-    (λ c. columns-lent (parties (c .before .before)))
-    renumber-requires
-    (λ c. parties (partiesBefore c) .suppliesRoom)
-    (λ c. supplies-lent (parties (partiesBefore (c .before))))
-    (λ c. parties (partiesBefore (c .before)) .demandsRoom)
-    (λ c. demands-lent (parties (partiesBefore (c .before .before))))
-    load-requires
-    returns
-    (λ c. parties (partiesOf (c .before)) .rowsRoom)
-    (λ c. rows-lent (parties (partiesOf (c .before .before))))
-    (λ c. parties (partiesOf (c .before .before)) .cafesRoom)
-    (λ c. cafes-lent (parties (partiesOf (c .before .before .before))))
-    spread-costs-requires
-    returns-2)
+    tie.close (tie.spec (λ c κs. (_, startBefore c .pre .0)) (λ c. parties c .rowsRoom) (λ c. rows-lent (parties (c .before)))
+    (λ c. parties (c .before) .colsRoom) (λ c. columns-lent (parties (c .before .before))) renumber-requires
+    (λ c. parties (partiesBefore c) .suppliesRoom) (λ c. supplies-lent (parties (partiesBefore (c .before))))
+    (λ c. parties (partiesBefore (c .before)) .demandsRoom) (λ c. demands-lent (parties (partiesBefore (c .before .before)))) load-requires
+    returns (λ c. parties (partiesOf (c .before)) .rowsRoom) (λ c. rows-lent (parties (partiesOf (c .before .before))))
+    (λ c. parties (partiesOf (c .before .before)) .cafesRoom) (λ c. cafes-lent (parties (partiesOf (c .before .before .before))))
+    spread-costs-requires returns-2)

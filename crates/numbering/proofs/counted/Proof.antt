@@ -1,5 +1,5 @@
 -- `numbering::counted` meets its contract.
-use Rattle.prelude.specs.Words.{_≡_, lt-ltb, le-ltb}
+use Rattle.prelude.specs.Words.{lt-ltb, le-ltb}
 use Rattle.transport.specs.Limits.{maxSide, maxCells}
 use Rattle.numbering.proofs.counted.Statement.{statement}
 use Rattle.numbering.proofs.counted.Tie as tie

@@ -10,5 +10,4 @@ unfolding ownCell at
 returns c = refl
 
 pub own-cell-spec : {M : Type 1} → statement M
-own-cell-spec =
-    tie.close (tie.spec (λ c. search needs) (λ c. search needs) (λ c. search needs) (λ c. search needs) returns)
+own-cell-spec = tie.close (tie.spec (λ c. search needs) (λ c. search needs) (λ c. search needs) (λ c. search needs) returns)

@@ -63,17 +63,5 @@ returns c T is-t = let l = c .before .loop in changed-tableau _ T (l .inv .1) (o
 
 pub own-tableau-spec : {M : Type 1} → statement M
 own-tableau-spec =
-    tie.close
-    (tie.spec
-    Inv-loop
-    μ-loop
-    loop-holds
-    mul-c
-    element-copy-out-c
-    own-cell-requires
-    mul-t7
-    element-set-from-own
-    add-k
-    (λ c. omega (arith, below (c .before .before)))
-    loop-again
-    returns)
+    tie.close (tie.spec Inv-loop μ-loop loop-holds mul-c element-copy-out-c own-cell-requires mul-t7 element-set-from-own add-k
+    (λ c. omega (arith, below (c .before .before))) loop-again returns)

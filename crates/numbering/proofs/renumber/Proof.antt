@@ -64,20 +64,6 @@ returns c =
 
 pub renumber-spec : {M : Type 1} → statement M
 renumber-spec =
-    tie.close
-    (tie.spec
-    Inv-loop
-    μ-loop
-    (λ c κs. c .before .before .pre .0)
-    (λ c κs. c .before .before .before .pre .1)
-    (λ c κs. tt)
-    loop-holds
-    mul-c
-    element-copy-out-c
-    (λ c κs. tt)
-    mul-t12
-    (λ c. element-copy-out-c (inLoop c))
-    add-k
-    (λ c. omega arith)
-    loop-again
+    tie.close (tie.spec Inv-loop μ-loop (λ c κs. c .before .before .pre .0) (λ c κs. c .before .before .before .pre .1) (λ c κs. tt)
+    loop-holds mul-c element-copy-out-c (λ c κs. tt) mul-t12 (λ c. element-copy-out-c (inLoop c)) add-k (λ c. omega arith) loop-again
     returns)

@@ -61,22 +61,6 @@ returns-3 c = c .before .loop .inv .0
 
 pub read-input-spec : {M : Type 1} → statement M
 read-input-spec =
-    tie.close
-    (tie.spec
-    Inv-loop
-    μ-loop
-    (λ c. omega arith)
-    (λ c. omega arith)
-    (λ c. omega arith)
-    (λ c. search needs)
-    (λ c κs. search needs)
-    same-length
-    (λ c. tt)
-    same-length-2
-    returns-2
-    cast-at
-    (λ c. omega (arith, most c))
-    loop-less
-    loop-again
-    (λ c. c .before .loop .inv .1)
+    tie.close (tie.spec Inv-loop μ-loop (λ c. omega arith) (λ c. omega arith) (λ c. omega arith) (λ c. search needs) (λ c κs. search needs)
+    same-length (λ c. tt) same-length-2 returns-2 cast-at (λ c. omega (arith, most c)) loop-less loop-again (λ c. c .before .loop .inv .1)
     returns-3)

@@ -26,5 +26,4 @@ returns-2 c =
     put-whole (digits (a .n)) (a .out .now) _ _ (omega (arith, h .digit-count .ensures)) (c .before .before .write-number .ensures)
 
 pub printer-number-spec : {M : Type 1} → statement M
-printer-number-spec =
-    tie.close (tie.spec digit-count-requires returns write-number-requires same-length returns-2)
+printer-number-spec = tie.close (tie.spec digit-count-requires returns write-number-requires same-length returns-2)

@@ -38,5 +38,4 @@ returns-2 c =
     )
 
 pub printer-whole-spec : {M : Type 1} → statement M
-printer-whole-spec =
-    tie.close (tie.spec whole-count-requires returns write-whole-requires same-length returns-2)
+printer-whole-spec = tie.close (tie.spec whole-count-requires returns write-whole-requires same-length returns-2)

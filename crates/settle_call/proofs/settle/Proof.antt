@@ -154,21 +154,8 @@ returns-4 c =
 
 pub settle-spec : {M : Type 1} → statement M
 settle-spec =
-    tie.close
-    (tie.spec
-    (λ c κs. (refl, refl, refl))
-    (λ c. search needs)
-    returns
-    (λ c. search needs)
-    is-finished-requires
-    returns-2
-    mul-if2
-    returns-3
-    settle-board-requires
-    (λ c. admitted (toldBefore (c .before)) .parties .rowsRoom)
+    tie.close (tie.spec (λ c κs. (refl, refl, refl)) (λ c. search needs) returns (λ c. search needs) is-finished-requires returns-2 mul-if2
+    returns-3 settle-board-requires (λ c. admitted (toldBefore (c .before)) .parties .rowsRoom)
     (λ c. rows-lent (admitted (toldBefore (c .before .before)) .parties))
     (λ c. admitted (toldBefore (c .before .before)) .parties .cafesRoom)
-    (λ c. cafes-lent (admitted (toldBefore (c .before .before .before)) .parties))
-    store-plan-requires
-    (λ c. search needs)
-    returns-4)
+    (λ c. cafes-lent (admitted (toldBefore (c .before .before .before)) .parties)) store-plan-requires (λ c. search needs) returns-4)

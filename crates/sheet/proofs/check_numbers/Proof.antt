@@ -1,6 +1,6 @@
 -- Each way out is a case of `refusal`; the totals are taken where both lists are known to be within their limits.
 use Rattle.prelude.specs.Words.{_≡_, sym, ap, _∙_, _↔_, ⊎-elim, true, false, not, true≢false, none, some, _≤_, arith, ltb, pos, negℤ, not-true, not-false}
-use Rattle.prelude.specs.Words.{eqb-true, eqb-false, eq-eqb, ltb-true, ltb-false, needs}
+use Rattle.prelude.specs.Words.{eqb-true, eqb-false, eq-eqb, ltb-true, ltb-false, needs, clash}
 use Rattle.transport.specs.Lists.{all, atMost, withinZ, total}
 use Rattle.transport.specs.Limits.{maxSide, maxAmount, maxCost}
 use Rattle.transport.specs.Sheet.{Sheet, cafes, sheetOf, refusal, numberTests}
@@ -102,7 +102,7 @@ crowded-is c =
     let enough = long t (c .if5 .left) in (
       λ y. ⊎-elim
           (λ (d, e). (omega (arith, enough, d .taken, supply-sum t, demand-sum t), eqb-true _ _ (sym e ∙ y)))
-          (λ (d, e). absurd (true≢false (sym y ∙ e ∙ ap not (eq-eqb _ _ (d .left)))))
+          (λ (d, e). clash y (e ∙ ap not (eq-eqb _ _ (d .left))))
           (c .before .if4 .came),
       λ (l, n). ⊎-elim
           (λ (d, e). e ∙ eq-eqb _ _ n)
@@ -134,17 +134,5 @@ returns-7 c =
 
 pub check-numbers-spec : {M : Type 1} → statement M
 check-numbers-spec =
-    tie.close
-    (tie.spec
-    (λ c κs. search needs)
-    returns
-    (λ c κs. search needs)
-    returns-2
-    (λ c κs. search needs)
-    returns-3
-    total-of-requires
-    total-of-requires-2
-    returns-4
-    returns-5
-    returns-6
-    returns-7)
+    tie.close (tie.spec (λ c κs. search needs) returns (λ c κs. search needs) returns-2 (λ c κs. search needs) returns-3 total-of-requires
+    total-of-requires-2 returns-4 returns-5 returns-6 returns-7)

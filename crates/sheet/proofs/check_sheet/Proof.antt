@@ -58,13 +58,4 @@ returns-4 c =
 
 pub check-sheet-spec : {M : Type 1} → statement M
 check-sheet-spec =
-    tie.close
-    (tie.spec
-    (λ c κs. search needs)
-    returns
-    (λ c κs. search needs)
-    returns-2
-    mul-if3
-    returns-3
-    check-numbers-requires
-    returns-4)
+    tie.close (tie.spec (λ c κs. search needs) returns (λ c κs. search needs) returns-2 mul-if3 returns-3 check-numbers-requires returns-4)

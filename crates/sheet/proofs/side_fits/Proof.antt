@@ -6,13 +6,11 @@ use Rattle.sheet.proofs.side_fits.Tie as tie
 
 returns : tie.Need-returns
 unfolding within
-returns c =
-    rw (le-leb 1 (c .before .args .count) (c .if1 .taken))
+returns c = rw (le-leb 1 (c .before .args .count) (c .if1 .taken))
 
 returns-2 : tie.Need-returns-2
 unfolding within
-returns-2 c =
-    rw (lt-leb 1 (c .before .args .count) (c .if1 .left))
+returns-2 c = rw (lt-leb 1 (c .before .args .count) (c .if1 .left))
 
 pub side-fits-spec : {M : Type 1} → statement M
 side-fits-spec = tie.close (tie.spec returns returns-2)

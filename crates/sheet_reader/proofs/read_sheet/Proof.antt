@@ -63,23 +63,7 @@ returns-2 c =
 
 pub read-sheet-spec : {M : Type 1} → statement M
 read-sheet-spec =
-    tie.close
-    (tie.spec
-    (λ c. search needs)
-    (λ c. search needs)
-    (λ c. search needs)
-    read-sections-requires
-    (λ c. search needs)
-    returns
-    mul-lanes
-    (λ c. sheet-read c .supply-room)
-    (λ c. sym (supply-length (sheet-read (c .before))))
-    (λ c. sheet-read (c .before) .demand-room)
-    slice-aggregate-store-sheet-2
-    array-share-prefix-costs
-    slice-aggregate-store-sheet-3
-    store-sheet-requires
-    (λ c. search needs)
-    (λ c. search needs)
-    (λ c. search needs)
-    returns-2)
+    tie.close (tie.spec (λ c. search needs) (λ c. search needs) (λ c. search needs) read-sections-requires (λ c. search needs) returns
+    mul-lanes (λ c. sheet-read c .supply-room) (λ c. sym (supply-length (sheet-read (c .before))))
+    (λ c. sheet-read (c .before) .demand-room) slice-aggregate-store-sheet-2 array-share-prefix-costs slice-aggregate-store-sheet-3
+    store-sheet-requires (λ c. search needs) (λ c. search needs) (λ c. search needs) returns-2)

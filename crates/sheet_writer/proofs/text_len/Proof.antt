@@ -73,14 +73,5 @@ returns c =
 
 pub text-len-spec : {M : Type 1} → statement M
 text-len-spec =
-    tie.close
-    (tie.spec
-    (λ c. search needs)
-    section-len-requires
-    (λ c. search needs)
-    section-len-requires-2
-    add-result
-    (λ c. search needs)
-    whole-section-len-requires
-    add-result-2
-    returns)
+    tie.close (tie.spec (λ c. search needs) section-len-requires (λ c. search needs) section-len-requires-2 add-result (λ c. search needs)
+    whole-section-len-requires add-result-2 returns)

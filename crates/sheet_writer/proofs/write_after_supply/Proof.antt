@@ -45,15 +45,5 @@ returns c =
 
 pub write-after-supply-spec : {M : Type 1} → statement M
 write-after-supply-spec =
-    tie.close
-    (tie.spec
-    (λ c. search needs)
-    write-section-requires
-    (λ c. search needs)
-    sub-write-whole-section
-    part-write-whole-section-start
-    (λ c. search needs)
-    write-whole-section-requires
-    add-result
-    (λ c. search needs)
-    returns)
+    tie.close (tie.spec (λ c. search needs) write-section-requires (λ c. search needs) sub-write-whole-section
+    part-write-whole-section-start (λ c. search needs) write-whole-section-requires add-result (λ c. search needs) returns)

@@ -47,14 +47,5 @@ returns-3 c =
 
 pub write-sheet-spec : {M : Type 1} → statement M
 write-sheet-spec =
-    tie.close
-    (tie.spec
-    (λ c κs. search needs)
-    (λ c. search needs)
-    returns
-    (λ c. search needs)
-    text-len-requires
-    returns-2
-    write-text-requires
-    (λ c. search needs)
-    returns-3)
+    tie.close (tie.spec (λ c κs. search needs) (λ c. search needs) returns (λ c. search needs) text-len-requires returns-2
+    write-text-requires (λ c. search needs) returns-3)

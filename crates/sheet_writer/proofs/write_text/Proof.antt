@@ -34,8 +34,7 @@ unfolding bytes
 begun c = record {
   room = room (c .before .before .before .before .before .before);
   ends = c .write-section .ensures .0;
-  holds =
-      c .write-section .ensures .1;
+  holds = c .write-section .ensures .1;
 }
 
 sub-write-after-supply : tie.Need-sub-write-after-supply
@@ -63,14 +62,5 @@ returns c =
 
 pub write-text-spec : {M : Type 1} → statement M
 write-text-spec =
-    tie.close
-    (tie.spec
-    (λ c. search needs)
-    write-section-requires
-    sub-write-after-supply
-    part-write-after-supply-start
-    (λ c. search needs)
-    write-after-supply-requires
-    add-result
-    (λ c. search needs)
-    returns)
+    tie.close (tie.spec (λ c. search needs) write-section-requires sub-write-after-supply part-write-after-supply-start (λ c. search needs)
+    write-after-supply-requires add-result (λ c. search needs) returns)

@@ -11,12 +11,5 @@ add-result-2 c = omega (arith, mul-le-mul (c .before .before .before .pre .0) (c
 
 pub missing-room-spec : {M : Type 1} → statement M
 missing-room-spec =
-    tie.close
-    (tie.spec
-    (λ c κs. search needs)
-    (λ c κs. search needs)
-    (λ c. search needs)
-    mul-missing
-    (λ c κs. search needs)
-    add-result-2
+    tie.close (tie.spec (λ c κs. search needs) (λ c κs. search needs) (λ c. search needs) mul-missing (λ c κs. search needs) add-result-2
     (λ c. search needs))

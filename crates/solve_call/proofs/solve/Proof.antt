@@ -79,17 +79,5 @@ returns-3 c =
 
 pub solve-spec : {M : Type 1} → statement M
 solve-spec =
-    tie.close
-    (tie.spec
-    (λ c κs. search needs)
-    (λ c. search needs)
-    returns
-    (λ c. search needs)
-    missing-room-requires
-    returns-2
-    solve-checked-requires
-    plan-cost-requires
-    (λ c. search needs)
-    (λ c. search needs)
-    (λ c. search needs)
-    returns-3)
+    tie.close (tie.spec (λ c κs. search needs) (λ c. search needs) returns (λ c. search needs) missing-room-requires returns-2
+    solve-checked-requires plan-cost-requires (λ c. search needs) (λ c. search needs) (λ c. search needs) returns-3)

@@ -81,22 +81,9 @@ returns-2 c =
 
 pub start-spec : {M : Type 1} → statement M
 start-spec =
-    tie.close
-    (tie.spec
-    (λ c κs. search needs)
-    (λ c. search needs)
-    (λ c κs. search needs)
-    returns
-    (λ c. search needs)
-    number-parties-requires
-    (λ c. parties c .suppliesRoom)
-    (λ c. supplies-lent (parties (c .before)))
-    (λ c. parties (c .before) .demandsRoom)
-    (λ c. demands-lent (parties (c .before .before)))
-    first-tableau-requires
-    (λ c. parties (partiesBefore c) .rowsRoom)
-    (λ c. rows-lent (parties (partiesBefore (c .before))))
-    (λ c. parties (partiesBefore (c .before)) .colsRoom)
-    (λ c. columns-lent (parties (partiesBefore (c .before .before))))
-    own-tableau-requires
-    returns-2)
+    tie.close (tie.spec (λ c κs. search needs) (λ c. search needs) (λ c κs. search needs) returns (λ c. search needs)
+    number-parties-requires (λ c. parties c .suppliesRoom) (λ c. supplies-lent (parties (c .before)))
+    (λ c. parties (c .before) .demandsRoom) (λ c. demands-lent (parties (c .before .before))) first-tableau-requires
+    (λ c. parties (partiesBefore c) .rowsRoom) (λ c. rows-lent (parties (partiesBefore (c .before))))
+    (λ c. parties (partiesBefore (c .before)) .colsRoom) (λ c. columns-lent (parties (partiesBefore (c .before .before))))
+    own-tableau-requires returns-2)

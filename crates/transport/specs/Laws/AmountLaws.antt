@@ -1,6 +1,6 @@
 -- The laws of paired amounts: what the tests of whole numbers and of pairs say, and that pairs are strictly ordered.
 use Rattle.prelude.specs.Words.{ℕ, suc, _+_, _≤_, _<_, arith, _≡_, refl, sym, ap, _∙_, Bool, true, false, _&&_, _||_, true≢false, false≢true, not, List}
-use Rattle.prelude.specs.Words.{List·Memᴰ, ℤ, pos, negsuc, ltZ, _≤ℤ_, length, ltb-true, ltb-false, lt-ltb, le-ltb, eqb-true, eq-eqb}
+use Rattle.prelude.specs.Words.{List·Memᴰ, ℤ, pos, negsuc, ltZ, _≤ℤ_, length, ltb-true, ltb-false, lt-ltb, le-ltb, eqb-true, eq-eqb, by-test, clash}
 use lib.Signed.{ltZ-no}
 use Rattle.transport.specs.Laws.ListLaws.{member-at, member-place, and-left, and-right, StrictWeak, firstLeast-is}
 use Rattle.transport.specs.Lists.{leastOf}
@@ -87,11 +87,12 @@ tied : (x y : ℤ) (r : Bool) → x ≡ y → ltZ x y || (eqZ x y && r) ≡ r
 tied x y r p = rw (p, ltZ-weak .irreflexive y, eqZ-same y)
 
 over : (x y : ℤ) (r : Bool) → ltZ y x ≡ true → ltZ x y || (eqZ x y && r) ≡ false
-over x y r p = rw (ge-ltZ x y (omega (arith, ltZ-lt y x p)), apart (eqZ x y) refl)
-  where
-    apart : (b : Bool) → eqZ x y ≡ b → eqZ x y ≡ false
-    apart true s = absurd (true≢false (sym p ∙ rw (eqZ-true x y s) (ltZ-weak .irreflexive y)))
-    apart false s = s
+over x y r p = rw (
+  ge-ltZ x y (omega (arith, ltZ-lt y x p)),
+  by-test (eqZ x y)
+      (λ s. clash p (rw (eqZ-true x y s) (ltZ-weak .irreflexive y)))
+      (λ s. s),
+)
 
 pub less-q : (a b : Pair) → ltZ (a .q) (b .q) ≡ true → less a b ≡ true
 unfolding less
@@ -150,9 +151,9 @@ less-weak =
     transitive x y z (equal s) (fewer t) p r = less-q x z (cc)
     transitive x y z (equal s) (equal t) p r =
         less-e x z (s ∙ t) ∙ ltZ-weak .transitive (x .e) (y .e) (z .e) (sym (less-e x y s) ∙ p) (sym (less-e y z t) ∙ r)
-    transitive x y z (fewer s) (more t) p r = absurd (true≢false (sym r ∙ less-no y z t))
-    transitive x y z (equal s) (more t) p r = absurd (true≢false (sym r ∙ less-no y z t))
-    transitive x y z (more s) t p r = absurd (true≢false (sym p ∙ less-no x y s))
+    transitive x y z (fewer s) (more t) p r = clash r (less-no y z t)
+    transitive x y z (equal s) (more t) p r = clash r (less-no y z t)
+    transitive x y z (more s) t p r = clash p (less-no x y s)
 
     negative : (x y z : Pair) → Compared (x .q) (y .q) → Compared (y .q) (z .q) → less x y ≡ false → less y z ≡ false → less x z ≡ false
     negative x y z (more s) (more t) p r = less-no x z (ltZ-weak .transitive (z .q) (y .q) (x .q) t s)
@@ -160,9 +161,9 @@ less-weak =
     negative x y z (equal s) (more t) p r = less-no x z (cc)
     negative x y z (equal s) (equal t) p r =
         less-e x z (s ∙ t) ∙ ltZ-weak .negative (x .e) (y .e) (z .e) (sym (less-e x y s) ∙ p) (sym (less-e y z t) ∙ r)
-    negative x y z (more s) (fewer t) p r = absurd (true≢false (sym (less-q y z t) ∙ r))
-    negative x y z (equal s) (fewer t) p r = absurd (true≢false (sym (less-q y z t) ∙ r))
-    negative x y z (fewer s) t p r = absurd (true≢false (sym (less-q x y s) ∙ p))
+    negative x y z (more s) (fewer t) p r = clash (less-q y z t) r
+    negative x y z (equal s) (fewer t) p r = clash (less-q y z t) r
+    negative x y z (fewer s) t p r = clash (less-q x y s) p
 
 -- ---- same
 

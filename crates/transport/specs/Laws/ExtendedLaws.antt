@@ -1,6 +1,6 @@
 -- The laws of Extended: whether there is an extra café, what each column wants, and what each lane costs.
-use Rattle.prelude.specs.Words.{_≡_, refl, sym, ap, _∙_, subst, by-cases, Bool, true, false, cond, [], _∷_, _++_, append-nil, ℕ, _+_, _*_, _-_, _≤_, _<_, arith}
-use Rattle.prelude.specs.Words.{decLt, eqb, ℤ, pos, length, getD, length-append, List·getD-append, List·getD-eq-default, eqb-true, eqb-false, lt-ltb, le-ltb}
+use Rattle.prelude.specs.Words.{_≡_, refl, sym, ap, _∙_, subst, by-cases, cond, [], _∷_, _++_, append-nil, ℕ, _+_, _*_, _≤_, _<_, arith, decLt, eqb, ℤ, pos}
+use Rattle.prelude.specs.Words.{length, getD, length-append, List·getD-append, List·getD-eq-default, eqb-true, eqb-false, lt-ltb, le-ltb, by-test}
 use Rattle.transport.specs.Lists.{at, atZ, total}
 use Rattle.transport.specs.Problem.{sinks, place, laneCost}
 use Rattle.transport.specs.Sheet.{Sheet, roasteries, cafes}
@@ -18,11 +18,9 @@ pub data Extra (S : Sheet) : Type 0 where
 module _ (S : Sheet) where
   pub extra : Extra S
   unfolding wanted
-  extra = go (eqb (surplus S) 0) refl
-    where
-      go : (b : Bool) → eqb (surplus S) 0 ≡ b → Extra S
-      go true e = without (eqb-true (surplus S) 0 e) (rw (e, append-nil (S .demand)))
-      go false e = with (omega (arith, eqb-false (surplus S) 0 e)) (rw e)
+  extra = by-test (eqb (surplus S) 0)
+      (λ e. without (eqb-true (surplus S) 0 e) (rw (e, append-nil (S .demand))))
+      (λ e. with (omega (arith, eqb-false (surplus S) 0 e)) (rw e))
 
   pub wanted-total : total (S .demand) ≤ total (S .supply) → total (wanted S) ≡ total (S .supply)
   unfolding surplus

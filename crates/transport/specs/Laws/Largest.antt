@@ -1,5 +1,5 @@
 -- The largest sheets: every count and amount at its limit, and every lane at one cost. The longest text, and the least and the greatest total, are of such.
-use Rattle.prelude.specs.Words.{_≡_, by-cases, ℕ, _*_, _≤_, _<_, arith, decLt, ℤ, pos, negℤ, _≤ℤ_, leZ-yes, length, getD, replicate, length-replicate}
+use Rattle.prelude.specs.Words.{_≡_, by-cases, ℕ, _*_, _≤_, arith, decLt, ℤ, pos, negℤ, _≤ℤ_, leZ-yes, length, getD, replicate, length-replicate}
 use Rattle.prelude.specs.Words.{getD-replicate, List·getD-eq-default}
 use Rattle.transport.specs.Lists.{at, atZ, total}
 use Rattle.transport.specs.Limits.{maxSources, maxSinks, maxSide, maxAmount, maxCost}

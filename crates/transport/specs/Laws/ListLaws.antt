@@ -4,6 +4,7 @@ use Rattle.prelude.specs.Words.{_≡_, refl, sym, ap, _∙_, ⊎-elim, _⊎_, i
 use Rattle.prelude.specs.Words.{_++_, map, flatMap, append-assoc, append-nil, List·Memᴰ, List·Memᴰ·head, List·Memᴰ·tail, List·Memᴰ·not-nil}
 use Rattle.prelude.specs.Words.{List·Memᴰ·cases-cons, List·Memᴰ·append-cases, Memᴰ·append-left, Memᴰ·append-right, length, drop, getD, set, length-append}
 use Rattle.prelude.specs.Words.{length-drop, length-map, List·getD-append, List·getD-eq-default, drop-cons, set-at, getD-at, getD-drop, ext-getD, ℤ, pos, _+ℤ_}
+use Rattle.prelude.specs.Words.{by-test}
 use lib.Seq.{getD-append-add}
 use Rattle.transport.specs.Lists.{all, keep, leastFrom, firstLeast, table, below, sumTo, sumZ, at, atZ, total}
 
@@ -228,11 +229,9 @@ module _ {A : Type 0} (p : A → Bool) where
 
   pub member-keep : {x : A} {xs : List A} → p x ≡ true → List·Memᴰ x xs → List·Memᴰ x (keep p xs)
   member-keep e (List·Memᴰ·head {x} {xs} q) = rw (keep-yes x xs (rw q at e)) (List·Memᴰ·head q)
-  member-keep {x = y} e (List·Memᴰ·tail {x} {xs} m) = go (p x) refl (member-keep e m)
-    where
-      go : (b : Bool) → p x ≡ b → List·Memᴰ y (keep p xs) → List·Memᴰ y (keep p (x ∷ xs))
-      go true q m = rw (keep-yes x xs q) (List·Memᴰ·tail m)
-      go false q m = rw (keep-no x xs q) m
+  member-keep {x = y} e (List·Memᴰ·tail {x} {xs} m) = by-test (p x)
+      (λ q. rw (keep-yes x xs q) (List·Memᴰ·tail (member-keep e m)))
+      (λ q. rw (keep-no x xs q) (member-keep e m))
 
   pub keep-member : {x : A} (xs : List A) → List·Memᴰ x (keep p xs) → List·Memᴰ x xs × (p x ≡ true)
   unfolding keep

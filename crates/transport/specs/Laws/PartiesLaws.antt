@@ -2,13 +2,13 @@
 -- left, where a party at 0 adds nothing.
 use Rattle.prelude.specs.Words.{_≡_, refl, sym, ap, _∙_, by-cases, Bool, true, false, List, [], _∷_, _++_, map, append-nil, ℕ, zero, suc, _+_, _≤_, _<_, arith}
 use Rattle.prelude.specs.Words.{add-zero, decLt, ℕ-discrete, ltb, pos, length, getD, length-append, length-map, List·getD-append, eqb-true, eqb-false, ne-eqb}
-use Rattle.prelude.specs.Words.{lt-ltb, le-ltb, not-true, not-false}
+use Rattle.prelude.specs.Words.{lt-ltb, le-ltb, not-true, not-false, by-test}
 use Rattle.transport.specs.Lists.{keep, below, table, at, atZ, sumTo, total}
 use Rattle.transport.specs.Problem.{Problem, sources, sinks, laneCost}
 use Rattle.transport.specs.Parties.{isLeft, left, among, rowsLeft, columnsLeft, struck}
-use Rattle.transport.specs.Laws.ListLaws.{keep-yes, keep-no, keep-append, keep-all, keep-cong, all-of, sumTo-one, sumTo-cong, at-past}
-use Rattle.transport.specs.Laws.ListLaws.{member-at, member-keep, member-place, member-table, keep-member, table-member}
-use Rattle.transport.specs.Laws.ListLaws.{length-table, getD-table, getD-map, getD-append-at}
+use Rattle.transport.specs.Laws.ListLaws.{keep-yes, keep-no, keep-append, keep-all, keep-cong, all-of, sumTo-one, sumTo-cong, at-past, member-at}
+use Rattle.transport.specs.Laws.ListLaws.{member-keep, member-place, member-table, keep-member, table-member, length-table, getD-table, getD-map}
+use Rattle.transport.specs.Laws.ListLaws.{getD-append-at}
 use Rattle.transport.specs.Laws.ProblemLaws.{lane, getD-grid}
 
 -- ---- the numbers below n that pass a test
@@ -27,11 +27,7 @@ module _ (p : ℕ → Bool) where
 
   -- What holds of those kept below n + 1, from what holds below n: the last one is kept, or it is not.
   kept-step : (Good : List ℕ → Type 0) (n : ℕ) → (p n ≡ true → Good (kept n ++ (n ∷ []))) → (p n ≡ false → Good (kept n)) → Good (kept (suc n))
-  kept-step Good n stays goes = go (p n) refl
-    where
-      go : (b : Bool) → p n ≡ b → Good (kept (suc n))
-      go true e = rw (kept-yes n e) (stays e)
-      go false e = rw (kept-no n e) (goes e)
+  kept-step Good n stays goes = by-test (p n) (λ e. rw (kept-yes n e) (stays e)) (λ e. rw (kept-no n e) (goes e))
 
   kept-most : (n : ℕ) → length (kept n) ≤ n
   unfolding below table keep
@@ -299,5 +295,4 @@ module _ (E : Problem) where
   pub struck-lane : (i j : ℕ) → i < length (rowsLeft E) → j < length (columnsLeft E)
       → laneCost (struck E) (lane i j) ≡ laneCost E (lane (at (rowsLeft E) i) (at (columnsLeft E) j))
   unfolding laneCost struck sinks columnsLeft atZ
-  struck-lane i j l h =
-      rw (length-amounts (E .demand)) (getD-grid (length (columnsLeft E)) _ (length (rowsLeft E)) i j (pos 0) l h)
+  struck-lane i j l h = rw (length-amounts (E .demand)) (getD-grid (length (columnsLeft E)) _ (length (rowsLeft E)) i j (pos 0) l h)

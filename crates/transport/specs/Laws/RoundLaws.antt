@@ -1,5 +1,5 @@
 -- The laws of Round: the same lane, and the flow through one strike.
-use Rattle.prelude.specs.Words.{_≡_, refl, sym, ap, _∙_, _≢_, Bool, true, false, true≢false, List, _∷_, ℕ, eqb-true, eq-eqb, eqb, ℤ}
+use Rattle.prelude.specs.Words.{_≡_, refl, sym, ap, _∙_, _≢_, true, false, true≢false, List, _∷_, ℕ, eqb-true, eq-eqb, eqb, ℤ, by-test}
 use Rattle.transport.specs.Laws.ListLaws.{and-left, and-right}
 use Rattle.transport.specs.Problem.{Lane}
 use Rattle.transport.specs.Laws.ProblemLaws.{lane}
@@ -21,18 +21,12 @@ unfolding sameLane
 lane-same l = rw (eq-eqb (l .row) (l .row) refl, eq-eqb (l .col) (l .col) refl)
 
 pub lane-other : (k l : Lane) → k ≢ l → sameLane k l ≡ false
-lane-other k l d = go (sameLane k l) refl
-  where
-    go : (b : Bool) → sameLane k l ≡ b → sameLane k l ≡ false
-    go true e = absurd (d (same-lane k l e))
-    go false e = e
+lane-other k l d = by-test (sameLane k l) (λ e. absurd (d (same-lane k l e))) (λ e. e)
 
 pub lane-dec : (k l : Lane) → Dec (k ≡ l)
-lane-dec k l = go (sameLane k l) refl
-  where
-    go : (b : Bool) → sameLane k l ≡ b → Dec (k ≡ l)
-    go true e = yes (same-lane k l e)
-    go false e = no (λ q. true≢false (sym (lane-same l) ∙ ap (λ (v : Lane). sameLane v l) (sym q) ∙ e))
+lane-dec k l = by-test (sameLane k l)
+    (λ e. yes (same-lane k l e))
+    (λ e. no (λ q. true≢false (sym (lane-same l) ∙ ap (λ (v : Lane). sameLane v l) (sym q) ∙ e)))
 
 -- ---- one strike
 

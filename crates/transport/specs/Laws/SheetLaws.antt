@@ -1,11 +1,11 @@
 -- The laws of Sheet: the first refusal, and what the sheet check says.
 use Rattle.prelude.specs.Words.{ℕ, _*_, _≤_, _<_, arith, decLt, _≡_, refl, sym, ap, _∙_, Bool, true, false, not, _&&_, and-false, true≢false, List, [], _∷_}
 use Rattle.prelude.specs.Words.{_++_, append-nil, Option, none, some, leb, eqb, ltb, T, ℤ, pos, negsuc, negℤ, leZ, ltZ, _≤ℤ_, leZ-yes, length, getD, leb-true}
-use Rattle.prelude.specs.Words.{le-leb, lt-leb, eqb-true, eq-eqb, ne-eqb, le-ltb, lt-ltb, ltb-true, ltb-false, not-false}
+use Rattle.prelude.specs.Words.{le-leb, lt-leb, eqb-true, eq-eqb, ne-eqb, le-ltb, lt-ltb, ltb-true, ltb-false, not-false, by-test}
 use Rattle.transport.specs.Lists.{all, at, atZ, total, atMost, within, withinZ}
 use Rattle.transport.specs.Limits.{maxSources, maxSinks, maxSide, maxAmount, maxCost}
-use Rattle.transport.specs.Sheet.{Sheet, roasteries, cafes, badSides, badLength, badAmount, badCost, lacking, crowded, idle}
-use Rattle.transport.specs.Sheet.{numberTests, sheetTests, refusal}
+use Rattle.transport.specs.Sheet.{Sheet, roasteries, cafes, badSides, badLength, badAmount, badCost, lacking, crowded, idle, numberTests, sheetTests}
+use Rattle.transport.specs.Sheet.{refusal}
 use Rattle.transport.specs.Statements.{WithinLimits, Lacking, Crowded, Idle, Accepted}
 use Rattle.transport.specs.Laws.ListLaws.{and-left, and-right, all-at, all-of, at-past, atZ-past}
 
@@ -24,11 +24,7 @@ refusal-no t ts e = rw (e, refusal)
 
 -- Where nothing is refused, the first test does not hold, and none of the others refuses.
 pub refusal-clear : (t : Bool × ℕ) (ts : List (Bool × ℕ)) → refusal (t ∷ ts) ≡ none → (t .0 ≡ false) × (refusal ts ≡ none)
-refusal-clear t ts e = go (t .0) refl
-  where
-    go : (b : Bool) → t .0 ≡ b → (t .0 ≡ false) × (refusal ts ≡ none)
-    go true p = absurd (none-some _ (sym e ∙ refusal-yes t ts p))
-    go false p = (p, sym (refusal-no t ts p) ∙ e)
+refusal-clear t ts e = by-test (t .0) (λ p. absurd (none-some _ (sym e ∙ refusal-yes t ts p))) (λ p. (p, sym (refusal-no t ts p) ∙ e))
 
 -- Tests that refuse nothing leave it to those after them ..
 pub refusal-pass : (ts us : List (Bool × ℕ)) → refusal ts ≡ none → refusal (ts ++ us) ≡ refusal us
@@ -41,18 +37,15 @@ refusal-pass (t ∷ ts) us e =
 pub refusal-stands : (ts us : List (Bool × ℕ)) (k : ℕ) → refusal ts ≡ some k → refusal (ts ++ us) ≡ some k
 unfolding refusal
 refusal-stands [] us k e = absurd (none-some k e)
-refusal-stands (t ∷ ts) us k e = go (t .0) refl (refusal-stands ts us k)
-  where
-    go : (b : Bool) → t .0 ≡ b → (refusal ts ≡ some k → refusal (ts ++ us) ≡ some k) → refusal (t ∷ (ts ++ us)) ≡ some k
-    go true p rest = refusal-yes t (ts ++ us) p ∙ sym (refusal-yes t ts p) ∙ e
-    go false p rest = refusal-no t (ts ++ us) p ∙ rest (sym (refusal-no t ts p) ∙ e)
+refusal-stands (t ∷ ts) us k e = by-test (t .0)
+    (λ p. refusal-yes t (ts ++ us) p ∙ sym (refusal-yes t ts p) ∙ e)
+    (λ p. refusal-no t (ts ++ us) p ∙ refusal-stands ts us k (sym (refusal-no t ts p) ∙ e))
 
 -- ---- the sheet check
 
 pub within-true : (low high x : ℕ) → within low high x ≡ true → (low ≤ x) × (x ≤ high)
 unfolding within
-within-true low high x e =
-    (leb-true low x (and-left (leb low x) (leb x high) e), leb-true x high (and-right (leb low x) (leb x high) e))
+within-true low high x e = (leb-true low x (and-left (leb low x) (leb x high) e), leb-true x high (and-right (leb low x) (leb x high) e))
 
 pub true-within : (low high x : ℕ) → low ≤ x → x ≤ high → within low high x ≡ true
 unfolding within

@@ -31,18 +31,6 @@ loop-again c =
 
 pub hold-spec : {M : Type 1} → statement M
 hold-spec =
-    tie.close
-    (tie.spec
-    Inv-loop
-    μ-loop
-    (λ c. touch-start _ 0 (c .args .holds .now) (c .args .cols))
-    (λ c κs. omega arith)
-    (λ c. omega (arith, inside c))
-    inside
-    (λ c κs. omega arith)
-    (λ c. omega (arith, inside (c .before .before)))
-    (λ c. inside (c .before .before))
-    (λ c κs. omega arith)
-    loop-less
-    loop-again
-    (λ c. touch-end (c .before .loop .inv) (omega arith)))
+    tie.close (tie.spec Inv-loop μ-loop (λ c. touch-start _ 0 (c .args .holds .now) (c .args .cols)) (λ c κs. omega arith)
+    (λ c. omega (arith, inside c)) inside (λ c κs. omega arith) (λ c. omega (arith, inside (c .before .before)))
+    (λ c. inside (c .before .before)) (λ c κs. omega arith) loop-less loop-again (λ c. touch-end (c .before .loop .inv) (omega arith)))

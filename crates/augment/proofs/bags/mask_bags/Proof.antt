@@ -47,18 +47,6 @@ returns c = λ n b.
 
 pub mask-bags-spec : {M : Type 1} → statement M
 mask-bags-spec =
-    tie.close
-    (tie.spec
-    Inv-loop
-    μ-loop
-    loop-holds
-    (λ c. omega (arith, low c))
-    (λ c. omega (arith, low c))
-    row-bags-requires
-    (λ c. omega (arith, low (c .before .before)))
-    (λ c. low (c .before .before))
-    hold-requires
-    (λ c. omega (arith, low (c .before .before .before .before)))
-    (λ c. omega arith)
-    loop-again
-    returns)
+    tie.close (tie.spec Inv-loop μ-loop loop-holds (λ c. omega (arith, low c)) (λ c. omega (arith, low c)) row-bags-requires
+    (λ c. omega (arith, low (c .before .before))) (λ c. low (c .before .before)) hold-requires
+    (λ c. omega (arith, low (c .before .before .before .before))) (λ c. omega arith) loop-again returns)

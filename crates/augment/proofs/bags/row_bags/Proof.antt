@@ -36,18 +36,7 @@ loop-again c =
 
 pub row-bags-spec : {M : Type 1} → statement M
 row-bags-spec =
-    tie.close
-    (tie.spec
-    Inv-loop
-    μ-loop
-    (λ c. row-none (c .args .q .now) (c .args .basic) (c .args .i))
-    (λ c κs. omega arith)
-    (λ c. omega (arith, inside c))
-    (λ c. omega (arith, inside c))
-    (λ c. omega (arith, inside c))
-    (λ c. omega (arith, inside c))
-    (λ c κs. omega (arith, inside (c .before)))
-    (λ c κs. omega arith)
-    loop-less
-    loop-again
+    tie.close (tie.spec Inv-loop μ-loop (λ c. row-none (c .args .q .now) (c .args .basic) (c .args .i)) (λ c κs. omega arith)
+    (λ c. omega (arith, inside c)) (λ c. omega (arith, inside c)) (λ c. omega (arith, inside c)) (λ c. omega (arith, inside c))
+    (λ c κs. omega (arith, inside (c .before))) (λ c κs. omega arith) loop-less loop-again
     (λ c. row-all (c .before .loop .inv) (omega arith)))

@@ -41,17 +41,6 @@ returns c =
 
 pub reach-spec : {M : Type 1} → statement M
 reach-spec =
-    tie.close
-    (tie.spec
-    Inv-loop
-    μ-loop
-    (λ c. (touch-start _ 0 (c .args .from .now) (c .args .cols), gather-start (c .args .holds .now) (c .args .cols)))
-    (λ c κs. omega arith)
-    (λ c. omega (arith, inside c))
-    inside
-    (λ c. omega (arith, inside c))
-    inside
-    (λ c κs. omega arith)
-    loop-less
-    loop-again
-    returns)
+    tie.close (tie.spec Inv-loop μ-loop
+    (λ c. (touch-start _ 0 (c .args .from .now) (c .args .cols), gather-start (c .args .holds .now) (c .args .cols))) (λ c κs. omega arith)
+    (λ c. omega (arith, inside c)) inside (λ c. omega (arith, inside c)) inside (λ c κs. omega arith) loop-less loop-again returns)

@@ -5,8 +5,8 @@ use lib.Bits.{bitAnd}
 use Rattle.tree.specs.Bits.{Least}
 use Rattle.tree.specs.Layout.{stride, nodeRoom}
 use Rattle.augment.specs.Bags.{entry}
-use Rattle.augment.specs.Sought.{rooms-set, Sweeping, sweep-start, sweep-few, sweep-row, sweep-some, sweep-col, sweep-fresh}
-use Rattle.augment.specs.Sought.{sweep-on, sweep-hit, sweep-ends}
+use Rattle.augment.specs.Sought.{rooms-set, Sweeping, sweep-start, sweep-few, sweep-row, sweep-some, sweep-col, sweep-fresh, sweep-on, sweep-hit}
+use Rattle.augment.specs.Sought.{sweep-ends}
 use Rattle.augment.proofs.search.search.Statement.{statement}
 use Rattle.augment.proofs.search.search.Tie as tie
 
@@ -95,37 +95,13 @@ returns-2 c = let l = c .before .before .loop in (l .inv .rooms, λ x g. sweep-e
 
 pub search-spec : {M : Type 1} → statement M
 search-spec =
-    tie.close
-    (tie.spec
-    Inv-loop
-    μ-loop
-    (λ c. omega (arith, c .pre .1 .rowLong))
-    (λ c. omega (arith, low c))
-    (λ c. low c)
-    (λ c κs. omega (arith, low c))
-    (λ c. omega (arith, low (c .before)))
-    (λ c. low (c .before))
-    loop-holds
-    (λ c κs. omega arith)
-    (λ c. omega (arith, row-low c))
-    (λ c. row-low c)
+    tie.close (tie.spec Inv-loop μ-loop (λ c. omega (arith, c .pre .1 .rowLong)) (λ c. omega (arith, low c)) (λ c. low c)
+    (λ c κs. omega (arith, low c)) (λ c. omega (arith, low (c .before))) (λ c. low (c .before)) loop-holds (λ c κs. omega arith)
+    (λ c. omega (arith, row-low c)) (λ c. row-low c)
     (λ c κs. let n = c .before in sweep-some (turn n .loop .inv) (a n .pre .0 .1) (n .first-bit .result) (least-row n))
-    (λ c. omega (arith, count-low (next c)))
-    (λ c. count-low (next c))
-    (λ c. omega (arith, count-low (next c)))
-    (λ c. count-low (next c))
-    (λ c. omega (arith, col-low c))
-    (λ c. col-low c)
-    (λ c. omega (arith, count-low (next (c .before))))
-    (λ c. count-low (next (c .before)))
-    (λ c. omega (arith, row-low (next (c .before))))
-    (λ c. row-low (next (c .before)))
-    (λ c κs. search needs)
-    (λ c κs. omega arith)
-    returns
-    (λ c κs. omega (arith, row-low (next (c .before .before .before .before .before .before))))
-    reach-requires
+    (λ c. omega (arith, count-low (next c))) (λ c. count-low (next c)) (λ c. omega (arith, count-low (next c))) (λ c. count-low (next c))
+    (λ c. omega (arith, col-low c)) (λ c. col-low c) (λ c. omega (arith, count-low (next (c .before)))) (λ c. count-low (next (c .before)))
+    (λ c. omega (arith, row-low (next (c .before)))) (λ c. row-low (next (c .before))) (λ c κs. search needs) (λ c κs. omega arith) returns
+    (λ c κs. omega (arith, row-low (next (c .before .before .before .before .before .before)))) reach-requires
     (λ c. omega (arith, count-low (next (c .before .before .before .before .before .before .before .before .before))))
-    (λ c. omega (arith, count-low (next (c .before .before .before .before .before .before .before .before .before))))
-    loop-again
-    returns-2)
+    (λ c. omega (arith, count-low (next (c .before .before .before .before .before .before .before .before .before)))) loop-again returns-2)

@@ -81,24 +81,10 @@ returns c =
 
 pub bring-spec : {M : Type 1} → statement M
 bring-spec =
-    tie.close
-    (tie.spec
-    Inv-loop
-    μ-loop
-    (λ c. omega arith)
-    (λ c. omega (arith, small (c .before .before .before .before)))
-    (λ c. omega (arith, small (c .before .before .before .before)))
-    shift-requires
-    (λ c. λ m n q holds owns v w. w)
-    (λ c. omega (arith, inside c))
-    (λ c. inside c .0)
-    (λ c. omega (arith, inside (c .before .before .before .before)))
-    (λ c. inside (c .before .before .before .before) .0)
-    (λ c. omega (arith, inside (c .before .before .before .before .before)))
+    tie.close (tie.spec Inv-loop μ-loop (λ c. omega arith) (λ c. omega (arith, small (c .before .before .before .before)))
+    (λ c. omega (arith, small (c .before .before .before .before))) shift-requires (λ c. λ m n q holds owns v w. w)
+    (λ c. omega (arith, inside c)) (λ c. inside c .0) (λ c. omega (arith, inside (c .before .before .before .before)))
+    (λ c. inside (c .before .before .before .before) .0) (λ c. omega (arith, inside (c .before .before .before .before .before)))
     (λ c. inside (c .before .before .before .before .before) .1)
     (λ c. omega (arith, inside (c .before .before .before .before .before .before)))
-    (λ c. inside (c .before .before .before .before .before .before) .0)
-    shift-requires-2
-    loop-less
-    loop-again
-    returns)
+    (λ c. inside (c .before .before .before .before .before .before) .0) shift-requires-2 loop-less loop-again returns)

@@ -36,10 +36,5 @@ returns c =
 
 pub bring-least-spec : {M : Type 1} → statement M
 bring-least-spec =
-    tie.close
-    (tie.spec
-    (λ c κs. let s = c .before in (s .pre .0, s .pre .1, s .pre .2 .walkable))
-    (λ c. omega (arith, in-room c))
-    in-room
-    bring-requires
-    returns)
+    tie.close (tie.spec (λ c κs. let s = c .before in (s .pre .0, s .pre .1, s .pre .2 .walkable)) (λ c. omega (arith, in-room c)) in-room
+    bring-requires returns)

@@ -44,26 +44,12 @@ loop-again c =
 
 pub least-on-spec : {M : Type 1} → statement M
 least-on-spec =
-    tie.close
-    (tie.spec
-    Inv-loop
-    μ-loop
-    (λ c. omega arith)
-    (λ c. omega (arith, first (c .before)))
-    (λ c. omega (arith, first (c .before)))
-    (λ c. lowering-start (c .before .pre .2) (c .before .args .q .now))
-    (λ c. omega (arith, inside c))
-    (λ c. omega (arith, inside c))
-    (λ c. omega (arith, inside (c .before)))
-    (λ c. omega (arith, inside (c .before)))
-    (λ c. omega (arith, inside (c .before)))
-    (λ c. omega (arith, inside (c .before .before)))
-    (λ c. omega (arith, inside (c .before .before)))
-    (λ c. omega (arith, inside (c .before .before)))
-    (λ c. omega (arith, c .before .before .before .before .loop .inv .inRoom))
-    (λ c. c .before .before .before .before .loop .inv .inRoom)
+    tie.close (tie.spec Inv-loop μ-loop (λ c. omega arith) (λ c. omega (arith, first (c .before))) (λ c. omega (arith, first (c .before)))
+    (λ c. lowering-start (c .before .pre .2) (c .before .args .q .now)) (λ c. omega (arith, inside c)) (λ c. omega (arith, inside c))
+    (λ c. omega (arith, inside (c .before))) (λ c. omega (arith, inside (c .before))) (λ c. omega (arith, inside (c .before)))
+    (λ c. omega (arith, inside (c .before .before))) (λ c. omega (arith, inside (c .before .before)))
+    (λ c. omega (arith, inside (c .before .before))) (λ c. omega (arith, c .before .before .before .before .loop .inv .inRoom))
+    (λ c. c .before .before .before .before .loop .inv .inRoom) (λ c. omega (arith, inside (c .before .before .before .before .before)))
     (λ c. omega (arith, inside (c .before .before .before .before .before)))
-    (λ c. omega (arith, inside (c .before .before .before .before .before)))
-    (λ c. inside (c .before .before .before .before .before .before) .3)
-    loop-again
+    (λ c. inside (c .before .before .before .before .before .before) .3) loop-again
     (λ c. λ d r. lowering-ends (c .before .loop .inv) (omega arith) r))

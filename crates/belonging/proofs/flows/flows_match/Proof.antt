@@ -67,30 +67,9 @@ returns-2 c =
 
 pub flows-match-spec : {M : Type 1} → statement M
 flows-match-spec =
-    tie.close
-    (tie.spec
-    Inv-loop
-    μ-loop
-    loop-holds
-    (λ c. omega arith)
-    (λ c. omega arith)
-    (λ c. omega arith)
-    (λ c. omega arith)
-    (λ c. omega arith)
-    (λ c. omega arith)
-    (λ c. omega (arith, element-copy-out-need c))
-    element-copy-out-need
-    (λ c. omega (arith, element-copy-out-if1 c))
-    element-copy-out-if1
-    returns
-    (λ c. omega (arith, element-set-of-weight c))
-    element-set-of-weight
-    (λ c. omega (arith, element-copy-out-weight c))
-    element-copy-out-weight
-    (λ c. search (needs, diff-in, room c))
-    (λ c. omega (arith, element-copy-out-weight (c .before)))
-    (λ c. element-copy-out-weight (c .before))
-    (λ c. omega arith)
-    (λ c. omega arith)
-    loop-again
-    returns-2)
+    tie.close (tie.spec Inv-loop μ-loop loop-holds (λ c. omega arith) (λ c. omega arith) (λ c. omega arith) (λ c. omega arith)
+    (λ c. omega arith) (λ c. omega arith) (λ c. omega (arith, element-copy-out-need c)) element-copy-out-need
+    (λ c. omega (arith, element-copy-out-if1 c)) element-copy-out-if1 returns (λ c. omega (arith, element-set-of-weight c))
+    element-set-of-weight (λ c. omega (arith, element-copy-out-weight c)) element-copy-out-weight (λ c. search (needs, diff-in, room c))
+    (λ c. omega (arith, element-copy-out-weight (c .before))) (λ c. element-copy-out-weight (c .before)) (λ c. omega arith)
+    (λ c. omega arith) loop-again returns-2)

@@ -32,19 +32,5 @@ returns c =
 
 pub weigh-marks-spec : {M : Type 1} → statement M
 weigh-marks-spec =
-    tie.close
-    (tie.spec
-    Inv-loop
-    μ-loop
-    loop-holds
-    (λ c. omega arith)
-    (λ c. omega arith)
-    (λ c. omega arith)
-    (λ c. omega arith)
-    loop-again
-    cast-weight
-    (λ c. omega arith)
-    (λ c. omega arith)
-    (λ c. omega arith)
-    (λ c. omega arith)
-    returns)
+    tie.close (tie.spec Inv-loop μ-loop loop-holds (λ c. omega arith) (λ c. omega arith) (λ c. omega arith) (λ c. omega arith) loop-again
+    cast-weight (λ c. omega arith) (λ c. omega arith) (λ c. omega arith) (λ c. omega arith) returns)

@@ -40,5 +40,4 @@ returns-4 c =
     (c .less .ensures)
 
 pub cell-fits-spec : {M : Type 1} → statement M
-cell-fits-spec =
-    tie.close (tie.spec returns returns-2 mul-if3 add-if3 returns-3 less-requires returns-4)
+cell-fits-spec = tie.close (tie.spec returns returns-2 mul-if3 add-if3 returns-3 less-requires returns-4)

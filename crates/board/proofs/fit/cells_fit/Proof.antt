@@ -88,19 +88,5 @@ returns-2 c =
 
 pub cells-fit-spec : {M : Type 1} → statement M
 cells-fit-spec =
-    tie.close
-    (tie.spec
-    Inv-loop
-    μ-loop
-    loop-holds
-    (λ c. omega arith)
-    (λ c. omega arith)
-    (λ c κs. (omega arith, omega arith))
-    returns
-    mul-least
-    add-least
-    add-least-2
-    (λ c. omega arith)
-    (λ c. omega arith)
-    loop-again
-    returns-2)
+    tie.close (tie.spec Inv-loop μ-loop loop-holds (λ c. omega arith) (λ c. omega arith) (λ c κs. (omega arith, omega arith)) returns
+    mul-least add-least add-least-2 (λ c. omega arith) (λ c. omega arith) loop-again returns-2)

@@ -33,16 +33,5 @@ returns c =
 
 pub basic-lanes-spec : {M : Type 1} → statement M
 basic-lanes-spec =
-    tie.close
-    (tie.spec
-    Inv-loop
-    μ-loop
-    loop-holds
-    (λ c. omega arith)
-    (λ c. omega arith)
-    (λ c. omega arith)
-    row-lanes-requires
-    (λ c. omega arith)
-    (λ c. omega arith)
-    loop-again
-    returns)
+    tie.close (tie.spec Inv-loop μ-loop loop-holds (λ c. omega arith) (λ c. omega arith) (λ c. omega arith) row-lanes-requires
+    (λ c. omega arith) (λ c. omega arith) loop-again returns)

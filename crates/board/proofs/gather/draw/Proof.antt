@@ -31,15 +31,5 @@ returns c = let e : c .before .loop .k ≡ c .before .before .before .args .coun
 
 pub draw-spec : {M : Type 1} → statement M
 draw-spec =
-    tie.close
-    (tie.spec
-    Inv-loop
-    μ-loop
-    loop-holds
-    (λ c. search needs)
-    (λ c. search needs)
-    link-requires
-    (λ c. search needs)
-    (λ c. search needs)
-    loop-again
-    returns)
+    tie.close (tie.spec Inv-loop μ-loop loop-holds (λ c. search needs) (λ c. search needs) link-requires (λ c. search needs)
+    (λ c. search needs) loop-again returns)

@@ -46,18 +46,5 @@ returns c =
 
 pub gather-cells-spec : {M : Type 1} → statement M
 gather-cells-spec =
-    tie.close
-    (tie.spec
-    Inv-loop
-    μ-loop
-    (λ c κs. (c .before .pre, refl))
-    loop-holds
-    (λ c. omega (arith, few c))
-    (λ c. omega (arith, few c))
-    (λ c κs. inside c)
-    (λ c. search needs)
-    (λ c. search needs)
-    (λ c. search needs)
-    (λ c. omega arith)
-    loop-again
-    returns)
+    tie.close (tie.spec Inv-loop μ-loop (λ c κs. (c .before .pre, refl)) loop-holds (λ c. omega (arith, few c)) (λ c. omega (arith, few c))
+    (λ c κs. inside c) (λ c. search needs) (λ c. search needs) (λ c. search needs) (λ c. omega arith) loop-again returns)

@@ -43,17 +43,6 @@ returns c =
 
 pub row-lanes-spec : {M : Type 1} → statement M
 row-lanes-spec =
-    tie.close
-    (tie.spec
-    Inv-loop
-    μ-loop
-    loop-holds
-    (λ c κs. omega arith)
-    (λ c κs. c .first-bit .ensures .0)
-    (λ c. omega arith)
-    (λ c. omega (arith, ap length (next c)))
-    (λ c. omega (arith, ap length (next c)))
-    (λ c. omega (arith, ap length (next c)))
-    (λ c. omega (arith, ap length (next c)))
-    loop-again
-    returns)
+    tie.close (tie.spec Inv-loop μ-loop loop-holds (λ c κs. omega arith) (λ c κs. c .first-bit .ensures .0) (λ c. omega arith)
+    (λ c. omega (arith, ap length (next c))) (λ c. omega (arith, ap length (next c))) (λ c. omega (arith, ap length (next c)))
+    (λ c. omega (arith, ap length (next c))) loop-again returns)

@@ -15,8 +15,7 @@ loop-holds : tie.Need-loop-holds Inv-loop μ-loop
 loop-holds c = touch-start _ 0 (c .args .masks .now) (c .args .at)
 
 loop-less : tie.Need-loop-less Inv-loop μ-loop
-loop-less c =
-    rw (c .rest .ensures) (rest-less _ (omega arith))
+loop-less c = rw (c .rest .ensures) (rest-less _ (omega arith))
 
 loop-again : tie.Need-loop-again Inv-loop μ-loop
 loop-again c =
@@ -30,17 +29,5 @@ returns c = touch-end (c .before .loop .inv) (omega arith)
 
 pub graft-spec : {M : Type 1} → statement M
 graft-spec =
-    tie.close
-    (tie.spec
-    Inv-loop
-    μ-loop
-    loop-holds
-    (λ c κs. search needs)
-    (λ c. search needs)
-    (λ c. search needs)
-    (λ c. search needs)
-    (λ c. search needs)
-    (λ c κs. search needs)
-    loop-less
-    loop-again
-    returns)
+    tie.close (tie.spec Inv-loop μ-loop loop-holds (λ c κs. search needs) (λ c. search needs) (λ c. search needs) (λ c. search needs)
+    (λ c. search needs) (λ c κs. search needs) loop-less loop-again returns)

@@ -42,21 +42,6 @@ returns c = let e : c .before .loop .k ≡ 0 = omega arith in rw e at (c .before
 
 pub hang-spec : {M : Type 1} → statement M
 hang-spec =
-    tie.close
-    (tie.spec
-    Inv-loop
-    μ-loop
-    loop-holds
-    (λ c. search needs)
-    (λ c. search needs)
-    (λ c. search needs)
-    (λ c. search needs)
-    (λ c. search needs)
-    mul-set-bit
-    element-copy-out-set-bit
-    (λ c κs. search needs)
-    mul-path
-    element-write-path
-    (λ c. search needs)
-    loop-again
-    returns)
+    tie.close (tie.spec Inv-loop μ-loop loop-holds (λ c. search needs) (λ c. search needs) (λ c. search needs) (λ c. search needs)
+    (λ c. search needs) mul-set-bit element-copy-out-set-bit (λ c κs. search needs) mul-path element-write-path (λ c. search needs)
+    loop-again returns)

@@ -35,22 +35,6 @@ returns c = let e : c .before .loop .bits ≡ 0 = omega arith in loop-slots _ _ 
 
 pub loop-slots-spec : {M : Type 1} → statement M
 loop-slots-spec =
-    tie.close
-    (tie.spec
-    Inv-loop
-    μ-loop
-    (λ c. search needs)
-    (λ c. search needs)
-    (λ c. search needs)
-    (λ c. search needs)
-    loop-holds
-    (λ c κs. search needs)
-    (λ c. search needs)
-    (λ c. search needs)
-    (λ c. omega (arith, row-room c))
-    (λ c. omega (arith, row-room c))
-    (λ c κs. search needs)
-    (λ c κs. search needs)
-    loop-less
-    loop-again
-    returns)
+    tie.close (tie.spec Inv-loop μ-loop (λ c. search needs) (λ c. search needs) (λ c. search needs) (λ c. search needs) loop-holds
+    (λ c κs. search needs) (λ c. search needs) (λ c. search needs) (λ c. omega (arith, row-room c)) (λ c. omega (arith, row-room c))
+    (λ c κs. search needs) (λ c κs. search needs) loop-less loop-again returns)

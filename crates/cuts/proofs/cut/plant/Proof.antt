@@ -14,5 +14,4 @@ returns c =
     (c .turn-over .ensures)
 
 pub plant-spec : {M : Type 1} → statement M
-plant-spec =
-    tie.close (tie.spec (λ c. search needs) (λ c. search needs) hang-requires (λ c. search needs) (λ c κs. search needs) returns)
+plant-spec = tie.close (tie.spec (λ c. search needs) (λ c. search needs) hang-requires (λ c. search needs) (λ c κs. search needs) returns)

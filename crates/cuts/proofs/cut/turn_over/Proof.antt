@@ -25,16 +25,5 @@ returns c = let e : c .before .loop .p ≡ c .before .before .before .args .node
 
 pub turn-over-spec : {M : Type 1} → statement M
 turn-over-spec =
-    tie.close
-    (tie.spec
-    Inv-loop
-    μ-loop
-    loop-holds
-    (λ c. search needs)
-    (λ c. search needs)
-    (λ c κs. search needs)
-    graft-requires
-    (λ c. search needs)
-    (λ c. search needs)
-    loop-again
-    returns)
+    tie.close (tie.spec Inv-loop μ-loop loop-holds (λ c. search needs) (λ c. search needs) (λ c κs. search needs) graft-requires
+    (λ c. search needs) (λ c. search needs) loop-again returns)

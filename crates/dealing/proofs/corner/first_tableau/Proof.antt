@@ -75,24 +75,7 @@ returns c =
 
 pub first-tableau-spec : {M : Type 1} → statement M
 first-tableau-spec =
-    tie.close
-    (tie.spec
-    Inv-loop
-    μ-loop
-    add-count
-    sub-count
-    (λ c κs. search needs)
-    first-corner-requires
-    loop-holds
-    (λ c. omega (arith, room c))
-    (λ c κs. search needs)
-    (λ c. omega (arith, room (c .before .before)))
-    (λ c. omega (arith, room (c .before .before)))
-    next-requires
-    add-k
-    (λ c. search needs)
-    loop-again
-    (λ c κs. search needs)
-    (λ c. omega (arith, room (c .before .before)))
-    (λ c. omega (arith, room (c .before .before)))
-    returns)
+    tie.close (tie.spec Inv-loop μ-loop add-count sub-count (λ c κs. search needs) first-corner-requires loop-holds
+    (λ c. omega (arith, room c)) (λ c κs. search needs) (λ c. omega (arith, room (c .before .before)))
+    (λ c. omega (arith, room (c .before .before))) next-requires add-k (λ c. search needs) loop-again (λ c κs. search needs)
+    (λ c. omega (arith, room (c .before .before))) (λ c. omega (arith, room (c .before .before))) returns)

@@ -39,5 +39,4 @@ returns-2 c S e f =
     rw (e, ne-eqb (a .j) (length (a .demand .now) - 1) (λ l. c .if1 .left (omega arith)), toZ-pos w64 (cast-q (c .before) .sfits))
 
 pub paired-demand-spec : {M : Type 1} → statement M
-paired-demand-spec =
-    tie.close (tie.spec mul-q shared-slice-read-q cast-q add-if1 cast-t10 returns returns-2)
+paired-demand-spec = tie.close (tie.spec mul-q shared-slice-read-q cast-q add-if1 cast-t10 returns returns-2)

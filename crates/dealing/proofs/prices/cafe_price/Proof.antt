@@ -1,5 +1,5 @@
 -- `dealing::prices::cafe_price` meets its contract. The loop's invariant: the least of the first k is found; the measure is how many are left.
-use Rattle.prelude.specs.Words.{ℕ, _-_, _≤_, _<_, arith, _≡_, sym, ap, _∙_, needs, ℤ, natAbs, _-ℤ_, length}
+use Rattle.prelude.specs.Words.{ℕ, _-_, _≤_, _<_, arith, _≡_, sym, _∙_, needs, ℤ, natAbs, _-ℤ_, length}
 use mir.Syntax.{w64}
 use mir.Val.{toZ, ofZ}
 use Rattle.transport.specs.Lists.{at, atZ, table, leastOf}
@@ -100,22 +100,6 @@ returns c =
 
 pub cafe-price-spec : {M : Type 1} → statement M
 cafe-price-spec =
-    tie.close
-    (tie.spec
-    Inv-loop
-    μ-loop
-    (λ c. some (c .before .before))
-    mul-slack
-    shared-slice-copy-out-slack
-    slack-requires
-    loop-holds
-    (λ c. omega arith)
-    (λ c. omega arith)
-    mul-slack-2
-    shared-slice-copy-out-slack-2
-    slack-requires-2
-    (λ c κs. tt)
-    (λ c. omega arith)
-    (λ c. omega arith)
-    loop-again
-    returns)
+    tie.close (tie.spec Inv-loop μ-loop (λ c. some (c .before .before)) mul-slack shared-slice-copy-out-slack slack-requires loop-holds
+    (λ c. omega arith) (λ c. omega arith) mul-slack-2 shared-slice-copy-out-slack-2 slack-requires-2 (λ c κs. tt) (λ c. omega arith)
+    (λ c. omega arith) loop-again returns)

@@ -1,5 +1,5 @@
 -- `dealing::prices::column_count` meets its contract.
-use Rattle.prelude.specs.Words.{_≡_, arith, needs, lt-ltb, le-ltb}
+use Rattle.prelude.specs.Words.{arith, needs, lt-ltb, le-ltb}
 use Rattle.transport.specs.Limits.{maxSide}
 use Rattle.transport.specs.Lists.{at}
 use Rattle.dealing.proofs.prices.column_count.Statement.{statement}
@@ -18,5 +18,4 @@ unfolding at
 returns-2 c = rw (le-ltb _ _ (c .if1 .left))
 
 pub column-count-spec : {M : Type 1} → statement M
-column-count-spec =
-    tie.close (tie.spec (λ c. search needs) (λ c. search needs) (λ c. search needs) add-result returns returns-2)
+column-count-spec = tie.close (tie.spec (λ c. search needs) (λ c. search needs) (λ c. search needs) add-result returns returns-2)

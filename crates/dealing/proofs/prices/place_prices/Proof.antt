@@ -5,7 +5,6 @@ use mir.Val.{toZ, ofZ}
 use Rattle.transport.specs.Limits.{maxCost, costAbove}
 use Rattle.transport.specs.Lists.{at}
 use Rattle.transport.specs.Laws.RangeLaws.{mag-abs, abs-fits, back}
-use Rattle.tree.specs.Layout.{maxPotential}
 use Rattle.dealing.specs.PriceLists.{PlacedTo, placed-none, placed-one}
 use Rattle.dealing.proofs.prices.place_prices.Statement.{statement}
 use Rattle.dealing.proofs.prices.place_prices.Tie as tie
@@ -59,21 +58,6 @@ returns c =
 
 pub place-prices-spec : {M : Type 1} → statement M
 place-prices-spec =
-    tie.close
-    (tie.spec
-    Inv-loop
-    μ-loop
-    loop-holds
-    (λ c. omega (arith, start c .pre .room))
-    (λ c. omega (arith, start c .pre .room))
-    (λ c. omega (arith, start c .pre .room))
-    cast-out
-    (λ c. omega arith)
-    (λ c. omega arith)
-    (λ c. omega (arith, inside (c .before .before)))
-    slice-set-from-out
-    (λ c. omega arith)
-    (λ c. omega arith)
-    loop-again
-    (λ c. c .before .loop .inv .1 .long)
-    returns)
+    tie.close (tie.spec Inv-loop μ-loop loop-holds (λ c. omega (arith, start c .pre .room)) (λ c. omega (arith, start c .pre .room))
+    (λ c. omega (arith, start c .pre .room)) cast-out (λ c. omega arith) (λ c. omega arith) (λ c. omega (arith, inside (c .before .before)))
+    slice-set-from-out (λ c. omega arith) (λ c. omega arith) loop-again (λ c. c .before .loop .inv .1 .long) returns)

@@ -1,5 +1,5 @@
 -- `dealing::prices::price_cafes` meets its contract. The loop's invariant: of the first j cafés the struck ones have their prices.
-use Rattle.prelude.specs.Words.{_-_, _<_, arith, _≡_, sym, _∙_, ⊎-elim, needs, length}
+use Rattle.prelude.specs.Words.{_-_, _<_, arith, _≡_, _∙_, ⊎-elim, needs, length}
 use mir.Syntax.{w64}
 use Rattle.transport.specs.Limits.{maxSide}
 use Rattle.transport.specs.Lists.{at}
@@ -43,17 +43,5 @@ returns c = priced-all (omega arith) (c .before .loop .inv)
 
 pub price-cafes-spec : {M : Type 1} → statement M
 price-cafes-spec =
-    tie.close
-    (tie.spec
-    Inv-loop
-    μ-loop
-    loop-holds
-    (λ c. omega arith)
-    (λ c. omega arith)
-    (λ c κs. start (turn c) .pre .0)
-    (λ c. omega (arith, room (turn (c .before))))
-    (λ c. room (turn (c .before)))
-    (λ c. omega arith)
-    (λ c. omega arith)
-    loop-again
-    returns)
+    tie.close (tie.spec Inv-loop μ-loop loop-holds (λ c. omega arith) (λ c. omega arith) (λ c κs. start (turn c) .pre .0)
+    (λ c. omega (arith, room (turn (c .before)))) (λ c. room (turn (c .before))) (λ c. omega arith) (λ c. omega arith) loop-again returns)

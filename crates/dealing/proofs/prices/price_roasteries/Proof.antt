@@ -43,18 +43,6 @@ returns c = priced-all (omega arith) (c .before .loop .inv)
 
 pub price-roasteries-spec : {M : Type 1} → statement M
 price-roasteries-spec =
-    tie.close
-    (tie.spec
-    Inv-loop
-    μ-loop
-    loop-holds
-    (λ c. omega arith)
-    (λ c. omega arith)
-    roastery-price-requires
-    (λ c. omega (arith, room (turn (c .before))))
-    (λ c. room (turn (c .before)))
-    (λ c. omega arith)
-    (λ c. omega arith)
-    loop-again
-    (λ c. c .before .loop .inv .long)
-    returns)
+    tie.close (tie.spec Inv-loop μ-loop loop-holds (λ c. omega arith) (λ c. omega arith) roastery-price-requires
+    (λ c. omega (arith, room (turn (c .before)))) (λ c. room (turn (c .before))) (λ c. omega arith) (λ c. omega arith) loop-again
+    (λ c. c .before .loop .inv .long) returns)

@@ -66,18 +66,5 @@ returns c =
 
 pub roastery-price-spec : {M : Type 1} → statement M
 roastery-price-spec =
-    tie.close
-    (tie.spec
-    Inv-loop
-    μ-loop
-    (λ c. omega arith)
-    slack-requires
-    loop-holds
-    (λ c. omega (arith, room c))
-    room
-    slack-requires-2
-    (λ c κs. tt)
-    (λ c. omega arith)
-    (λ c. omega arith)
-    loop-again
-    returns)
+    tie.close (tie.spec Inv-loop μ-loop (λ c. omega arith) slack-requires loop-holds (λ c. omega (arith, room c)) room slack-requires-2
+    (λ c κs. tt) (λ c. omega arith) (λ c. omega arith) loop-again returns)

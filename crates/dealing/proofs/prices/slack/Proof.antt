@@ -1,12 +1,12 @@
 -- `dealing::prices::slack` meets its contract: the cost is that of the lane, and the difference is in range.
-use Rattle.prelude.specs.Words.{_+_, _*_, _<_, _^_, arith, _≡_, refl, sym, ap, _∙_, ⊎-elim, lt-ltb, le-ltb, ℤ, pos, natAbs, length}
+use Rattle.prelude.specs.Words.{_+_, _*_, _<_, _^_, arith, _≡_, _∙_, ⊎-elim, lt-ltb, le-ltb, ℤ, natAbs, length}
 use mir.Syntax.{w64}
-use mir.Val.{toZ, ofZ}
+use mir.Val.{ofZ}
 use Rattle.transport.specs.Limits.{maxCost, costAbove}
 use Rattle.transport.specs.Lists.{atZ}
 use Rattle.transport.specs.Problem.{place}
 use Rattle.transport.specs.Laws.ProblemLaws.{place-below}
-use Rattle.transport.specs.Laws.RangeLaws.{mag-abs, back, diff-in, diff-back}
+use Rattle.transport.specs.Laws.RangeLaws.{diff-in, diff-back}
 use Rattle.dealing.specs.PriceLists.{costIn, costIn-small}
 use Rattle.dealing.proofs.prices.slack.Statement.{statement}
 use Rattle.dealing.proofs.prices.slack.Tie as tie
@@ -50,5 +50,4 @@ returns : tie.Need-returns
 returns c = rw (lane-is c) (diff-back w64 (lane-cost (c .before)) (c .before .args .price) (small c))
 
 pub slack-spec : {M : Type 1} → statement M
-slack-spec =
-    tie.close (tie.spec mul-lane add-lane mul-lane-2 shared-slice-copy-out-lane sub-result returns)
+slack-spec = tie.close (tie.spec mul-lane add-lane mul-lane-2 shared-slice-copy-out-lane sub-result returns)

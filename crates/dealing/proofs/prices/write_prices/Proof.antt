@@ -1,5 +1,5 @@
 -- `dealing::prices::write_prices` meets its contract: what each call ensures is handed to the laws of the prices that are given.
-use Rattle.prelude.specs.Words.{_≡_, refl, sym, ap, _∙_, _≤_, arith, needs, length, length-take-le}
+use Rattle.prelude.specs.Words.{refl, sym, arith, needs, length-take-le}
 use Rattle.transport.specs.Limits.{maxSide}
 use Rattle.transport.specs.Sheet.{Sheet, sheetOf, roasteries, cafes}
 use Rattle.transport.specs.Laws.ExtendedLaws.{width-low}
@@ -115,17 +115,6 @@ returns c T w =
 
 pub write-prices-spec : {M : Type 1} → statement M
 write-prices-spec =
-    tie.close
-    (tie.spec
-    place-prices-requires
-    (λ c. search needs)
-    place-prices-requires-2
-    price-cafes-requires
-    column-count-requires
-    price-roasteries-requires
-    array-share-prefix-columns
-    slice-aggregate-copy-prices
-    copy-prices-requires
-    (λ c. search needs)
-    (λ c. search needs)
-    returns)
+    tie.close (tie.spec place-prices-requires (λ c. search needs) place-prices-requires-2 price-cafes-requires column-count-requires
+    price-roasteries-requires array-share-prefix-columns slice-aggregate-copy-prices copy-prices-requires (λ c. search needs)
+    (λ c. search needs) returns)

@@ -111,19 +111,6 @@ returns c P T n b h =
 
 pub pivot-spec : {M : Type 1} → statement M
 pivot-spec =
-    tie.close
-    (tie.spec
-    (λ c. omega (arith, room c))
-    (λ c. omega (arith, room c))
-    (λ c. omega (arith, room c))
-    loop-slots-requires
-    least-slot-requires
-    (λ c. omega (arith, slot (c .before .before)))
-    (λ c. omega (arith, slot (c .before .before)))
-    pair-at-requires
-    subtract-requires
-    carry-requires
-    carry-requires-2
-    put-pair-requires
-    regraft-requires
-    returns)
+    tie.close (tie.spec (λ c. omega (arith, room c)) (λ c. omega (arith, room c)) (λ c. omega (arith, room c)) loop-slots-requires
+    least-slot-requires (λ c. omega (arith, slot (c .before .before))) (λ c. omega (arith, slot (c .before .before))) pair-at-requires
+    subtract-requires carry-requires carry-requires-2 put-pair-requires regraft-requires returns)

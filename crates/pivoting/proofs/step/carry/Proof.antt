@@ -57,18 +57,5 @@ returns c = let e : c .before .loop .bits ≡ 0 = omega arith in rw e at (c .bef
 
 pub carry-spec : {M : Type 1} → statement M
 carry-spec =
-    tie.close
-    (tie.spec
-    Inv-loop
-    μ-loop
-    loop-holds
-    (λ c κs. search needs)
-    (λ c. search needs)
-    (λ c. search needs)
-    pair-at-requires
-    add-requires
-    put-pair-requires
-    (λ c κs. search needs)
-    loop-less
-    loop-again
-    returns)
+    tie.close (tie.spec Inv-loop μ-loop loop-holds (λ c κs. search needs) (λ c. search needs) (λ c. search needs) pair-at-requires
+    add-requires put-pair-requires (λ c κs. search needs) loop-less loop-again returns)

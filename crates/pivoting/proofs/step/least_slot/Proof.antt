@@ -48,22 +48,6 @@ returns c = let e : c .before .loop .bits ≡ 0 = omega arith in rw e at (c .bef
 
 pub least-slot-spec : {M : Type 1} → statement M
 least-slot-spec =
-    tie.close
-    (tie.spec
-    Inv-loop
-    μ-loop
-    (λ c κs. search needs)
-    (λ c. search needs)
-    (λ c. search needs)
-    pair-at-requires
-    (λ c κs. search needs)
-    loop-holds
-    (λ c κs. search needs)
-    (λ c. search needs)
-    (λ c. search needs)
-    pair-at-requires-2
-    (λ c κs. search needs)
-    (λ c κs. search needs)
-    loop-less
-    loop-again
-    returns)
+    tie.close (tie.spec Inv-loop μ-loop (λ c κs. search needs) (λ c. search needs) (λ c. search needs) pair-at-requires
+    (λ c κs. search needs) loop-holds (λ c κs. search needs) (λ c. search needs) (λ c. search needs) pair-at-requires-2
+    (λ c κs. search needs) (λ c κs. search needs) loop-less loop-again returns)

@@ -19,11 +19,4 @@ returns-2 c =
     omega (arith, c .numbers-len .ensures, ap length line, length-lines digits 3 3 (n .lane-numbers .result), ap length (n .lane-numbers .ensures))
 
 pub lane-len-spec : {M : Type 1} → statement M
-lane-len-spec =
-    tie.close
-    (tie.spec
-    returns
-    (λ c κs. search needs)
-    (λ c. search needs)
-    (λ c κs. search needs)
-    returns-2)
+lane-len-spec = tie.close (tie.spec returns (λ c κs. search needs) (λ c. search needs) (λ c κs. search needs) returns-2)

@@ -26,12 +26,4 @@ returns-2 : tie.Need-returns-2
 returns-2 c = let w = c .before .before in rw (line (w .before .before .before)) (w .write-lines .ensures)
 
 pub write-lane-spec : {M : Type 1} → statement M
-write-lane-spec =
-    tie.close
-    (tie.spec
-    returns
-    (λ c κs. search needs)
-    (λ c. search needs)
-    write-lines-requires
-    (λ c. search needs)
-    returns-2)
+write-lane-spec = tie.close (tie.spec returns (λ c κs. search needs) (λ c. search needs) write-lines-requires (λ c. search needs) returns-2)

@@ -69,20 +69,6 @@ returns c =
 
 pub write-lanes-spec : {M : Type 1} → statement M
 write-lanes-spec =
-    tie.close
-    (tie.spec
-    Inv-loop
-    μ-loop
-    loop-holds
-    (λ c. search needs)
-    (λ c. search needs)
-    (λ c. second-start (begun (c .before)))
-    (λ c. second-start (begun (c .before)))
-    (λ c. search needs)
-    write-lane-requires
-    add-at
-    (λ c. search needs)
-    (λ c. search needs)
-    loop-again
-    (λ c. c .before .loop .inv .1)
-    returns)
+    tie.close (tie.spec Inv-loop μ-loop loop-holds (λ c. search needs) (λ c. search needs) (λ c. second-start (begun (c .before)))
+    (λ c. second-start (begun (c .before))) (λ c. search needs) write-lane-requires add-at (λ c. search needs) (λ c. search needs)
+    loop-again (λ c. c .before .loop .inv .1) returns)

@@ -81,24 +81,7 @@ returns c =
 
 pub plan-sections-len-spec : {M : Type 1} → statement M
 plan-sections-len-spec =
-    tie.close
-    (tie.spec
-    (λ c. search needs)
-    (λ c. search needs)
-    (λ c κs. search needs)
-    (λ c. search needs)
-    (λ c. search needs)
-    (λ c κs. search needs)
-    (λ c. search needs)
-    (λ c. search needs)
-    whole-section-len-requires-2
-    add-result-2
-    (λ c. search needs)
-    whole-section-len-requires-3
-    add-result-3
-    (λ c. search needs)
-    (λ c κs. search needs)
-    add-result-4
-    (λ c κs. omega (arith, start (rounds (roasteries (cafes c))) .pre))
-    add-result-5
-    returns)
+    tie.close (tie.spec (λ c. search needs) (λ c. search needs) (λ c κs. search needs) (λ c. search needs) (λ c. search needs)
+    (λ c κs. search needs) (λ c. search needs) (λ c. search needs) whole-section-len-requires-2 add-result-2 (λ c. search needs)
+    whole-section-len-requires-3 add-result-3 (λ c. search needs) (λ c κs. search needs) add-result-4
+    (λ c κs. omega (arith, start (rounds (roasteries (cafes c))) .pre)) add-result-5 returns)

@@ -48,13 +48,5 @@ returns c =
 
 pub write-after-figures-spec : {M : Type 1} → statement M
 write-after-figures-spec =
-    tie.close
-    (tie.spec
-    write-price-sections-requires
-    sub-write-lane-section
-    part-write-lane-section-start
-    (λ c. search needs)
-    write-lane-section-requires
-    add-result
-    (λ c. search needs)
-    returns)
+    tie.close (tie.spec write-price-sections-requires sub-write-lane-section part-write-lane-section-start (λ c. search needs)
+    write-lane-section-requires add-result (λ c. search needs) returns)

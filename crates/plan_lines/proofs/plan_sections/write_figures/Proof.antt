@@ -61,17 +61,5 @@ returns c =
 
 pub write-figures-spec : {M : Type 1} → statement M
 write-figures-spec =
-    tie.close
-    (tie.spec
-    (λ c. search needs)
-    (λ c. search needs)
-    write-whole-section-requires
-    (λ c. search needs)
-    (λ c. search needs)
-    sub-write-section
-    part-write-section-start
-    (λ c. search needs)
-    write-section-requires
-    add-result
-    (λ c. search needs)
-    returns)
+    tie.close (tie.spec (λ c. search needs) (λ c. search needs) write-whole-section-requires (λ c. search needs) (λ c. search needs)
+    sub-write-section part-write-section-start (λ c. search needs) write-section-requires add-result (λ c. search needs) returns)

@@ -54,14 +54,5 @@ returns c =
 
 pub write-lane-section-spec : {M : Type 1} → statement M
 write-lane-section-spec =
-    tie.close
-    (tie.spec
-    (λ c. search needs)
-    write-head-requires
-    sub-write-lanes
-    part-write-lanes-start
-    (λ c. search needs)
-    write-lanes-requires
-    add-result
-    (λ c. search needs)
-    returns)
+    tie.close (tie.spec (λ c. search needs) write-head-requires sub-write-lanes part-write-lanes-start (λ c. search needs)
+    write-lanes-requires add-result (λ c. search needs) returns)

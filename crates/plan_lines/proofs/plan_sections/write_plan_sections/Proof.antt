@@ -52,13 +52,5 @@ returns c =
 
 pub write-plan-sections-spec : {M : Type 1} → statement M
 write-plan-sections-spec =
-    tie.close
-    (tie.spec
-    write-figures-requires
-    sub-write-after-figures
-    part-write-after-figures-start
-    (λ c. search needs)
-    write-after-figures-requires
-    add-result
-    (λ c. search needs)
-    returns)
+    tie.close (tie.spec write-figures-requires sub-write-after-figures part-write-after-figures-start (λ c. search needs)
+    write-after-figures-requires add-result (λ c. search needs) returns)

@@ -44,15 +44,5 @@ returns c =
 
 pub write-price-sections-spec : {M : Type 1} → statement M
 write-price-sections-spec =
-    tie.close
-    (tie.spec
-    (λ c. search needs)
-    write-whole-section-requires
-    (λ c. search needs)
-    sub-write-whole-section
-    part-write-whole-section-start
-    (λ c. search needs)
-    write-whole-section-requires-2
-    add-result
-    (λ c. search needs)
-    returns)
+    tie.close (tie.spec (λ c. search needs) write-whole-section-requires (λ c. search needs) sub-write-whole-section
+    part-write-whole-section-start (λ c. search needs) write-whole-section-requires-2 add-result (λ c. search needs) returns)

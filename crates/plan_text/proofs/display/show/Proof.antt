@@ -120,29 +120,7 @@ returns-3 c = absurd (rw (c .enum-told .given .1) at (c .before .before .before 
 
 pub show-spec : {M : Type 1} → statement M
 show-spec =
-    tie.close
-    (tie.spec
-    (λ c κs. search needs)
-    slice-aggregate-read-sections
-    (λ c. search needs)
-    (λ c. search needs)
-    (λ c. search needs)
-    read-sections-requires
-    (λ c. search needs)
-    mul-lanes
-    array-share-prefix-supply
-    slice-aggregate-show-plan
-    array-share-prefix-demand
-    slice-aggregate-show-plan-2
-    array-share-prefix-cost
-    slice-aggregate-show-plan-3
-    (λ c κs. search needs)
-    (λ c. search needs)
-    (λ c. search needs)
-    (λ c κs. search needs)
-    (λ c. search needs)
-    (λ c. search needs)
-    returns
-    (λ c. search needs)
-    returns-2
-    returns-3)
+    tie.close (tie.spec (λ c κs. search needs) slice-aggregate-read-sections (λ c. search needs) (λ c. search needs) (λ c. search needs)
+    read-sections-requires (λ c. search needs) mul-lanes array-share-prefix-supply slice-aggregate-show-plan array-share-prefix-demand
+    slice-aggregate-show-plan-2 array-share-prefix-cost slice-aggregate-show-plan-3 (λ c κs. search needs) (λ c. search needs)
+    (λ c. search needs) (λ c κs. search needs) (λ c. search needs) (λ c. search needs) returns (λ c. search needs) returns-2 returns-3)

@@ -27,5 +27,4 @@ returns-2 c =
     put-whole (a .words .now ++ ended digits (a .number) 10) (a .out .now) _ _ (omega (arith, h .head-len .ensures)) (c .before .before .write-head .ensures)
 
 pub show-refusal-spec : {M : Type 1} → statement M
-show-refusal-spec =
-    tie.close (tie.spec head-len-requires returns write-head-requires same-length returns-2)
+show-refusal-spec = tie.close (tie.spec head-len-requires returns write-head-requires same-length returns-2)

@@ -193,33 +193,9 @@ returns-3 c =
 
 pub write-plan-spec : {M : Type 1} → statement M
 write-plan-spec =
-    tie.close
-    (tie.spec
-    (λ c. search needs)
-    (λ c. search needs)
-    (λ c. search needs)
-    (λ c κs. search needs)
-    (λ c. search needs)
-    (λ c. search needs)
-    mul-lanes
-    array-share-prefix-plan
-    slice-aggregate-used-count
-    (λ c κs. search needs)
-    array-share-prefix-u
-    slice-aggregate-plan-sections-len
-    array-share-prefix-v
-    slice-aggregate-plan-sections-len-2
-    array-share-prefix-plan-2
-    slice-aggregate-plan-sections-len-3
-    plan-sections-len-requires
-    returns
-    array-share-prefix-u-2
-    slice-aggregate-write-plan-sections
-    array-share-prefix-v-2
-    slice-aggregate-write-plan-sections-2
-    array-share-prefix-plan-3
-    slice-aggregate-write-plan-sections-3
-    write-plan-sections-requires
-    returns-2
-    (λ c. search needs)
-    returns-3)
+    tie.close (tie.spec (λ c. search needs) (λ c. search needs) (λ c. search needs) (λ c κs. search needs) (λ c. search needs)
+    (λ c. search needs) mul-lanes array-share-prefix-plan slice-aggregate-used-count (λ c κs. search needs) array-share-prefix-u
+    slice-aggregate-plan-sections-len array-share-prefix-v slice-aggregate-plan-sections-len-2 array-share-prefix-plan-2
+    slice-aggregate-plan-sections-len-3 plan-sections-len-requires returns array-share-prefix-u-2 slice-aggregate-write-plan-sections
+    array-share-prefix-v-2 slice-aggregate-write-plan-sections-2 array-share-prefix-plan-3 slice-aggregate-write-plan-sections-3
+    write-plan-sections-requires returns-2 (λ c. search needs) returns-3)

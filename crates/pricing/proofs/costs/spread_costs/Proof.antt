@@ -124,30 +124,7 @@ returns c =
 
 pub spread-costs-spec : {M : Type 1} → statement M
 spread-costs-spec =
-    tie.close
-    (tie.spec
-    Inv-loop2
-    μ-loop2
-    Inv-loop
-    μ-loop
-    loop-holds
-    (λ c. search needs)
-    (λ c. search needs)
-    mul-first-2
-    (λ c. (omega arith, λ before p. p))
-    own-number-requires
-    (λ c. search (needs, found c))
-    (λ c. search (needs, found c))
-    (λ c. found c)
-    cast-out
-    (λ c. search needs)
-    (λ c. search needs)
-    (λ c. search needs)
-    (λ c. search needs)
-    (λ c. search needs)
-    (λ c. search needs)
-    loop2-again
-    (λ c. search needs)
-    (λ c. search needs)
-    loop-again
-    returns)
+    tie.close (tie.spec Inv-loop2 μ-loop2 Inv-loop μ-loop loop-holds (λ c. search needs) (λ c. search needs) mul-first-2
+    (λ c. (omega arith, λ before p. p)) own-number-requires (λ c. search (needs, found c)) (λ c. search (needs, found c)) (λ c. found c)
+    cast-out (λ c. search needs) (λ c. search needs) (λ c. search needs) (λ c. search needs) (λ c. search needs) (λ c. search needs)
+    loop2-again (λ c. search needs) (λ c. search needs) loop-again returns)

@@ -42,12 +42,7 @@ returns-2 c =
 
 pub entering-spec : {M : Type 1} → statement M
 entering-spec =
-    tie.close
-    (tie.spec
-    (λ c κs. rows-fit (c .pre .0) (c .pre .1))
-    (λ c κs. rows-fit (c .before .before .pre .0) (c .before .before .pre .1))
-    (λ c. search needs)
+    tie.close (tie.spec (λ c κs. rows-fit (c .pre .0) (c .pre .1))
+    (λ c κs. rows-fit (c .before .before .pre .0) (c .before .before .pre .1)) (λ c. search needs)
     (λ c. omega (arith, inside c, c .before .before .before .pre .0 .rows))
-    (λ c κs. (c .before .before .before .before .pre .0, inside (c .before)))
-    returns
-    returns-2)
+    (λ c κs. (c .before .before .before .before .pre .0, inside (c .before))) returns returns-2)

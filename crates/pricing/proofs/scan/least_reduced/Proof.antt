@@ -44,18 +44,5 @@ returns c = let e : c .before .loop .i ≡ c .before .before .args .m = omega ar
 
 pub least-reduced-spec : {M : Type 1} → statement M
 least-reduced-spec =
-    tie.close
-    (tie.spec
-    Inv-loop
-    μ-loop
-    loop-holds
-    (λ c. search needs)
-    (λ c. search needs)
-    (λ c. search needs)
-    (λ c. search needs)
-    (λ c. search (needs, diff-in, room c))
-    (λ c κs. search needs)
-    (λ c. search needs)
-    (λ c. search needs)
-    loop-again
-    returns)
+    tie.close (tie.spec Inv-loop μ-loop loop-holds (λ c. search needs) (λ c. search needs) (λ c. search needs) (λ c. search needs)
+    (λ c. search (needs, diff-in, room c)) (λ c κs. search needs) (λ c. search needs) (λ c. search needs) loop-again returns)

@@ -48,14 +48,5 @@ returns-2 c =
 
 pub refresh-slacks-spec : {M : Type 1} → statement M
 refresh-slacks-spec =
-    tie.close
-    (tie.spec
-    (λ c. search needs)
-    (λ c κs. search needs)
-    relax-slacks-requires
-    returns
-    (λ c κs. search needs)
-    (λ c. diff-in w32 (pos 0) (start c .args .reduced) (less-room c))
-    raised-requires
-    relax-slacks-requires-2
-    returns-2)
+    tie.close (tie.spec (λ c. search needs) (λ c κs. search needs) relax-slacks-requires returns (λ c κs. search needs)
+    (λ c. diff-in w32 (pos 0) (start c .args .reduced) (less-room c)) raised-requires relax-slacks-requires-2 returns-2)

@@ -60,17 +60,5 @@ returns c = let none : c .before .loop .bits ≡ 0 = omega arith in rw none at (
 
 pub relax-slacks-spec : {M : Type 1} → statement M
 relax-slacks-spec =
-    tie.close
-    (tie.spec
-    Inv-loop
-    μ-loop
-    loop-holds
-    (λ c κs. search needs)
-    (λ c κs. search needs)
-    (λ c. omega (arith, node c))
-    (λ c. omega (arith, node c))
-    (λ c. node c)
-    take-column-requires
-    loop-less
-    loop-again
-    returns)
+    tie.close (tie.spec Inv-loop μ-loop loop-holds (λ c κs. search needs) (λ c κs. search needs) (λ c. omega (arith, node c))
+    (λ c. omega (arith, node c)) (λ c. node c) take-column-requires loop-less loop-again returns)

@@ -17,8 +17,7 @@ Inv-loop q₀ e₀ cost leaf other lane₀ m n price₀ path₀ sub₀ slack₀ 
     → Going P T (roundBound P) q e cost price slack sub path lane m n (roundBound P - made) made
 
 abbrev μ-loop : tie.MeasureT-loop
-μ-loop q₀ e₀ cost leaf other lane₀ m n price₀ path₀ sub₀ slack₀ made₀ q e lane price path sub slack made =
-    boardValue q e cost m n
+μ-loop q₀ e₀ cost leaf other lane₀ m n price₀ path₀ sub₀ slack₀ made₀ q e lane price path sub slack made = boardValue q e cost m n
 
 begin-requires : tie.Need-begin-requires Inv-loop μ-loop
 begin-requires c κs = let (P, T, d) = c .before .before .before .before .pre in (P, T, _, _, d)
@@ -76,15 +75,4 @@ returns c P T d =
     ran-done g (kept-still r done) refl (r .done ∙ done)
 
 pub finish-spec : {M : Type 1} → statement M
-finish-spec =
-    tie.close
-    (tie.spec
-    Inv-loop
-    μ-loop
-    begin-requires
-    loop-holds
-    advance-requires
-    add-made
-    loop-less
-    loop-again
-    returns)
+finish-spec = tie.close (tie.spec Inv-loop μ-loop begin-requires loop-holds advance-requires add-made loop-less loop-again returns)

@@ -16,8 +16,7 @@ Inv-loop q₀ e₀ cost leaf other lane₀ m n price₀ allowance path₀ sub₀
     → Going P T allowance q e cost price slack sub path lane m n left made)
 
 abbrev μ-loop : tie.MeasureT-loop
-μ-loop q₀ e₀ cost leaf other lane₀ m n price₀ allowance path₀ sub₀ slack₀ left₀ made₀ q e lane price path sub slack left made =
-    left
+μ-loop q₀ e₀ cost leaf other lane₀ m n price₀ allowance path₀ sub₀ slack₀ left₀ made₀ q e lane price path sub slack left made = left
 
 begin-requires : tie.Need-begin-requires Inv-loop μ-loop
 begin-requires c κs = let (P, T, d) = c .before .before .before .before .pre in (P, T, _, _, d)
@@ -73,17 +72,5 @@ returns-2 c P T d =
 
 pub rounds-spec : {M : Type 1} → statement M
 rounds-spec =
-    tie.close
-    (tie.spec
-    Inv-loop
-    μ-loop
-    begin-requires
-    loop-holds
-    advance-requires
-    returns
-    (λ c. omega arith)
-    add-made
-    (λ c. omega arith)
-    loop-again
-    entering-requires
-    returns-2)
+    tie.close (tie.spec Inv-loop μ-loop begin-requires loop-holds advance-requires returns (λ c. omega arith) add-made (λ c. omega arith)
+    loop-again entering-requires returns-2)

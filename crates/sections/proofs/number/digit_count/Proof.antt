@@ -27,5 +27,4 @@ returns : tie.Need-returns Inv-loop μ-loop
 returns c = omega (arith, length-digits-small (c .before .loop .rest) (omega arith))
 
 pub digit-count-spec : {M : Type 1} → statement M
-digit-count-spec =
-    tie.close (tie.spec Inv-loop μ-loop loop-holds add-count loop-less loop-again returns)
+digit-count-spec = tie.close (tie.spec Inv-loop μ-loop loop-holds add-count loop-less loop-again returns)

@@ -45,5 +45,4 @@ returns-2 c =
     counted (c .before) ∙ sym (ap length (whole-positive z h))
 
 pub whole-count-spec : {M : Type 1} → statement M
-whole-count-spec =
-    tie.close (tie.spec magnitude-requires digit-count-requires add-result returns returns-2)
+whole-count-spec = tie.close (tie.spec magnitude-requires digit-count-requires add-result returns returns-2)

@@ -61,20 +61,6 @@ returns c =
 
 pub write-number-spec : {M : Type 1} → statement M
 write-number-spec =
-    tie.close
-    (tie.spec
-    Inv-loop
-    μ-loop
-    (λ c κs. search needs)
-    loop-holds
-    (λ c. omega (arith, places c))
-    (λ c. search needs)
-    (λ c. search needs)
-    (λ c. omega (arith, places c, c .before .before .digit-count .ensures))
-    (λ c. omega (arith, places c))
-    loop-again
-    (λ c. search needs)
-    (λ c. search needs)
-    slice-write-out-2
-    (λ c. search needs)
-    returns)
+    tie.close (tie.spec Inv-loop μ-loop (λ c κs. search needs) loop-holds (λ c. omega (arith, places c)) (λ c. search needs)
+    (λ c. search needs) (λ c. omega (arith, places c, c .before .before .digit-count .ensures)) (λ c. omega (arith, places c)) loop-again
+    (λ c. search needs) (λ c. search needs) slice-write-out-2 (λ c. search needs) returns)

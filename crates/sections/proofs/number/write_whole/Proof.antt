@@ -60,17 +60,6 @@ returns-2 c =
 
 pub write-whole-spec : {M : Type 1} → statement M
 write-whole-spec =
-    tie.close
-    (tie.spec
-    (λ c κs. search needs)
-    (λ c. omega (arith, room c))
-    (λ c. simp length-set (omega (arith, room c)))
-    (λ c. simp length-set (omega (arith, room c)))
-    (λ c. search needs)
-    write-number-requires
-    add-result
-    same-length
-    returns
-    write-number-requires-2
-    (λ c. search needs)
-    returns-2)
+    tie.close (tie.spec (λ c κs. search needs) (λ c. omega (arith, room c)) (λ c. simp length-set (omega (arith, room c)))
+    (λ c. simp length-set (omega (arith, room c))) (λ c. search needs) write-number-requires add-result same-length returns
+    write-number-requires-2 (λ c. search needs) returns-2)

@@ -36,5 +36,4 @@ returns c =
     )
 
 pub write-ended-spec : {M : Type 1} → statement M
-write-ended-spec =
-    tie.close (tie.spec write-number-requires slice-write-out add-result same-length returns)
+write-ended-spec = tie.close (tie.spec write-number-requires slice-write-out add-result same-length returns)

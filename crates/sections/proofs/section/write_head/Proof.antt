@@ -37,13 +37,5 @@ returns c =
 
 pub write-head-spec : {M : Type 1} → statement M
 write-head-spec =
-    tie.close
-    (tie.spec
-    write-bytes-requires
-    sub-write-ended
-    part-write-ended-start
-    (λ c. search needs)
-    write-ended-requires
-    add-result
-    (λ c. search needs)
-    returns)
+    tie.close (tie.spec write-bytes-requires sub-write-ended part-write-ended-start (λ c. search needs) write-ended-requires add-result
+    (λ c. search needs) returns)

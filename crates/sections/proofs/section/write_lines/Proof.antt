@@ -44,22 +44,6 @@ returns c = lines-done (c .before .loop .inv) (omega arith)
 
 pub write-lines-spec : {M : Type 1} → statement M
 write-lines-spec =
-    tie.close
-    (tie.spec
-    Inv-loop
-    μ-loop
-    loop-holds
-    (λ c κs. search needs)
-    (λ c. search needs)
-    (λ c. search needs)
-    (λ c. second-start (begun (c .before)))
-    (λ c. second-start (begun (c .before)))
-    (λ c. search needs)
-    write-ended-requires
-    add-at
-    left-after-requires
-    (λ c. search needs)
-    (λ c. search needs)
-    loop-again
-    (λ c. lines-kept (c .before .loop .inv))
-    returns)
+    tie.close (tie.spec Inv-loop μ-loop loop-holds (λ c κs. search needs) (λ c. search needs) (λ c. search needs)
+    (λ c. second-start (begun (c .before))) (λ c. second-start (begun (c .before))) (λ c. search needs) write-ended-requires add-at
+    left-after-requires (λ c. search needs) (λ c. search needs) loop-again (λ c. lines-kept (c .before .loop .inv)) returns)

@@ -42,13 +42,5 @@ returns c =
 
 pub write-section-spec : {M : Type 1} → statement M
 write-section-spec =
-    tie.close
-    (tie.spec
-    write-head-requires
-    sub-write-lines
-    part-write-lines-start
-    (λ c. search needs)
-    write-lines-requires
-    add-result
-    (λ c. search needs)
-    returns)
+    tie.close (tie.spec write-head-requires sub-write-lines part-write-lines-start (λ c. search needs) write-lines-requires add-result
+    (λ c. search needs) returns)

@@ -45,22 +45,6 @@ returns c = lines-done (c .before .loop .inv) (omega arith)
 
 pub write-whole-lines-spec : {M : Type 1} → statement M
 write-whole-lines-spec =
-    tie.close
-    (tie.spec
-    Inv-loop
-    μ-loop
-    loop-holds
-    (λ c κs. search needs)
-    (λ c. search needs)
-    (λ c. search needs)
-    (λ c. second-start (begun c))
-    (λ c. second-start (begun c))
-    (λ c. search needs)
-    (λ c κs. second-room (begun (c .before)))
-    add-at
-    left-after-requires
-    (λ c. search needs)
-    (λ c. search needs)
-    loop-again
-    (λ c. lines-kept (c .before .loop .inv))
-    returns)
+    tie.close (tie.spec Inv-loop μ-loop loop-holds (λ c κs. search needs) (λ c. search needs) (λ c. search needs)
+    (λ c. second-start (begun c)) (λ c. second-start (begun c)) (λ c. search needs) (λ c κs. second-room (begun (c .before))) add-at
+    left-after-requires (λ c. search needs) (λ c. search needs) loop-again (λ c. lines-kept (c .before .loop .inv)) returns)

@@ -42,13 +42,5 @@ returns c =
 
 pub write-whole-section-spec : {M : Type 1} → statement M
 write-whole-section-spec =
-    tie.close
-    (tie.spec
-    write-head-requires
-    sub-write-whole-lines
-    part-write-whole-lines-start
-    (λ c. search needs)
-    write-whole-lines-requires
-    add-result
-    (λ c. search needs)
-    returns)
+    tie.close (tie.spec write-head-requires sub-write-whole-lines part-write-whole-lines-start (λ c. search needs)
+    write-whole-lines-requires add-result (λ c. search needs) returns)

@@ -57,17 +57,6 @@ returns-2 c = λ a b s.
 
 pub settle-lanes-spec : {M : Type 1} → statement M
 settle-lanes-spec =
-    tie.close
-    (tie.spec
-    Inv-loop
-    μ-loop
-    (λ c κs. c .pre .2 .onBasics .rows)
-    returns
-    (λ c κs. let s = c .before .before .before .before .before in (s .args .n, s .pre .2 .onBasics))
-    loop-holds
-    (λ c. omega arith)
-    settle-row-requires
-    (λ c. omega arith)
-    (λ c. omega arith)
-    loop-again
-    returns-2)
+    tie.close (tie.spec Inv-loop μ-loop (λ c κs. c .pre .2 .onBasics .rows) returns
+    (λ c κs. let s = c .before .before .before .before .before in (s .args .n, s .pre .2 .onBasics)) loop-holds (λ c. omega arith)
+    settle-row-requires (λ c. omega arith) (λ c. omega arith) loop-again returns-2)

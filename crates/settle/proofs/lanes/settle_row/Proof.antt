@@ -104,26 +104,10 @@ returns-2 c =
 
 pub settle-row-spec : {M : Type 1} → statement M
 settle-row-spec =
-    tie.close
-    (tie.spec
-    Inv-loop
-    μ-loop
-    (λ c κs. omega (arith, sides c))
-    (λ c. omega (arith, sides (c .before)))
-    (λ c κs. omega (arith, sides (c .before)))
-    (λ c κs. search needs)
-    (λ c. omega (arith, sides (c .before .before .before)))
-    (λ c. omega (arith, sides (c .before .before .before)))
-    (λ c. let s = c .before .before .before .before in (s .pre .1 .1, along-start))
-    (λ c κs. omega arith)
-    (λ c κs. omega arith)
-    (λ c. omega (arith, sides (a c), now c .masked .ownsLong))
-    (λ c. omega (arith, sides (a c), now c .masked .ownsLong))
-    returns
-    (λ c κs. omega (arith, low (c .before .before)))
-    decide-requires
-    (λ c. less (c .before .before .before .before .before .before .before .before .before .before .before .before))
-    loop-again
-    (λ c. less (c .before .before .before .before))
-    loop-again-2
-    returns-2)
+    tie.close (tie.spec Inv-loop μ-loop (λ c κs. omega (arith, sides c)) (λ c. omega (arith, sides (c .before)))
+    (λ c κs. omega (arith, sides (c .before))) (λ c κs. search needs) (λ c. omega (arith, sides (c .before .before .before)))
+    (λ c. omega (arith, sides (c .before .before .before))) (λ c. let s = c .before .before .before .before in (s .pre .1 .1, along-start))
+    (λ c κs. omega arith) (λ c κs. omega arith) (λ c. omega (arith, sides (a c), now c .masked .ownsLong))
+    (λ c. omega (arith, sides (a c), now c .masked .ownsLong)) returns (λ c κs. omega (arith, low (c .before .before))) decide-requires
+    (λ c. less (c .before .before .before .before .before .before .before .before .before .before .before .before)) loop-again
+    (λ c. less (c .before .before .before .before)) loop-again-2 returns-2)

@@ -149,40 +149,10 @@ returns c = stored-all (startOf (c .before) .pre) (before-row (c .before)) (omeg
 
 pub store-plan-spec : {M : Type 1} → statement M
 store-plan-spec =
-    tie.close
-    (tie.spec
-    Inv-loop
-    μ-loop
-    Inv-loop3
-    μ-loop3
-    Inv-loop2
-    μ-loop2
-    (λ c. (omega arith, emptied-none _ _))
-    (λ c. omega (arith, size (startBefore c)))
-    (λ c. omega (arith, size (startBefore (c .before))))
-    (λ c. loop-inside c)
-    (λ c. omega (arith, size (startBefore (c .before))))
-    (λ c. search needs)
-    loop-again
-    (λ c. (omega arith, (λ old s p. p), λ e. eqb-true _ _ e))
-    (λ c. search needs)
-    (λ c. search needs)
-    mul-first-2
-    (λ c. (omega arith, λ old s p. p))
-    own-number-requires
-    (λ c. omega arith)
-    (λ c. omega arith)
-    (λ c. omega arith)
-    (λ c. omega arith)
-    cast-plan
-    (λ c. omega (arith, goes c .1))
-    (λ c. omega (arith, goes c .1))
-    (λ c. goes c .0)
-    (λ c. search needs)
-    (λ c. search needs)
-    loop3-again
-    (λ c. search needs)
-    (λ c. search needs)
-    loop2-again
-    (λ c. before-row (c .before) .long)
-    returns)
+    tie.close (tie.spec Inv-loop μ-loop Inv-loop3 μ-loop3 Inv-loop2 μ-loop2 (λ c. (omega arith, emptied-none _ _))
+    (λ c. omega (arith, size (startBefore c))) (λ c. omega (arith, size (startBefore (c .before)))) (λ c. loop-inside c)
+    (λ c. omega (arith, size (startBefore (c .before)))) (λ c. search needs) loop-again
+    (λ c. (omega arith, (λ old s p. p), λ e. eqb-true _ _ e)) (λ c. search needs) (λ c. search needs) mul-first-2
+    (λ c. (omega arith, λ old s p. p)) own-number-requires (λ c. omega arith) (λ c. omega arith) (λ c. omega arith) (λ c. omega arith)
+    cast-plan (λ c. omega (arith, goes c .1)) (λ c. omega (arith, goes c .1)) (λ c. goes c .0) (λ c. search needs) (λ c. search needs)
+    loop3-again (λ c. search needs) (λ c. search needs) loop2-again (λ c. before-row (c .before) .long) returns)

@@ -34,15 +34,5 @@ returns c =
 
 pub tight-lanes-spec : {M : Type 1} → statement M
 tight-lanes-spec =
-    tie.close
-    (tie.spec
-    Inv-loop
-    μ-loop
-    loop-holds
-    tight-in-row-requires
-    mul-tight
-    element-write-tight
-    (λ c. omega arith)
-    (λ c. omega arith)
-    loop-again
-    returns)
+    tie.close (tie.spec Inv-loop μ-loop loop-holds tight-in-row-requires mul-tight element-write-tight (λ c. omega arith) (λ c. omega arith)
+    loop-again returns)

@@ -80,17 +80,6 @@ returns-2 c = λ cost.
 
 pub number-parties-spec : {M : Type 1} → statement M
 number-parties-spec =
-    tie.close
-    (tie.spec
-    total-of-requires
-    total-of-requires-2
-    (λ c. search needs)
-    number-left-requires
-    number-left-requires-2
-    returns
-    (λ c. omega (arith, room c))
-    (λ c. omega (arith, room c))
-    (λ c. omega (arith, room c))
-    (λ c. omega (arith, room c))
-    (λ c. omega (arith, room c))
-    returns-2)
+    tie.close (tie.spec total-of-requires total-of-requires-2 (λ c. search needs) number-left-requires number-left-requires-2 returns
+    (λ c. omega (arith, room c)) (λ c. omega (arith, room c)) (λ c. omega (arith, room c)) (λ c. omega (arith, room c))
+    (λ c. omega (arith, room c)) returns-2)

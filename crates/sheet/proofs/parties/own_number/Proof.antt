@@ -1,5 +1,5 @@
 -- `sheet::parties::own_number` meets its contract: where all are left, the own number of one is its number among those left.
-use Rattle.prelude.specs.Words.{_≡_, sym, needs}
+use Rattle.prelude.specs.Words.{sym, needs}
 use Rattle.transport.specs.Lists.{at}
 use Rattle.sheet.proofs.parties.own_number.Statement.{statement}
 use Rattle.sheet.proofs.parties.own_number.Tie as tie

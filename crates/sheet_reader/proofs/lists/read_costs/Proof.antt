@@ -81,18 +81,6 @@ returns-2 c =
 
 pub read-costs-spec : {M : Type 1} → statement M
 read-costs-spec =
-    tie.close
-    (tie.spec
-    (λ c. search needs)
-    (λ c. search needs)
-    write-head-requires
-    (λ c. fits (c .before))
-    slice-aggregate-read-word
-    read-word-requires
-    (λ c. search needs)
-    (λ c. search needs)
-    returns
-    mul-read-whole-lines
-    read-whole-lines-requires
-    (λ c. search needs)
+    tie.close (tie.spec (λ c. search needs) (λ c. search needs) write-head-requires (λ c. fits (c .before)) slice-aggregate-read-word
+    read-word-requires (λ c. search needs) (λ c. search needs) returns mul-read-whole-lines read-whole-lines-requires (λ c. search needs)
     returns-2)

@@ -50,22 +50,6 @@ returns-2 c = let s = c .before .loop .inv .1 in (read-done s (omega arith), s .
 
 pub read-lines-spec : {M : Type 1} → statement M
 read-lines-spec =
-    tie.close
-    (tie.spec
-    Inv-loop
-    μ-loop
-    loop-holds
-    (λ c κs. c .before .loop .inv .1 .place)
-    (λ c κs. c .read-number .ensures .1)
-    (λ c. search needs)
-    (λ c. search needs)
-    (λ c. search needs)
-    returns
-    (λ c. search needs)
-    (λ c. search needs)
-    left-after-requires
-    (λ c. search needs)
-    (λ c. search needs)
-    loop-again
-    (λ c. search needs)
-    returns-2)
+    tie.close (tie.spec Inv-loop μ-loop loop-holds (λ c κs. c .before .loop .inv .1 .place) (λ c κs. c .read-number .ensures .1)
+    (λ c. search needs) (λ c. search needs) (λ c. search needs) returns (λ c. search needs) (λ c. search needs) left-after-requires
+    (λ c. search needs) (λ c. search needs) loop-again (λ c. search needs) returns-2)

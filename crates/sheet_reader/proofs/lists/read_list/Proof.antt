@@ -94,17 +94,5 @@ returns-3 c =
 
 pub read-list-spec : {M : Type 1} → statement M
 read-list-spec =
-    tie.close
-    (tie.spec
-    read-word-requires
-    (λ c. search needs)
-    (λ c. search needs)
-    returns
-    read-side-requires
-    (λ c κs. c .read-side .ensures .1)
-    (λ c. search needs)
-    (λ c. search needs)
-    returns-2
-    read-lines-requires
-    (λ c. search needs)
-    returns-3)
+    tie.close (tie.spec read-word-requires (λ c. search needs) (λ c. search needs) returns read-side-requires
+    (λ c κs. c .read-side .ensures .1) (λ c. search needs) (λ c. search needs) returns-2 read-lines-requires (λ c. search needs) returns-3)

@@ -1,5 +1,5 @@
 -- The list as it was, or the loop, whose invariant is that the list holds the first i costs.
-use Rattle.prelude.specs.Words.{needs, _≡_, refl, sym, _∙_, true≢false, _++_, _≤_, _-_, arith, not-true, not-false, pos, length, drop, getD, length-set}
+use Rattle.prelude.specs.Words.{needs, _≡_, refl, _∙_, _++_, _≤_, _-_, arith, not-true, not-false, pos, length, drop, getD, length-set, clash}
 use mir.Syntax.{w64}
 use Rattle.transport.specs.Laws.RangeLaws.{back}
 use Rattle.transport.specs.Lists.{table}
@@ -16,7 +16,7 @@ abbrev μ-loop : tie.MeasureT-loop
 μ-loop from list₀ wanted i₀ list i = length from - i
 
 returns : tie.Need-returns Inv-loop μ-loop
-returns c = (λ e. absurd (true≢false (sym e ∙ not-true _ (c .if1 .taken))), λ e. refl)
+returns c = (λ e. clash e (not-true _ (c .if1 .taken)), λ e. refl)
 
 loop-holds : tie.Need-loop-holds Inv-loop μ-loop
 loop-holds c = (omega arith, c .before .pre (not-false _ (c .if1 .left)), refl, rw table-zero)
@@ -38,22 +38,9 @@ returns-2 c =
     let l = c .before .loop in
     let a = c .before .before .before .args in
     let all : l .i ≡ length (a .from .now) = omega arith in
-    (λ e. l .inv .3 ∙ (rw (all, table-getD (a .from .now) (pos 0))), λ e. absurd (true≢false (sym (not-false _ (c .before .before .if1 .left)) ∙ e)))
+    (λ e. l .inv .3 ∙ (rw (all, table-getD (a .from .now) (pos 0))), λ e. clash (not-false _ (c .before .before .if1 .left)) e)
 
 pub store-costs-spec : {M : Type 1} → statement M
 store-costs-spec =
-    tie.close
-    (tie.spec
-    Inv-loop
-    μ-loop
-    returns
-    loop-holds
-    (λ c. search needs)
-    (λ c. search needs)
-    (λ c. search needs)
-    (λ c. search needs)
-    (λ c. search needs)
-    (λ c. search needs)
-    loop-again
-    (λ c. search needs)
-    returns-2)
+    tie.close (tie.spec Inv-loop μ-loop returns loop-holds (λ c. search needs) (λ c. search needs) (λ c. search needs) (λ c. search needs)
+    (λ c. search needs) (λ c. search needs) loop-again (λ c. search needs) returns-2)

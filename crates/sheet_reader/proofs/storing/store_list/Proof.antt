@@ -1,5 +1,5 @@
 -- The copy, or the list as it was.
-use Rattle.prelude.specs.Words.{refl, sym, _∙_, true≢false, needs}
+use Rattle.prelude.specs.Words.{refl, needs, clash}
 use Rattle.sections.specs.Front.{front}
 use Rattle.sheet_reader.proofs.storing.store_list.Statement.{statement}
 use Rattle.sheet_reader.proofs.storing.store_list.Tie as tie
@@ -12,10 +12,10 @@ same-length c = search needs
 
 returns : tie.Need-returns
 unfolding front
-returns c = (λ e. c .before .before .copy-list .ensures, λ e. absurd (true≢false (sym (c .before .before .before .before .if1 .taken) ∙ e)))
+returns c = (λ e. c .before .before .copy-list .ensures, λ e. clash (c .before .before .before .before .if1 .taken) e)
 
 returns-2 : tie.Need-returns-2
-returns-2 c = (λ e. absurd (true≢false (sym e ∙ c .if1 .left)), λ e. refl)
+returns-2 c = (λ e. clash e (c .if1 .left), λ e. refl)
 
 pub store-list-spec : {M : Type 1} → statement M
 store-list-spec = tie.close (tie.spec copy-list-requires same-length returns returns-2)

@@ -87,20 +87,6 @@ returns-3 c =
 
 pub store-sheet-spec : {M : Type 1} → statement M
 store-sheet-spec =
-    tie.close
-    (tie.spec
-    check-numbers-requires
-    (λ c. search needs)
-    returns
-    (λ c. search needs)
-    (λ c κs. search (needs, supply-set (c .before)))
-    store-list-requires-2
-    store-costs-requires
-    (λ c. search needs)
-    (λ c. search needs)
-    (λ c. search needs)
-    returns-2
-    (λ c. search needs)
-    (λ c. search needs)
-    (λ c. search needs)
-    returns-3)
+    tie.close (tie.spec check-numbers-requires (λ c. search needs) returns (λ c. search needs)
+    (λ c κs. search (needs, supply-set (c .before))) store-list-requires-2 store-costs-requires (λ c. search needs) (λ c. search needs)
+    (λ c. search needs) returns-2 (λ c. search needs) (λ c. search needs) (λ c. search needs) returns-3)

@@ -44,16 +44,5 @@ returns-2 c = let w = c .before .read-after-demand in
 
 pub read-after-supply-spec : {M : Type 1} → statement M
 read-after-supply-spec =
-    tie.close
-    (tie.spec
-    (λ c. search needs)
-    read-list-requires
-    (λ c. search needs)
-    (λ c. search needs)
-    (λ c κs. search needs)
-    (λ c. search needs)
-    returns
-    read-after-demand-requires
-    (λ c. search needs)
-    (λ c. search needs)
-    returns-2)
+    tie.close (tie.spec (λ c. search needs) read-list-requires (λ c. search needs) (λ c. search needs) (λ c κs. search needs)
+    (λ c. search needs) returns read-after-demand-requires (λ c. search needs) (λ c. search needs) returns-2)

@@ -42,17 +42,5 @@ returns-2 c = let w = c .before .before .before .read-after-supply in
 
 pub read-sections-spec : {M : Type 1} → statement M
 read-sections-spec =
-    tie.close
-    (tie.spec
-    (λ c. search needs)
-    read-list-requires
-    (λ c. search needs)
-    (λ c. search needs)
-    (λ c κs. search needs)
-    (λ c. search needs)
-    returns
-    read-after-supply-requires
-    (λ c. search needs)
-    (λ c. search needs)
-    (λ c. search needs)
-    returns-2)
+    tie.close (tie.spec (λ c. search needs) read-list-requires (λ c. search needs) (λ c. search needs) (λ c κs. search needs)
+    (λ c. search needs) returns read-after-supply-requires (λ c. search needs) (λ c. search needs) (λ c. search needs) returns-2)

@@ -1,5 +1,5 @@
 -- `solving::checked::solve_checked` meets its contract: the problem of the parties left is solved, and its prices and its plan are written at own numbers.
-use Rattle.prelude.specs.Words.{_≡_, needs}
+use Rattle.prelude.specs.Words.{needs}
 use Rattle.transport.specs.Sheet.{Sheet, roasteries, cafes, sheetOf}
 use Rattle.transport.specs.Parties.{problemOf}
 use Rattle.transport.specs.Statements.{Accepted}
@@ -107,30 +107,12 @@ returns c =
 
 pub solve-checked-spec : {M : Type 1} → statement M
 solve-checked-spec =
-    tie.close
-    (tie.spec
-    (λ c κs. (_, startBefore c .pre .0))
-    (λ c. parties c .rowsRoom)
-    (λ c. rows-lent (parties (c .before)))
-    (λ c. parties (c .before) .cafesRoom)
-    (λ c. cafes-lent (parties (c .before .before)))
-    spread-costs-requires
-    (λ c. parties (partiesBefore c) .suppliesRoom)
-    (λ c. supplies-lent (parties (partiesBefore (c .before))))
-    (λ c. parties (partiesBefore (c .before)) .demandsRoom)
-    (λ c. demands-lent (parties (partiesBefore (c .before .before))))
-    solve-problem-requires
-    (λ c. parties (partiesOf c) .rowsRoom)
-    (λ c. rows-lent (parties (partiesOf (c .before))))
-    (λ c. parties (partiesOf (c .before)) .colsRoom)
-    (λ c. columns-lent (parties (partiesOf (c .before .before))))
-    write-prices-requires
-    (λ c. parties (partiesLast c) .rowsRoom)
-    (λ c. rows-lent (parties (partiesLast (c .before))))
-    (λ c. parties (partiesLast (c .before)) .cafesRoom)
-    (λ c. cafes-lent (parties (partiesLast (c .before .before))))
-    store-plan-requires
-    (λ c. search needs)
-    (λ c. search needs)
-    (λ c. search needs)
-    returns)
+    tie.close (tie.spec (λ c κs. (_, startBefore c .pre .0)) (λ c. parties c .rowsRoom) (λ c. rows-lent (parties (c .before)))
+    (λ c. parties (c .before) .cafesRoom) (λ c. cafes-lent (parties (c .before .before))) spread-costs-requires
+    (λ c. parties (partiesBefore c) .suppliesRoom) (λ c. supplies-lent (parties (partiesBefore (c .before))))
+    (λ c. parties (partiesBefore (c .before)) .demandsRoom) (λ c. demands-lent (parties (partiesBefore (c .before .before))))
+    solve-problem-requires (λ c. parties (partiesOf c) .rowsRoom) (λ c. rows-lent (parties (partiesOf (c .before))))
+    (λ c. parties (partiesOf (c .before)) .colsRoom) (λ c. columns-lent (parties (partiesOf (c .before .before)))) write-prices-requires
+    (λ c. parties (partiesLast c) .rowsRoom) (λ c. rows-lent (parties (partiesLast (c .before))))
+    (λ c. parties (partiesLast (c .before)) .cafesRoom) (λ c. cafes-lent (parties (partiesLast (c .before .before)))) store-plan-requires
+    (λ c. search needs) (λ c. search needs) (λ c. search needs) returns)

@@ -85,11 +85,4 @@ returns c = λ P ok a b costs.
     ran-solved (ran f o) (c .settle-board .ensures _ _ _ (ran-judged (ran f o)) costs)
 
 pub solve-problem-spec : {M : Type 1} → statement M
-solve-problem-spec =
-    tie.close
-    (tie.spec
-    first-tableau-requires
-    lay-out-requires
-    finish-requires
-    settle-board-requires
-    returns)
+solve-problem-spec = tie.close (tie.spec first-tableau-requires lay-out-requires finish-requires settle-board-requires returns)

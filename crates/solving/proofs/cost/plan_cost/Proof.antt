@@ -80,19 +80,5 @@ returns c =
 
 pub plan-cost-spec : {M : Type 1} → statement M
 plan-cost-spec =
-    tie.close
-    (tie.spec
-    Inv-loop
-    μ-loop
-    loop-holds
-    mul-sum
-    (λ c. omega arith)
-    (λ c. abs-fits w64 (pos _) (few (c .before)))
-    mul-sum-2
-    (λ c. omega arith)
-    mul-sum-3
-    add-sum
-    (λ c. search needs)
-    (λ c. omega arith)
-    loop-again
-    returns)
+    tie.close (tie.spec Inv-loop μ-loop loop-holds mul-sum (λ c. omega arith) (λ c. abs-fits w64 (pos _) (few (c .before))) mul-sum-2
+    (λ c. omega arith) mul-sum-3 add-sum (λ c. search needs) (λ c. omega arith) loop-again returns)

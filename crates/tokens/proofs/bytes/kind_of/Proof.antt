@@ -9,13 +9,11 @@ use Rattle.tokens.proofs.bytes.kind_of.Tie as tie
 
 returns : tie.Need-returns
 unfolding kindOf within
-returns c =
-    rw (c .match .keys1)
+returns c = rw (c .match .keys1)
 
 returns-2 : tie.Need-returns-2
 unfolding kindOf within
-returns-2 c =
-    rw (c .match .keys2)
+returns-2 c = rw (c .match .keys2)
 
 returns-3 : tie.Need-returns-3
 returns-3 c = sym (kind-digit (c .before .before .before .args .b) (omega arith) (omega arith))
@@ -39,5 +37,4 @@ returns-7 c =
     sym (kind-other b (within-high 48 57 b (omega arith)) (λ e. omega arith) (λ e. omega arith) (within-high 97 122 b (omega arith)))
 
 pub kind-of-spec : {M : Type 1} → statement M
-kind-of-spec =
-    tie.close (tie.spec returns returns-2 returns-3 returns-4 returns-5 returns-6 returns-7)
+kind-of-spec = tie.close (tie.spec returns returns-2 returns-3 returns-4 returns-5 returns-6 returns-7)

@@ -54,20 +54,7 @@ returns-2 c =
 
 pub more-digits-spec : {M : Type 1} → statement M
 more-digits-spec =
-    tie.close
-    (tie.spec
-    Inv-loop
-    μ-loop
-    loop-holds
-    (λ c κs. search needs)
-    returns
-    (λ c. omega (arith, small c))
-    (λ c. digit (c .before) .inside)
-    (λ c. digit (c .before) .low)
-    (λ c. omega (arith, small (c .before)))
-    (λ c. omega (arith, small (c .before)))
-    (λ c. omega (arith, digit (c .before) .inside))
-    (λ c. search needs)
-    (λ c. search needs)
-    loop-again
-    returns-2)
+    tie.close (tie.spec Inv-loop μ-loop loop-holds (λ c κs. search needs) returns (λ c. omega (arith, small c))
+    (λ c. digit (c .before) .inside) (λ c. digit (c .before) .low) (λ c. omega (arith, small (c .before)))
+    (λ c. omega (arith, small (c .before))) (λ c. omega (arith, digit (c .before) .inside)) (λ c. search needs) (λ c. search needs)
+    loop-again returns-2)

@@ -29,15 +29,6 @@ returns-4 c = (
 
 pub read-number-spec : {M : Type 1} → statement M
 read-number-spec =
-    tie.close
-    (tie.spec
-    (λ c κs. search needs)
-    returns
-    (λ c. digit (c .before) .inside)
-    (λ c. digit (c .before) .low)
-    (λ c. omega (arith, digit (c .before) .high))
-    returns-2
-    (λ c. omega (arith, digit (c .before .before) .inside))
-    returns-3
-    more-digits-requires
-    returns-4)
+    tie.close (tie.spec (λ c κs. search needs) returns (λ c. digit (c .before) .inside) (λ c. digit (c .before) .low)
+    (λ c. omega (arith, digit (c .before) .high)) returns-2 (λ c. omega (arith, digit (c .before .before) .inside)) returns-3
+    more-digits-requires returns-4)

@@ -50,22 +50,7 @@ returns-5 c =
 
 pub read-side-spec : {M : Type 1} → statement M
 read-side-spec =
-    tie.close
-    (tie.spec
-    (λ c κs. search needs)
-    returns
-    (λ c. first (c .before) .inside)
-    (λ c. first (c .before) .low)
-    (λ c. omega (arith, first (c .before) .high))
-    returns-2
-    (λ c. omega (arith, first (c .before .before) .inside))
-    (λ c κs. search needs)
-    returns-3
-    mul-both
-    (λ c. second (c .before) .inside)
-    (λ c. second (c .before) .low)
-    (λ c. omega (arith, second (c .before) .high))
-    add-both
-    returns-4
-    (λ c. search needs)
-    returns-5)
+    tie.close (tie.spec (λ c κs. search needs) returns (λ c. first (c .before) .inside) (λ c. first (c .before) .low)
+    (λ c. omega (arith, first (c .before) .high)) returns-2 (λ c. omega (arith, first (c .before .before) .inside)) (λ c κs. search needs)
+    returns-3 mul-both (λ c. second (c .before) .inside) (λ c. second (c .before) .low) (λ c. omega (arith, second (c .before) .high))
+    add-both returns-4 (λ c. search needs) returns-5)

@@ -33,13 +33,5 @@ returns c =
 
 pub read-whole-spec : {M : Type 1} → statement M
 read-whole-spec =
-    tie.close
-    (tie.spec
-    (λ c κs. search needs)
-    (λ c. search needs)
-    add-first
-    (λ c. search needs)
-    read-number-requires
-    (λ c κs. search needs)
-    signed-requires
-    returns)
+    tie.close (tie.spec (λ c κs. search needs) (λ c. search needs) add-first (λ c. search needs) read-number-requires (λ c κs. search needs)
+    signed-requires returns)

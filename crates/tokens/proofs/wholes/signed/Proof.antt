@@ -18,12 +18,5 @@ returns-3 c = rw (c .before .number2 .given .1)
 
 pub signed-spec : {M : Type 1} → statement M
 signed-spec =
-    tie.close
-    (tie.spec
-    (λ c. search needs)
-    (λ c. number-fits (small c))
-    (λ c. opposite-fits (small (c .before)))
-    (λ c. search needs)
-    returns
-    returns-2
-    returns-3)
+    tie.close (tie.spec (λ c. search needs) (λ c. number-fits (small c)) (λ c. opposite-fits (small (c .before))) (λ c. search needs)
+    returns returns-2 returns-3)

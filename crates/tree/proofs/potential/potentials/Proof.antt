@@ -77,27 +77,7 @@ returns c = let e : c .before .loop .k ≡ 0 = omega arith in (c .before .loop .
 
 pub potentials-spec : {M : Type 1} → statement M
 potentials-spec =
-    tie.close
-    (tie.spec
-    Inv-loop
-    μ-loop
-    loop-holds
-    (λ c. omega arith)
-    (λ c. omega arith)
-    (λ c. omega arith)
-    (λ c. omega arith)
-    (λ c. omega arith)
-    (λ c. omega arith)
-    (λ c. omega arith)
-    (λ c. omega (arith, lane-in c))
-    (λ c. omega (arith, lane-in c))
-    (λ c. omega (arith, lane-in c))
-    (λ c. omega (arith, lane-in c))
-    mul-price-3
-    element-copy-out-price-2
-    (λ c. search (needs, diff-in, room c))
-    mul-t31
-    element-set-from-price
-    (λ c. omega arith)
-    loop-again
-    returns)
+    tie.close (tie.spec Inv-loop μ-loop loop-holds (λ c. omega arith) (λ c. omega arith) (λ c. omega arith) (λ c. omega arith)
+    (λ c. omega arith) (λ c. omega arith) (λ c. omega arith) (λ c. omega (arith, lane-in c)) (λ c. omega (arith, lane-in c))
+    (λ c. omega (arith, lane-in c)) (λ c. omega (arith, lane-in c)) mul-price-3 element-copy-out-price-2
+    (λ c. search (needs, diff-in, room c)) mul-t31 element-set-from-price (λ c. omega arith) loop-again returns)

@@ -42,19 +42,6 @@ returns c = let e : c .before .loop .node ≡ c .before .before .args .m + c .be
 
 pub first-leaves-spec : {M : Type 1} → statement M
 first-leaves-spec =
-    tie.close
-    (tie.spec
-    Inv-loop
-    μ-loop
-    loop-holds
-    (λ c. omega arith)
-    (λ c. omega (arith, tail-room c))
-    (λ c. tail-room c)
-    (λ c. omega arith)
-    (λ c. omega arith)
-    (λ c κs. search needs)
-    (λ c. omega (arith, room (omega arith) (again c)))
-    (λ c. omega arith)
-    (λ c. omega arith)
-    loop-again
-    returns)
+    tie.close (tie.spec Inv-loop μ-loop loop-holds (λ c. omega arith) (λ c. omega (arith, tail-room c)) (λ c. tail-room c)
+    (λ c. omega arith) (λ c. omega arith) (λ c κs. search needs) (λ c. omega (arith, room (omega arith) (again c))) (λ c. omega arith)
+    (λ c. omega arith) loop-again returns)

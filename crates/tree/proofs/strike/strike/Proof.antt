@@ -150,37 +150,8 @@ returns-2 c =
 
 pub strike-spec : {M : Type 1} → statement M
 strike-spec =
-    tie.close
-    (tie.spec
-    Inv-loop
-    μ-loop
-    first-leaves-requires
-    loop-holds
-    (λ c. omega (arith, k-room c))
-    (λ c. k-room c)
-    (λ c. omega (arith, node-room (c .before)))
-    (λ c. node-room (c .before))
-    returns
-    (λ c κs. omega arith)
-    other-end-requires
-    (λ c. omega (arith, end-in c))
-    (λ c. end-in c)
-    (λ c κs. search needs)
-    clear-bit-requires
-    mul-other
-    element-write-other
-    lane-to-requires
-    mul-lane
-    element-write-lane
-    mul-live
-    array-write-live
-    mul-live-2
-    array-write-live-2
-    mul-leaf
-    element-write-leaf
-    (λ c κs. search needs)
-    add-tail
-    add-k
-    loop-less
-    loop-again
-    returns-2)
+    tie.close (tie.spec Inv-loop μ-loop first-leaves-requires loop-holds (λ c. omega (arith, k-room c)) (λ c. k-room c)
+    (λ c. omega (arith, node-room (c .before))) (λ c. node-room (c .before)) returns (λ c κs. omega arith) other-end-requires
+    (λ c. omega (arith, end-in c)) (λ c. end-in c) (λ c κs. search needs) clear-bit-requires mul-other element-write-other lane-to-requires
+    mul-lane element-write-lane mul-live array-write-live mul-live-2 array-write-live-2 mul-leaf element-write-leaf (λ c κs. search needs)
+    add-tail add-k loop-less loop-again returns-2)

@@ -56,16 +56,5 @@ returns-2 c =
 
 pub next-spec : {M : Type 1} → statement M
 next-spec =
-    tie.close
-    (tie.spec
-    (λ c κs. search needs)
-    subtract-requires
-    (λ c. search needs)
-    paired-demand-requires
-    (λ c. search needs)
-    returns
-    subtract-requires-2
-    (λ c. search needs)
-    paired-supply-requires
-    (λ c. search needs)
-    returns-2)
+    tie.close (tie.spec (λ c κs. search needs) subtract-requires (λ c. search needs) paired-demand-requires (λ c. search needs) returns
+    subtract-requires-2 (λ c. search needs) paired-supply-requires (λ c. search needs) returns-2)
