@@ -1,18 +1,28 @@
--- The declared answers of round, run, settle and the two writers cross the border as Border says.
+-- The declared answers of start, round, run and settle cross the border as Border says.
 use Rattle.prelude.specs.Words.{_≡_, refl, true, false, List, ℕ, ℤ, by-test}
 use Rattle.transport.specs.declared.Tableau.{Tableau}
+use Rattle.transport.specs.declared.Cell.{Cell}
+use Rattle.transport.specs.declared.StartOutcome.{StartOutcome}
+use Rattle.transport.specs.declared.StartOutcome.the-variants as StartOutcome
 use Rattle.transport.specs.declared.RoundOutcome.{RoundOutcome}
 use Rattle.transport.specs.declared.RoundOutcome.the-variants as RoundOutcome
 use Rattle.transport.specs.declared.RunOutcome.{RunOutcome}
 use Rattle.transport.specs.declared.RunOutcome.the-variants as RunOutcome
 use Rattle.transport.specs.declared.SettleAnswer.{SettleAnswer}
 use Rattle.transport.specs.declared.SettleAnswer.the-variants as SettleAnswer
-use Rattle.transport.specs.declared.WriteAnswer.{WriteAnswer}
-use Rattle.transport.specs.declared.WriteAnswer.the-variants as WriteAnswer
 use Rattle.transport.specs.Round.{Run}
 use Rattle.transport.specs.Calls.{Answer, refused, given, Round, finished, moved}
-use Rattle.transport.specs.Answers.{roundAnswer, runOutcome, runAnswer, settleAnswer, writeAnswer}
-use Rattle.border.specs.Border.{RoundOut, roundOut, RunOut, runOut, numberOf, WriteOut, writeOut}
+use Rattle.transport.specs.Answers.{startAnswer, roundAnswer, runOutcome, runAnswer, settleAnswer}
+use Rattle.border.specs.Border.{StartOut, startOut, RoundOut, roundOut, RunOut, runOut, numberOf}
+
+abbrev pub started : StartOutcome → Tableau → StartOut
+started StartOutcome.Started t = record { refusal = 0; tableau = t }
+started (StartOutcome.Refused k) t = record { refusal = k; tableau = t }
+
+pub started-is : (a : Answer (List Cell)) → started (startAnswer a .outcome) (startAnswer a .tableau) ≡ startOut a
+unfolding startAnswer startOut
+started-is (refused r) = refl
+started-is (given T) = refl
 
 abbrev pub rounded : RoundOutcome → Tableau → List ℤ → List ℤ → RoundOut
 rounded RoundOutcome.Moved t u v = record { refusal = 0; finished = false; tableau = t; u = u; v = v }
@@ -43,12 +53,3 @@ pub settled-is : (a : Answer (List ℕ)) → settledAs (settleAnswer a) ≡ numb
 unfolding settleAnswer numberOf
 settled-is (refused r) = refl
 settled-is (given x) = refl
-
-abbrev pub written : WriteAnswer → WriteOut
-written (WriteAnswer.Written k) = record { refusal = 0; length = k }
-written (WriteAnswer.Refused k) = record { refusal = k; length = 0 }
-
-pub written-is : (a : Answer (List ℕ)) → written (writeAnswer a) ≡ writeOut a
-unfolding writeAnswer writeOut
-written-is (refused r) = refl
-written-is (given t) = refl

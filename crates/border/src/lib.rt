@@ -1,16 +1,15 @@
-// The structs that cross the border to programs in C and Rust, and the functions that the exported calls on tableaux and texts stand on.
+// The structs that cross the border to programs in C and Rust, and the functions that the exported calls on tableaux stand on.
 use transport::MAX_SIDE;
 use transport::RoundOutcome;
 use transport::RunOutcome;
 use transport::SettleAnswer;
+use transport::StartOutcome;
 use transport::Tableau;
-use transport::WriteAnswer;
 ghost use mathlib.Core.Path.{_≡_};
 ghost use lib.ListN.{length};
 ghost use Rattle.transport.specs.Sheet.{sheetOf};
-ghost use Rattle.transport.specs.Calls.{lentAfter, roundCall, runCall, settleCall};
-ghost use Rattle.border.specs.Border.{roundOut, runOut, numberOf};
-ghost use Rattle.border.specs.Crossing.{written};
+ghost use Rattle.transport.specs.Calls.{lentAfter, startCall, roundCall, runCall, settleCall};
+ghost use Rattle.border.specs.Border.{startOut, roundOut, runOut, numberOf};
 
 // The first tableau.
 #[repr(C)]
@@ -60,6 +59,26 @@ pub struct ReadOut {
 pub struct WriteOut {
     pub refusal: u8,
     pub length: usize,
+}
+
+pub fn start_out(supply: &[u64], demand: &[u64], cost: &[i64]) -> StartOut
+    ensures { λ r.
+        let S = sheetOf (now (supply .entry)) (now (demand .entry)) (now (cost .entry)) in
+        ⌜ r ≡ startOut (startCall S) ⌝ }
+{
+    let answer = start_call::start(supply, demand, cost);
+    let tableau = answer.tableau;
+    let outcome = answer.outcome;
+    match outcome {
+        StartOutcome::Started => StartOut {
+            refusal: 0,
+            tableau,
+        },
+        StartOutcome::Refused(number) => StartOut {
+            refusal: number,
+            tableau,
+        },
+    }
 }
 
 pub fn round_from(supply: &[u64], demand: &[u64], cost: &[i64], t: Tableau) -> RoundOut
@@ -138,17 +157,5 @@ pub fn settle_from(supply: &[u64], demand: &[u64], cost: &[i64], t: Tableau, pla
     match answer {
         SettleAnswer::Settled => 0,
         SettleAnswer::Refused(number) => number,
-    }
-}
-
-pub fn write_out(answer: WriteAnswer) -> WriteOut
-    ensures { λ r. ⌜ r ≡ written answer ⌝ }
-{
-    match answer {
-        WriteAnswer::Written(length) => WriteOut { refusal: 0, length },
-        WriteAnswer::Refused(number) => WriteOut {
-            refusal: number,
-            length: 0,
-        },
     }
 }

@@ -1,4 +1,2 @@
 pub mod Filling
 pub mod Corner
-pub mod PriceLists
-pub mod Prices

@@ -9,11 +9,12 @@ use border::WriteOut;
 use border::round_from;
 use border::run_from;
 use border::settle_from;
-use border::write_out;
+use border::start_out;
+use border_lists::read_out;
+use border_lists::solve_out;
+use border_lists::write_plan_out;
+use border_lists::write_sheet_out;
 use transport::Cell;
-use transport::ReadAnswer;
-use transport::SolveAnswer;
-use transport::StartOutcome;
 ghost use mathlib.Core.Path.{_≡_};
 ghost use lib.ListN.{length};
 ghost use Rattle.transport.specs.Sheet.{sheetOf};
@@ -29,19 +30,7 @@ pub extern "C" fn panel_start(supply: &[u64], demand: &[u64], cost: &[i64]) -> S
         let S = sheetOf (now (supply .entry)) (now (demand .entry)) (now (cost .entry)) in
         ⌜ r ≡ startOut (startCall S) ⌝ }
 {
-    let answer = start_call::start(supply, demand, cost);
-    let tableau = answer.tableau;
-    let outcome = answer.outcome;
-    match outcome {
-        StartOutcome::Started => StartOut {
-            refusal: 0,
-            tableau,
-        },
-        StartOutcome::Refused(number) => StartOut {
-            refusal: number,
-            tableau,
-        },
-    }
+    start_out(supply, demand, cost)
 }
 
 // The calls on tableaux take a list of cells: what is passed on is the tableau that the list is.
@@ -111,22 +100,7 @@ pub extern "C" fn panel_solve(
         × (now (plan .exit) ≡ lentAfter (λ s. s .plan) a (now (plan .entry)))
         ⌝ }
 {
-    let answer = solve_call::solve(supply, demand, cost, u, v, plan);
-    match answer {
-        SolveAnswer::Solved {
-            cost: total,
-            rounds,
-        } => SolveOut {
-            refusal: 0,
-            cost: total,
-            rounds,
-        },
-        SolveAnswer::Refused(number) => SolveOut {
-            refusal: number,
-            cost: 0,
-            rounds: 0,
-        },
-    }
+    solve_out(supply, demand, cost, u, v, plan)
 }
 
 #[no_mangle]
@@ -145,27 +119,7 @@ pub extern "C" fn panel_read_sheet(
         × (now (cost .exit) ≡ lentAfter (λ S. S .cost) a (now (cost .entry)))
         ⌝ }
 {
-    let answer = sheet_reader::read_sheet(text, supply, demand, cost);
-    match answer {
-        ReadAnswer::Sheet { sources, sinks } => ReadOut {
-            refusal: 0,
-            sources,
-            sinks,
-            place: 0,
-        },
-        ReadAnswer::NotSheetText(place) => ReadOut {
-            refusal: 9,
-            sources: 0,
-            sinks: 0,
-            place,
-        },
-        ReadAnswer::Refused(number) => ReadOut {
-            refusal: number,
-            sources: 0,
-            sinks: 0,
-            place: 0,
-        },
-    }
+    read_out(text, supply, demand, cost)
 }
 
 #[no_mangle]
@@ -180,7 +134,7 @@ pub extern "C" fn panel_write_sheet(
         let a = writeSheetCall S (length (now (out .entry))) in
         ⌜ (r ≡ writeOut a) × (now (out .exit) ≡ lentAfter (λ t. t) a (now (out .entry))) ⌝ }
 {
-    write_out(sheet_writer::write_sheet(supply, demand, cost, out))
+    write_sheet_out(supply, demand, cost, out)
 }
 
 #[no_mangle]
@@ -195,5 +149,5 @@ pub extern "C" fn panel_write_plan(
         let a = writePlanCall S (length (now (out .entry))) in
         ⌜ (r ≡ writeOut a) × (now (out .exit) ≡ lentAfter (λ t. t) a (now (out .entry))) ⌝ }
 {
-    write_out(plan_text::write_plan(supply, demand, cost, out))
+    write_plan_out(supply, demand, cost, out)
 }

@@ -15,10 +15,10 @@ use Rattle.transport.specs.Laws.CallLaws.{refusal-last}
 use Rattle.transport.specs.Laws.PartiesLaws.{struck-sources, struck-sinks}
 use Rattle.transport.specs.Laws.Sound.{sound}
 use Rattle.transport.specs.declared.Tableau.{Tableau}
-use Rattle.sheet.specs.declared.parties.Parties.{Parties}
-use Rattle.sheet.specs.Parties.{PartiesOf, supplies-lent, demands-lent}
+use Rattle.parties.specs.declared.Parties.{Parties}
+use Rattle.parties.specs.Parties.{PartiesOf, supplies-lent, demands-lent}
 use Rattle.board.specs.Arrays.{Loaded}
-use Rattle.pricing.specs.Costs.{Spread, spread-costed}
+use Rattle.cost_grid.specs.Costs.{Spread, spread-costed}
 use Rattle.rounds.specs.Begun.{Begun}
 
 -- ---- what the tests refuse

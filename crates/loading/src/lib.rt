@@ -1,11 +1,11 @@
 // The front of a call that takes a tableau: the sheet check, then 6 if the tableau does not belong to the sheet; and if nothing is refused, the tableau laid
 // out for rounds.
 use belonging::load;
+use cost_grid::spread_costs;
 use numbering::renumber;
-use pricing::costs::spread_costs;
+use parties::Parties;
+use parties::number_parties;
 use sheet::SheetCheck;
-use sheet::parties::Parties;
-use sheet::parties::number_parties;
 use transport::MAX_SIDE;
 use transport::Tableau;
 use tree::LANES;

@@ -8,8 +8,8 @@ use Rattle.transport.specs.OwnNumbers.{own}
 use Rattle.transport.specs.Statements.{Accepted, Belongs}
 use Rattle.transport.specs.Laws.Sound.{sources-room, wanted-room}
 use Rattle.transport.specs.declared.Cell.{Cell}
-use Rattle.sheet.specs.declared.parties.Parties.{Parties}
-use Rattle.sheet.specs.Parties.{PartiesOf}
+use Rattle.parties.specs.declared.Parties.{Parties}
+use Rattle.parties.specs.Parties.{PartiesOf}
 use Rattle.numbering.specs.Numbers.{Growing, left-growing, ownCell, Within}
 use Rattle.numbering.specs.Belonging.{belongs-within}
 

@@ -1,15 +1,15 @@
 // The panel: reads a sheet text from standard input, and prints its plan text or why it is refused.
+use display::MAX_READ;
 use libc::STDERR_FILENO;
 use libc::STDIN_FILENO;
 use libc::STDOUT_FILENO;
-use plan_text::display::MAX_READ;
 use transport::MAX_PLAN_TEXT;
 ghost use mathlib.Core.Path.{_≡_};
 ghost use Prim.Native.Nat.{_≤_};
 ghost use lib.ListN.{length};
 ghost use Rattle.transport.specs.Limits.{maxPlanText};
 ghost use Rattle.transport.specs.PlanText.{printed};
-ghost use Rattle.sections.specs.Front.{front};
+ghost use Rattle.decimals.specs.Front.{front};
 ghost use Rattle.panel.specs.Input.{inside};
 
 // What came of reading: the count of bytes at the front of the buffer, or an error.
@@ -43,7 +43,7 @@ fn answer(input: &[u8], out: &mut [u8]) -> usize
         let text = printed (now (input .entry)) in
         ⌜ (r ≡ length text) × (now (out .exit) ≡ front text (now (out .entry))) ⌝ }
 {
-    plan_text::show(input, out)
+    display::show(input, out)
 }
 
 fn complain(message: &[u8]) {

@@ -1,3 +1,1 @@
 pub mod Solved
-pub mod Shown
-pub mod Longest

@@ -1,4 +1,3 @@
-pub mod Costs
 pub mod Lowest
 pub mod Slacks
 pub mod Scan

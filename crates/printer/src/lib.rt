@@ -4,8 +4,7 @@ ghost use mathlib.Core.Path.{_≡_};
 ghost use lib.ListN.{length};
 ghost use Rattle.transport.specs.Text.{digits, wholeDigits};
 ghost use Rattle.transport.specs.PlanText.{fitting};
-ghost use Rattle.sections.specs.Front.{front};
-use sections::number;
+ghost use Rattle.decimals.specs.Front.{front};
 
 #[no_mangle]
 pub extern "C" fn printer_whole(z: i64, out: &mut [u8]) -> usize
@@ -13,10 +12,10 @@ pub extern "C" fn printer_whole(z: i64, out: &mut [u8]) -> usize
         let text = fitting (length (now (out .entry))) (wholeDigits z) in
         ⌜ (r ≡ length text) × (now (out .exit) ≡ front text (now (out .entry))) ⌝ }
 {
-    if out.len() < number::whole_count(z) {
+    if out.len() < decimals::whole_count(z) {
         return 0;
     }
-    number::write_whole(z, out)
+    decimals::write_whole(z, out)
 }
 
 #[no_mangle]
@@ -25,8 +24,8 @@ pub extern "C" fn printer_number(n: u64, out: &mut [u8]) -> usize
         let text = fitting (length (now (out .entry))) (digits n) in
         ⌜ (r ≡ length text) × (now (out .exit) ≡ front text (now (out .entry))) ⌝ }
 {
-    if out.len() < number::digit_count(n) {
+    if out.len() < decimals::digit_count(n) {
         return 0;
     }
-    number::write_number(n, out)
+    decimals::write_number(n, out)
 }

@@ -15,10 +15,10 @@ use Rattle.transport.specs.Calls.{given, refusedBy, finished, round, tableauTes
 use Rattle.transport.specs.Laws.CallLaws.{unless-given, unless-refused}
 use Rattle.transport.specs.Answers.{prices, noPrices, roundAnswer}
 use Rattle.transport.specs.Statements.{Accepted}
-use Rattle.sheet.specs.declared.parties.Parties.{Parties}
-use Rattle.sheet.specs.Parties.{PartiesOf, rows-lent, columns-lent}
+use Rattle.parties.specs.declared.Parties.{Parties}
+use Rattle.parties.specs.Parties.{PartiesOf, rows-lent, columns-lent}
 use Rattle.dealing.specs.Filling.{padded-fill}
-use Rattle.dealing.specs.Prices.{NodesPriced}
+use Rattle.price_lists.specs.Prices.{NodesPriced}
 use Rattle.rounds.specs.Begun.{Rounded}
 use Rattle.rounds.specs.PricesShown.{rounded-small, rounded-prices}
 

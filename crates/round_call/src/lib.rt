@@ -1,9 +1,9 @@
 // Round: the next tableau of a sheet, or the prices of a finished one.
 use board::gather;
-use dealing::prices::write_prices;
 use dealing::tableau;
 use loading::load_sheet;
 use numbering::own_tableau;
+use price_lists::write_prices;
 use rounds::round::make_round;
 use sheet::SheetCheck;
 use transport::MAX_SIDE;
@@ -20,7 +20,7 @@ ghost use Rattle.transport.specs.declared.Cell.{Cell};
 ghost use Rattle.transport.specs.OwnNumbers.{roasteryPrices, cafePrices};
 ghost use Rattle.transport.specs.Calls.{given, refusedBy, finished, roundCall};
 ghost use Rattle.transport.specs.Answers.{roundAnswer};
-ghost use Rattle.dealing.specs.Prices.{NodesPriced};
+ghost use Rattle.price_lists.specs.Prices.{NodesPriced};
 
 fn refused_round(number: u8) -> RoundAnswer
     ensures { λ r. ⌜ r ≡ roundAnswer (refusedBy number) ⌝ }

@@ -18,7 +18,7 @@ use Rattle.tree.specs.Layout.{nodeRoom, costOf, strikesOf, StrikesInRoom}
 use Rattle.tree.specs.Strikes.{strikes-room}
 use Rattle.cuts.specs.Planting.{Tree}
 use Rattle.board.specs.Arrays.{Sides, sound-sides, Loaded, Board}
-use Rattle.pricing.specs.Costs.{Costed}
+use Rattle.cost_grid.specs.Costs.{Costed}
 use Rattle.pricing.specs.Slacks.{InRange, Slacks}
 use Rattle.rounds.specs.Kept.{Prices, Kept, in-range}
 

@@ -26,7 +26,7 @@ use Rattle.board.specs.Lanes.{place-order}
 use Rattle.board.specs.Arrays.{Sides, sound-sides, Board}
 use Rattle.board.specs.Drawing.{board-belongs}
 use Rattle.pivoting.specs.Pivoting.{Enters, Shifts, Pivoted}
-use Rattle.pricing.specs.Costs.{Costed}
+use Rattle.cost_grid.specs.Costs.{Costed}
 use Rattle.pricing.specs.Slacks.{InRange, Slacks, Stale}
 use Rattle.pricing.specs.Scan.{Found, Scanned}
 

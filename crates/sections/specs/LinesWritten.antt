@@ -1,7 +1,7 @@
 -- Numbers in lines, written one after the other: what a loop that writes them keeps, whatever its numbers are.
 use Rattle.prelude.specs.Words.{_≡_, refl, sym, ap, _∙_, List, _++_, ℕ, _+_, _-_, _≤_, _<_, arith, length, take, drop, getD, length-take, length-drop, take-all}
 use borrow.Rule.Slice.PartMut.{midOf, putMid}
-use Rattle.sections.specs.Front.{front, front-nil, length-front, FirstWritten, both-written, piece-room, take-piece, drop-piece, piece-next}
+use Rattle.decimals.specs.Front.{front, front-nil, length-front, FirstWritten, both-written, piece-room, take-piece, drop-piece, piece-next}
 use Rattle.sections.specs.Lines.{ending, leftAfter, ended, linesFrom, left-pos, lines-next, lines-end}
 
 module _ {A : Type 0} (write : A → List ℕ) (xs : List A) (width : ℕ) (out₀ : List ℕ) where

@@ -7,7 +7,7 @@ use Rattle.transport.specs.Sheet.{Sheet, refusal, sheetTests}
 use Rattle.transport.specs.Calls.{Answer, given, refusedBy, unless, lentAfter, tooShort}
 use Rattle.transport.specs.Answers.{writeAnswer}
 use Rattle.transport.specs.Laws.CallLaws.{unless-before, unless-last, unless-none, short-yes, short-no, lent-refused, lent-given}
-use Rattle.sections.specs.Front.{front}
+use Rattle.decimals.specs.Front.{front}
 
 module _ (S : Sheet) (text out : List ℕ) where
   -- The call: the text, unless the sheet check refuses the sheet or the output is shorter than the text.

@@ -1,5 +1,4 @@
 // What sheet texts and plan texts are made of: numbers in decimal, lines of numbers, and sections.
 pub mod lines;
-pub mod number;
 pub mod section;
 pub mod wholes;

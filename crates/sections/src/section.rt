@@ -5,10 +5,9 @@ ghost use mathlib.Core.List.{_++_};
 ghost use Prim.Native.Nat.{_+_, _*_, _^_, _≤_};
 ghost use lib.ListN.{length};
 ghost use Rattle.transport.specs.Text.{digits};
-ghost use Rattle.sections.specs.Front.{front};
+ghost use Rattle.decimals.specs.Front.{front};
 ghost use Rattle.sections.specs.Lines.{ended, linesFrom, numbersLength, sectionText};
 use crate::lines;
-use crate::number;
 
 // The length of numbers in lines: each with the byte that ends it.
 pub fn numbers_len(numbers: &[u64]) -> usize
@@ -18,7 +17,7 @@ pub fn numbers_len(numbers: &[u64]) -> usize
     let mut len: usize = 0;
     let mut i: usize = 0;
     while i < numbers.len() {
-        len += number::digit_count(numbers[i]) + 1;
+        len += decimals::digit_count(numbers[i]) + 1;
         i += 1;
     }
     len
@@ -42,7 +41,7 @@ fn write_ended(n: u64, end: u8, out: &mut [u8]) -> usize
     requires { ⌜ length (ended digits n end) ≤ length (now out) ⌝ }
     ensures { λ r. ⌜ (r ≡ length (ended digits n end)) × (now (out .exit) ≡ front (ended digits n end) (now (out .entry))) ⌝ }
 {
-    let at = number::write_number(n, out);
+    let at = decimals::write_number(n, out);
     out[at] = end;
     at + 1
 }
@@ -95,7 +94,7 @@ pub fn head_len(name: &[u8], count: usize) -> usize
     requires { ⌜ length (now name) ≤ 16 ⌝ }
     ensures { λ r. ⌜ (r ≡ length (now (name .entry) ++ ended digits count 10)) × (r ≤ 37) ⌝ }
 {
-    name.len() + number::digit_count(count as u64) + 1
+    name.len() + decimals::digit_count(count as u64) + 1
 }
 
 // The length of a section, whatever its lines.

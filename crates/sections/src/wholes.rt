@@ -4,10 +4,9 @@ ghost use mathlib.Core.List.{_++_};
 ghost use Prim.Native.Nat.{_+_, _*_, _^_, _≤_};
 ghost use lib.ListN.{length};
 ghost use Rattle.transport.specs.Text.{digits, wholeDigits};
-ghost use Rattle.sections.specs.Front.{front};
+ghost use Rattle.decimals.specs.Front.{front};
 ghost use Rattle.sections.specs.Lines.{ended, linesFrom, numbersLength, sectionText};
 use crate::lines;
-use crate::number;
 use crate::section;
 
 // A whole number, and the byte that ends it.
@@ -15,7 +14,7 @@ fn write_whole_ended(z: i64, end: u8, out: &mut [u8]) -> usize
     requires { ⌜ length (ended wholeDigits z end) ≤ length (now out) ⌝ }
     ensures { λ r. ⌜ (r ≡ length (ended wholeDigits z end)) × (now (out .exit) ≡ front (ended wholeDigits z end) (now (out .entry))) ⌝ }
 {
-    let at = number::write_whole(z, out);
+    let at = decimals::write_whole(z, out);
     out[at] = end;
     at + 1
 }
@@ -47,7 +46,7 @@ fn whole_lines_len(wholes: &[i64]) -> usize
     let mut len: usize = 0;
     let mut i: usize = 0;
     while i < wholes.len() {
-        len += number::whole_count(wholes[i]) + 1;
+        len += decimals::whole_count(wholes[i]) + 1;
         i += 1;
     }
     len

@@ -1,7 +1,7 @@
 // Settle: from a finished tableau of a sheet to its settled plan.
 use loading::load_sheet;
+use plan_store::store_plan;
 use rounds::round::is_finished;
-use settle::plan::store_plan;
 use sheet::SheetCheck;
 use solving::finished::settle_board;
 use transport::MAX_SIDE;

@@ -1,4 +1,3 @@
 pub mod Check
-pub mod Parties
 pub mod Laws
 pub mod Refusals

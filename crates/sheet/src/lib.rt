@@ -15,7 +15,6 @@ use transport::MAX_SINKS;
 use transport::MAX_SOURCES;
 
 pub mod lists;
-pub mod parties;
 
 pub enum SheetCheck {
     Accepted,
@@ -62,7 +61,7 @@ fn costs_within(costs: &[i64]) -> bool
 }
 
 // The total of supplies or demands that are within their limits, so that it fits.
-fn total_of(amounts: &[u64]) -> u64
+pub fn total_of(amounts: &[u64]) -> u64
     requires { ⌜ (length (now amounts) ≤ maxSide) × (all (atMost maxAmount) (now amounts) ≡ true) ⌝ }
     ensures { λ r. ⌜ r ≡ total (now (amounts .entry)) ⌝ }
 {

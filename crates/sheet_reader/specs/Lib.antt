@@ -1,4 +1,1 @@
-pub mod LinesRead
-pub mod SheetRead
 pub mod SheetAnswer
-pub mod ReadCall

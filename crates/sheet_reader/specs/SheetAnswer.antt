@@ -10,7 +10,7 @@ use Rattle.transport.specs.SheetText.{Reading, stuck, got, Reader, _>>=_, pure,
 use Rattle.tokens.specs.declared.Taken.{Taken}
 use Rattle.tokens.specs.declared.Taken.the-variants.{Got, Stuck}
 use Rattle.tokens.specs.Reading.{readingOf, placeOf, valueIs, valueSide, bind-got, bind-stuck}
-use Rattle.sheet_reader.specs.SheetRead.{listReader, costReader, afterDemand, afterSupply, costs-more, costs-end, sheet-then}
+use Rattle.line_reader.specs.SheetRead.{listReader, costReader, afterDemand, afterSupply, costs-more, costs-end, sheet-then}
 
 -- The rest of the text from a place on stands for the place. `f` gives the value that was read for the counts in the answer.
 abbrev pub answerOf : {A : Type 0} → List ℕ → (ℕ → ℕ → A) → ReadAnswer → Reading A

@@ -1,6 +1,4 @@
 // Read sheet, section by section.
-pub mod lists;
-pub mod storing;
 pub mod whole_text;
 
 ghost use mathlib.Core.Path.{_≡_};
@@ -8,8 +6,8 @@ ghost use lib.ListN.{length};
 ghost use Rattle.transport.specs.SheetText.{readSheetCall};
 ghost use Rattle.transport.specs.Calls.{lentAfter};
 ghost use Rattle.transport.specs.Answers.{readAnswer};
-use crate::storing::store_sheet;
 use crate::whole_text::read_sections;
+use sheet_store::store_sheet;
 use transport::MAX_LANES;
 use transport::MAX_SINKS;
 use transport::MAX_SOURCES;

@@ -8,7 +8,7 @@ ghost use Rattle.transport.specs.SheetText.{sheetText, writeSheetCall};
 ghost use Rattle.transport.specs.Calls.{lentAfter};
 ghost use Rattle.transport.specs.Answers.{writeAnswer};
 ghost use Rattle.transport.specs.Statements.{Accepted};
-ghost use Rattle.sections.specs.Front.{front};
+ghost use Rattle.decimals.specs.Front.{front};
 ghost use Rattle.sheet_writer.specs.SheetSections.{demandSection, costSection};
 use sections::section;
 use sections::wholes;

@@ -23,12 +23,12 @@ use Rattle.tableaux.specs.Least.{rowPotential, columnPotential, finished-feasib
 use Rattle.optimality.specs.Settling.{tight-lanes, settling-start, basics-single, decided-optimal}
 use Rattle.board.specs.Held.{Held, row-basic, basic-row}
 use Rattle.board.specs.Drawing.{Redrawn, board-held}
-use Rattle.pricing.specs.Costs.{Costed}
+use Rattle.cost_grid.specs.Costs.{Costed}
 use Rattle.rounds.specs.Begun.{Judged}
 use Rattle.augment.specs.Bags.{laneBags, InMask, OnBasics}
 use Rattle.settle.specs.Rows.{Settleable}
-use Rattle.settle.specs.Tight.{Ranged, TightLanes, tight-same, tight-ranged}
-use Rattle.settle.specs.Plan.{bagsIn, NoDebt, debtless, plan-carries}
+use Rattle.tight.specs.Tight.{Ranged, TightLanes, tight-same, tight-ranged}
+use Rattle.plan_store.specs.Plan.{bagsIn, NoDebt, debtless, plan-carries}
 
 -- The tableau T of the problem P is finished. The arrays hold it, with the masks of its basic lanes, the costs lie by column, and the prices are its own.
 pub record Finished (P : Problem) (T : List Cell) (adj : List ℕ) (q e cost price : List ℤ) (m n : ℕ) : Type 0 where

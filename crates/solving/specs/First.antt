@@ -14,7 +14,7 @@ use Rattle.tree.specs.Strip.{Stripped}
 use Rattle.board.specs.Cells.{cellRoom}
 use Rattle.board.specs.Arrays.{Sides, sound-sides, Amounts}
 use Rattle.dealing.specs.Corner.{costless, sound-costless, start-costless, length-start}
-use Rattle.pricing.specs.Costs.{Costed}
+use Rattle.cost_grid.specs.Costs.{Costed}
 use Rattle.rounds.specs.Begun.{Begun}
 
 -- The lists are those of a sound problem, so there is a first tableau of them.

@@ -14,7 +14,7 @@ use Rattle.transport.specs.Laws.ExtendedLaws.{Extra, without, with, extra}
 use Rattle.transport.specs.Laws.PartiesLaws.{left-at, left-append, among-left, struck-sources, struck-sinks}
 use Rattle.transport.specs.Laws.Sound.{sound}
 use Rattle.reduction.specs.Reduction.{ownSheetPlan, carries-left, carries-row, carries-column, length-ownSheetPlan, problem-settled}
-use Rattle.settle.specs.Plan.{bagsIn, bagsIn-place, Storable, storable, Stored}
+use Rattle.plan_store.specs.Plan.{bagsIn, bagsIn-place, Storable, storable, Stored}
 use Rattle.solving.specs.Finished.{SettledBags}
 
 module _ {S : Sheet} (ok : Accepted S) {q : List ℤ} {m n : ℕ} (b : SettledBags (problemOf S) m n q) where

@@ -17,10 +17,10 @@ use Rattle.transport.specs.Laws.Sound.{sound}
 use Rattle.transport.specs.declared.Cell.{Cell}
 use Rattle.tableaux.specs.Ending.{start-finished}
 use Rattle.demands.specs.Demand3.{settled-length}
-use Rattle.sheet.specs.declared.parties.Parties.{Parties}
-use Rattle.sheet.specs.Parties.{PartiesOf}
+use Rattle.parties.specs.declared.Parties.{Parties}
+use Rattle.parties.specs.Parties.{PartiesOf}
 use Rattle.tree.specs.Layout.{maxPotential}
-use Rattle.dealing.specs.Prices.{NodesPriced}
+use Rattle.price_lists.specs.Prices.{NodesPriced}
 use Rattle.rounds.specs.Begun.{Judged}
 use Rattle.rounds.specs.PricesShown.{prices-small}
 use Rattle.runs.specs.Runs.{Ran}

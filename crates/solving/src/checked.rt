@@ -1,12 +1,12 @@
 // A sheet that passed its check, solved from its first tableau on.
 use crate::finished::settle_board;
 use board::spread::lay_out;
+use cost_grid::spread_costs;
 use dealing::corner::first_tableau;
-use dealing::prices::write_prices;
-use pricing::costs::spread_costs;
+use parties::number_parties;
+use plan_store::store_plan;
+use price_lists::write_prices;
 use runs::run::finish;
-use settle::plan::store_plan;
-use sheet::parties::number_parties;
 use transport::MAX_SIDE;
 use tree::LANES;
 use tree::NODES;
@@ -18,7 +18,7 @@ ghost use Rattle.transport.specs.Sheet.{sheetOf};
 ghost use Rattle.transport.specs.Problem.{Problem};
 ghost use Rattle.transport.specs.Laws.Sound.{Sound};
 ghost use Rattle.transport.specs.Statements.{Accepted};
-ghost use Rattle.pricing.specs.Costs.{Costed};
+ghost use Rattle.cost_grid.specs.Costs.{Costed};
 ghost use Rattle.solving.specs.Stored.{ProblemSolved, SolveStored};
 
 // Solves the problem of the parties left, whose costs lie by column, from its first tableau on: the rounds made. The bags of its settled plan then lie on

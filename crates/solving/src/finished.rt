@@ -1,7 +1,7 @@
 // The settled plan from the board of a finished tableau.
 use board::gather::draw;
 use settle::lanes::settle_lanes;
-use settle::tight::tight_lanes;
+use tight::tight_lanes;
 use transport::MAX_SIDE;
 use tree::LANES;
 use tree::NODES;
@@ -11,7 +11,7 @@ ghost use mathlib.Core.List.{List};
 ghost use lib.IntN.{ℤ};
 ghost use Rattle.transport.specs.Problem.{Problem};
 ghost use Rattle.transport.specs.declared.Cell.{Cell};
-ghost use Rattle.pricing.specs.Costs.{Costed};
+ghost use Rattle.cost_grid.specs.Costs.{Costed};
 ghost use Rattle.rounds.specs.Begun.{Judged};
 ghost use Rattle.solving.specs.Finished.{SettledBags};
 

@@ -12,11 +12,11 @@ use Rattle.transport.specs.Laws.Sound.{sound}
 use Rattle.transport.specs.Laws.CallLaws.{some≢none}
 use Rattle.transport.specs.declared.Tableau.{Tableau}
 use Rattle.sheet.specs.Check.{checkAnswer, check-none, check-some}
-use Rattle.sheet.specs.Parties.{PartiesOf, parties-problem, supplies-lent, demands-lent, rows-lent, columns-lent, cafes-lent}
+use Rattle.parties.specs.Parties.{PartiesOf, parties-problem, supplies-lent, demands-lent, rows-lent, columns-lent, cafes-lent}
 use Rattle.numbering.specs.Numbers.{cellAmong}
 use Rattle.numbering.specs.Belonging.{belongs-renumbered, inside-renumbered}
 use Rattle.numbering.specs.Lent.{sides-room, rows-growing, columns-growing}
-use Rattle.pricing.specs.Costs.{spreadable}
+use Rattle.cost_grid.specs.Costs.{spreadable}
 use Rattle.loading.specs.Loading.{tableau-refused, none-refused, begun-loaded}
 use Rattle.loading.proofs.load_tableau.Statement.{statement}
 use Rattle.loading.proofs.load_tableau.Tie as tie

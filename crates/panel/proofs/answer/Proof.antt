@@ -1,9 +1,9 @@
 -- Whatever is printed fits.
 use Rattle.prelude.specs.Words.{arith, length, needs}
 use Rattle.transport.specs.PlanText.{printed, shown}
-use Rattle.sections.specs.Front.{front}
-use Rattle.sections.specs.Fitting.{fitting-fits}
-use Rattle.plan_text.specs.Longest.{printed-length}
+use Rattle.decimals.specs.Front.{front}
+use Rattle.decimals.specs.Fitting.{fitting-fits}
+use Rattle.display.specs.Longest.{printed-length}
 use Rattle.panel.proofs.answer.Statement.{statement}
 use Rattle.panel.proofs.answer.Tie as tie
 

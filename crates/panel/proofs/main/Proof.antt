@@ -1,7 +1,7 @@
 -- What was read lies in the buffer, and what is printed fits the output.
 use Rattle.prelude.specs.Words.{sym, arith, take, length-take-le, needs}
 use Rattle.transport.specs.Limits.{maxPlanText}
-use Rattle.plan_text.specs.Longest.{printed-length}
+use Rattle.display.specs.Longest.{printed-length}
 use Rattle.panel.proofs.main.Statement.{statement}
 use Rattle.panel.proofs.main.Tie as tie
 

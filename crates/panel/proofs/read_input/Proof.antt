@@ -3,7 +3,7 @@ use Rattle.prelude.specs.Words.{_≡_, _∙_, _≤_, _<_, _-_, _^_, arith, need
 use borrow.Rule.Slice.PartMut.{putMid, same-len-mid, mid-len}
 use mir.Syntax.{w64}
 use mir.Val.{toZ, ofZ}
-use Rattle.sections.specs.Whole.{not-negative}
+use Rattle.decimals.specs.Whole.{not-negative}
 use Rattle.panel.specs.Input.{moved-most, moved-some}
 use Rattle.panel.proofs.read_input.Statement.{statement}
 use Rattle.panel.proofs.read_input.Tie as tie

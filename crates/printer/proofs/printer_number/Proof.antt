@@ -1,7 +1,7 @@
 -- Too short, or written.
 use Rattle.prelude.specs.Words.{arith, needs}
 use Rattle.transport.specs.Text.{digits}
-use Rattle.sections.specs.Fitting.{put-nothing, put-whole}
+use Rattle.decimals.specs.Fitting.{put-nothing, put-whole}
 use Rattle.printer.proofs.printer_number.Statement.{statement}
 use Rattle.printer.proofs.printer_number.Tie as tie
 

@@ -4,7 +4,7 @@ use mir.Syntax.{w64}
 use mir.Val.{toZ, ofZ}
 use Rattle.transport.specs.Laws.RangeLaws.{back}
 use Rattle.transport.specs.Text.{wholeDigits}
-use Rattle.sections.specs.Fitting.{put-nothing, put-whole}
+use Rattle.decimals.specs.Fitting.{put-nothing, put-whole}
 use Rattle.printer.proofs.printer_whole.Statement.{statement}
 use Rattle.printer.proofs.printer_whole.Tie as tie
 

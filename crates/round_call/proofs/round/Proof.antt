@@ -9,7 +9,7 @@ use Rattle.transport.specs.Calls.{tableauTests, inside}
 use Rattle.transport.specs.Answers.{prices, noPrices, roundAnswer}
 use Rattle.transport.specs.declared.Tableau.{Tableau}
 use Rattle.sheet.specs.Check.{accepted-none, refused-some}
-use Rattle.sheet.specs.Parties.{rows-lent, columns-lent}
+use Rattle.parties.specs.Parties.{rows-lent, columns-lent}
 use Rattle.numbering.specs.Lent.{own-within, own-lent}
 use Rattle.board.specs.Drawing.{board-belongs}
 use Rattle.rounds.specs.Begun.{Rounded}

@@ -6,7 +6,7 @@ use Rattle.transport.specs.Calls.{given, tableauTests, inside}
 use Rattle.transport.specs.Answers.{runAnswer}
 use Rattle.transport.specs.declared.Tableau.{Tableau}
 use Rattle.sheet.specs.Check.{accepted-none, refused-some}
-use Rattle.sheet.specs.Parties.{rows-lent, columns-lent}
+use Rattle.parties.specs.Parties.{rows-lent, columns-lent}
 use Rattle.numbering.specs.Lent.{own-within, own-lent}
 use Rattle.board.specs.Drawing.{board-belongs}
 use Rattle.loading.specs.Loading.{Admitted}

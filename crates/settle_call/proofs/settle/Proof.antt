@@ -7,7 +7,7 @@ use Rattle.transport.specs.Laws.Sound.{sources-room, sinks-room}
 use Rattle.transport.specs.Calls.{tableauTests, inside}
 use Rattle.transport.specs.declared.Tableau.{Tableau}
 use Rattle.sheet.specs.Check.{accepted-none, refused-some}
-use Rattle.sheet.specs.Parties.{rows-lent, cafes-lent}
+use Rattle.parties.specs.Parties.{rows-lent, cafes-lent}
 use Rattle.rounds.specs.Begun.{begun-sides, Judged}
 use Rattle.loading.specs.Loading.{Admitted}
 use Rattle.solving.specs.Finished.{SettledBags}

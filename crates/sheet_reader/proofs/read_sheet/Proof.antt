@@ -9,7 +9,7 @@ use Rattle.transport.specs.Limits.{maxSources, maxSinks}
 use Rattle.transport.specs.SheetText.{sheetReader}
 use Rattle.sheet.specs.Laws.{sides-product}
 use Rattle.sheet_reader.specs.SheetAnswer.{sheetRead, readFits, SheetIn, sheet-in, supply-length, demand-length, cost-length}
-use Rattle.sheet_reader.specs.ReadCall.{Read, read-stuck, read-got}
+use Rattle.sheet_store.specs.ReadCall.{Read, read-stuck, read-got}
 use Rattle.sheet_reader.proofs.read_sheet.Statement.{statement}
 use Rattle.sheet_reader.proofs.read_sheet.Tie as tie
 

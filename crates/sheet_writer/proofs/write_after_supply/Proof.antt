@@ -1,7 +1,7 @@
 -- The demands, and then the costs in what is left of the output.
 use Rattle.prelude.specs.Words.{arith, length, needs}
 use Rattle.transport.specs.Text.{bytes}
-use Rattle.sections.specs.Front.{FirstWritten, first-room, second-start, second-room, both-length, both-written}
+use Rattle.decimals.specs.Front.{FirstWritten, first-room, second-start, second-room, both-length, both-written}
 use Rattle.sheet_writer.specs.SheetSections.{demandSection, costSection}
 use Rattle.sheet_writer.proofs.write_after_supply.Statement.{statement}
 use Rattle.sheet_writer.proofs.write_after_supply.Tie as tie

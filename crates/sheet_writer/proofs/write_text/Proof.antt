@@ -4,7 +4,7 @@ use Rattle.transport.specs.Text.{bytes}
 use Rattle.transport.specs.Sheet.{Sheet, sheetOf}
 use Rattle.transport.specs.SheetText.{sheetText}
 use Rattle.sheet.specs.Refusals.{sinks-some, costs-whole}
-use Rattle.sections.specs.Front.{FirstWritten, first-room, second-start, second-room, both-length, both-written}
+use Rattle.decimals.specs.Front.{FirstWritten, first-room, second-start, second-room, both-length, both-written}
 use Rattle.sheet_writer.specs.SheetSections.{supplySection, demandSection, costSection, sheet-sections}
 use Rattle.sheet_writer.proofs.write_text.Statement.{statement}
 use Rattle.sheet_writer.proofs.write_text.Tie as tie

@@ -8,7 +8,7 @@ use Rattle.transport.specs.Statements.{Accepted}
 use Rattle.transport.specs.Laws.SheetLaws.{accepted}
 use Rattle.tableaux.specs.Starting.{start-belongs}
 use Rattle.sheet.specs.Check.{accepted-none, refused-some}
-use Rattle.sheet.specs.Parties.{PartiesOf, supplies-lent, demands-lent, rows-lent, columns-lent}
+use Rattle.parties.specs.Parties.{PartiesOf, supplies-lent, demands-lent, rows-lent, columns-lent}
 use Rattle.dealing.specs.Corner.{sound-costless, sound-turned, start-costless}
 use Rattle.numbering.specs.Lent.{own-within, own-lent}
 use Rattle.start_call.specs.Start.{start-refused, start-given}

@@ -1,7 +1,7 @@
 -- The two cases of the definition.
 use Rattle.prelude.specs.Words.{_≡_, refl, sym, ap, arith, length, needs}
 use Rattle.transport.specs.Text.{digits}
-use Rattle.sections.specs.Front.{front-nil}
+use Rattle.decimals.specs.Front.{front-nil}
 use Rattle.sections.specs.Lines.{linesFrom}
 use Rattle.plan_lines.specs.Lanes.{laneText, line-none, line-one}
 use Rattle.plan_lines.proofs.lanes.write_lane.Statement.{statement}

@@ -1,7 +1,7 @@
 -- The loop's invariant: the output holds the lines of the lanes so far.
 use Rattle.prelude.specs.Words.{_≡_, refl, sym, ap, _∙_, _≤_, _+_, _-_, arith, length, needs}
 use Rattle.transport.specs.Lists.{at}
-use Rattle.sections.specs.Front.{front, front-nil, length-front, FirstWritten, second-start, second-room, both-length, both-written}
+use Rattle.decimals.specs.Front.{front, front-nil, length-front, FirstWritten, second-start, second-room, both-length, both-written}
 use Rattle.plan_lines.specs.Lanes.{laneText, usedText, text-zero, text-next, text-grows}
 use Rattle.plan_lines.proofs.lanes.write_lanes.Statement.{statement}
 use Rattle.plan_lines.proofs.lanes.write_lanes.Tie as tie

@@ -1,6 +1,6 @@
 -- The prices, and then the lanes in what is left of the output.
 use Rattle.prelude.specs.Words.{arith, length, needs}
-use Rattle.sections.specs.Front.{FirstWritten, first-room, second-start, second-room, both-length, both-written}
+use Rattle.decimals.specs.Front.{FirstWritten, first-room, second-start, second-room, both-length, both-written}
 use Rattle.plan_lines.specs.Sections.{pricesText, lanesText}
 use Rattle.plan_lines.proofs.plan_sections.write_after_figures.Statement.{statement}
 use Rattle.plan_lines.proofs.plan_sections.write_after_figures.Tie as tie

@@ -4,7 +4,7 @@ use mir.Syntax.{w64}
 use mir.Val.{toZ, ofZ}
 use Rattle.transport.specs.Laws.RangeLaws.{back}
 use Rattle.transport.specs.Text.{bytes, digits, wholeDigits}
-use Rattle.sections.specs.Front.{FirstWritten, first-room, second-start, second-room, both-length, both-written}
+use Rattle.decimals.specs.Front.{FirstWritten, first-room, second-start, second-room, both-length, both-written}
 use Rattle.sections.specs.Lines.{sectionText}
 use Rattle.plan_lines.specs.Sections.{figuresText}
 use Rattle.plan_lines.proofs.plan_sections.write_figures.Statement.{statement}

@@ -1,7 +1,7 @@
 -- The head line, and then the lines of the lanes in what is left of the output.
 use Rattle.prelude.specs.Words.{_++_, arith, length, needs}
 use Rattle.transport.specs.Text.{bytes, digits}
-use Rattle.sections.specs.Front.{FirstWritten, first-room, second-start, second-room, both-length, both-written}
+use Rattle.decimals.specs.Front.{FirstWritten, first-room, second-start, second-room, both-length, both-written}
 use Rattle.sections.specs.Lines.{ended}
 use Rattle.plan_lines.specs.Lanes.{usedText}
 use Rattle.plan_lines.specs.Sections.{lanesText}

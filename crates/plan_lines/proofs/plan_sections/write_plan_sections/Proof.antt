@@ -1,6 +1,6 @@
 -- The figures, and then the other sections in what is left of the output.
 use Rattle.prelude.specs.Words.{List, _++_, ℕ, arith, length, needs}
-use Rattle.sections.specs.Front.{FirstWritten, first-room, second-start, second-room, both-length, both-written}
+use Rattle.decimals.specs.Front.{FirstWritten, first-room, second-start, second-room, both-length, both-written}
 use Rattle.plan_lines.specs.Sections.{figuresText, pricesText, lanesText, planSections}
 use Rattle.plan_lines.proofs.plan_sections.write_plan_sections.Statement.{statement}
 use Rattle.plan_lines.proofs.plan_sections.write_plan_sections.Tie as tie

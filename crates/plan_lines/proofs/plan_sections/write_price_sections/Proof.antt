@@ -1,7 +1,7 @@
 -- The prices of the sources, and then those of the sinks in what is left of the output.
 use Rattle.prelude.specs.Words.{arith, needs}
 use Rattle.transport.specs.Text.{bytes}
-use Rattle.sections.specs.Front.{FirstWritten, first-room, second-start, second-room, both-length, both-written}
+use Rattle.decimals.specs.Front.{FirstWritten, first-room, second-start, second-room, both-length, both-written}
 use Rattle.plan_lines.specs.Sections.{priceSection, pricesText}
 use Rattle.plan_lines.proofs.plan_sections.write_price_sections.Statement.{statement}
 use Rattle.plan_lines.proofs.plan_sections.write_price_sections.Tie as tie

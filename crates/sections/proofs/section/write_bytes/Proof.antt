@@ -1,6 +1,6 @@
 -- The loop's invariant: the output holds the first i bytes.
 use Rattle.prelude.specs.Words.{needs, _≡_, refl, sym, _∙_, _≤_, _-_, arith, add-one, length, take, getD, length-set, take-all, take-suc, length-take-le}
-use Rattle.sections.specs.Front.{front, front-nil, front-byte}
+use Rattle.decimals.specs.Front.{front, front-nil, front-byte}
 use Rattle.sections.proofs.section.write_bytes.Statement.{statement}
 use Rattle.sections.proofs.section.write_bytes.Tie as tie
 

@@ -1,7 +1,7 @@
 -- The digits, and one byte more.
 use Rattle.prelude.specs.Words.{_<_, arith, length, needs}
 use Rattle.transport.specs.Text.{digits}
-use Rattle.sections.specs.Front.{front-byte}
+use Rattle.decimals.specs.Front.{front-byte}
 use Rattle.sections.specs.Lines.{ended, length-ended}
 use Rattle.sections.proofs.section.write_ended.Statement.{statement}
 use Rattle.sections.proofs.section.write_ended.Tie as tie

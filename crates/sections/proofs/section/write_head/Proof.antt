@@ -1,7 +1,7 @@
 -- The name, and then the count in what is left of the output.
 use Rattle.prelude.specs.Words.{arith, needs}
 use Rattle.transport.specs.Text.{digits}
-use Rattle.sections.specs.Front.{FirstWritten, first-room, second-start, second-room, both-length, both-written}
+use Rattle.decimals.specs.Front.{FirstWritten, first-room, second-start, second-room, both-length, both-written}
 use Rattle.sections.specs.Lines.{ended}
 use Rattle.sections.proofs.section.write_head.Statement.{statement}
 use Rattle.sections.proofs.section.write_head.Tie as tie

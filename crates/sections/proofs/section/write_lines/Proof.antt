@@ -1,7 +1,7 @@
 -- The loop's invariant: the output holds the lines of the numbers so far.
 use Rattle.prelude.specs.Words.{needs, refl, _-_, arith, length, take, getD}
 use Rattle.transport.specs.Text.{digits}
-use Rattle.sections.specs.Front.{FirstWritten, second-start, second-room, both-length}
+use Rattle.decimals.specs.Front.{FirstWritten, second-start, second-room, both-length}
 use Rattle.sections.specs.Lines.{ended, linesFrom}
 use Rattle.sections.specs.LinesWritten.{LinesWritten, lines-start, lines-kept, lines-done, lines-begun, lines-more}
 use Rattle.sections.proofs.section.write_lines.Statement.{statement}

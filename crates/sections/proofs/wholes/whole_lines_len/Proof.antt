@@ -4,7 +4,7 @@ use mir.Syntax.{w64}
 use Rattle.transport.specs.Laws.RangeLaws.{back}
 use Rattle.transport.specs.Text.{wholeDigits}
 use Rattle.sections.specs.Lines.{numbersLength, numbers-next, numbers-end}
-use Rattle.sections.specs.Whole.{whole-few}
+use Rattle.decimals.specs.Whole.{whole-few}
 use Rattle.sections.proofs.wholes.whole_lines_len.Statement.{statement}
 use Rattle.sections.proofs.wholes.whole_lines_len.Tie as tie
 

@@ -3,7 +3,7 @@ use Rattle.prelude.specs.Words.{_≡_, _<_, _^_, arith, length, mag, needs}
 use mir.Syntax.{w64}
 use Rattle.transport.specs.Laws.RangeLaws.{back}
 use Rattle.transport.specs.Text.{wholeDigits}
-use Rattle.sections.specs.Front.{front, front-byte}
+use Rattle.decimals.specs.Front.{front, front-byte}
 use Rattle.sections.specs.Lines.{ended, length-ended}
 use Rattle.sections.proofs.wholes.write_whole_ended.Statement.{statement}
 use Rattle.sections.proofs.wholes.write_whole_ended.Tie as tie

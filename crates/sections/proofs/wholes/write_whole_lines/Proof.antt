@@ -4,7 +4,7 @@ use mir.Syntax.{w64}
 use mir.Val.{toZ, ofZ}
 use Rattle.transport.specs.Laws.RangeLaws.{back}
 use Rattle.transport.specs.Text.{wholeDigits}
-use Rattle.sections.specs.Front.{FirstWritten, second-start, second-room, both-length}
+use Rattle.decimals.specs.Front.{FirstWritten, second-start, second-room, both-length}
 use Rattle.sections.specs.Lines.{ended, linesFrom}
 use Rattle.sections.specs.LinesWritten.{LinesWritten, lines-start, lines-kept, lines-done, lines-begun, lines-more}
 use Rattle.sections.proofs.wholes.write_whole_lines.Statement.{statement}

@@ -1,6 +1,6 @@
 -- The costs are stuck, or bytes follow them, or the text ends there: the cases of what is read after the demands.
 use Rattle.prelude.specs.Words.{refl, drop, needs}
-use Rattle.sheet_reader.specs.SheetRead.{costs-stuck}
+use Rattle.line_reader.specs.SheetRead.{costs-stuck}
 use Rattle.sheet_reader.specs.SheetAnswer.{CostsRead, costs-read, more-answer, end-answer, answer-stopped}
 use Rattle.sheet_reader.proofs.whole_text.read_after_demand.Statement.{statement}
 use Rattle.sheet_reader.proofs.whole_text.read_after_demand.Tie as tie

@@ -2,7 +2,7 @@
 use Rattle.prelude.specs.Words.{arith, le-trans, mul-le-mul, drop, needs}
 use Rattle.transport.specs.Limits.{maxSinks}
 use Rattle.transport.specs.Text.{bytes}
-use Rattle.sheet_reader.specs.SheetRead.{demands-stuck}
+use Rattle.line_reader.specs.SheetRead.{demands-stuck}
 use Rattle.sheet_reader.specs.SheetAnswer.{ListRead, list-read, answer-stopped, demands-answer}
 use Rattle.sheet_reader.proofs.whole_text.read_after_supply.Statement.{statement}
 use Rattle.sheet_reader.proofs.whole_text.read_after_supply.Tie as tie

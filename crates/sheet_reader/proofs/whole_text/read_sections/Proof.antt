@@ -2,7 +2,7 @@
 use Rattle.prelude.specs.Words.{arith, needs}
 use Rattle.transport.specs.Limits.{maxSources}
 use Rattle.transport.specs.Text.{bytes}
-use Rattle.sheet_reader.specs.SheetRead.{sheet-stuck}
+use Rattle.line_reader.specs.SheetRead.{sheet-stuck}
 use Rattle.sheet_reader.specs.SheetAnswer.{ListRead, list-read, answer-stopped, supplies-answer}
 use Rattle.sheet_reader.proofs.whole_text.read_sections.Statement.{statement}
 use Rattle.sheet_reader.proofs.whole_text.read_sections.Tie as tie

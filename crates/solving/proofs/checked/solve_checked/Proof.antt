@@ -4,8 +4,8 @@ use Rattle.transport.specs.Sheet.{Sheet, roasteries, cafes, sheetOf}
 use Rattle.transport.specs.Parties.{problemOf}
 use Rattle.transport.specs.Statements.{Accepted}
 use Rattle.transport.specs.Laws.Sound.{sound}
-use Rattle.sheet.specs.Parties.{PartiesOf, supplies-lent, demands-lent, rows-lent, columns-lent, cafes-lent}
-use Rattle.pricing.specs.Costs.{Costed, spreadable, spread-costed}
+use Rattle.parties.specs.Parties.{PartiesOf, supplies-lent, demands-lent, rows-lent, columns-lent, cafes-lent}
+use Rattle.cost_grid.specs.Costs.{Costed, spreadable, spread-costed}
 use Rattle.solving.specs.Settled.{settled-storable, stored-settled}
 use Rattle.solving.specs.Stored.{ProblemSolved, solved-priced, solve-stored}
 use Rattle.solving.proofs.checked.solve_checked.Statement.{statement}

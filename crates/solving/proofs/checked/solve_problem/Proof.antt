@@ -4,7 +4,7 @@ use Rattle.transport.specs.Problem.{Problem}
 use Rattle.transport.specs.Laws.Sound.{Sound}
 use Rattle.transport.specs.Tableau.{start}
 use Rattle.transport.specs.Round.{roundBound}
-use Rattle.pricing.specs.Costs.{Costed}
+use Rattle.cost_grid.specs.Costs.{Costed}
 use Rattle.rounds.specs.Begun.{Begun}
 use Rattle.runs.specs.Runs.{Ran}
 use Rattle.solving.specs.First.{first-sound, first-fits, first-begun}

@@ -1,0 +1,40 @@
+-- Each way out is a case of the answer.
+use Rattle.prelude.specs.Words.{sym, ap, _∙_, needs}
+use Rattle.transport.specs.declared.StartAnswer.{StartAnswer}
+use Rattle.transport.specs.declared.StartOutcome.{StartOutcome}
+use Rattle.transport.specs.Sheet.{Sheet, sheetOf}
+use Rattle.transport.specs.Calls.{startCall}
+use Rattle.border.specs.Crossing.{started, started-is}
+use Rattle.border.proofs.start_out.Statement.{statement}
+use Rattle.border.proofs.start_out.Tie as tie
+
+start-requires : tie.Need-start-requires
+start-requires c κs = search needs
+
+enum-told : tie.Need-enum-told
+enum-told c = search needs
+
+enum-known-outcome : tie.Need-enum-known-outcome
+enum-known-outcome c = search needs
+
+abbrev sheetAt : (t : tie.Start) → Sheet
+sheetAt t = sheetOf (t .args .supply .now) (t .args .demand .now) (t .args .cost .now)
+
+returns : tie.Need-returns
+returns c =
+    let t = c .before .before .before .before .before .before in
+    let w = c .before .before .before .start in
+    let a = startCall (sheetAt t) in
+    ap (λ (o : StartOutcome). started o (w .result .tableau)) (sym (c .enum-told .given .1))
+    ∙ ap (λ (x : StartAnswer). started (x .outcome) (x .tableau)) (w .ensures) ∙ started-is a
+
+returns-2 : tie.Need-returns-2
+returns-2 c =
+    let t = c .before .before .before .before .before .before .before in
+    let w = c .before .before .before .before .start in
+    let a = startCall (sheetAt t) in
+    ap (λ (o : StartOutcome). started o (w .result .tableau)) (sym (c .before .outcome .given .1))
+    ∙ ap (λ (x : StartAnswer). started (x .outcome) (x .tableau)) (w .ensures) ∙ started-is a
+
+pub start-out-spec : {M : Type 1} → statement M
+start-out-spec = tie.close (tie.spec start-requires enum-told enum-known-outcome returns returns-2)

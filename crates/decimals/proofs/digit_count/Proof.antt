@@ -1,0 +1,30 @@
+-- The loop's invariant: the count so far and the digits of what is left make up the digits of n, one of them counted twice.
+use Rattle.prelude.specs.Words.{needs, _≡_, _≤_, _+_, arith, length}
+use Rattle.transport.specs.Text.{digits}
+use Rattle.decimals.specs.Digits.{length-digits-small, length-digits-more}
+use Rattle.decimals.proofs.digit_count.Statement.{statement}
+use Rattle.decimals.proofs.digit_count.Tie as tie
+
+abbrev Inv-loop : tie.InvT-loop
+Inv-loop n count₀ rest₀ count rest = (count + rest ≤ n + 1) × (count + length (digits rest) ≡ length (digits n) + 1)
+
+abbrev μ-loop : tie.MeasureT-loop
+μ-loop n count₀ rest₀ count rest = rest
+
+loop-holds : tie.Need-loop-holds Inv-loop μ-loop
+loop-holds c = omega arith
+
+add-count : tie.Need-add-count Inv-loop μ-loop
+add-count c = search needs
+
+loop-less : tie.Need-loop-less Inv-loop μ-loop
+loop-less c = search needs
+
+loop-again : tie.Need-loop-again Inv-loop μ-loop
+loop-again c = omega (arith, length-digits-more (c .before .loop .rest) (omega arith))
+
+returns : tie.Need-returns Inv-loop μ-loop
+returns c = omega (arith, length-digits-small (c .before .loop .rest) (omega arith))
+
+pub digit-count-spec : {M : Type 1} → statement M
+digit-count-spec = tie.close (tie.spec Inv-loop μ-loop loop-holds add-count loop-less loop-again returns)

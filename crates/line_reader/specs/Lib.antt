@@ -1,0 +1,2 @@
+pub mod LinesRead
+pub mod SheetRead
