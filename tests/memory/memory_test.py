@@ -95,7 +95,7 @@ test("the printer has no read-only data", [f"{length(PRINTER, '.rodata')} bytes"
 lines = [(str(path), line) for path in sorted(pathlib.Path("crates").glob("*/src/**/*.rt")) for line in path.read_text(encoding="utf-8").splitlines()]
 for made in r"b'0' \+", r"% 10\b":
     places = {path for path, line in lines if re.search(made, line.split("//")[0])}
-    test(f"digits are made in one file: {made}", [] if places == {"crates/sections/src/number.rt"} else sorted(places) or ["nowhere"])
+    test(f"digits are made in one file: {made}", [] if places == {"crates/decimals/src/lib.rt"} else sorted(places) or ["nowhere"])
 
 print(f"{passed} passed, {failed} failed")
 sys.exit(failed > 0)

@@ -1,4 +1,4 @@
-// The exported calls that fill lent lists, or write into them: solve, read sheet, write sheet and write plan. Each gives its answer as a struct that crosses the border.
+// The exported calls that fill lent lists, or write into them: solve, read sheet, write sheet and write plan. Each gives a struct that crosses the border.
 use border::ReadOut;
 use border::SolveOut;
 use border::WriteOut;

@@ -1,5 +1,5 @@
--- The words of the libraries that theory and proofs use, gathered so that a module names them in one place, with the two of `Tests`. Nothing is defined here: each
--- word is the library's. The definitions of `transport` do not pass through it; they name the libraries themselves.
+-- The words of the libraries that theory and proofs use, gathered so that a module names them in one place, with the two of `Tests`. Nothing is defined here:
+-- each word is the library's. The definitions of `transport` do not pass through it; they name the libraries themselves.
 
 -- numbers
 pub use Prim.Native.Nat.{ℕ, zero, suc, _+_, _-_, _*_, _/_, _%_, _^_, _≤_, _<_, min, max}
@@ -25,8 +25,8 @@ pub use mathlib.Core.List.{List·Memᴰ·cases-cons, List·Memᴰ·eq-of-singlet
 unfoldable pub use mathlib.Core.List.{flatMap, flatten}
 pub use lib.ListN.{length, getD, set, take, drop, replicate, length-set, length-append, length-map, length-take, length-drop, length-replicate}
 pub use lib.ListN.{take-append-drop, drop-of-length-le, getD-replicate, List·getD-append, List·getD-eq-default}
-pub use lib.Seq.{ext-getD, getD-set-same, getD-set-other, getD-take, getD-drop, getD-at, set-at, take-at, drop-at, take-suc, take-suc-set, take-all, take-length}
-pub use lib.Seq.{take-append-seam, length-take-le, lt-length-set, drop-cons, drop-drop, drop-set-lt}
+pub use lib.Seq.{ext-getD, getD-set-same, getD-set-other, getD-take, getD-drop, getD-at, set-at, take-at, drop-at, take-suc, take-suc-set, take-all}
+pub use lib.Seq.{take-length, take-append-seam, length-take-le, lt-length-set, drop-cons, drop-drop, drop-set-lt}
 -- what the tactics read
 pub use native.Mathlib.Omega.{arith}
 pub use borrow.Author.Needs.{needs}

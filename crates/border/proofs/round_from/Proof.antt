@@ -8,18 +8,6 @@ use Rattle.border.specs.Crossing.{rounded, rounded-is}
 use Rattle.border.proofs.round_from.Statement.{statement}
 use Rattle.border.proofs.round_from.Tie as tie
 
-round-requires : tie.Need-round-requires
-round-requires c κs = search needs
-
-enum-told : tie.Need-enum-told
-enum-told c = search needs
-
-enum-told-2 : tie.Need-enum-told-2
-enum-told-2 c = search needs
-
-enum-known-outcome : tie.Need-enum-known-outcome
-enum-known-outcome c = search needs
-
 abbrev sheetAt : (t : tie.Start) → Sheet
 sheetAt t = sheetOf (t .args .supply .now) (t .args .demand .now) (t .args .cost .now)
 
@@ -49,5 +37,4 @@ returns-3 c =
 
 pub round-from-spec : {M : Type 1} → statement M
 round-from-spec =
-    tie.close
-    (tie.spec round-requires enum-told enum-told-2 enum-known-outcome returns returns-2 returns-3)
+    tie.close (tie.spec (λ c κs. search needs) (λ c. search needs) (λ c. search needs) (λ c. search needs) returns returns-2 returns-3)

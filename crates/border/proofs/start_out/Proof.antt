@@ -8,15 +8,6 @@ use Rattle.border.specs.Crossing.{started, started-is}
 use Rattle.border.proofs.start_out.Statement.{statement}
 use Rattle.border.proofs.start_out.Tie as tie
 
-start-requires : tie.Need-start-requires
-start-requires c κs = search needs
-
-enum-told : tie.Need-enum-told
-enum-told c = search needs
-
-enum-known-outcome : tie.Need-enum-known-outcome
-enum-known-outcome c = search needs
-
 abbrev sheetAt : (t : tie.Start) → Sheet
 sheetAt t = sheetOf (t .args .supply .now) (t .args .demand .now) (t .args .cost .now)
 
@@ -37,4 +28,4 @@ returns-2 c =
     ∙ ap (λ (x : StartAnswer). started (x .outcome) (x .tableau)) (w .ensures) ∙ started-is a
 
 pub start-out-spec : {M : Type 1} → statement M
-start-out-spec = tie.close (tie.spec start-requires enum-told enum-known-outcome returns returns-2)
+start-out-spec = tie.close (tie.spec (λ c κs. search needs) (λ c. search needs) (λ c. search needs) returns returns-2)

@@ -4,12 +4,6 @@ use Rattle.border_lists.specs.Crossing.{written}
 use Rattle.border_lists.proofs.write_out.Statement.{statement}
 use Rattle.border_lists.proofs.write_out.Tie as tie
 
-enum-known-answer : tie.Need-enum-known-answer
-enum-known-answer c = search needs
-
-enum-known-answer-2 : tie.Need-enum-known-answer-2
-enum-known-answer-2 c = search needs
-
 returns : tie.Need-returns
 returns c = ap written (sym (c .before .answer .given .1))
 
@@ -17,4 +11,4 @@ returns-2 : tie.Need-returns-2
 returns-2 c = ap written (sym (c .before .answer2 .given .1))
 
 pub write-out-spec : {M : Type 1} → statement M
-write-out-spec = tie.close (tie.spec enum-known-answer enum-known-answer-2 returns returns-2)
+write-out-spec = tie.close (tie.spec (λ c. search needs) (λ c. search needs) returns returns-2)

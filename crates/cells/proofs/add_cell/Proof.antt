@@ -5,21 +5,9 @@ use Rattle.cells.specs.Lent.{maxCount, addCell}
 use Rattle.cells.proofs.add_cell.Statement.{statement}
 use Rattle.cells.proofs.add_cell.Tie as tie
 
-mul-c : tie.Need-mul-c
-mul-c c = search needs
-
-element-set-from-c : tie.Need-element-set-from-c
-element-set-from-c c = search needs
-
-add-u : tie.Need-add-u
-add-u c = search needs
-
 returns : tie.Need-returns
 unfolding addCell maxSide maxCells
 returns c = rw (lt-ltb _ maxCells (c .if1 .taken))
-
-add-u-2 : tie.Need-add-u-2
-add-u-2 c = search needs
 
 returns-2 : tie.Need-returns-2
 unfolding addCell maxSide maxCells maxCount
@@ -34,4 +22,5 @@ returns-3 c =
     rw (le-ltb k maxCells (omega (arith, c .before .if1 .left)), le-ltb k maxCount (omega (arith, c .if2 .left)))
 
 pub add-cell-spec : {M : Type 1} → statement M
-add-cell-spec = tie.close (tie.spec mul-c element-set-from-c add-u returns add-u-2 returns-2 returns-3)
+add-cell-spec =
+    tie.close (tie.spec (λ c. search needs) (λ c. search needs) (λ c. search needs) returns (λ c. search needs) returns-2 returns-3)

@@ -11,20 +11,8 @@ Inv-loop n count₀ rest₀ count rest = (count + rest ≤ n + 1) × (count + le
 abbrev μ-loop : tie.MeasureT-loop
 μ-loop n count₀ rest₀ count rest = rest
 
-loop-holds : tie.Need-loop-holds Inv-loop μ-loop
-loop-holds c = omega arith
-
-add-count : tie.Need-add-count Inv-loop μ-loop
-add-count c = search needs
-
-loop-less : tie.Need-loop-less Inv-loop μ-loop
-loop-less c = search needs
-
-loop-again : tie.Need-loop-again Inv-loop μ-loop
-loop-again c = omega (arith, length-digits-more (c .before .loop .rest) (omega arith))
-
-returns : tie.Need-returns Inv-loop μ-loop
-returns c = omega (arith, length-digits-small (c .before .loop .rest) (omega arith))
-
 pub digit-count-spec : {M : Type 1} → statement M
-digit-count-spec = tie.close (tie.spec Inv-loop μ-loop loop-holds add-count loop-less loop-again returns)
+digit-count-spec =
+    tie.close (tie.spec Inv-loop μ-loop (λ c. omega arith) (λ c. search needs) (λ c. search needs)
+    (λ c. omega (arith, length-digits-more (c .before .loop .rest) (omega arith)))
+    (λ c. omega (arith, length-digits-small (c .before .loop .rest) (omega arith))))

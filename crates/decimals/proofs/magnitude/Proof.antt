@@ -36,8 +36,5 @@ returns c =
     rw (turned-back (c .before .args .z) (in-range (c .before)) (negative c))
     (omega (arith, magnitude-pos (c .before .args .z) (negative c)))
 
-returns-2 : tie.Need-returns-2
-returns-2 c = search needs
-
 pub magnitude-spec : {M : Type 1} → statement M
-magnitude-spec = tie.close (tie.spec sub-result cast-result add-result cast-result-2 returns returns-2)
+magnitude-spec = tie.close (tie.spec sub-result cast-result add-result cast-result-2 returns (λ c. search needs))

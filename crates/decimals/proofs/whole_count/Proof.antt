@@ -8,12 +8,6 @@ use Rattle.decimals.specs.Whole.{magnitude-le, whole-negative, whole-pos
 use Rattle.decimals.proofs.whole_count.Statement.{statement}
 use Rattle.decimals.proofs.whole_count.Tie as tie
 
-magnitude-requires : tie.Need-magnitude-requires
-magnitude-requires c κs = search needs
-
-digit-count-requires : tie.Need-digit-count-requires
-digit-count-requires c κs = search needs
-
 in-range : (c : tie.Start) → mag (c .args .z) < 2 ^ 63
 in-range c = search needs
 
@@ -45,4 +39,4 @@ returns-2 c =
     counted (c .before) ∙ sym (ap length (whole-positive z h))
 
 pub whole-count-spec : {M : Type 1} → statement M
-whole-count-spec = tie.close (tie.spec magnitude-requires digit-count-requires add-result returns returns-2)
+whole-count-spec = tie.close (tie.spec (λ c κs. search needs) (λ c κs. search needs) add-result returns returns-2)

@@ -83,23 +83,14 @@ mul-lanes c =
 array-share-prefix-supply : tie.Need-array-share-prefix-supply
 array-share-prefix-supply c = omega (arith, m-few (c .before))
 
-slice-aggregate-show-plan : tie.Need-slice-aggregate-show-plan
-slice-aggregate-show-plan c = sym (length-take-le _ _ (array-share-prefix-supply (c .before)))
-
 array-share-prefix-demand : tie.Need-array-share-prefix-demand
 array-share-prefix-demand c = omega (arith, m-few (c .before .before), n-few (c .before .before))
-
-slice-aggregate-show-plan-2 : tie.Need-slice-aggregate-show-plan-2
-slice-aggregate-show-plan-2 c = sym (length-take-le _ _ (array-share-prefix-demand (c .before)))
 
 array-share-prefix-cost : tie.Need-array-share-prefix-cost
 array-share-prefix-cost c =
     let p = m-few (c .before .before .before) in
     let q = n-few (c .before .before .before) in
     omega (arith, mul-le-mul p q, mul-le-mul p p)
-
-slice-aggregate-show-plan-3 : tie.Need-slice-aggregate-show-plan-3
-slice-aggregate-show-plan-3 c = sym (length-take-le _ _ (array-share-prefix-cost (c .before)))
 
 returns : tie.Need-returns
 unfolding front
@@ -121,6 +112,8 @@ returns-3 c = absurd (rw (c .enum-told .given .1) at (c .before .before .before 
 pub show-spec : {M : Type 1} → statement M
 show-spec =
     tie.close (tie.spec (λ c κs. search needs) slice-aggregate-read-sections (λ c. search needs) (λ c. search needs) (λ c. search needs)
-    read-sections-requires (λ c. search needs) mul-lanes array-share-prefix-supply slice-aggregate-show-plan array-share-prefix-demand
-    slice-aggregate-show-plan-2 array-share-prefix-cost slice-aggregate-show-plan-3 (λ c κs. search needs) (λ c. search needs)
-    (λ c. search needs) (λ c κs. search needs) (λ c. search needs) (λ c. search needs) returns (λ c. search needs) returns-2 returns-3)
+    read-sections-requires (λ c. search needs) mul-lanes array-share-prefix-supply
+    (λ c. sym (length-take-le _ _ (array-share-prefix-supply (c .before)))) array-share-prefix-demand
+    (λ c. sym (length-take-le _ _ (array-share-prefix-demand (c .before)))) array-share-prefix-cost
+    (λ c. sym (length-take-le _ _ (array-share-prefix-cost (c .before)))) (λ c κs. search needs) (λ c. search needs) (λ c. search needs)
+    (λ c κs. search needs) (λ c. search needs) (λ c. search needs) returns (λ c. search needs) returns-2 returns-3)

@@ -6,19 +6,10 @@ use Rattle.sections.specs.Lines.{ended}
 use Rattle.display.proofs.show_refusal.Statement.{statement}
 use Rattle.display.proofs.show_refusal.Tie as tie
 
-head-len-requires : tie.Need-head-len-requires
-head-len-requires c κs = search needs
-
 returns : tie.Need-returns
 returns c =
     let a = c .before .before .before .before .args in
     put-nothing (a .words .now ++ ended digits (a .number) 10) (a .out .now) (omega (arith, c .before .head-len .ensures))
-
-write-head-requires : tie.Need-write-head-requires
-write-head-requires c κs = search needs
-
-same-length : tie.Need-same-length
-same-length c = search needs
 
 returns-2 : tie.Need-returns-2
 returns-2 c =
@@ -27,4 +18,4 @@ returns-2 c =
     put-whole (a .words .now ++ ended digits (a .number) 10) (a .out .now) _ _ (omega (arith, h .head-len .ensures)) (c .before .before .write-head .ensures)
 
 pub show-refusal-spec : {M : Type 1} → statement M
-show-refusal-spec = tie.close (tie.spec head-len-requires returns write-head-requires same-length returns-2)
+show-refusal-spec = tie.close (tie.spec (λ c κs. search needs) returns (λ c κs. search needs) (λ c. search needs) returns-2)

@@ -6,12 +6,6 @@ use Rattle.numbering.specs.Numbers.{numbering-off}
 use Rattle.numbering.proofs.number_of.Statement.{statement}
 use Rattle.numbering.proofs.number_of.Tie as tie
 
-mul-result : tie.Need-mul-result
-mul-result c = search needs
-
-element-copy-out-result : tie.Need-element-copy-out-result
-element-copy-out-result c = search needs
-
 returns : tie.Need-returns
 unfolding at maxSide
 returns c ks w = w .numbers (c .before .before .args .own) (omega (arith, c .before .if1 .taken))
@@ -21,4 +15,4 @@ unfolding maxSide
 returns-2 c ks w = numbering-off w (c .before .args .own) (omega (arith, c .if1 .left))
 
 pub number-of-spec : {M : Type 1} → statement M
-number-of-spec = tie.close (tie.spec mul-result element-copy-out-result returns returns-2)
+number-of-spec = tie.close (tie.spec (λ c. search needs) (λ c. search needs) returns returns-2)

@@ -7,12 +7,6 @@ use Rattle.display.specs.Longest.{printed-length}
 use Rattle.panel.proofs.answer.Statement.{statement}
 use Rattle.panel.proofs.answer.Tie as tie
 
-show-requires : tie.Need-show-requires
-show-requires c κs = search needs
-
-same-length : tie.Need-same-length
-same-length c = search needs
-
 returns : tie.Need-returns
 unfolding shown front
 returns c =
@@ -21,4 +15,4 @@ returns c =
     rw (fitting-fits (length (t .args .out .now)) text (omega (arith, t .pre, printed-length (t .args .input .now)))) at (c .before .before .show .ensures)
 
 pub answer-spec : {M : Type 1} → statement M
-answer-spec = tie.close (tie.spec show-requires same-length returns)
+answer-spec = tie.close (tie.spec (λ c κs. search needs) (λ c. search needs) returns)

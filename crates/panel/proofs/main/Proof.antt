@@ -8,9 +8,6 @@ use Rattle.panel.proofs.main.Tie as tie
 array-share-prefix-input : tie.Need-array-share-prefix-input
 array-share-prefix-input c = rw (c .before .read .given .1) at (c .before .before .before .before .read-input .ensures)
 
-slice-aggregate-answer : tie.Need-slice-aggregate-answer
-slice-aggregate-answer c = sym (length-take-le _ _ (array-share-prefix-input (c .before)))
-
 answer-requires : tie.Need-answer-requires
 unfolding maxPlanText
 answer-requires c κs = omega arith
@@ -24,12 +21,10 @@ array-share-prefix-out c = omega (
       (c .before .before .before .before .before .before .before .before .read-input .last .0)),
 )
 
-slice-aggregate-write-all : tie.Need-slice-aggregate-write-all
-slice-aggregate-write-all c = sym (length-take-le _ _ (array-share-prefix-out (c .before)))
-
 pub main-spec : {M : Type 1} → statement M
 main-spec =
     tie.close (tie.spec (λ c. search needs) (λ c κs. search needs) (λ c. search needs) (λ c. search needs) (λ c. search needs)
-    (λ c κs. search needs) (λ c. search needs) array-share-prefix-input slice-aggregate-answer (λ c. search needs) answer-requires
-    array-share-prefix-out slice-aggregate-write-all (λ c κs. search needs) (λ c. search needs) (λ c κs. search needs) (λ c. search needs)
-    (λ c. search needs))
+    (λ c κs. search needs) (λ c. search needs) array-share-prefix-input
+    (λ c. sym (length-take-le _ _ (array-share-prefix-input (c .before)))) (λ c. search needs) answer-requires array-share-prefix-out
+    (λ c. sym (length-take-le _ _ (array-share-prefix-out (c .before)))) (λ c κs. search needs) (λ c. search needs) (λ c κs. search needs)
+    (λ c. search needs) (λ c. search needs))

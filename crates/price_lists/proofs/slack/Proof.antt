@@ -19,18 +19,6 @@ inside c =
     let a = c .before .args in
     omega (arith, costs .long, place-below m (a .cafes) (a .i) (a .j) below (c .if1 .taken))
 
-mul-lane : tie.Need-mul-lane
-mul-lane c = omega (arith, inside c)
-
-add-lane : tie.Need-add-lane
-add-lane c = omega (arith, inside c)
-
-mul-lane-2 : tie.Need-mul-lane-2
-mul-lane-2 c = omega (arith, inside c)
-
-shared-slice-copy-out-lane : tie.Need-shared-slice-copy-out-lane
-shared-slice-copy-out-lane c = inside c
-
 abbrev lane-cost : tie.Start → ℤ
 lane-cost c = let a = c .args in costIn (a .cost .now) (a .cafes) (a .i) (a .j)
 
@@ -50,4 +38,6 @@ returns : tie.Need-returns
 returns c = rw (lane-is c) (diff-back w64 (lane-cost (c .before)) (c .before .args .price) (small c))
 
 pub slack-spec : {M : Type 1} → statement M
-slack-spec = tie.close (tie.spec mul-lane add-lane mul-lane-2 shared-slice-copy-out-lane sub-result returns)
+slack-spec =
+    tie.close (tie.spec (λ c. omega (arith, inside c)) (λ c. omega (arith, inside c)) (λ c. omega (arith, inside c)) (λ c. inside c)
+    sub-result returns)

@@ -50,9 +50,6 @@ price-cafes-requires c κs =
     let w = s .pre .0 .1 in
     ((_, costs-of w, row-prices w (rows (cols c) .place-prices .ensures) (s .pre .1)), n-room w)
 
-column-count-requires : tie.Need-column-count-requires
-column-count-requires c κs = let w = start-cafes (c .before) .pre .0 .1 in (cols-some w, last-in w)
-
 -- The number of columns, which are in the room; either list of their prices is small, and so is the number of cafés, so that a program that hands over one of
 -- these is refused for its prices.
 price-roasteries-requires : tie.Need-price-roasteries-requires
@@ -115,6 +112,6 @@ returns c T w =
 
 pub write-prices-spec : {M : Type 1} → statement M
 write-prices-spec =
-    tie.close (tie.spec place-prices-requires (λ c. search needs) place-prices-requires-2 price-cafes-requires column-count-requires
-    price-roasteries-requires array-share-prefix-columns slice-aggregate-copy-prices copy-prices-requires (λ c. search needs)
-    (λ c. search needs) returns)
+    tie.close (tie.spec place-prices-requires (λ c. search needs) place-prices-requires-2 price-cafes-requires
+    (λ c κs. let w = start-cafes (c .before) .pre .0 .1 in (cols-some w, last-in w)) price-roasteries-requires array-share-prefix-columns
+    slice-aggregate-copy-prices copy-prices-requires (λ c. search needs) (λ c. search needs) returns)

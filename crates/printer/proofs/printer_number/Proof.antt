@@ -5,19 +5,10 @@ use Rattle.decimals.specs.Fitting.{put-nothing, put-whole}
 use Rattle.printer.proofs.printer_number.Statement.{statement}
 use Rattle.printer.proofs.printer_number.Tie as tie
 
-digit-count-requires : tie.Need-digit-count-requires
-digit-count-requires c κs = search needs
-
 returns : tie.Need-returns
 returns c =
     let a = c .before .before .before .args in
     put-nothing (digits (a .n)) (a .out .now) (omega (arith, c .before .digit-count .ensures))
-
-write-number-requires : tie.Need-write-number-requires
-write-number-requires c κs = search needs
-
-same-length : tie.Need-same-length
-same-length c = search needs
 
 returns-2 : tie.Need-returns-2
 returns-2 c =
@@ -26,4 +17,4 @@ returns-2 c =
     put-whole (digits (a .n)) (a .out .now) _ _ (omega (arith, h .digit-count .ensures)) (c .before .before .write-number .ensures)
 
 pub printer-number-spec : {M : Type 1} → statement M
-printer-number-spec = tie.close (tie.spec digit-count-requires returns write-number-requires same-length returns-2)
+printer-number-spec = tie.close (tie.spec (λ c κs. search needs) returns (λ c κs. search needs) (λ c. search needs) returns-2)

@@ -8,9 +8,6 @@ use Rattle.decimals.specs.Fitting.{put-nothing, put-whole}
 use Rattle.printer.proofs.printer_whole.Statement.{statement}
 use Rattle.printer.proofs.printer_whole.Tie as tie
 
-whole-count-requires : tie.Need-whole-count-requires
-whole-count-requires c κs = search needs
-
 as-it-is : (t : tie.Start) → toZ w64 (ofZ w64 (t .args .z)) ≡ t .args .z
 as-it-is t = back w64 (t .args .z) (search needs)
 
@@ -19,12 +16,6 @@ returns c =
     let t = c .before .before .before in
     let count = rw (as-it-is t) at (c .before .whole-count .ensures) in
     put-nothing (wholeDigits (t .args .z)) (t .args .out .now) (omega (arith, count))
-
-write-whole-requires : tie.Need-write-whole-requires
-write-whole-requires c κs = search needs
-
-same-length : tie.Need-same-length
-same-length c = search needs
 
 returns-2 : tie.Need-returns-2
 returns-2 c =
@@ -38,4 +29,4 @@ returns-2 c =
     )
 
 pub printer-whole-spec : {M : Type 1} → statement M
-printer-whole-spec = tie.close (tie.spec whole-count-requires returns write-whole-requires same-length returns-2)
+printer-whole-spec = tie.close (tie.spec (λ c κs. search needs) returns (λ c κs. search needs) (λ c. search needs) returns-2)

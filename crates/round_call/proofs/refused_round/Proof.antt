@@ -6,12 +6,9 @@ use Rattle.round_call.specs.Round.{round-refused}
 use Rattle.round_call.proofs.refused_round.Statement.{statement}
 use Rattle.round_call.proofs.refused_round.Tie as tie
 
-empty-tableau-requires : tie.Need-empty-tableau-requires
-empty-tableau-requires c κs = tt
-
 returns : tie.Need-returns
 unfolding noPrices prices padded maxSide
 returns c = rw (c .empty-tableau .ensures) (round-refused (c .before .args .number))
 
 pub refused-round-spec : {M : Type 1} → statement M
-refused-round-spec = tie.close (tie.spec empty-tableau-requires returns)
+refused-round-spec = tie.close (tie.spec (λ c κs. tt) returns)

@@ -3,11 +3,8 @@ use Rattle.run_call.specs.Run.{run-refused}
 use Rattle.run_call.proofs.refused_run.Statement.{statement}
 use Rattle.run_call.proofs.refused_run.Tie as tie
 
-empty-tableau-requires : tie.Need-empty-tableau-requires
-empty-tableau-requires c κs = tt
-
 returns : tie.Need-returns
 returns c = rw (c .empty-tableau .ensures) (run-refused (c .before .args .number))
 
 pub refused-run-spec : {M : Type 1} → statement M
-refused-run-spec = tie.close (tie.spec empty-tableau-requires returns)
+refused-run-spec = tie.close (tie.spec (λ c κs. tt) returns)

@@ -7,9 +7,6 @@ use Rattle.sheet_store.proofs.store_list.Tie as tie
 copy-list-requires : tie.Need-copy-list-requires
 copy-list-requires c κs = c .before .before .before .before .pre (c .before .if1 .taken)
 
-same-length : tie.Need-same-length
-same-length c = search needs
-
 returns : tie.Need-returns
 unfolding front
 returns c = (λ e. c .before .before .copy-list .ensures, λ e. clash (c .before .before .before .before .if1 .taken) e)
@@ -18,4 +15,4 @@ returns-2 : tie.Need-returns-2
 returns-2 c = (λ e. clash e (c .if1 .left), λ e. refl)
 
 pub store-list-spec : {M : Type 1} → statement M
-store-list-spec = tie.close (tie.spec copy-list-requires same-length returns returns-2)
+store-list-spec = tie.close (tie.spec copy-list-requires (λ c. search needs) returns returns-2)

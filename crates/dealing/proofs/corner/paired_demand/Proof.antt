@@ -9,18 +9,9 @@ use Rattle.transport.specs.Amount.{pairedDemand}
 use Rattle.dealing.proofs.corner.paired_demand.Statement.{statement}
 use Rattle.dealing.proofs.corner.paired_demand.Tie as tie
 
-mul-q : tie.Need-mul-q
-mul-q c = search needs
-
-shared-slice-read-q : tie.Need-shared-slice-read-q
-shared-slice-read-q c = search needs
-
 cast-q : tie.Need-cast-q
 unfolding at maxBags maxSide maxAmount
 cast-q c = omega arith
-
-add-if1 : tie.Need-add-if1
-add-if1 c = search needs
 
 cast-t10 : tie.Need-cast-t10
 unfolding maxBags maxSide maxAmount
@@ -39,4 +30,4 @@ returns-2 c S e f =
     rw (e, ne-eqb (a .j) (length (a .demand .now) - 1) (λ l. c .if1 .left (omega arith)), toZ-pos w64 (cast-q (c .before) .sfits))
 
 pub paired-demand-spec : {M : Type 1} → statement M
-paired-demand-spec = tie.close (tie.spec mul-q shared-slice-read-q cast-q add-if1 cast-t10 returns returns-2)
+paired-demand-spec = tie.close (tie.spec (λ c. search needs) (λ c. search needs) cast-q (λ c. search needs) cast-t10 returns returns-2)

@@ -8,12 +8,6 @@ use Rattle.transport.specs.Amount.{pairedSupply}
 use Rattle.dealing.proofs.corner.paired_supply.Statement.{statement}
 use Rattle.dealing.proofs.corner.paired_supply.Tie as tie
 
-mul-t3 : tie.Need-mul-t3
-mul-t3 c = search needs
-
-shared-slice-read-t5 : tie.Need-shared-slice-read-t5
-shared-slice-read-t5 c = search needs
-
 cast-t6 : tie.Need-cast-t6
 unfolding at maxBags maxSide maxAmount
 cast-t6 c = omega arith
@@ -23,4 +17,4 @@ unfolding pairedSupply at
 returns c S e = rw (e, toZ-pos w64 (cast-t6 c .sfits))
 
 pub paired-supply-spec : {M : Type 1} → statement M
-paired-supply-spec = tie.close (tie.spec mul-t3 shared-slice-read-t5 cast-t6 returns)
+paired-supply-spec = tie.close (tie.spec (λ c. search needs) (λ c. search needs) cast-t6 returns)

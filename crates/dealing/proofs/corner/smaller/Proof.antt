@@ -4,9 +4,6 @@ use Rattle.tableaux.specs.Starting.{smaller-row, smaller-column}
 use Rattle.dealing.proofs.corner.smaller.Statement.{statement}
 use Rattle.dealing.proofs.corner.smaller.Tie as tie
 
-less-requires : tie.Need-less-requires
-less-requires c κs = search needs
-
 returns : tie.Need-returns
 returns c = sym (smaller-column _ _ (sym (c .before .less .ensures) ∙ c .if1 .taken))
 
@@ -14,4 +11,4 @@ returns-2 : tie.Need-returns-2
 returns-2 c = sym (smaller-row _ _ (sym (c .before .less .ensures) ∙ c .if1 .left))
 
 pub smaller-spec : {M : Type 1} → statement M
-smaller-spec = tie.close (tie.spec less-requires returns returns-2)
+smaller-spec = tie.close (tie.spec (λ c κs. search needs) returns returns-2)

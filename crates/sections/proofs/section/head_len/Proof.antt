@@ -6,17 +6,8 @@ use Rattle.sections.specs.Lines.{ended, length-ended}
 use Rattle.sections.proofs.section.head_len.Statement.{statement}
 use Rattle.sections.proofs.section.head_len.Tie as tie
 
-digit-count-requires : tie.Need-digit-count-requires
-digit-count-requires c κs = search needs
-
 few : (c : tie.After-digit-count) → c .digit-count .result ≤ 20
 few c = omega (arith, c .digit-count .ensures, digits-length 19 (c .before .before .args .count) .1 (omega arith))
-
-add-result : tie.Need-add-result
-add-result c = omega (arith, few c)
-
-add-result-2 : tie.Need-add-result-2
-add-result-2 c = omega (arith, few c)
 
 returns : tie.Need-returns
 returns c =
@@ -24,4 +15,4 @@ returns c =
     omega (arith, few c, c .digit-count .ensures, length-append (t .name .now) (ended digits (t .count) 10), length-ended digits (t .count) 10)
 
 pub head-len-spec : {M : Type 1} → statement M
-head-len-spec = tie.close (tie.spec digit-count-requires add-result add-result-2 returns)
+head-len-spec = tie.close (tie.spec (λ c κs. search needs) (λ c. omega (arith, few c)) (λ c. omega (arith, few c)) returns)

@@ -17,15 +17,6 @@ room c = omega (
   length-ended digits (c .before .before .before .before .before .args .n) (c .before .before .before .before .before .args .end),
 )
 
-slice-write-out : tie.Need-slice-write-out
-slice-write-out c = omega (arith, room c, c .before .before .write-number .ensures .0)
-
-add-result : tie.Need-add-result
-add-result c = omega (arith, room c, c .before .before .write-number .ensures .0)
-
-same-length : tie.Need-same-length
-same-length c = search needs
-
 returns : tie.Need-returns
 unfolding ended
 returns c =
@@ -36,4 +27,6 @@ returns c =
     )
 
 pub write-ended-spec : {M : Type 1} → statement M
-write-ended-spec = tie.close (tie.spec write-number-requires slice-write-out add-result same-length returns)
+write-ended-spec =
+    tie.close (tie.spec write-number-requires (λ c. omega (arith, room c, c .before .before .write-number .ensures .0))
+    (λ c. omega (arith, room c, c .before .before .write-number .ensures .0)) (λ c. search needs) returns)

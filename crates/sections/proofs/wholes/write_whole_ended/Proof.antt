@@ -32,9 +32,6 @@ slice-write-out c = omega (arith, room (c .before .before), counted (c .before .
 add-result : tie.Need-add-result
 add-result c = omega (arith, room (c .before .before), counted (c .before .before))
 
-same-length : tie.Need-same-length
-same-length c = search needs
-
 returns : tie.Need-returns
 unfolding ended
 returns c =
@@ -45,4 +42,4 @@ returns c =
     )
 
 pub write-whole-ended-spec : {M : Type 1} → statement M
-write-whole-ended-spec = tie.close (tie.spec write-whole-requires slice-write-out add-result same-length returns)
+write-whole-ended-spec = tie.close (tie.spec write-whole-requires slice-write-out add-result (λ c. search needs) returns)

@@ -3,12 +3,6 @@ use Rattle.prelude.specs.Words.{needs}
 use Rattle.sheet_reader.proofs.whole_text.not_sheet_text.Statement.{statement}
 use Rattle.sheet_reader.proofs.whole_text.not_sheet_text.Tie as tie
 
-enum-known-found : tie.Need-enum-known-found
-enum-known-found c = search needs
-
-enum-known-found-2 : tie.Need-enum-known-found-2
-enum-known-found-2 c = search needs
-
 returns : tie.Need-returns
 returns c = let e = c .before .found .given .1 in rw e
 
@@ -16,4 +10,4 @@ returns-2 : tie.Need-returns-2
 returns-2 c = let e = c .before .found2 .given .1 in rw e
 
 pub not-sheet-text-spec : {M : Type 1} → statement M
-not-sheet-text-spec = tie.close (tie.spec enum-known-found enum-known-found-2 returns returns-2)
+not-sheet-text-spec = tie.close (tie.spec (λ c. search needs) (λ c. search needs) returns returns-2)
