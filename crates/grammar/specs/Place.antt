@@ -91,7 +91,9 @@ module _ (text rest : List ℕ) (s : Stopped sheetReader SheetTextOf text rest) 
       let t : text ≡ s .part ++ b ∷ old = s .split ∙ ap (λ (z : List ℕ). s .part ++ z) e in
       ap (take room) t ∙ ap (λ (q : ℕ). take q (s .part ++ b ∷ old)) n ∙ take-append-add (s .part) (b ∷ old) (suc k)
 
--- Where the reader is stuck is the place: that many bytes begin some sheet text, and no more do.
+-- Where the reader is stuck is the place: that many bytes begin some sheet text, and no more do. The reader is exact, so what it took before it was stuck can
+-- be completed to a sheet text. If one byte more began a sheet text as well, that text would go on with the byte at which the reader is stuck; but then the
+-- reader is stuck there whatever follows, and of a sheet text it takes all.
 pub place : (text rest : List ℕ) → sheetReader text ≡ stuck rest → Place text (length text - length rest)
 place text rest e =
     let s = sheet-exact .stopped text rest e in

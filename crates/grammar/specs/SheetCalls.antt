@@ -107,7 +107,9 @@ readSheet-iff text a b c S = (
 
 -- ---- both ways round
 
--- Writing and reading undo each other, with room for any sheet text and any sheet.
+-- Writing and reading undo each other, with room for any sheet text and any sheet. No two texts are compared: the reader is exact (`Exact`), so it takes a text
+-- with a sheet exactly if the text is that sheet's. What was written is the text of its sheet, hence read as that sheet; and what was read is the text of the
+-- sheet that it gives, hence what is written of it.
 pub undo : Undo (λ S. writeSheetCall S maxText) (λ text. readSheetCall text maxSources maxSinks (maxSources * maxSinks))
 undo = record {
   readWritten = λ S text e.

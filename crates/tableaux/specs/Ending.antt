@@ -80,10 +80,15 @@ module _ {P : Problem} (ok : Sound P) where
   raised-bound w = omega (arith, measure-high ok w (costs P) (nat costAbove) (λ i j hi hj. omega (arith, z-le (ok .costHigh (place (sinks P) i j)))))
 
   module _ {T : List Cell} (w : Belongs P T) (unfinished : isFinished P T ≡ false) where
+    -- A round keeps belonging. Basic lanes have reduced cost 0 and the entering one a negative, so it is not basic, and closes one loop; the pivot round it
+    -- belongs.
     pub next-belongs : Belongs P (next P T)
     unfolding next
     next-belongs = pivot-belongs ok w (entering-inside ok T .0) (entering-inside ok T .1) (entering-new ok T unfinished w)
 
+    -- The measure falls. The valued cost changes by the value of the step times the reduced cost of the entering lane. Both are whole; the first is positive,
+    -- since no basic cell has the pair (0, 0), and the second negative: so it falls by 1 or more. Without marks a step could be worth nothing, and rounds could
+    -- come back to where they were.
     pub next-falls : raised (next P T) ⊕ nat 1 ≼ raised T
     unfolding next raised
     next-falls = omega (
