@@ -1,6 +1,6 @@
 -- The costs of a sheet's lanes between parties left, spread by column with the stride of the arrays: while they are filled in, and for a problem.
-use Rattle.prelude.specs.Words.{ℕ, _+_, _*_, _<_, _≤_, arith, mul-le-mul, decLt, ℕ-discrete, _≡_, refl, sym, ap, _∙_, by-cases, List, [], _∷_, _++_, ℤ, pos}
-use Rattle.prelude.specs.Words.{natAbs, length, getD, set, replicate, length-set, length-append, List·getD-append, getD-set-same, getD-set-other, getD-at}
+use Rattle.prelude.specs.Words.{ℕ, _+_, _*_, _/_, _%_, _<_, _≤_, arith, Dec·and, length-replicate, mul-le-mul, decLt, _≡_, sym, ap, _∙_, by-cases, List, []}
+use Rattle.prelude.specs.Words.{_∷_, _++_, ℤ, pos, natAbs, length, getD, replicate, length-append, List·getD-append, getD-at}
 use Rattle.transport.specs.Limits.{maxCost, costAbove}
 use Rattle.transport.specs.Lists.{at, atZ}
 use Rattle.transport.specs.Problem.{Problem, sources, sinks, place, laneCost}
@@ -14,6 +14,7 @@ use Rattle.transport.specs.Laws.RangeLaws.{abs-between}
 use Rattle.transport.specs.Laws.Sound.{sources-room, sinks-room}
 use Rattle.transport.specs.Statements.{Accepted}
 use Rattle.tree.specs.Layout.{stride, stride-is, laneRoom, getD-all}
+use Rattle.tree.specs.Grid.{Filled}
 
 -- ---- what is filled in
 
@@ -36,53 +37,34 @@ pub record Spread (cost : List ℤ) (cafes : ℕ) (rows cols : List ℕ) (out : 
 
 -- ---- filled in, row by row
 
--- The lane of row i and column j costs c i j. The rows before i are filled in, and of row i the columns before j. In the columns after n the array is as it was
--- before.
-pub record Part (c : ℕ → ℕ → ℤ) (n : ℕ) (before : List ℤ) (i j : ℕ) (out : List ℤ) : Type 0 where
-  pub long : length out ≡ laneRoom
-  pub lanes : (h k : ℕ) → h * stride + k < i * stride + j → k < n → getD out (k * stride + h) (pos 0) ≡ c h k
-  pub kept : (h k : ℕ) → h < stride → n ≤ k → getD out (k * stride + h) (pos 0) ≡ getD before (k * stride + h) (pos 0)
-  pub small : ((l : ℕ) → natAbs (getD before l (pos 0)) ≤ maxCost) → (l : ℕ) → natAbs (getD out l (pos 0)) ≤ maxCost
-
-module _ (c : ℕ → ℕ → ℤ) (n : ℕ) (before : List ℤ) where
-  pub part-none : length before ≡ laneRoom → Part c n before 0 0 before
-  part-none e = record { long = e; lanes = λ h k l r. absurd (omega arith); kept = λ h k l r. refl; small = λ s. s }
-
-  module _ (i j : ℕ) (out : List ℤ) (p : Part c n before i j out) (low : n ≤ stride) where
-    pub part-one : i < stride → j < n → natAbs (c i j) ≤ maxCost → Part c n before i (j + 1) (set out (j * stride + i) (c i j))
-    part-one l r q = record {
-      long = simp length-set (p .long);
-      lanes = λ h k s t. by-cases (decLt (h * stride + k) (i * stride + j))
-          (λ u. getD-set-other out (j * stride + i) (k * stride + h) (c i j) (pos 0) (λ e. absurd (omega arith)) ∙ p .lanes h k u t)
-          (λ u.
-          let a : h ≡ i = omega arith in
-          let b : k ≡ j = omega arith in
-          rw (a, b) here);
-      kept = λ h k s t. getD-set-other out (j * stride + i) (k * stride + h) (c i j) (pos 0) (λ e. absurd (omega arith)) ∙ p .kept h k s t;
-      small = λ f s. by-cases (ℕ-discrete s (j * stride + i))
-          (λ e. rw (e, here) q)
-          (λ d. rw (getD-set-other out (j * stride + i) s (c i j) (pos 0) d) (p .small f s));
-    }
-      where
-        here : getD (set out (j * stride + i) (c i j)) (j * stride + i) (pos 0) ≡ c i j
-        here = getD-set-same out (j * stride + i) (c i j) (pos 0) (omega (arith, p .long))
-
-    pub part-row : n ≤ j → Part c n before (i + 1) 0 out
-    part-row r = record { long = p .long; lanes = λ h k s t. p .lanes h k (omega arith) t; kept = p .kept; small = p .small }
-
 -- The cost of the lane between row i and column j, under their own numbers.
 abbrev pub ownCost : List ℤ → ℕ → List ℕ → List ℕ → ℕ → ℕ → ℤ
 ownCost cost cafes rows cols i j = atZ cost (place cafes (at rows i) (at cols j))
 
--- Over zeros.
-pub part-all : (cost : List ℤ) (cafes : ℕ) (rows cols : List ℕ) (i : ℕ) (out : List ℤ) → length cols ≤ stride → i ≡ length rows
-    → Part (ownCost cost cafes rows cols) (length cols) (replicate laneRoom (pos 0)) i 0 out → Spread cost cafes rows cols out
-part-all cost cafes rows cols i out low all p = record {
-  long = p .long;
-  lanes = λ h k s t. p .lanes h k (omega arith) t;
-  beyond = λ h k s t. p .kept h k s t ∙ getD-all laneRoom (k * stride + h) (pos 0);
-  small = p .small (λ l. rw (getD-all laneRoom l (pos 0)) (omega arith));
+-- Where it lies: by column.
+abbrev pub byColumn : ℕ → ℕ → ℕ
+byColumn i j = j * stride + i
+
+-- No two lanes lie at the same place.
+pub byColumn-once : (h k i j : ℕ) → h < stride → i < stride → h * stride + k < i * stride + j → ¬ (byColumn h k ≡ byColumn i j)
+byColumn-once h k i j p q l e = omega arith
+
+-- All rows are filled in, over zeros.
+pub all-spread : {cost : List ℤ} {cafes : ℕ} {rows cols : List ℕ} {i : ℕ} {out : List ℤ} → Spreadable cost cafes rows cols → i ≡ length rows
+    → Filled byColumn (ownCost cost cafes rows cols) (pos 0) (length cols) (replicate laneRoom (pos 0)) i 0 out → Spread cost cafes rows cols out
+all-spread {cost} {cafes} {rows} {cols} {i} {out} s all w = record {
+  long = w .long ∙ length-replicate laneRoom (pos 0);
+  lanes = λ h k l r. w .on h k (omega (arith, s .colsFew)) r;
+  beyond = λ h k l r. zero (k * stride + h) (λ h′ k′ u t e. omega (arith, s .rowsFew));
+  small = λ l. by-cases (Dec·and (decLt (l % stride) i) (decLt (l / stride) (length cols)))
+      (λ (row, col).
+      let here : byColumn (l % stride) (l / stride) ≡ l = omega arith in
+      rw (← ap (λ (l : ℕ). getD out l (pos 0)) here, w .on (l % stride) (l / stride) (omega (arith, s .colsFew)) col) (s .small _))
+      (λ none. rw (zero l (λ h k u t e. none (omega (arith, s .rowsFew), omega (arith, s .rowsFew)))) (omega arith));
 }
+  where
+    zero : (l : ℕ) → ((h k : ℕ) → h * stride + k < i * stride + 0 → k < length cols → ¬ (byColumn h k ≡ l)) → getD out l (pos 0) ≡ pos 0
+    zero l f = w .off l f ∙ getD-all laneRoom l (pos 0)
 
 -- ---- for a problem
 

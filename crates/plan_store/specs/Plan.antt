@@ -1,6 +1,6 @@
 -- The bags in the arrays as a plan in sheet order.
-use Rattle.prelude.specs.Words.{_≡_, refl, sym, _∙_, by-cases, List, ℕ, _+_, _*_, _/_, _%_, _<_, _≤_, arith, mod-lt, div-add-mod', decLt, ℕ-discrete, ℤ, pos}
-use Rattle.prelude.specs.Words.{negsuc, natAbs, length, getD, set, drop, length-set, getD-set-same, getD-set-other, drop-set-lt}
+use Rattle.prelude.specs.Words.{_≡_, refl, _∙_, by-cases, List, ℕ, _+_, _*_, _/_, _%_, _<_, _≤_, arith, mod-lt, div-add-mod', decLt, ℕ-discrete, ℤ, pos, negsuc}
+use Rattle.prelude.specs.Words.{natAbs, length, getD, set, drop, length-set, getD-set-same, getD-set-other, drop-set-lt, ext-getD, getD-drop, length-drop}
 use Rattle.integers.specs.Integer.{_≈_, _≼_, nat}
 use Rattle.integers.specs.Bridge.{toZ}
 use Rattle.network.specs.Flow.{Nonneg}
@@ -16,6 +16,7 @@ use Rattle.transport.specs.Laws.PartiesLaws.{left-at, length-left, left-grows, 
 use Rattle.transport.specs.Laws.Sound.{sources-room, sinks-room}
 use Rattle.tableaux.specs.PlanView.{carried}
 use Rattle.tree.specs.Layout.{stride, stride-is}
+use Rattle.tree.specs.Grid.{Filled}
 use Rattle.augment.specs.Bags.{laneBags}
 
 -- The bags on the lane at place k in sheet order, among n columns.
@@ -78,83 +79,51 @@ emptied-one {size} {l} {old} {new} c h room = record {
       (λ d. getD-set-other new l k 0 0 d ∙ c .clear k (omega arith));
 }
 
--- Of the rows those before i are stored, and of row i the columns before j; on all other lanes there is nothing.
-pub record StoredTo (q : List ℤ) (rows cols : List ℕ) (m n i j : ℕ) (old new : List ℕ) : Type 0 where
-  pub long : length new ≡ length old
-  pub rest : drop (m * n) new ≡ drop (m * n) old
-  pub on : (h k : ℕ) → h * stride + k < i * stride + j → k < length cols → at new (place n (at rows h) (at cols k)) ≡ natAbs (getD q (h * stride + k) (pos 0))
-  pub offRow : (h k : ℕ) → h < m → k < n → ((i : ℕ) → i < length rows → ¬ (at rows i ≡ h)) → at new (place n h k) ≡ 0
-  pub offColumn : (h k : ℕ) → h < m → k < n → ((j : ℕ) → j < length cols → ¬ (at cols j ≡ k)) → at new (place n h k) ≡ 0
-
 -- Numbers that grow are all different.
 growing-once : (xs : List ℕ) → ((h k : ℕ) → h < k → k < length xs → at xs h < at xs k) → (h k : ℕ) → h < length xs → k < length xs → at xs h ≡ at xs k → h ≡ k
 growing-once xs grow h k p r e = by-cases (decLt h k)
     (λ l. absurd (omega (arith, grow h k l r)))
     (λ l. by-cases (decLt k h) (λ g. absurd (omega (arith, grow k h g p))) (λ g. omega arith))
 
+-- ---- row by row
+
+-- The place of the lane of row i and column j, under their own numbers, and the bags on it.
+abbrev pub ownPlace : ℕ → List ℕ → List ℕ → ℕ → ℕ → ℕ
+ownPlace n rows cols i j = place n (at rows i) (at cols j)
+
+abbrev pub bagsOn : List ℤ → ℕ → ℕ → ℕ
+bagsOn q i j = natAbs (getD q (i * stride + j) (pos 0))
+
 module _ {q : List ℤ} {rows cols : List ℕ} {m n : ℕ} {old : List ℕ} (s : Storable q rows cols m n old) where
-  pub stored-none : {new : List ℕ} → Emptied (m * n) (m * n) old new → StoredTo q rows cols m n 0 0 old new
-  stored-none c = record {
-    long = c .long;
-    rest = c .rest;
-    on = λ h k l r. absurd (omega arith);
-    offRow = λ h k l r f. c .clear (place n h k) (place-below m n h k l r);
-    offColumn = λ h k l r f. c .clear (place n h k) (place-below m n h k l r);
-  }
+  -- It is one of the plan's places ..
+  pub own-inside : {i j : ℕ} → i < length rows → j < length cols → ownPlace n rows cols i j < m * n
+  own-inside {i} {j} l r = place-below m n (at rows i) (at cols j) (s .rowsBelow i l) (s .colsBelow j r)
 
-  -- An earlier lane has another place.
-  stored-other : (h k i j : ℕ) → h < length rows → k < length cols → i < length rows → j < length cols → h * stride + k < i * stride + j
-      → ¬ (place n (at rows h) (at cols k) ≡ place n (at rows i) (at cols j))
-  stored-other h k i j a b l r before e =
+  -- .. and an earlier lane has another.
+  pub own-once : {i j : ℕ} → i < length rows → j < length cols → (h k : ℕ) → h * stride + k < i * stride + j → k < length cols
+      → ¬ (ownPlace n rows cols h k ≡ ownPlace n rows cols i j)
+  own-once {i} {j} l r h k before b e =
       let (row, column) = place-injective n (at rows h) (at cols k) (at rows i) (at cols j) (s .colsBelow k b) (s .colsBelow j r) e in
-      omega (arith, before, growing-once rows (s .rowsGrow) h i a l row, growing-once cols (s .colsGrow) k j b r column)
+      omega (arith, growing-once rows (s .rowsGrow) h i (omega (arith, s .colsFew)) l row, growing-once cols (s .colsGrow) k j b r column)
 
-  module _ {i j : ℕ} {new : List ℕ} (w : StoredTo q rows cols m n i j old new) where
-    -- The lane of row i and column j is one of the plan's.
-    pub stored-inside : i < length rows → j < length cols → place n (at rows i) (at cols j) < m * n
-    stored-inside l r = place-below m n (at rows i) (at cols j) (s .rowsBelow i l) (s .colsBelow j r)
+  -- All rows are stored, over a list whose places were cleared.
+  pub all-stored : {i : ℕ} {mid new : List ℕ} → i ≡ length rows → Emptied (m * n) (m * n) old mid
+      → Filled (ownPlace n rows cols) (bagsOn q) 0 (length cols) mid i 0 new → Stored q rows cols m n old new
+  unfolding at
+  all-stored {i} {mid} {new} all c w = record {
+    long = w .long ∙ c .long;
+    rest = ext-getD 0 (drop (m * n) new) (drop (m * n) mid) (simp length-drop (rw (w .long))) (λ t l.
+        rw (getD-drop, getD-drop) (w .off (m * n + t) (λ h k u r e. omega (arith, own-inside (row u r) r)))) ∙ c .rest;
+    on = λ h k l r. w .on h k (omega (arith, s .colsFew)) r;
+    offRow = λ h k l r none. w .off (place n h k) (λ h′ k′ u t e. none h′ (row u t) (own h k h′ k′ r t e .0)) ∙ c .clear (place n h k) (place-below m n h k l r);
+    offColumn = λ h k l r none. w .off (place n h k) (λ h′ k′ u t e. none k′ t (own h k h′ k′ r t e .1)) ∙ c .clear (place n h k) (place-below m n h k l r);
+  }
+    where
+      row : {h k : ℕ} → h * stride + k < i * stride + 0 → k < length cols → h < length rows
+      row u r = omega (arith, s .colsFew)
 
-    pub stored-one : i < length rows → j < length cols
-        → StoredTo q rows cols m n i (j + 1) old (set new (place n (at rows i) (at cols j)) (natAbs (getD q (i * stride + j) (pos 0))))
-    unfolding at
-    stored-one l r = record {
-      long = simp length-set (w .long);
-      rest = drop-set-lt (m * n) new here x (stored-inside l r) ∙ w .rest;
-      on = λ h k b c. by-cases (decLt (h * stride + k) (i * stride + j))
-          (λ u. getD-set-other new here (place n (at rows h) (at cols k)) x 0 (λ e. stored-other h k i j (omega arith) c l r u e) ∙ w .on h k u c)
-          (λ u.
-          let a : h ≡ i = omega (arith, s .colsFew) in
-          let b : k ≡ j = omega (arith, s .colsFew) in
-          rw (a, b) (getD-set-same new here x 0 (omega (arith, w .long, s .room, stored-inside l r))));
-      offRow = λ h k b c f. getD-set-other new here (place n h k) x 0
-          (λ e. f i l (sym (place-injective n h k (at rows i) (at cols j) c (s .colsBelow j r) e .0))) ∙ w .offRow h k b c f;
-      offColumn = λ h k b c f. getD-set-other new here (place n h k) x 0
-          (λ e. f j r (sym (place-injective n h k (at rows i) (at cols j) c (s .colsBelow j r) e .1))) ∙ w .offColumn h k b c f;
-    }
-      where
-        here : ℕ
-        here = place n (at rows i) (at cols j)
-
-        x : ℕ
-        x = natAbs (getD q (i * stride + j) (pos 0))
-
-    pub stored-row : length cols ≤ j → StoredTo q rows cols m n (i + 1) 0 old new
-    stored-row l = record {
-      long = w .long;
-      rest = w .rest;
-      on = λ h k b c. w .on h k (omega (arith, s .colsFew)) c;
-      offRow = w .offRow;
-      offColumn = w .offColumn;
-    }
-
-    pub stored-all : i ≡ length rows → Stored q rows cols m n old new
-    stored-all e = record {
-      long = w .long;
-      rest = w .rest;
-      on = λ h k b c. w .on h k (omega (arith, s .colsFew)) c;
-      offRow = w .offRow;
-      offColumn = w .offColumn;
-    }
+      own : (h k h′ k′ : ℕ) → k < n → k′ < length cols → ownPlace n rows cols h′ k′ ≡ place n h k → (at rows h′ ≡ h) × (at cols k′ ≡ k)
+      own h k h′ k′ r t e = place-injective n (at rows h′) (at cols k′) h k (s .colsBelow k′ t) r e
 
 -- Of an accepted sheet the parties left have such numbers.
 pub storable : {S : Sheet} {q : List ℤ} {plan : List ℕ} → Accepted S → roasteries S * cafes S ≤ length plan

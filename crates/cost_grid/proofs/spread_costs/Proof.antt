@@ -1,5 +1,5 @@
 -- `cost_grid::spread_costs` meets its contract. The loops' invariants: the rows before i are filled in, and of row i the columns before j.
-use Rattle.prelude.specs.Words.{ℕ, _+_, _-_, _*_, _≤_, _<_, _^_, arith, needs, eqb-true, _≡_, refl, true, List, ℤ, pos, natAbs, length, getD}
+use Rattle.prelude.specs.Words.{ℕ, _+_, _-_, _*_, _≤_, _<_, _^_, arith, needs, eqb-true, _≡_, true, List, ℤ, pos, natAbs, length, getD}
 use mir.Syntax.{w32, w64}
 use mir.Val.{toZ, ofZ}
 use mir.Facts.{toZ-ofZ}
@@ -7,14 +7,16 @@ use Rattle.transport.specs.Lists.{at, atZ}
 use Rattle.transport.specs.Limits.{maxCost}
 use Rattle.transport.specs.Problem.{place}
 use Rattle.transport.specs.Laws.RangeLaws.{mag-abs, abs-fits, back}
-use Rattle.cost_grid.specs.Costs.{Part, ownCost, part-none, part-one, part-row, part-all}
+use Rattle.cost_grid.specs.Costs.{ownCost, byColumn, byColumn-once, all-spread}
+use Rattle.tree.specs.Layout.{laneRoom}
+use Rattle.tree.specs.Grid.{Filled, filled-none, filled-one, filled-row}
 use Rattle.cost_grid.proofs.spread_costs.Statement.{statement}
 use Rattle.cost_grid.proofs.spread_costs.Tie as tie
 
 abbrev Inv-loop2 : tie.InvT-loop2
 Inv-loop2 cost cafes rows cols out₀ all i first j₀ out j =
     let c = ownCost cost cafes rows cols in
-    (j ≤ length cols) × ((before : List ℤ) → Part c (length cols) before i 0 out₀ → Part c (length cols) before i j out)
+    (j ≤ length cols) × ((before : List ℤ) → Filled byColumn c (pos 0) (length cols) before i 0 out₀ → Filled byColumn c (pos 0) (length cols) before i j out)
 
 abbrev μ-loop2 : tie.MeasureT-loop2
 μ-loop2 cost cafes rows cols out₀ all i first j₀ out j = length cols - j
@@ -22,7 +24,7 @@ abbrev μ-loop2 : tie.MeasureT-loop2
 abbrev Inv-loop : tie.InvT-loop
 Inv-loop cost cafes rows cols out₀ all i₀ out i =
     (i ≤ length rows)
-    × Part (ownCost cost cafes rows cols) (length cols) out₀ i 0 out
+    × Filled byColumn (ownCost cost cafes rows cols) (pos 0) (length cols) out₀ i 0 out
     × (all ≡ true → length cols ≡ cafes)
 
 abbrev μ-loop : tie.MeasureT-loop
@@ -35,14 +37,8 @@ turn c = c .before .before .before
 abbrev startOf : tie.At-loop Inv-loop2 μ-loop2 Inv-loop μ-loop → tie.Start Inv-loop2 μ-loop2 Inv-loop μ-loop
 startOf c = c .before .before .before .before
 
--- The costs of the lanes under own numbers.
-abbrev costsOf : tie.Start Inv-loop2 μ-loop2 Inv-loop μ-loop → ℕ → ℕ → ℤ
-costsOf s = ownCost (s .args .cost .now) (s .args .cafes) (s .args .rows .now) (s .args .cols .now)
-
 loop-holds : tie.Need-loop-holds Inv-loop2 μ-loop2 Inv-loop μ-loop
-loop-holds c =
-    let s = c .before .before .before in
-    (omega arith, part-none (costsOf s) (length (s .args .cols .now)) _ refl, λ e. eqb-true _ _ e)
+loop-holds c = (omega arith, filled-none, λ e. eqb-true _ _ e)
 
 mul-first-2 : tie.Need-mul-first-2 Inv-loop2 μ-loop2 Inv-loop μ-loop
 unfolding at
@@ -99,11 +95,12 @@ loop2-again c =
     let l = c .before .before .before in
     let s = startOf (turn l) in
     let i = turn l .loop .i in
+    let long : length (l .loop2 .out) ≡ laneRoom = l .loop2 .inv .1 _ (turn l .loop .inv .1) .long in
     let x = costHere l in (
       omega arith,
       λ before p. rw (c .before .own-number .ensures, read-back l, toZ-ofZ {w = w32} (abs-fits w32 x (small l)))
-          (part-one (costsOf s) (length (s .args .cols .now)) before i (l .loop2 .j) (l .loop2 .out) (l .loop2 .inv .1 before p) (s .pre .colsFew)
-          (omega (arith, s .pre .rowsFew)) (omega arith) (s .pre .small (laneHere l))),
+          (filled-one (l .loop2 .inv .1 before p) (s .pre .colsFew) (omega arith) (omega (arith, s .pre .rowsFew, s .pre .colsFew))
+          (λ h k u t. byColumn-once h k i (l .loop2 .j) (omega (arith, s .pre .rowsFew, s .pre .colsFew)) (omega (arith, s .pre .rowsFew)) u)),
     )
 
 loop-again : tie.Need-loop-again Inv-loop2 μ-loop2 Inv-loop μ-loop
@@ -112,15 +109,13 @@ loop-again c =
     let o = turn (c .before) .loop in
     let s = startOf (turn (c .before)) in (
       omega arith,
-      part-row (costsOf s) (length (s .args .cols .now)) _ (o .i) (l .j) (l .out) (l .inv .1 _ (o .inv .1)) (s .pre .colsFew) (omega arith),
+      filled-row (l .inv .1 _ (o .inv .1)) (s .pre .colsFew) (omega arith),
       o .inv .2,
     )
 
 returns : tie.Need-returns Inv-loop2 μ-loop2 Inv-loop μ-loop
 returns c =
-    let l = c .before .loop in
-    let s = startOf (c .before) in
-    part-all (s .args .cost .now) (s .args .cafes) (s .args .rows .now) (s .args .cols .now) (l .i) (l .out) (s .pre .colsFew) (omega arith) (l .inv .1)
+    let l = c .before .loop in all-spread (startOf (c .before) .pre) (omega arith) (l .inv .1)
 
 pub spread-costs-spec : {M : Type 1} → statement M
 spread-costs-spec =

@@ -6,7 +6,8 @@ use mir.Val.{toZ, ofZ}
 use Rattle.transport.specs.Lists.{at}
 use Rattle.transport.specs.Problem.{place}
 use Rattle.tree.specs.Layout.{stride, laneRoom}
-use Rattle.plan_store.specs.Plan.{Storable, Emptied, emptied-none, emptied-one, StoredTo, stored-none, stored-inside, stored-one, stored-row, stored-all}
+use Rattle.plan_store.specs.Plan.{Emptied, emptied-none, emptied-one, ownPlace, bagsOn, own-inside, own-once, all-stored}
+use Rattle.tree.specs.Grid.{Filled, filled-none, filled-one, filled-row}
 use Rattle.plan_store.proofs.store_plan.Statement.{statement}
 use Rattle.plan_store.proofs.store_plan.Tie as tie
 
@@ -18,17 +19,15 @@ abbrev μ-loop : tie.MeasureT-loop
 
 abbrev Inv-loop3 : tie.InvT-loop3
 Inv-loop3 q rows cols m n plan₀ l all i first j₀ plan j =
-    (j ≤ length cols)
-    × ((old : List ℕ) → Storable q rows cols m n old → StoredTo q rows cols m n i 0 old plan₀ → StoredTo q rows cols m n i j old plan)
+    let to = ownPlace n rows cols in
+    (j ≤ length cols) × ((old : List ℕ) → Filled to (bagsOn q) 0 (length cols) old i 0 plan₀ → Filled to (bagsOn q) 0 (length cols) old i j plan)
 
 abbrev μ-loop3 : tie.MeasureT-loop3
 μ-loop3 q rows cols m n plan₀ l all i first j₀ plan j = length cols - j
 
 abbrev Inv-loop2 : tie.InvT-loop2
 Inv-loop2 q rows cols m n plan₀ l all i₀ plan i =
-    (i ≤ length rows)
-    × ((old : List ℕ) → Storable q rows cols m n old → StoredTo q rows cols m n 0 0 old plan₀ → StoredTo q rows cols m n i 0 old plan)
-    × (all ≡ true → length cols ≡ n)
+    (i ≤ length rows) × Filled (ownPlace n rows cols) (bagsOn q) 0 (length cols) plan₀ i 0 plan × (all ≡ true → length cols ≡ n)
 
 abbrev μ-loop2 : tie.MeasureT-loop2
 μ-loop2 q rows cols m n plan₀ l all i₀ plan i = length rows - i
@@ -59,21 +58,20 @@ startOf c = startBefore (c .before .before)
 abbrev turn : tie.At-loop3 Inv-loop μ-loop Inv-loop3 μ-loop3 Inv-loop2 μ-loop2 → tie.At-loop2 Inv-loop μ-loop Inv-loop3 μ-loop3 Inv-loop2 μ-loop2
 turn c = c .before .before .before
 
--- What is stored before a turn ..
-before-row : (c : tie.At-loop2 Inv-loop μ-loop Inv-loop3 μ-loop3 Inv-loop2 μ-loop2)
-    → let a = startOf c .args in
-    StoredTo (a .q .now) (a .rows .now) (a .cols .now) (a .m) (a .n) (c .loop2 .i) 0 (a .plan .now) (c .loop2 .plan)
-before-row c =
-    let s = startOf c in
+-- All places were cleared before.
+cleared : (c : tie.At-loop2 Inv-loop μ-loop Inv-loop3 μ-loop3 Inv-loop2 μ-loop2)
+    → let a = startOf c .args in Emptied (a .m * a .n) (a .m * a .n) (a .plan .now) (c .before .before .loop .plan)
+cleared c =
     let l = c .before .before .loop in
-    let all : l .l ≡ s .args .m * s .args .n = omega arith in
-    c .loop2 .inv .1 _ (s .pre) (stored-none (s .pre) (rw all at (l .inv .1)))
+    let all : l .l ≡ startOf c .args .m * startOf c .args .n = omega arith in
+    rw all at (l .inv .1)
 
--- .. and within it.
-before-column : (c : tie.At-loop3 Inv-loop μ-loop Inv-loop3 μ-loop3 Inv-loop2 μ-loop2)
-    → let a = startOf (turn c) .args in
-    StoredTo (a .q .now) (a .rows .now) (a .cols .now) (a .m) (a .n) (turn c .loop2 .i) (c .loop3 .j) (a .plan .now) (c .loop3 .plan)
-before-column c = c .loop3 .inv .1 _ (startOf (turn c) .pre) (before-row (turn c))
+-- The list is as long as it was.
+long-row : (c : tie.At-loop2 Inv-loop μ-loop Inv-loop3 μ-loop3 Inv-loop2 μ-loop2) → length (c .loop2 .plan) ≡ length (startOf c .args .plan .now)
+long-row c = c .loop2 .inv .1 .long ∙ cleared c .long
+
+long-column : (c : tie.At-loop3 Inv-loop μ-loop Inv-loop3 μ-loop3 Inv-loop2 μ-loop2) → length (c .loop3 .plan) ≡ length (startOf (turn c) .args .plan .now)
+long-column c = c .loop3 .inv .1 _ (turn c .loop2 .inv .1) .long ∙ cleared (turn c) .long
 
 mul-first-2 : tie.Need-mul-first-2 Inv-loop μ-loop Inv-loop3 μ-loop3 Inv-loop2 μ-loop2
 unfolding at
@@ -91,9 +89,8 @@ inside : (c : tie.In-loop3 Inv-loop μ-loop Inv-loop3 μ-loop3 Inv-loop2 μ-loop
 unfolding at place
 inside c =
     let s = startOf (turn (c .before)) in
-    let w = before-column (c .before) in
-    let b = stored-inside (s .pre) w (omega arith) (omega arith) in
-    (omega (arith, w .long, s .pre .room), omega (arith, size s))
+    let b = own-inside (s .pre) {i = turn (c .before) .loop2 .i} {j = c .before .loop3 .j} (omega arith) (omega arith) in
+    (omega (arith, long-column (c .before), s .pre .room), omega (arith, size s))
 
 own-number-requires : tie.Need-own-number-requires Inv-loop μ-loop Inv-loop3 μ-loop3 Inv-loop2 μ-loop2
 own-number-requires c κs =
@@ -131,28 +128,28 @@ goes c = rw (c .before .own-number .ensures) (inside (c .before .before))
 loop3-again : tie.Need-loop3-again Inv-loop μ-loop Inv-loop3 μ-loop3 Inv-loop2 μ-loop2
 unfolding at place
 loop3-again c =
-    let l = c .before .before .before in (
+    let l = c .before .before .before in
+    let s = startOf (turn l) .pre in (
       omega arith,
-      λ old s p. rw (lies c .0, c .before .own-number .ensures) (stored-one s (l .loop3 .inv .1 old s p) (omega arith) (omega arith)),
+      λ old p. rw (lies c .0, c .before .own-number .ensures)
+          (filled-one (l .loop3 .inv .1 old p) (s .colsFew) (omega arith) (inside (c .before .before) .0) (own-once s (omega arith) (omega arith))),
     )
 
 loop2-again : tie.Need-loop2-again Inv-loop μ-loop Inv-loop3 μ-loop3 Inv-loop2 μ-loop2
 loop2-again c =
-    let l = c .before in (
-      omega arith,
-      (λ old s p. stored-row s (l .loop3 .inv .1 old s (turn l .loop2 .inv .1 old s p)) (omega arith)),
-      turn l .loop2 .inv .2,
-    )
+    let l = c .before in
+    let t = turn l .loop2 .inv in
+    (omega arith, filled-row (l .loop3 .inv .1 _ (t .1)) (startOf (turn l) .pre .colsFew) (omega arith), t .2)
 
 returns : tie.Need-returns Inv-loop μ-loop Inv-loop3 μ-loop3 Inv-loop2 μ-loop2
-returns c = stored-all (startOf (c .before) .pre) (before-row (c .before)) (omega arith)
+returns c = all-stored (startOf (c .before) .pre) (omega arith) (cleared (c .before)) (c .before .loop2 .inv .1)
 
 pub store-plan-spec : {M : Type 1} → statement M
 store-plan-spec =
     tie.close (tie.spec Inv-loop μ-loop Inv-loop3 μ-loop3 Inv-loop2 μ-loop2 (λ c. (omega arith, emptied-none _ _))
     (λ c. omega (arith, size (startBefore c))) (λ c. omega (arith, size (startBefore (c .before)))) (λ c. loop-inside c)
     (λ c. omega (arith, size (startBefore (c .before)))) (λ c. search needs) loop-again
-    (λ c. (omega arith, (λ old s p. p), λ e. eqb-true _ _ e)) (λ c. search needs) (λ c. search needs) mul-first-2
-    (λ c. (omega arith, λ old s p. p)) own-number-requires (λ c. omega arith) (λ c. omega arith) (λ c. omega arith) (λ c. omega arith)
+    (λ c. (omega arith, filled-none, λ e. eqb-true _ _ e)) (λ c. search needs) (λ c. search needs) mul-first-2
+    (λ c. (omega arith, λ old p. p)) own-number-requires (λ c. omega arith) (λ c. omega arith) (λ c. omega arith) (λ c. omega arith)
     cast-plan (λ c. omega (arith, goes c .1)) (λ c. omega (arith, goes c .1)) (λ c. goes c .0) (λ c. search needs) (λ c. search needs)
-    loop3-again (λ c. search needs) (λ c. search needs) loop2-again (λ c. before-row (c .before) .long) returns)
+    loop3-again (λ c. search needs) (λ c. search needs) loop2-again (λ c. long-row (c .before)) returns)
