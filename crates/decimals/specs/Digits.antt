@@ -1,6 +1,6 @@
 -- The decimal digits of a number, counted and written from the last one on.
 use Rattle.prelude.specs.Words.{_≡_, refl, sym, ap, _∙_, List, [], _∷_, _++_, ℕ, suc, _+_, _/_, _%_, _≤_, _<_, arith, decLt, length, take, drop, getD, set}
-use Rattle.prelude.specs.Words.{length-append, length-take, take-suc, drop-cons, getD-set-same, drop-set-lt, lt-length-set}
+use Rattle.prelude.specs.Words.{length-append, length-take, take-suc, drop-cons, getD-set-same, drop-set-lt, lt-length-set, by-cases}
 use Rattle.transport.specs.Text.{digits}
 use Rattle.grammar.specs.Digits.{digits-small, digits-large}
 
@@ -34,18 +34,14 @@ module _ (D : List ℕ) (rest k : ℕ) (p : k < length D) (e : take (suc k) D �
   last-of xs d h = snoc-same (take k D) xs (getD D k 0) d (sym (take-suc D k 0 p) ∙ e ∙ h)
 
   pub digit-last : getD D k 0 ≡ 48 + rest % 10
-  digit-last = go (decLt rest 10)
-    where
-      go : Dec (rest < 10) → getD D k 0 ≡ 48 + rest % 10
-      go (yes h) = last-of [] (48 + rest) (digits-small rest h) .1 ∙ omega arith
-      go (no h) = last-of (digits (rest / 10)) (48 + rest % 10) (digits-large rest (omega arith)) .1
+  digit-last = by-cases (decLt rest 10)
+      (λ h. last-of [] (48 + rest) (digits-small rest h) .1 ∙ omega arith)
+      (λ h. last-of (digits (rest / 10)) (48 + rest % 10) (digits-large rest (omega arith)) .1)
 
   pub digits-before : 0 < k → take k D ≡ digits (rest / 10)
-  digits-before q = go (decLt rest 10)
-    where
-      go : Dec (rest < 10) → take k D ≡ digits (rest / 10)
-      go (yes h) = absurd (omega (arith, length-take k D, ap length (last-of [] (48 + rest) (digits-small rest h) .0)))
-      go (no h) = last-of (digits (rest / 10)) (48 + rest % 10) (digits-large rest (omega arith)) .0
+  digits-before q = by-cases (decLt rest 10)
+      (λ h. absurd (omega (arith, length-take k D, ap length (last-of [] (48 + rest) (digits-small rest h) .0))))
+      (λ h. last-of (digits (rest / 10)) (48 + rest % 10) (digits-large rest (omega arith)) .0)
 
 -- One place more, from the back on.
 pub fill-back : (D out old : List ℕ) (k b : ℕ) → k < length D → k < length out → getD D k 0 ≡ b → drop (suc k) out ≡ drop (suc k) D ++ old

@@ -1,6 +1,6 @@
 -- What is shown of a sheet that was read, and of a text that is no sheet text.
 use Rattle.prelude.specs.Words.{_≡_, refl, sym, ap, _∙_, by-cases, Bool, Option, none, some, List, [], _∷_, _++_, ℕ, suc, min, _*_, _-_, _≤_, arith, decLe}
-use Rattle.prelude.specs.Words.{length, take, take-all, eq-eqb, by-test}
+use Rattle.prelude.specs.Words.{length, take, take-all, eq-eqb, by-test, by-option}
 use Rattle.transport.specs.declared.WriteAnswer.the-variants.{Written, Refused}
 use Rattle.transport.specs.Limits.{maxSources, maxSinks, maxText}
 use Rattle.transport.specs.Sheet.{Sheet, sheetTests, numberTests, badSides, badLength, badAmount, badCost, lacking, crowded, idle, refusal}
@@ -95,44 +95,36 @@ module _ (S : Sheet) (out after : List ℕ) where
 
   which : Case
   unfolding writePlanCall
-  which = go (refusal (sheetTests S)) refl
-    where
-      go : (o : Option ℕ) → refusal (sheetTests S) ≡ o → Case
-      go (some k) e = checked k e (call-checked S (planText S) out k e)
-      go none e = room (decLe (length (planText S)) (length out))
-        where
-          room : Dec (length (planText S) ≤ length out) → Case
-          room (yes p) = written (rw (shown-plan S e) (fitting-fits (length out) (planText S) p)) (call-written S (planText S) out e p)
-          room (no p) =
-              short (rw (shown-plan S e) (fitting-short (length out) (planText S) (omega arith))) (call-short S (planText S) out e (omega arith))
+  which = by-option (refusal (sheetTests S))
+      (λ e. by-cases (decLe (length (planText S)) (length out))
+      (λ p. written (rw (shown-plan S e) (fitting-fits (length out) (planText S) p)) (call-written S (planText S) out e p))
+      (λ p. short (rw (shown-plan S e) (fitting-short (length out) (planText S) (omega arith))) (call-short S (planText S) out e (omega arith))))
+      (λ k e. checked k e (call-checked S (planText S) out k e))
 
   pub shown-written : (len : ℕ) → Written len ≡ writeAnswer call → Left → (len ≡ length text) × (after ≡ front text out)
   unfolding writeAnswer refusedBy lentAfter front
-  shown-written len h held = go which
-    where
-      go : Case → (len ≡ length text) × (after ≡ front text out)
-      go (checked k e f) = let z : Written len ≡ Refused k = h ∙ ap writeAnswer f in let y : _≡_ {A = ℕ} 0 1 = cc in absurd (omega arith)
-      go (short e f) = let z : Written len ≡ Refused 8 = h ∙ ap writeAnswer f in let y : _≡_ {A = ℕ} 0 1 = cc in absurd (omega arith)
-      go (written e f) = let z : Written len ≡ Written (length (planText S)) = h ∙ ap writeAnswer f in let y : len ≡ length (planText S) = cc in
-          rw e (y, held ∙ rw f)
+  shown-written len h held = elim which [
+    | checked k e f ↦ let z : Written len ≡ Refused k = h ∙ ap writeAnswer f in let y : _≡_ {A = ℕ} 0 1 = cc in absurd (omega arith)
+    | short e f ↦ let z : Written len ≡ Refused 8 = h ∙ ap writeAnswer f in let y : _≡_ {A = ℕ} 0 1 = cc in absurd (omega arith)
+    | written e f ↦ let z : Written len ≡ Written (length (planText S)) = h ∙ ap writeAnswer f in
+        let y : len ≡ length (planText S) = cc in rw e (y, held ∙ rw f)
+  ]
 
   pub shown-short : Refused 8 ≡ writeAnswer call → Left → (0 ≡ length text) × (after ≡ front text out)
   unfolding writeAnswer refusedBy lentAfter front
-  shown-short h held = go which
-    where
-      go : Case → (0 ≡ length text) × (after ≡ front text out)
-      go (checked k e f) = let z : Refused 8 ≡ Refused k = h ∙ ap writeAnswer f in let y : 8 ≡ k = cc in absurd (check-number S k e .1 (sym y))
-      go (short e f) = rw e (refl, held ∙ rw f)
-      go (written e f) = let z : Refused 8 ≡ Written (length (planText S)) = h ∙ ap writeAnswer f in let y : _≡_ {A = ℕ} 0 1 = cc in absurd (omega arith)
+  shown-short h held = elim which [
+    | checked k e f ↦ let z : Refused 8 ≡ Refused k = h ∙ ap writeAnswer f in let y : 8 ≡ k = cc in absurd (check-number S k e .1 (sym y))
+    | short e f ↦ rw e (refl, held ∙ rw f)
+    | written e f ↦ let z : Refused 8 ≡ Written (length (planText S)) = h ∙ ap writeAnswer f in let y : _≡_ {A = ℕ} 0 1 = cc in absurd (omega arith)
+  ]
 
   pub shown-refused : (k : ℕ) → (k ≡ 8 → ⊥) → Refused k ≡ writeAnswer call → Left → (sheetShown S ≡ bytes "refused " ++ ended digits k 10) × (after ≡ out)
   unfolding writeAnswer refusedBy lentAfter
-  shown-refused k n h held = go which
-    where
-      go : Case → (sheetShown S ≡ bytes "refused " ++ ended digits k 10) × (after ≡ out)
-      go (checked j e f) = let z : Refused k ≡ Refused j = h ∙ ap writeAnswer f in let y : k ≡ j = cc in (rw y (shown-refusal S j e), held ∙ rw f)
-      go (short e f) = let z : Refused k ≡ Refused 8 = h ∙ ap writeAnswer f in let y : k ≡ 8 = cc in absurd (n y)
-      go (written e f) = let z : Refused k ≡ Written (length (planText S)) = h ∙ ap writeAnswer f in let y : _≡_ {A = ℕ} 0 1 = cc in absurd (omega arith)
+  shown-refused k n h held = elim which [
+    | checked j e f ↦ let z : Refused k ≡ Refused j = h ∙ ap writeAnswer f in let y : k ≡ j = cc in (rw y (shown-refusal S j e), held ∙ rw f)
+    | short e f ↦ let z : Refused k ≡ Refused 8 = h ∙ ap writeAnswer f in let y : k ≡ 8 = cc in absurd (n y)
+    | written e f ↦ let z : Refused k ≡ Written (length (planText S)) = h ∙ ap writeAnswer f in let y : _≡_ {A = ℕ} 0 1 = cc in absurd (omega arith)
+  ]
 
 -- ---- an input
 
@@ -160,12 +152,10 @@ module _ (input : List ℕ) where
   pub printed-sheet : (S : Sheet) (rest : List ℕ) → sheetReader textRead ≡ got S rest → refusal (sheetTests S) ≡ refusal (numberTests S) → printed input
       ≡ sheetShown S
   unfolding printed refusedBy
-  printed-sheet S rest e same = go (refusal (numberTests S)) refl
-    where
-      go : (o : Option ℕ) → refusal (numberTests S) ≡ o → printed input ≡ sheetShown S
-      go none n = (rw (read-got numberTests textRead S rest e, unless-given (numberTests S) S n, printed)) ∙ sym (shown-plan S (same ∙ n))
-      go (some k) n = (rw (read-got numberTests textRead S rest e, unless-refused (numberTests S) S k n, printed) (refused-line k))
-          ∙ sym (shown-refusal S k (same ∙ n))
+  printed-sheet S rest e same = by-option (refusal (numberTests S))
+      (λ n. (rw (read-got numberTests textRead S rest e, unless-given (numberTests S) S n, printed)) ∙ sym (shown-plan S (same ∙ n)))
+      (λ k n. (rw (read-got numberTests textRead S rest e, unless-refused (numberTests S) S k n, printed) (refused-line k))
+      ∙ sym (shown-refusal S k (same ∙ n)))
 
 -- A sheet that was read has sides within their limits and a cost for each lane: only its numbers are still to be tested.
 pub read-numbers : (S : Sheet) → (1 ≤ length (S .supply)) × (length (S .supply) ≤ maxSources) → (1 ≤ length (S .demand)) × (length (S .demand) ≤ maxSinks)

@@ -162,11 +162,7 @@ module _ (S : Sheet) {m n : ℕ} {supplyList demandList rowList columnList : Lis
   -- These are all columns where nothing stays at home ..
   pub parties-even : surplus S ≡ 0 → Numbered (S .supply) m supplyList rowList → Numbered (S .demand) n demandList columnList
       → PartiesOf S (record { rows = m; columns = n; cafes = n }) supplyList demandList rowList columnList
-  parties-even z rows cafes = go (extra S)
-    where
-      go : Extra S → PartiesOf S (record { rows = m; columns = n; cafes = n }) supplyList demandList rowList columnList
-      go (with y e) = absurd (omega arith)
-      go (without y e) = parties-of S rows (rw e cafes) (cafes .ownFront)
+  parties-even z rows cafes = elim (extra S) [ with y e ↦ absurd (omega arith) | without y e ↦ parties-of S rows (rw e cafes) (cafes .ownFront) ]
 
   -- .. and else the extra café, which takes what stays at home, comes after them. Its own number is the one after all cafés.
   pub parties-extra : (home : ℕ) → home ≡ surplus S → 1 ≤ home → n < maxSide
@@ -187,15 +183,8 @@ module _ (S : Sheet) {m n : ℕ} {supplyList demandList rowList columnList : Lis
 
 -- For it there is room.
 pub extra-room : {S : Sheet} {n : ℕ} {demandList columnList : List ℕ} → Accepted S → 1 ≤ surplus S → Numbered (S .demand) n demandList columnList → n < maxSide
-extra-room {S} {n} ok some cafes = go (extra S)
-  where
-    go : Extra S → n < maxSide
-    go (without z e) = absurd (omega arith)
-    go (with z e) = omega (
-      arith,
-      cafes .ownFront .counted,
-      length-left (S .demand),
-      length-append (S .demand) (surplus S ∷ []),
-      ap length e,
-      wanted-room ok,
-    )
+extra-room {S} {n} ok some cafes = elim (extra S) [
+  | without z e ↦ absurd (omega arith)
+  | with z e ↦
+      omega (arith, cafes .ownFront .counted, length-left (S .demand), length-append (S .demand) (surplus S ∷ []), ap length e, wanted-room ok)
+]

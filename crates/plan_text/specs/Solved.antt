@@ -1,5 +1,5 @@
 -- What write plan knows once solve has answered, with lists that have room for any sheet.
-use Rattle.prelude.specs.Words.{_≡_, refl, sym, ap, _∙_, Option, none, some, List, ℕ, _≤_, _*_, arith, mul-le-mul, ℤ, length, take, drop, take-at}
+use Rattle.prelude.specs.Words.{_≡_, refl, sym, ap, _∙_, Option, none, some, List, ℕ, _≤_, _*_, arith, mul-le-mul, ℤ, length, take, drop, take-at, by-option}
 use Rattle.transport.specs.declared.SolveAnswer.the-variants.{Solved, Refused}
 use Rattle.transport.specs.Limits.{maxSide}
 use Rattle.transport.specs.Sheet.{Sheet, roasteries, cafes, sheetTests, refusal}
@@ -38,17 +38,15 @@ module _ (S : Sheet) where
 
   pub refused-check : (k : ℕ) → Refused k ≡ solveAnswer full → refusal (sheetTests S) ≡ some k
   unfolding solveAnswer refusedBy
-  refused-check k h = go (refusal (sheetTests S)) refl
-    where
-      go : (o : Option ℕ) → refusal (sheetTests S) ≡ o → refusal (sheetTests S) ≡ some k
-      go none e =
-          let f : Refused k ≡ Solved (solution S .cost) (solution S .rounds) = h ∙ ap solveAnswer (full-given e) in
-          let z : _≡_ {A = ℕ} 0 1 = cc in
-          absurd (omega arith)
-      go (some j) e =
-          let f : Refused k ≡ Refused j = h ∙ ap solveAnswer (full-refused j e) in
-          let same : k ≡ j = cc in
-          e ∙ ap some (sym same)
+  refused-check k h = by-option (refusal (sheetTests S))
+      (λ e.
+      let f : Refused k ≡ Solved (solution S .cost) (solution S .rounds) = h ∙ ap solveAnswer (full-given e) in
+      let z : _≡_ {A = ℕ} 0 1 = cc in
+      absurd (omega arith))
+      (λ j e.
+      let f : Refused k ≡ Refused j = h ∙ ap solveAnswer (full-refused j e) in
+      let same : k ≡ j = cc in
+      e ∙ ap some (sym same))
 
 -- The sheet is accepted, the figures are those of its solution, and the fronts of the lists are its prices and its plan.
 pub record FoundPlan (S : Sheet) (total : ℤ) (rounds : ℕ) (u v : List ℤ) (plan : List ℕ) : Type 0 where
@@ -65,27 +63,25 @@ module _ {S : Sheet} {total : ℤ} {rounds : ℕ} {u′ v′ : List ℤ} {plan�
       → u′ ≡ lentAfter (λ s. s .u) (full S) u → v′ ≡ lentAfter (λ s. s .v) (full S) v → plan′ ≡ lentAfter (λ s. s .plan) (full S) plan
       → FoundPlan S total rounds u′ v′ plan′
   unfolding solveAnswer refusedBy lentAfter
-  found u v plan h us vs plans = go (refusal (sheetTests S)) refl
-    where
-      go : (o : Option ℕ) → refusal (sheetTests S) ≡ o → FoundPlan S total rounds u′ v′ plan′
-      go (some j) e =
-          let f : Solved total rounds ≡ Refused j = h ∙ ap solveAnswer (full-refused S j e) in
-          let z : _≡_ {A = ℕ} 0 1 = cc in
-          absurd (omega arith)
-      go none e =
-          let a = solution S in
-          let g = full-given S e in
-          let f : Solved total rounds ≡ Solved (a .cost) (a .rounds) = h ∙ ap solveAnswer g in
-          let fills = solve-fills S maxSide maxSide (maxSide * maxSide) a g in
-          record {
-            passes = e;
-            fills = fills;
-            totalIs = cc;
-            roundsIs = cc;
-            uIs = rw (us, g) (take-at (a .u) (drop (length (a .u)) u) (roasteries S) (fills .u));
-            vIs = rw (vs, g) (take-at (a .v) (drop (length (a .v)) v) (cafes S) (fills .v));
-            planIs = rw (plans, g) (take-at (a .plan) (drop (length (a .plan)) plan) (roasteries S * cafes S) (fills .plan));
-          }
+  found u v plan h us vs plans = by-option (refusal (sheetTests S))
+      (λ e.
+      let a = solution S in
+      let g = full-given S e in
+      let f : Solved total rounds ≡ Solved (a .cost) (a .rounds) = h ∙ ap solveAnswer g in
+      let fills = solve-fills S maxSide maxSide (maxSide * maxSide) a g in
+      record {
+        passes = e;
+        fills = fills;
+        totalIs = cc;
+        roundsIs = cc;
+        uIs = rw (us, g) (take-at (a .u) (drop (length (a .u)) u) (roasteries S) (fills .u));
+        vIs = rw (vs, g) (take-at (a .v) (drop (length (a .v)) v) (cafes S) (fills .v));
+        planIs = rw (plans, g) (take-at (a .plan) (drop (length (a .plan)) plan) (roasteries S * cafes S) (fills .plan));
+      })
+      (λ j e.
+      let f : Solved total rounds ≡ Refused j = h ∙ ap solveAnswer (full-refused S j e) in
+      let z : _≡_ {A = ℕ} 0 1 = cc in
+      absurd (omega arith))
 
   -- The sections of what was found are the plan text, with the total z and the count k of the lanes that carry a bag.
   pub found-sections : FoundPlan S total rounds u′ v′ plan′ → let plan = take (roasteries S * cafes S) plan′ in

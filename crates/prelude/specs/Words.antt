@@ -1,4 +1,4 @@
--- The words of the libraries that theory and proofs use, gathered so that a module names them in one place, with the two of `Tests`. Nothing is defined here:
+-- The words of the libraries that theory and proofs use, gathered so that a module names them in one place, with those of `Tests`. Nothing is defined here:
 -- each word is the library's. The definitions of `transport` do not pass through it; they name the libraries themselves.
 
 -- numbers
@@ -14,7 +14,7 @@ pub use mathlib.Core.Logic.{_↔_, _⊎_, inl, inr, ⊎-elim, _≢_, by-cases, D
 pub use mathlib.Core.Bool.{Bool, true, false, cond, not, _&&_, _||_, true≢false, false≢true, Bool-discrete, decide, decide-iff}
 pub use mathlib.Core.Bool.{and-true, and-false, and-comm, and-eq-true-iff, or-true, or-false}
 unfoldable pub use mathlib.Core.Bool.{xor}
-pub use Rattle.prelude.specs.Tests.{by-test, clash}
+pub use Rattle.prelude.specs.Tests.{by-test, by-option, clash}
 pub use native.Mathlib.Decide.{ℕ-discrete, decLt, decLe}
 pub use lib.Dec.{T, eqb, ltb, leb, leb→le}
 pub use borrow.Author.Tests.{eq-eqb, ne-eqb, lt-ltb, le-ltb, lt-leb, le-leb, eqb-true, eqb-false, ltb-true, ltb-false, leb-true, not-true, not-false}

@@ -2,7 +2,7 @@
 -- `left` counts the numbers of a line from the present one to the line's last. `write` gives the bytes of a number: `digits` or `wholeDigits`.
 use Rattle.prelude.specs.Words.{_≡_, refl, sym, _∙_, cond, List, [], _∷_, _++_, flatMap, append-assoc, ℕ, zero, suc, _+_, _*_, _-_, _≤_, _<_, arith, add-one}
 use Rattle.prelude.specs.Words.{suc-mul, decLt, eqb, ℤ, length, take, drop, getD, length-append, length-take, length-drop, take-append-drop, drop-of-length-le}
-use Rattle.prelude.specs.Words.{drop-cons, ne-eqb}
+use Rattle.prelude.specs.Words.{drop-cons, ne-eqb, by-cases}
 use Prim.Native.String.{String}
 use Rattle.transport.specs.Text.{bytes, digits, wholeDigits, headLine, numberLine, rowLine}
 use Rattle.transport.specs.SheetText.{rowsOf}
@@ -47,11 +47,9 @@ unfolding leftAfter
 left-more width left p = rw (ne-eqb left 1 p)
 
 pub left-pos : (width left : ℕ) → 1 ≤ width → 1 ≤ left → 1 ≤ leftAfter width left
-left-pos width left p q = go (decLt 1 left)
-  where
-    go : Dec (1 < left) → 1 ≤ leftAfter width left
-    go (yes h) = rw (left-more width left (λ e. omega arith)) (omega arith)
-    go (no h) = let e : left ≡ 1 = omega arith in rw (e, left-last) p
+left-pos width left p q = by-cases (decLt 1 left)
+    (λ h. rw (left-more width left (λ e. omega arith)) (omega arith))
+    (λ h. let e : left ≡ 1 = omega arith in rw (e, left-last) p)
 
 module _ {A : Type 0} (write : A → List ℕ) where
   pub length-ended : (x : A) (end : ℕ) → length (ended write x end) ≡ length (write x) + 1
