@@ -8,7 +8,7 @@ use Rattle.transport.specs.Sheet.{Sheet, roasteries, cafes}
 use Rattle.transport.specs.Extended.{wanted, costAt, extended}
 use Rattle.transport.specs.Parties.{left, rowsLeft, columnsLeft, problemOf}
 use Rattle.transport.specs.Laws.ProblemLaws.{lane, place-below}
-use Rattle.transport.specs.Laws.ExtendedLaws.{Extra, without, with, extra, cost-cafe, cost-extra, laneCost-at}
+use Rattle.transport.specs.Laws.ExtendedLaws.{without, with, extra, cost-cafe, cost-extra, laneCost-at}
 use Rattle.transport.specs.Laws.PartiesLaws.{left-at, length-left, left-append, left-whole, struck-sources, struck-sinks, struck-lane}
 use Rattle.transport.specs.Laws.RangeLaws.{abs-between}
 use Rattle.transport.specs.Laws.Sound.{sources-room, sinks-room}
@@ -55,9 +55,7 @@ module _ (c : ℕ → ℕ → ℤ) (n : ℕ) (before : List ℤ) where
       lanes = λ h k s t. by-cases (decLt (h * stride + k) (i * stride + j))
           (λ u. getD-set-other out (j * stride + i) (k * stride + h) (c i j) (pos 0) (λ e. absurd (omega arith)) ∙ p .lanes h k u t)
           (λ u.
-          let a : h ≡ i = omega arith in
-          let b : k ≡ j = omega arith in
-          rw (a, b) here);
+          let a : h ≡ i = omega arith in let b : k ≡ j = omega arith in rw (a, b) here);
       kept = λ h k s t. getD-set-other out (j * stride + i) (k * stride + h) (c i j) (pos 0) (λ e. absurd (omega arith)) ∙ p .kept h k s t;
       small = λ f s. by-cases (ℕ-discrete s (j * stride + i))
           (λ e. rw (e, here) q)
@@ -94,16 +92,14 @@ pub record Costed (P : Problem) (cost : List ℤ) : Type 0 where
 -- The costs of an accepted sheet can be spread.
 pub spreadable : {S : Sheet} → Accepted S → Spreadable (S .cost) (cafes S) (rowsLeft (extended S)) (left (S .demand))
 unfolding roasteries cafes rowsLeft extended
-spreadable {S} ok =
-    let w = ok .limits in
+spreadable {S} ok = let w = ok .limits in
     let row : (i : ℕ) → i < length (left (S .supply)) → at (left (S .supply)) i < length (S .supply) = λ i l. left-at (S .supply) i l .0 in
     record {
       rowsFew = omega (arith, length-left (S .supply), w .roasteriesHigh, sources-room, stride-is);
       colsFew = omega (arith, length-left (S .demand), w .cafesHigh, sinks-room, stride-is);
       firsts = λ i l.
           let low : at (left (S .supply)) i ≤ stride = omega (arith, row i l, w .roasteriesHigh, sources-room, stride-is) in
-          let few : length (S .demand) ≤ stride = omega (arith, w .cafesHigh, sinks-room, stride-is) in
-          mul-le-mul low few;
+          let few : length (S .demand) ≤ stride = omega (arith, w .cafesHigh, sinks-room, stride-is) in mul-le-mul low few;
       inside = λ i j l h. omega (
         arith,
         w .costLength,
@@ -121,18 +117,16 @@ module _ (S : Sheet) where
 
   column : (j : ℕ) → j < length (left (wanted S)) → Column j
   unfolding at cafes
-  column j l = go (extra S)
-    where
-      go : Extra S → Column j
-      go (without z e) = cafe (rw e at l) (rw e)
-      go (with z e) =
-          let more : left (wanted S) ≡ left (S .demand) ++ (length (S .demand) ∷ []) = ap left e ∙ left-append (S .demand) _ z in
-          let here : at (left (wanted S)) j ≡ getD (left (S .demand) ++ (length (S .demand) ∷ [])) j 0 = ap (λ (t : List ℕ). getD t j 0) more in
-          by-cases (decLt j (length (left (S .demand))))
-          (λ h. cafe h (here ∙ List·getD-append (left (S .demand)) (length (S .demand) ∷ []) 0 j h))
-          (λ h.
-          let last : length (left (S .demand)) ≡ j = omega (arith, ap length more, length-append (left (S .demand)) (length (S .demand) ∷ [])) in
-          home (omega arith) (here ∙ getD-at (left (S .demand)) (length (S .demand)) [] 0 j last))
+  column j l = elim (extra S) [
+    | without z e ↦ cafe (rw e at l) (rw e)
+    | with z e ↦ let ds = left (S .demand) in let own = length (S .demand) in
+        let more : left (wanted S) ≡ ds ++ (own ∷ []) = ap left e ∙ left-append (S .demand) _ z in
+        let here : at (left (wanted S)) j ≡ getD (ds ++ (own ∷ [])) j 0 = ap (λ (t : List ℕ). getD t j 0) more in
+        by-cases (decLt j (length ds))
+        (λ h. cafe h (here ∙ List·getD-append ds (own ∷ []) 0 j h))
+        (λ h. let last : length ds ≡ j = omega (arith, ap length more, length-append ds (own ∷ [])) in
+        home (omega arith) (here ∙ getD-at ds own [] 0 j last))
+  ]
 
   -- What a lane between parties left costs, under their own numbers.
   own-lane : (i j : ℕ) → i < length (left (S .supply)) → j < length (left (wanted S))
@@ -144,15 +138,15 @@ module _ (S : Sheet) where
 pub spread-costed : {S : Sheet} → Accepted S → {out : List ℤ} → Spread (S .cost) (cafes S) (rowsLeft (extended S)) (left (S .demand)) out
     → Costed (problemOf S) out
 unfolding problemOf extended rowsLeft columnsLeft costAbove cafes
-spread-costed {S} ok {out} p = record { lanes = lanes; small = p .small }
+spread-costed {S} ok {out} p = record {
+  lanes = λ i j hi hj.
+      let l : i < length (left (S .supply)) = omega (arith, hi, struck-sources (extended S)) in
+      let h : j < length (left (wanted S)) = omega (arith, hj, struck-sinks (extended S)) in
+      at-column i j l (column S j h) ∙ sym (own-lane S i j l h);
+  small = p .small;
+}
   where
     at-column : (i j : ℕ) → i < length (left (S .supply)) → Column S j
         → getD out (j * stride + i) (pos 0) ≡ costAt S (at (left (S .supply)) i) (at (left (wanted S)) j)
     at-column i j l (cafe h e) = p .lanes i j l h ∙ rw e (sym (cost-cafe S _ _ (left-at (S .demand) j h .0)))
     at-column i j l (home h e) = p .beyond i j (omega (arith, spreadable ok .rowsFew)) h ∙ rw e (sym (cost-extra S _ _ (omega arith)))
-
-    lanes : (i j : ℕ) → i < sources (problemOf S) → j < sinks (problemOf S) → getD out (j * stride + i) (pos 0) ≡ laneCost (problemOf S) (lane i j)
-    lanes i j hi hj =
-        let l : i < length (left (S .supply)) = omega (arith, hi, struck-sources (extended S)) in
-        let h : j < length (left (wanted S)) = omega (arith, hj, struck-sinks (extended S)) in
-        at-column i j l (column S j h) ∙ sym (own-lane S i j l h)

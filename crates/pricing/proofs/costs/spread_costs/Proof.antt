@@ -12,17 +12,14 @@ use Rattle.pricing.proofs.costs.spread_costs.Statement.{statement}
 use Rattle.pricing.proofs.costs.spread_costs.Tie as tie
 
 abbrev Inv-loop2 : tie.InvT-loop2
-Inv-loop2 cost cafes rows cols out₀ all i first j₀ out j =
-    let c = ownCost cost cafes rows cols in
+Inv-loop2 cost cafes rows cols out₀ all i first j₀ out j = let c = ownCost cost cafes rows cols in
     (j ≤ length cols) × ((before : List ℤ) → Part c (length cols) before i 0 out₀ → Part c (length cols) before i j out)
 
 abbrev μ-loop2 : tie.MeasureT-loop2
 μ-loop2 cost cafes rows cols out₀ all i first j₀ out j = length cols - j
 
 abbrev Inv-loop : tie.InvT-loop
-Inv-loop cost cafes rows cols out₀ all i₀ out i =
-    (i ≤ length rows)
-    × Part (ownCost cost cafes rows cols) (length cols) out₀ i 0 out
+Inv-loop cost cafes rows cols out₀ all i₀ out i = (i ≤ length rows) × Part (ownCost cost cafes rows cols) (length cols) out₀ i 0 out
     × (all ≡ true → length cols ≡ cafes)
 
 abbrev μ-loop : tie.MeasureT-loop
@@ -40,34 +37,23 @@ abbrev costsOf : tie.Start Inv-loop2 μ-loop2 Inv-loop μ-loop → ℕ → ℕ �
 costsOf s = ownCost (s .args .cost .now) (s .args .cafes) (s .args .rows .now) (s .args .cols .now)
 
 loop-holds : tie.Need-loop-holds Inv-loop2 μ-loop2 Inv-loop μ-loop
-loop-holds c =
-    let s = c .before .before .before in
-    (omega arith, part-none (costsOf s) (length (s .args .cols .now)) _ refl, λ e. eqb-true _ _ e)
+loop-holds c = let s = c .before .before .before in (omega arith, part-none (costsOf s) (length (s .args .cols .now)) _ refl, λ e. eqb-true _ _ e)
 
 mul-first-2 : tie.Need-mul-first-2 Inv-loop2 μ-loop2 Inv-loop μ-loop
 unfolding at
-mul-first-2 c =
-    let l = c .before .before in
-    omega (arith, startOf l .pre .firsts (l .loop .i) (omega arith))
+mul-first-2 c = let l = c .before .before in omega (arith, startOf l .pre .firsts (l .loop .i) (omega arith))
 
 -- The lane of row i and column j has its cost in the list.
-inside : (c : tie.In-loop2 Inv-loop2 μ-loop2 Inv-loop μ-loop)
-    → let a = startOf (turn (c .before)) .args in
+inside : (c : tie.In-loop2 Inv-loop2 μ-loop2 Inv-loop μ-loop) → let a = startOf (turn (c .before)) .args in
     getD (a .rows .now) (turn (c .before) .loop .i) 0 * a .cafes + getD (a .cols .now) (c .before .loop2 .j) 0 < length (a .cost .now)
 unfolding at place
-inside c =
-    let s = startOf (turn (c .before)) in
-    s .pre .inside (turn (c .before) .loop .i) (c .before .loop2 .j) (omega arith) (omega arith)
+inside c = let s = startOf (turn (c .before)) in s .pre .inside (turn (c .before) .loop .i) (c .before .loop2 .j) (omega arith) (omega arith)
 
 own-number-requires : tie.Need-own-number-requires Inv-loop2 μ-loop2 Inv-loop μ-loop
-own-number-requires c κs =
-    let t = turn (c .before) in
-    (omega arith, λ e. startOf t .pre .whole (t .loop .inv .2 e) (c .before .loop2 .j) (omega arith))
+own-number-requires c κs = let t = turn (c .before) in (omega arith, λ e. startOf t .pre .whole (t .loop .inv .2 e) (c .before .loop2 .j) (omega arith))
 
 -- So is that of the own number that was found.
-found : (c : tie.After-own-number Inv-loop2 μ-loop2 Inv-loop μ-loop)
-    → let l = c .before .before in
-    let a = startOf (turn l) .args in
+found : (c : tie.After-own-number Inv-loop2 μ-loop2 Inv-loop μ-loop) → let l = c .before .before in let a = startOf (turn l) .args in
     getD (a .rows .now) (turn l .loop .i) 0 * a .cafes + c .own-number .result < length (a .cost .now)
 unfolding at
 found c = rw (c .own-number .ensures) (inside (c .before))
@@ -89,42 +75,30 @@ module _ (l : tie.At-loop2 Inv-loop2 μ-loop2 Inv-loop μ-loop) where
 
 cast-out : tie.Need-cast-out Inv-loop2 μ-loop2 Inv-loop μ-loop
 unfolding at
-cast-out c =
-    let l = c .before .before .before in
-    rw (c .before .own-number .ensures, read-back l) (abs-fits w32 (costHere l) (small l))
+cast-out c = let l = c .before .before .before in rw (c .before .own-number .ensures, read-back l) (abs-fits w32 (costHere l) (small l))
 
 loop2-again : tie.Need-loop2-again Inv-loop2 μ-loop2 Inv-loop μ-loop
 unfolding at atZ place
-loop2-again c =
-    let l = c .before .before .before in
-    let s = startOf (turn l) in
-    let i = turn l .loop .i in
-    let x = costHere l in (
-      omega arith,
-      λ before p. rw (c .before .own-number .ensures, read-back l, toZ-ofZ {w = w32} (abs-fits w32 x (small l)))
-          (part-one (costsOf s) (length (s .args .cols .now)) before i (l .loop2 .j) (l .loop2 .out) (l .loop2 .inv .1 before p) (s .pre .colsFew)
-          (omega (arith, s .pre .rowsFew)) (omega arith) (s .pre .small (laneHere l))),
-    )
+loop2-again c = let l = c .before .before .before in let s = startOf (turn l) in let i = turn l .loop .i in let x = costHere l in (
+  omega arith,
+  λ before p. rw (c .before .own-number .ensures, read-back l, toZ-ofZ {w = w32} (abs-fits w32 x (small l)))
+      (part-one (costsOf s) (length (s .args .cols .now)) before i (l .loop2 .j) (l .loop2 .out) (l .loop2 .inv .1 before p) (s .pre .colsFew)
+      (omega (arith, s .pre .rowsFew)) (omega arith) (s .pre .small (laneHere l))),
+)
 
 loop-again : tie.Need-loop-again Inv-loop2 μ-loop2 Inv-loop μ-loop
-loop-again c =
-    let l = c .before .loop2 in
-    let o = turn (c .before) .loop in
-    let s = startOf (turn (c .before)) in (
-      omega arith,
-      part-row (costsOf s) (length (s .args .cols .now)) _ (o .i) (l .j) (l .out) (l .inv .1 _ (o .inv .1)) (s .pre .colsFew) (omega arith),
-      o .inv .2,
-    )
+loop-again c = let l = c .before .loop2 in let o = turn (c .before) .loop in let s = startOf (turn (c .before)) in (
+  omega arith,
+  part-row (costsOf s) (length (s .args .cols .now)) _ (o .i) (l .j) (l .out) (l .inv .1 _ (o .inv .1)) (s .pre .colsFew) (omega arith),
+  o .inv .2,
+)
 
 returns : tie.Need-returns Inv-loop2 μ-loop2 Inv-loop μ-loop
-returns c =
-    let l = c .before .loop in
-    let s = startOf (c .before) in
+returns c = let l = c .before .loop in let s = startOf (c .before) in
     part-all (s .args .cost .now) (s .args .cafes) (s .args .rows .now) (s .args .cols .now) (l .i) (l .out) (s .pre .colsFew) (omega arith) (l .inv .1)
 
 pub spread-costs-spec : {M : Type 1} → statement M
-spread-costs-spec =
-    tie.close (tie.spec Inv-loop2 μ-loop2 Inv-loop μ-loop loop-holds (λ c. search needs) (λ c. search needs) mul-first-2
-    (λ c. (omega arith, λ before p. p)) own-number-requires (λ c. search (needs, found c)) (λ c. search (needs, found c)) (λ c. found c)
-    cast-out (λ c. search needs) (λ c. search needs) (λ c. search needs) (λ c. search needs) (λ c. search needs) (λ c. search needs)
-    loop2-again (λ c. search needs) (λ c. search needs) loop-again returns)
+spread-costs-spec = tie.close (tie.spec Inv-loop2 μ-loop2 Inv-loop μ-loop loop-holds (λ c. search needs) (λ c. search needs) mul-first-2
+    (λ c. (omega arith, λ before p. p)) own-number-requires (λ c. search (needs, found c)) (λ c. search (needs, found c)) (λ c. found c) cast-out
+    (λ c. search needs) (λ c. search needs) (λ c. search needs) (λ c. search needs) (λ c. search needs) (λ c. search needs) loop2-again
+    (λ c. search needs) (λ c. search needs) loop-again returns)
