@@ -1,7 +1,7 @@
 -- Bags by lane, and the masks that say where there are any.
-use Rattle.prelude.specs.Words.{_≡_, refl, sym, _∙_, _↔_, _≢_, by-cases, Dec·and, Bool, true, false, not, cond, _&&_, _||_, and-false, Bool-discrete, List, ℕ}
-use Rattle.prelude.specs.Words.{_+_, _-_, _*_, _<_, _≤_, arith, ℕ-discrete, eq-eqb, ne-eqb, eqb, ℤ, pos, natAbs, negℤ, _+ℤ_, length, getD, set, replicate}
-use Rattle.prelude.specs.Words.{length-set, getD-set-same, getD-set-other, ltZ}
+use Rattle.prelude.specs.Words.{_≡_, refl, sym, _∙_, _↔_, _≢_, by-cases, Dec·and, Bool, true, false, not, cond, _&&_, and-false, Bool-discrete, List, ℕ, _+_}
+use Rattle.prelude.specs.Words.{_-_, _*_, _<_, _≤_, arith, ℕ-discrete, eq-eqb, ne-eqb, eqb, ℤ, pos, natAbs, negℤ, _+ℤ_, length, getD, set, replicate}
+use Rattle.prelude.specs.Words.{length-set, getD-set-same, getD-set-other, ltZ, by-test}
 use lib.Bits.{bitAnd}
 use Rattle.integers.specs.Integer.{Z, _≈_, _≺_, _⊕_, _⊖_, _⊗_, neg, nat}
 use Rattle.integers.specs.IntegerLaws.{⊗-cong}
@@ -9,6 +9,7 @@ use Rattle.integers.specs.Bridge.{toZ, z-add, z-neg}
 use Rattle.integers.specs.Tests.{lt-yes, yes-lt}
 use Rattle.network.specs.Circuit.{spot, spot-at, spot-off}
 use Rattle.transport.specs.Laws.RangeLaws.{abs-add, abs-neg}
+use Rattle.transport.specs.Laws.ListLaws.{and-right}
 use Rattle.tree.specs.Layout.{stride, laneRoom, getD-all}
 use Rattle.tree.specs.Mask.{has, put, has-put, unset, has-unset, has-zero}
 use Rattle.tree.specs.Bits.{Least, has-rest, has-least, Touched}
@@ -52,31 +53,20 @@ follow-both f g = record { masked = λ w. g .masked (f .masked w) }
 -- ---- a bit put into a mask, or taken out of it
 
 pub bit-on : (x k h : ℕ) → has (put x k) h ≡ cond (eqb h k) true (has x h)
-bit-on x k h = has-put x k h ∙ go (eqb h k)
-  where
-    go : (b : Bool) → b || has x h ≡ cond b true (has x h)
-    go true = refl
-    go false = refl
+bit-on x k h = has-put x k h ∙ by-test (eqb h k) (λ e. rw e) (λ e. rw e)
 
 pub bit-off : (x k h : ℕ) → has (unset x k) h ≡ cond (eqb h k) false (has x h)
-bit-off x k h = has-unset x k h ∙ go (eqb h k)
-  where
-    go : (b : Bool) → not b && has x h ≡ cond b false (has x h)
-    go true = refl
-    go false = refl
+bit-off x k h = has-unset x k h ∙ by-test (eqb h k) (λ e. rw e) (λ e. rw e)
 
 -- ---- one lane is written
-
--- Two lanes lie at one place only if they are one.
-lanes-apart : (i j h k : ℕ) → j < stride → k < stride → ¬ ((h ≡ i) × (k ≡ j)) → h * stride + k ≢ i * stride + j
-lanes-apart i j h k p q d e = d (omega arith, omega arith)
 
 module _ (q : List ℤ) (i j : ℕ) (z : ℤ) (hi : i < stride) (hj : j < stride) (long : length q ≡ laneRoom) where
   lane-same : getD (set q (i * stride + j) z) (i * stride + j) (pos 0) ≡ z
   lane-same = getD-set-same q (i * stride + j) z (pos 0) (omega arith)
 
+  -- Two lanes lie at one place only if they are one.
   lane-other : (h k : ℕ) → k < stride → ¬ ((h ≡ i) × (k ≡ j)) → getD (set q (i * stride + j) z) (h * stride + k) (pos 0) ≡ getD q (h * stride + k) (pos 0)
-  lane-other h k hk d = getD-set-other q (i * stride + j) (h * stride + k) z (pos 0) (lanes-apart i j h k hj hk d)
+  lane-other h k hk d = getD-set-other q (i * stride + j) (h * stride + k) z (pos 0) (λ e. d (omega arith))
 
   -- The masks of its row and of its column follow.
   pub masked-set : {m n : ℕ} {holds owns : List ℕ} (down along : ℕ) → Masked m n q holds owns
@@ -90,20 +80,20 @@ module _ (q : List ℤ) (i j : ℕ) (z : ℤ) (hi : i < stride) (hj : j < stride
     holdsLong = simp length-set (w .holdsLong);
     ownsLong = simp length-set (w .ownsLong);
     hold = λ h k hh hk. by-cases (ℕ-discrete k j)
-        (λ e. rw (e, getD-set-same holds j down 0 (omega (arith, w .holdsLong))) (d h ∙ in-column h (rw e at hk) hh (ℕ-discrete h i)))
+        (λ e. rw (e, getD-set-same holds j down 0 (omega (arith, w .holdsLong))) (d h ∙ in-column h (rw e at hk) hh))
         (λ e. rw (getD-set-other holds j k down 0 e, lane-other h k (omega (arith, w .cols)) (λ s. e (s .1))) (w .hold h k hh hk));
     own = λ h k hh hk. by-cases (ℕ-discrete h i)
-        (λ e. rw (e, getD-set-same owns i along 0 (omega (arith, w .ownsLong))) (a k ∙ in-row k (rw e at hh) hk (ℕ-discrete k j)))
+        (λ e. rw (e, getD-set-same owns i along 0 (omega (arith, w .ownsLong))) (a k ∙ in-row k (rw e at hh) hk))
         (λ e. rw (getD-set-other owns i h along 0 e, lane-other h k (omega (arith, w .cols)) (λ s. e (s .0))) (w .own h k hh hk));
   }
     where
-      in-column : (h : ℕ) → j < n → h < m → Dec (h ≡ i) → cond (eqb h i) (ltZ (pos 0) z) (has (entry holds j) h) ≡ carries (set q (i * stride + j) z) h j
-      in-column h hk hh (yes e) = rw (e, eq-eqb i i refl, lane-same)
-      in-column h hk hh (no e) = rw (ne-eqb h i e, lane-other h j hj (λ s. e (s .0))) (w .hold h j hh hk)
+      in-column : (h : ℕ) → j < n → h < m → cond (eqb h i) (ltZ (pos 0) z) (has (entry holds j) h) ≡ carries (set q (i * stride + j) z) h j
+      in-column h hk hh = by-cases (ℕ-discrete h i) (λ e. rw (e, eq-eqb i i refl, lane-same))
+          (λ e. rw (ne-eqb h i e, lane-other h j hj (λ s. e (s .0))) (w .hold h j hh hk))
 
-      in-row : (k : ℕ) → i < m → k < n → Dec (k ≡ j) → cond (eqb k j) (ltZ (pos 0) z) (has (entry owns i) k) ≡ carries (set q (i * stride + j) z) i k
-      in-row k hh hk (yes e) = rw (e, eq-eqb j j refl, lane-same)
-      in-row k hh hk (no e) = rw (ne-eqb k j e, lane-other i k (omega (arith, w .cols)) (λ s. e (s .1))) (w .own i k hh hk)
+      in-row : (k : ℕ) → i < m → k < n → cond (eqb k j) (ltZ (pos 0) z) (has (entry owns i) k) ≡ carries (set q (i * stride + j) z) i k
+      in-row k hh hk = by-cases (ℕ-discrete k j) (λ e. rw (e, eq-eqb j j refl, lane-same))
+          (λ e. rw (ne-eqb k j e, lane-other i k (omega (arith, w .cols)) (λ s. e (s .1))) (w .own i k hh hk))
 
 -- x more on lane (i, j).
 abbrev added : List ℤ → ℕ → ℕ → ℤ → List ℤ
@@ -128,8 +118,7 @@ pub record BagsShifted (from to j : ℕ) (x : ℤ) (q q′ : List ℤ) : Type 0 
 
 pub shifted-by : (from to j : ℕ) (x : ℤ) (q : List ℤ) → from < stride → to < stride → j < stride → length q ≡ laneRoom
     → BagsShifted from to j x q (added (added q from j (negℤ x)) to j x)
-shifted-by from to j x q hf ht hj long =
-    let long′ : length (added q from j (negℤ x)) ≡ laneRoom = simp length-set long in
+shifted-by from to j x q hf ht hj long = let long′ : length (added q from j (negℤ x)) ≡ laneRoom = simp length-set long in
     record {
       bags = λ h k hk. omega (
         arith,
@@ -156,27 +145,17 @@ pub record RowBags (q : List ℤ) (basic i left cols : ℕ) : Type 0 where
   pub each : (j : ℕ) → has cols j ≡ not (has left j) && (has basic j && carries q i j)
 
 pub row-none : (q : List ℤ) (basic i : ℕ) → RowBags q basic i basic 0
-row-none q basic i = record { part = λ j h. h; each = λ j. has-zero j ∙ go (has basic j) (carries q i j) }
-  where
-    go : (a b : Bool) → false ≡ not a && (a && b)
-    go true b = refl
-    go false b = refl
+row-none q basic i = record { part = λ j h. h; each = λ j. has-zero j ∙ by-test (has basic j) (λ e. rw e) (λ e. rw e) }
 
 module _ {q : List ℤ} {basic i left cols : ℕ} (w : RowBags q basic i left cols) where
   pub row-more : {j : ℕ} (cols′ : ℕ) → Least left j → ((k : ℕ) → has cols′ k ≡ cond (eqb k j) (carries q i j) (has cols k))
       → RowBags q basic i (bitAnd left (left - 1)) cols′
   row-more {j} cols′ l e = record {
-    part = λ k h. w .part k (within (not (eqb k j)) (has left k) (sym (has-rest left j k l) ∙ h));
-    each = λ k. e k ∙ rw (has-rest left j k l) (by-cases (ℕ-discrete k j) (here k) (λ d. rw (ne-eqb k j d) (w .each k)));
+    part = λ k h. w .part k (and-right (not (eqb k j)) (has left k) (sym (has-rest left j k l) ∙ h));
+    each = λ k. e k ∙ rw (has-rest left j k l) (by-cases (ℕ-discrete k j)
+        (λ d. rw (d, eq-eqb j j refl, w .part j (has-least l)))
+        (λ d. rw (ne-eqb k j d) (w .each k)));
   }
-    where
-      within : (a b : Bool) → a && b ≡ true → b ≡ true
-      within true b s = s
-      within false true s = refl
-      within false false s = s
-
-      here : (k : ℕ) → k ≡ j → cond (eqb k j) (carries q i j) (has cols k) ≡ not (not (eqb k j) && has left k) && (has basic k && carries q i k)
-      here k d = rw (d, eq-eqb j j refl, w .part j (has-least l))
 
   pub row-all : left ≡ 0 → (j : ℕ) → has cols j ≡ has basic j && carries q i j
   row-all e j = w .each j ∙ rw (e, has-zero j)
@@ -208,15 +187,13 @@ module _ {k : ℕ} {basic : List ℕ} {q : List ℤ} {holds owns : List ℕ} (w 
         (λ e. rw (e, getD-set-same owns k cols 0 (omega (arith, w .ownsLong))) (row j))
         (λ e. rw (getD-set-other owns k i cols 0 e) (w .own i j (omega arith)));
     hold = λ i j l. rw (t .each j) (by-cases (ℕ-discrete i k)
-        (λ e. rw e (here j (has cols j) refl))
+        (λ e. rw e (by-test (has cols j)
+        (λ h. rw h (has-put (entry holds j) k k ∙ rw (eq-eqb k k refl) (sym h ∙ row j)))
+        (λ h. rw h (w .later k j (omega arith) ∙ sym h ∙ row j))))
         (λ e. there i j e (has cols j) ∙ w .hold i j (omega arith)));
     later = λ i j l. rw (t .each j) (there i j (omega arith) (has cols j) ∙ w .later i j (omega arith));
   }
     where
-      here : (j : ℕ) (b : Bool) → has cols j ≡ b → has (cond b (put (entry holds j) k) (entry holds j)) k ≡ has (entry basic k) j && carries q k j
-      here j true e = has-put (entry holds j) k k ∙ rw (eq-eqb k k refl) (sym e ∙ row j)
-      here j false e = w .later k j (omega arith) ∙ sym e ∙ row j
-
       there : (i j : ℕ) → i ≢ k → (b : Bool) → has (cond b (put (entry holds j) k) (entry holds j)) i ≡ has (entry holds j) i
       there i j d true = has-put (entry holds j) k i ∙ rw (ne-eqb i k d)
       there i j d false = refl
@@ -234,6 +211,4 @@ masked-all {m} {n} {basic} {q} w b = record {
 }
   where
     basics : (i j : ℕ) → i < m → j < n → has (entry basic i) j && carries q i j ≡ carries q i j
-    basics i j hi hj = by-cases (Bool-discrete (has (entry basic i) j) true)
-        (λ e. rw e)
-        (λ e. rw (b .off i j hi hj e) (and-false (has (entry basic i) j)))
+    basics i j hi hj = by-cases (Bool-discrete (has (entry basic i) j) true) (λ e. rw e) (λ e. rw (b .off i j hi hj e) (and-false (has (entry basic i) j)))

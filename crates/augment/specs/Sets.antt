@@ -1,10 +1,10 @@
 -- Masks as sets of their bits: what is in a mask that is made of others.
 use Rattle.prelude.specs.Words.{_≡_, sym, _∙_, _↔_, _≢_, _⊎_, inl, inr, ⊎-elim, by-cases, true, false≢true, ℕ, _-_, _<_, _≤_, arith, ℕ-discrete, decLt}
-use Rattle.prelude.specs.Words.{eqb-true, eq-eqb, ne-eqb, clash}
+use Rattle.prelude.specs.Words.{eqb-true, eq-eqb, ne-eqb, Bool, _||_, _&&_, not, eqb, and-eq-true-iff, or-true}
 use lib.Bits.{bitAnd, bitOr}
-use Rattle.tree.specs.Mask.{bit, has, bit-or, bit-and, put, put-here, put-there, unset, unset-here, unset-there, has-zero}
+use Rattle.tree.specs.Mask.{bit, has, put, has-put, unset, has-unset, has-zero}
 use Rattle.tree.specs.MaskLaws.{firstBits, first-below, first-above, minus, bit-minus}
-use Rattle.tree.specs.Bits.{Least, has-rest}
+use Rattle.tree.specs.Bits.{Least, or-cases, has-rest, has-or, has-and}
 
 pub in-bit : (x k : ℕ) → (has x k ≡ true) ↔ (bit x k ≡ 1)
 in-bit x k = ((λ e. eqb-true (bit x k) 1 e), (λ e. eq-eqb (bit x k) 1 e))
@@ -16,19 +16,20 @@ in-none k e h = false≢true (sym (has-zero k) ∙ rw e at h)
 pub in-some : (x k : ℕ) → has x k ≡ true → 0 < x
 in-some x k h = by-cases (ℕ-discrete x 0) (λ e. absurd (in-none k e h)) (λ e. omega arith)
 
+-- What the tests of bits say of their parts.
+either : (a b : Bool) → (a || b ≡ true) ↔ ((a ≡ true) ⊎ (b ≡ true))
+either a b = (or-cases a b, ⊎-elim (λ e. rw e) (λ e. rw e (or-true a)))
+
+but-for : (k j : ℕ) (b : Bool) → (not (eqb k j) && b ≡ true) ↔ ((k ≢ j) × (b ≡ true))
+but-for k j b = by-cases (ℕ-discrete k j)
+    (λ s. rw (eq-eqb k j s) (λ e. absurd (false≢true e), λ e. absurd (e .0 s)))
+    (λ s. rw (ne-eqb k j s) (λ e. (s, e), λ e. e .1))
+
 pub in-or : (a b k : ℕ) → (has (bitOr a b) k ≡ true) ↔ ((has a k ≡ true) ⊎ (has b k ≡ true))
-in-or a b k = (
-  (λ e. by-cases (ℕ-discrete (bit a k) 1)
-      (λ s. inl (in-bit a k .1 s))
-      (λ s. inr (in-bit b k .1 (omega (arith, bit-or a b k, in-bit (bitOr a b) k .0 e))))),
-  (λ e. in-bit (bitOr a b) k .1 (⊎-elim (λ s. omega (arith, bit-or a b k, in-bit a k .0 s)) (λ s. omega (arith, bit-or a b k, in-bit b k .0 s)) e)),
-)
+in-or a b k = rw (has-or a b k) (either (has a k) (has b k))
 
 pub in-and : (a b k : ℕ) → (has (bitAnd a b) k ≡ true) ↔ ((has a k ≡ true) × (has b k ≡ true))
-in-and a b k = (
-  (λ e. (in-bit a k .1 (omega (arith, bit-and a b k, in-bit (bitAnd a b) k .0 e)), in-bit b k .1 (omega (arith, bit-and a b k, in-bit (bitAnd a b) k .0 e)))),
-  (λ e. in-bit (bitAnd a b) k .1 (omega (arith, bit-and a b k, in-bit a k .0 (e .0), in-bit b k .0 (e .1)))),
-)
+in-and a b k = rw (has-and a b k) (and-eq-true-iff (has a k) (has b k))
 
 pub in-minus : (a b k : ℕ) → (has (minus a b) k ≡ true) ↔ ((has a k ≡ true) × ¬ (has b k ≡ true))
 in-minus a b k = (
@@ -40,28 +41,17 @@ in-minus a b k = (
 )
 
 pub in-put : (x j k : ℕ) → (has (put x j) k ≡ true) ↔ ((has x k ≡ true) ⊎ (k ≡ j))
-in-put x j k = (
-  (λ e. by-cases (ℕ-discrete k j) inr (λ s. inl (in-bit x k .1 (sym (put-there x j k s) ∙ in-bit (put x j) k .0 e)))),
-  (λ e. in-bit (put x j) k .1 (by-cases (ℕ-discrete k j)
-      (λ s. rw s (put-here x j))
-      (λ s. put-there x j k s ∙ ⊎-elim (λ q. in-bit x k .0 q) (λ q. absurd (s q)) e))),
+in-put x j k = rw (has-put x j k) (
+  λ e. ⊎-elim (λ s. inr (eqb-true k j s)) inl (either (eqb k j) (has x k) .0 e),
+  λ e. either (eqb k j) (has x k) .1 (⊎-elim inr (λ s. inl (eq-eqb k j s)) e),
 )
 
 pub in-unset : (x j k : ℕ) → (has (unset x j) k ≡ true) ↔ ((k ≢ j) × (has x k ≡ true))
-in-unset x j k = (
-  (λ e. let d : k ≢ j = λ s. absurd (omega (arith, rw s at (in-bit (unset x j) k .0 e), unset-here x j)) in
-      (d, in-bit x k .1 (sym (unset-there x j k d) ∙ in-bit (unset x j) k .0 e))),
-  (λ e. in-bit (unset x j) k .1 (unset-there x j k (e .0) ∙ in-bit x k .0 (e .1))),
-)
+in-unset x j k = rw (has-unset x j k) (but-for k j (has x k))
 
 -- A mask without its least bit.
 pub in-rest : (x r k : ℕ) → Least x r → (has (bitAnd x (x - 1)) k ≡ true) ↔ ((k ≢ r) × (has x k ≡ true))
-in-rest x r k w = (
-  (λ e. by-cases (ℕ-discrete k r)
-      (λ s. clash e (has-rest x r k w ∙ rw (eq-eqb k r s)))
-      (λ s. (s, sym (has-rest x r k w ∙ rw (ne-eqb k r s)) ∙ e))),
-  (λ e. has-rest x r k w ∙ rw (ne-eqb k r (e .0)) (e .1)),
-)
+in-rest x r k w = rw (has-rest x r k w) (but-for k r (has x k))
 
 -- The bits from k up to m.
 pub in-between : (m k i : ℕ) → (has (minus (firstBits m) (firstBits k)) i ≡ true) ↔ ((k ≤ i) × (i < m))

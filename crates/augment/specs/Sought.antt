@@ -56,49 +56,31 @@ pub record Sought (m n : ℕ) (t : Target) (x : ℕ → ℕ → Z) (tight holds 
 pub record Gathered (holds : List ℕ) (cols rows : ℕ) : Type 0 where
   pub each : (i : ℕ) → (has rows i ≡ true) ↔ ((j : ℕ) × (has cols j ≡ true) × (has (entry holds j) i ≡ true))
 
-gathered-same : {holds : List ℕ} {rows : ℕ} (cols cols′ : ℕ) → ((j : ℕ) → (has cols j ≡ true) ↔ (has cols′ j ≡ true)) → Gathered holds cols rows
-    → Gathered holds cols′ rows
-gathered-same cols cols′ e w = record {
-  each = λ i. (
-    (λ h. let (k, o, v) = w .each i .0 h in (k, e k .0 o, v)),
-    (λ (k, o, v). w .each i .1 (k, e k .1 o, v)),
-  );
-}
-
 -- Column after column, with `left` still to come.
 pub gather-start : (holds : List ℕ) (cols : ℕ) → Gathered holds (minus cols cols) 0
-gather-start holds cols = record {
-  each = λ i. ((λ h. absurd (in-none i refl h)), (λ (j, o, h). let (u, v) = in-minus cols cols j .0 o in absurd (v u)));
-}
+gather-start holds cols = record { each = λ i. ((λ h. absurd (in-none i refl h)), (λ (j, o, h). let (u, v) = in-minus cols cols j .0 o in absurd (v u))) }
 
 pub gather-step : {holds : List ℕ} {left rows : ℕ} (cols j : ℕ) → Least left j → has cols j ≡ true → Gathered holds (minus cols left) rows
     → Gathered holds (minus cols (bitAnd left (left - 1))) (bitOr rows (entry holds j))
-gather-step {holds} {left} {rows} cols j l c w = gathered-same (put (minus cols left) j) (minus cols (bitAnd left (left - 1))) same more
-  where
-    more : Gathered holds (put (minus cols left) j) (bitOr rows (entry holds j))
-    more = record {
-      each = λ i. (
-        (λ h. ⊎-elim
-            (λ u. let (k, o, v) = w .each i .0 u in (k, in-put (minus cols left) j k .1 (inl o), v))
-            (λ u. (j, in-put (minus cols left) j j .1 (inr refl), u))
-            (in-or rows (entry holds j) i .0 h)),
-        (λ (k, o, v). in-or rows (entry holds j) i .1 (⊎-elim (λ u. inl (w .each i .1 (k, u, v))) (λ e. inr (rw e at v)) (in-put (minus cols left) j k .0 o))),
-      );
-    }
-
-    same : (k : ℕ) → (has (put (minus cols left) j) k ≡ true) ↔ (has (minus cols (bitAnd left (left - 1))) k ≡ true)
-    same k = (
-      (λ h. ⊎-elim
-          (λ o. let (u, v) = in-minus cols left k .0 o in in-minus cols (bitAnd left (left - 1)) k .1 (u, λ r. v (in-rest left j k l .0 r .1)))
-          (λ e. rw e (in-minus cols (bitAnd left (left - 1)) j .1 (c, λ r. in-rest left j j l .0 r .0 refl)))
-          (in-put (minus cols left) j k .0 h)),
-      (λ h. let (u, v) = in-minus cols (bitAnd left (left - 1)) k .0 h in in-put (minus cols left) j k .1 (by-cases (ℕ-discrete k j) inr
-          (λ d. inl (in-minus cols left k .1 (u, λ o. v (in-rest left j k l .1 (d, o))))))),
-    )
+gather-step {holds} {left} {rows} cols j l c w = record {
+  each = λ i. (
+    (λ h. ⊎-elim
+        (λ u. let (k, o, v) = w .each i .0 u in let (a, b) = in-minus cols left k .0 o in
+        (k, in-minus cols (bitAnd left (left - 1)) k .1 (a, λ r. b (in-rest left j k l .0 r .1)), v))
+        (λ u. (j, in-minus cols (bitAnd left (left - 1)) j .1 (c, λ r. in-rest left j j l .0 r .0 refl), u)) (in-or rows (entry holds j) i .0 h)),
+    (λ (k, o, v). let (a, b) = in-minus cols (bitAnd left (left - 1)) k .0 o in in-or rows (entry holds j) i .1 (by-cases (ℕ-discrete k j)
+        (λ e. inr (rw e at v))
+        (λ d. inl (w .each i .1 (k, in-minus cols left k .1 (a, λ s. b (in-rest left j k l .1 (d, s))), v))))),
+  );
+}
 
 pub gather-end : {holds : List ℕ} {left rows : ℕ} (cols : ℕ) → left ≡ 0 → Gathered holds (minus cols left) rows → Gathered holds cols rows
-gather-end {left = left} cols e w =
-    gathered-same (minus cols left) cols (λ j. ((λ h. in-minus cols left j .0 h .0), (λ h. in-minus cols left j .1 (h, in-none j e)))) w
+gather-end {left = left} cols e w = record {
+  each = λ i. (
+    (λ h. let (k, o, v) = w .each i .0 h in (k, in-minus cols left k .0 o .0, v)),
+    (λ (k, o, v). w .each i .1 (k, in-minus cols left k .1 (o, in-none k e), v)),
+  );
+}
 
 -- ---- a turn
 
@@ -121,7 +103,7 @@ seeking-start {m} {n} {t} {holds = holds} row from g l l′ = record {
   live = λ j h. let e : j ≡ t .col = only j h in rw e (g .col, g .off);
   rowsIn = λ i h. let (v, u) = in-and (entry holds (t .col)) (t .later) i .0 h in (u, (t .col, in-put 0 (t .col) (t .col) .1 (inr refl), v));
   rowsAll = λ i j o v u. let e : j ≡ t .col = only j o in in-and (entry holds (t .col)) (t .later) i .1 (rw e at v, u);
-  leftIn = λ i u. (g .after i .0 u .0, g .after i .0 u .1, λ k v e. absurd (omega (arith, g .after i .0 u .0, first k v e)));
+  leftIn = λ i u. let (l, h) = g .after i .0 u in (l, h, λ k v e. let z : k ≡ 0 = omega arith in absurd (omega (arith, l, sym root ∙ rw z at e)));
   leftAll = λ i v hi u. absurd (u (g .after i .1 (v, hi)));
 }
   where
@@ -136,9 +118,6 @@ seeking-start {m} {n} {t} {holds = holds} row from g l l′ = record {
       (λ h. ⊎-elim (λ o. inr (only j o)) inl (in-or (put 0 (t .col)) (t .dead) j .0 h)),
       (λ h. in-or (put 0 (t .col)) (t .dead) j .1 (⊎-elim inr (λ e. inl (in-put 0 (t .col) j .1 (inr e))) h)),
     )
-
-    first : (k : ℕ) → k < 1 → {i : ℕ} → entry (set row 0 (t .row)) k ≡ i → t .row ≡ i
-    first k v e = let z : k ≡ 0 = omega arith in sym root ∙ rw z at e
 
 module _ {m n : ℕ} {t : Target} {x : ℕ → ℕ → Z} {tight holds owns : List ℕ} {cols rows left count : ℕ} {row col up from : List ℕ}
     (g : Sought m n t x tight holds owns) (s : Seeking m n t x tight holds cols rows left count row col up from) where
@@ -163,10 +142,7 @@ module _ {m n : ℕ} {t : Target} {x : ℕ → ℕ → Z} {tight holds owns : Li
     open-row = s .leftIn i (s .rowsIn i hi .0)
 
     seeking-some : 0 < bitAnd (entry owns i) cols
-    seeking-some =
-        let (j, o, h) = s .rowsIn i hi .1 in
-        let hj = s .live j o .0 in
-        in-some (bitAnd (entry owns i) cols) j
+    seeking-some = let (j, o, h) = s .rowsIn i hi .1 in let hj = s .live j o .0 in in-some (bitAnd (entry owns i) cols) j
         (in-and (entry owns i) cols j .1 (g .own i j (open-row .1) hj .1 (g .hold i j (open-row .1) hj .0 h), o))
 
   -- It is reached by such a column j, at position count.
@@ -208,12 +184,10 @@ module _ {m n : ℕ} {t : Target} {x : ℕ → ℕ → Z} {tight holds owns : Li
     wider l = (
       (λ h. ⊎-elim
           (λ o. ⊎-elim (λ u. inl (in-or cols (t .dead) l .1 (inl u))) inr (in-or cols fresh l .0 o))
-          (λ d. inl (in-or cols (t .dead) l .1 (inr d)))
-          (in-or (bitOr cols fresh) (t .dead) l .0 h)),
+          (λ d. inl (in-or cols (t .dead) l .1 (inr d))) (in-or (bitOr cols fresh) (t .dead) l .0 h)),
       (λ h. in-or (bitOr cols fresh) (t .dead) l .1 (⊎-elim
           (λ o. ⊎-elim (λ u. inl (in-or cols fresh l .1 (inl u))) inr (in-or cols (t .dead) l .0 o))
-          (λ f. inl (in-or cols fresh l .1 (inr f)))
-          h)),
+          (λ f. inl (in-or cols fresh l .1 (inr f))) h)),
     )
 
     -- It has a lane to no fresh column that is a goal: the search goes on. The fresh columns hang on position count, and their rows are gathered.
@@ -244,20 +218,17 @@ module _ {m n : ℕ} {t : Target} {x : ℕ → ℕ → Z} {tight holds owns : Li
         search = grown;
         live = λ l h. ⊎-elim (s .live l)
             (λ f. let (lane, off) = in-minus (entry tight i) (bitOr cols (t .dead)) l .0 f in
-            (g .inside i l (found .1) lane, λ d. off (in-or cols (t .dead) l .1 (inr d))))
-            (in-or cols fresh l .0 h);
+            (g .inside i l (found .1) lane, λ d. off (in-or cols (t .dead) l .1 (inr d)))) (in-or cols fresh l .0 h);
         rowsIn = λ i′ h. let (o, u) = in-and (bitOr rows more) (unset left i) i′ .0 h in (
           u,
           ⊎-elim
               (λ r. let (l, c, v) = s .rowsIn i′ r .1 in (l, in-or cols fresh l .1 (inl c), v))
-              (λ r. let (l, f, v) = rest .each i′ .0 r in (l, in-or cols fresh l .1 (inr f), v))
-              (in-or rows more i′ .0 o),
+              (λ r. let (l, f, v) = rest .each i′ .0 r in (l, in-or cols fresh l .1 (inr f), v)) (in-or rows more i′ .0 o),
         );
         rowsAll = λ i′ l o v u. in-and (bitOr rows more) (unset left i) i′ .1 (
           in-or rows more i′ .1 (⊎-elim
               (λ c. inl (s .rowsAll i′ l c v (in-unset left i i′ .0 u .1)))
-              (λ f. inr (rest .each i′ .1 (l, f, v)))
-              (in-or cols fresh l .0 o)),
+              (λ f. inr (rest .each i′ .1 (l, f, v))) (in-or cols fresh l .0 o)),
           u,
         );
         leftIn = λ i′ u. let (l, l′, new) = s .leftIn i′ (in-unset left i i′ .0 u .1) in (
@@ -275,11 +246,9 @@ module _ {m n : ℕ} {t : Target} {x : ℕ → ℕ → Z} {tight holds owns : Li
     -- It has one: a goal is reached.
     seeking-hit : (l : ℕ) → has (bitAnd fresh (t .goal)) l ≡ true
         → (l < n) × (t .col < l) × InMask tight (entry (set row count i) count) l × (nat 0 ≺ x (t .row) l) × ¬ (has (t .dead) l ≡ true)
-    seeking-hit l h =
-        let (f, o) = in-and fresh (t .goal) l .0 h in
+    seeking-hit l h = let (f, o) = in-and fresh (t .goal) l .0 h in
         let (lane, off) = in-minus (entry tight i) (bitOr cols (t .dead)) l .0 f in
-        let hl : l < n = g .inside i l (found .1) lane in
-        let (more, some) = g .goals l hl .0 o in
+        let hl : l < n = g .inside i l (found .1) lane in let (more, some) = g .goals l hl .0 o in
         (hl, more, rw new-row lane, omega (arith, g .nonneg (t .row) l (g .row) hl), λ d. off (in-or cols (t .dead) l .1 (inr d)))
 
 -- ---- the loop
@@ -329,8 +298,7 @@ module _ {m n : ℕ} {t : Target} {tight holds owns : List ℕ} {cols rows left 
       sweep-some = seeking-some g (s .each x g) i in-rows
 
       pub sweep-col : (j : ℕ) → Least (bitAnd (entry owns i) cols) j → j < stride
-      sweep-col j hj =
-          let l = s .each x g .live j (in-and (entry owns i) cols j .0 (in-bit (bitAnd (entry owns i) cols) j .1 (hj .on)) .1) in
+      sweep-col j hj = let l = s .each x g .live j (in-and (entry owns i) cols j .0 (in-bit (bitAnd (entry owns i) cols) j .1 (hj .on)) .1) in
           omega (arith, l .0, g .cols)
 
       pub sweep-fresh : (l : ℕ) → has (minus (entry tight i) (bitOr cols (t .dead))) l ≡ true → l < stride
@@ -350,12 +318,8 @@ module _ {m n : ℕ} {t : Target} {tight holds owns : List ℕ} {cols rows left 
         → Sweeping m n t tight holds owns (bitOr cols fresh) (bitAnd (bitOr rows more) (unset left i)) (unset left i) (suc count)
         (set row count i) (set col count j) (set up count (entry from j)) from′
     sweep-on none hung rest = record {
-      rooms = record {
-        rowLong = simp length-set (s .rooms .rowLong);
-        colLong = simp length-set (s .rooms .colLong);
-        upLong = simp length-set (s .rooms .upLong);
-        fromLong = hung .long ∙ s .rooms .fromLong;
-      };
+      rooms = let r = rooms-set i j (entry from j) count (s .rooms) in
+          record { rowLong = r .rowLong; colLong = r .colLong; upLong = r .upLong; fromLong = hung .long ∙ s .rooms .fromLong };
       each = λ x g. let few : count ≤ stride = sweep-few g in seeking-on g (s .each x g) i j rows-has col-has
           (omega (arith, s .rooms .rowLong)) (omega (arith, s .rooms .colLong)) (omega (arith, s .rooms .upLong)) none hung rest;
     }
@@ -363,8 +327,9 @@ module _ {m n : ℕ} {t : Target} {tight holds owns : List ℕ} {cols rows left 
     -- .. or one.
     pub sweep-hit : (x : ℕ → ℕ → Z) → Sought m n t x tight holds owns → (l : ℕ) → Least (bitAnd (minus (entry tight i) (bitOr cols (t .dead))) (t .goal)) l
         → Hits m n t x tight count l (set row count i) (set col count j) (set up count (entry from j))
-    sweep-hit x g l h =
-        let e = s .each x g in
+    sweep-hit x g l h = let e = s .each x g in let few = sweep-few g in let rowIn : count < length row = omega (arith, s .rooms .rowLong) in
+        let colIn : count < length col = omega (arith, s .rooms .colLong) in
+        let upIn : count < length up = omega (arith, s .rooms .upLong) in
         let tree = reached-tree g e i j rows-has col-has rowIn colIn upIn in
         record {
           tree = tree;
@@ -381,15 +346,3 @@ module _ {m n : ℕ} {t : Target} {tight holds owns : List ℕ} {cols rows left 
           goal = seeking-hit g e i j rows-has col-has rowIn colIn upIn l
               (in-bit (bitAnd (minus (entry tight i) (bitOr cols (t .dead))) (t .goal)) l .1 (h .on));
         }
-      where
-        few : count ≤ stride
-        few = sweep-few g
-
-        rowIn : count < length row
-        rowIn = omega (arith, few, s .rooms .rowLong)
-
-        colIn : count < length col
-        colIn = omega (arith, few, s .rooms .colLong)
-
-        upIn : count < length up
-        upIn = omega (arith, few, s .rooms .upLong)

@@ -77,10 +77,8 @@ module _ {m n s j : ℕ} {row col up : List ℕ} (v : Walkable m n s j row col u
     next = entry row at * stride + entry col at
 
     pub lowering-inside : (at < suc s) × (entry row at < stride) × (entry col at < stride) × (entry up at < at)
-    lowering-inside =
-        let few : at < suc s = omega (arith, w .climbed .fall) in
-        let r : entry row at < m = v .rows at few in
-        let c : entry col at < n = v .cols at some few in
+    lowering-inside = let few : at < suc s = omega (arith, w .climbed .fall) in
+        let r : entry row at < m = v .rows at few in let c : entry col at < n = v .cols at some few in
         (few, omega (arith, v .rowsHigh), omega (arith, v .colsHigh), v .below at some few)
 
     on : Climbed up s (suc (w .steps)) (entry up at)
@@ -157,16 +155,9 @@ module _ {m n s j : ℕ} {row col up : List ℕ} {q : List ℤ} {holds owns : Li
   -- The first move, from row `row 0` at the goal.
   pub bring-first : (entry row 0 < stride) × (entry row s < stride) × (j < stride)
       × (natAbs (getD q (entry row 0 * stride + j) (pos 0)) + natAbs x < 2 ^ 62) × (natAbs (getD q (entry row s * stride + j) (pos 0)) + natAbs x < 2 ^ 62)
-  bring-first =
-      let w = v .walkable in
-      let r : entry row 0 < m = w .rows 0 (omega arith) in
-      let r′ : entry row s < m = w .rows s (omega arith) in (
-        omega (arith, w .rowsHigh),
-        omega (arith, w .rowsHigh),
-        omega (arith, w .colsHigh, w .goal),
-        omega (arith, few-small (entry row 0) j r (w .goal), small),
-        omega (arith, few-small (entry row s) j r′ (w .goal), small),
-      )
+  bring-first = let w = v .walkable in
+      let r : entry row 0 < m = w .rows 0 (omega arith) in let r′ : entry row s < m = w .rows s (omega arith) in
+      omega (arith, w .rowsHigh, w .colsHigh, w .goal, few-small (entry row 0) j r (w .goal), small, few-small (entry row s) j r′ (w .goal))
 
   pub bringing-start : {q′ : List ℤ} {holds′ owns′ : List ℕ} → BagsShifted (entry row 0) (entry row s) j x q q′ → Follow q holds owns q′ holds′ owns′
       → Bringing s j row col up x q holds owns s q′ holds′ owns′
@@ -186,7 +177,7 @@ module _ {m n s j : ℕ} {row col up : List ℕ} {q : List ℤ} {holds owns : Li
     falls = v .walkable .below at some few-steps
 
     pub bringing-inside : (at < nodeRoom) × (entry up at < nodeRoom)
-    bringing-inside = (omega (arith, few-steps, v .walkable .small), omega (arith, few-steps, falls, v .walkable .small))
+    bringing-inside = omega (arith, few-steps, v .walkable .small, falls)
 
     abbrev from : ℕ
     from = entry row at
@@ -199,17 +190,12 @@ module _ {m n s j : ℕ} {row col up : List ℕ} {q : List ℤ} {holds owns : Li
 
     pub bringing-next : (from < stride) × (to < stride) × (across < stride)
         × (natAbs (getD q′ (from * stride + across) (pos 0)) + natAbs x < 2 ^ 62) × (natAbs (getD q′ (to * stride + across) (pos 0)) + natAbs x < 2 ^ 62)
-    bringing-next =
-        let r : from < m = v .walkable .rows at few-steps in
+    bringing-next = let r : from < m = v .walkable .rows at few-steps in
         let r′ : to < m = v .walkable .rows (entry up at) (omega (arith, falls, few-steps)) in
         let c : across < n = v .walkable .cols at some few-steps in
-        let steps : suc (w .steps) < 64 = omega (arith, w .climbed .fall, v .walkable .small) in (
-          omega (arith, v .walkable .rowsHigh),
-          omega (arith, v .walkable .rowsHigh),
-          omega (arith, v .walkable .colsHigh),
-          omega (arith, few-small from across r c, w .most (from * stride + across), small),
-          omega (arith, few-small to across r′ c, w .most (to * stride + across), small),
-        )
+        let steps : suc (w .steps) < 64 = omega (arith, w .climbed .fall, v .walkable .small) in
+        let a = from * stride + across in let b = to * stride + across in
+        omega (arith, v .walkable .rowsHigh, v .walkable .colsHigh, few-small from across r c, few-small to across r′ c, small, w .most a, w .most b)
 
     -- One lane more: what the way has moved is a sum over its lanes.
     pub bringing-on : {q″ : List ℤ} {holds″ owns″ : List ℕ} → BagsShifted from to across x q′ q″ → Follow q′ holds′ owns′ q″ holds″ owns″
@@ -242,15 +228,12 @@ module _ {m n s j : ℕ} {row col up : List ℕ} {q : List ℤ} {holds owns : Li
 
 way-inside : {m n s j : ℕ} {row col up : List ℕ} → Walkable m n s j row col up → {d : ℕ} → Rooted (entry up) s d
     → (k : ℕ) → k < suc d → (wayRow (entry row) (entry up) s k < m) × (wayCol (entry col) (entry up) s j k < n)
-way-inside {m} {n} {s} {j} {row} {col} {up} v {d} r k l = go k l
+way-inside v r zero l = (v .rows 0 (omega arith), v .goal)
+way-inside {s = s} {up = up} v {d} r (suc k) l = (v .rows (above (entry up) s k) (low k l), v .cols (above (entry up) s k) (r .below k (omega arith)) (low k l))
   where
-    low : (k : ℕ) → k < suc d → above (entry up) s k < suc s
+    low : (k : ℕ) → suc k < suc d → above (entry up) s k < suc s
     low zero l = omega arith
-    low (suc k) l = omega (arith, r .falls 0 (suc k) (omega arith) l)
-
-    go : (k : ℕ) → k < suc d → (wayRow (entry row) (entry up) s k < m) × (wayCol (entry col) (entry up) s j k < n)
-    go zero l = (v .rows 0 (omega arith), v .goal)
-    go (suc k) l = (v .rows (above (entry up) s k) (low k (omega arith)), v .cols (above (entry up) s k) (r .below k (omega arith)) (low k (omega arith)))
+    low (suc k) l = omega (arith, r .falls 0 (suc k) (omega arith) (omega arith))
 
 -- The least bags on it have moved.
 pub record BroughtLeast (d s j : ℕ) (row col up : List ℕ) (q q′ : List ℤ) : Type 0 where

@@ -78,13 +78,10 @@ module _ {m n : ℕ} {T : List Cell} {ss : List Strike} (t : Spanning m n T ss) 
   )
     where
       agree : (i j : ℕ) → i < m → j < n → x i j ≈ y i j
-      agree i j k l = by-cases (member-dec (lane i j) (basisOf T))
-          (λ d. z-eq (h i j d))
-          (λ d. omega (arith, off i j d, on-zero y (flows .on) i j k l d))
+      agree i j k l = by-cases (member-dec (lane i j) (basisOf T)) (λ d. z-eq (h i j d)) (λ d. omega (arith, off i j d, on-zero y (flows .on) i j k l d))
 
   even-carry : AddUp m n T part w → Carry T ss part w
-  even-carry h i j d =
-      let (k, l) = fits-inside m n T (t .inside) (lane i j) d in
+  even-carry h i j d = let (k, l) = fits-inside m n T (t .inside) (lane i j) d in
       eq-z _ _ (flow-only (t .rowsLow) (fits-inside m n T (t .inside)) (t .spans) (t .colsLow) amounts flows i j k l)
     where
       amounts : Flow m n (Has (basisOf T)) x (λ i. toZ (w i)) (λ j. toZ (w (m + j)))
@@ -107,14 +104,13 @@ pub record Weights (m n : ℕ) (row column : ℕ → ℕ) (weight : List ℤ) : 
 
 weights-even : {m n : ℕ} {row column : ℕ → ℕ} {weight : List ℤ} → Weights m n row column weight → sumTo m row ≡ sumTo n column
     → sum m (λ i. toZ (weightsOf weight i)) ≈ sum n (λ j. toZ (weightsOf weight (m + j)))
-weights-even {m} {n} {row} {column} {weight} w e =
-    omega (
-      arith,
-      sum-cong m (λ i. toZ (weightsOf weight i)) (λ i. nat (row i)) (λ i l. z-eq (w .rows i l)),
-      sum-cong n (λ j. toZ (weightsOf weight (m + j))) (λ j. nat (column j)) (λ j l. z-eq (w .columns j l)),
-      sum-sumTo m row,
-      sum-sumTo n column,
-    )
+weights-even {m} {n} {row} {column} {weight} w e = omega (
+  arith,
+  sum-cong m (λ i. toZ (weightsOf weight i)) (λ i. nat (row i)) (λ i l. z-eq (w .rows i l)),
+  sum-cong n (λ j. toZ (weightsOf weight (m + j))) (λ j. nat (column j)) (λ j l. z-eq (w .columns j l)),
+  sum-sumTo m row,
+  sum-sumTo n column,
+)
 
 -- The marks of column j: all m go to the last one.
 abbrev pub markOf : ℕ → ℕ → ℕ → ℕ
@@ -123,13 +119,11 @@ markOf m n j = cond (eqb j (n - 1)) m 0
 marks-even : (m n : ℕ) → 1 ≤ n → sumTo m (λ i. 1) ≡ sumTo n (markOf m n)
 unfolding sumTo
 marks-even m zero p = absurd (omega arith)
-marks-even m (suc n) p =
-    rw (eq-eqb n (suc n - 1) (omega arith))
+marks-even m (suc n) p = rw (eq-eqb n (suc n - 1) (omega arith))
     (omega (arith, sum-ones m, sumTo-cong n (markOf m (suc n)) (λ k. 0) (λ k l. rw (ne-eqb k (suc n - 1) (omega arith))), sumTo-none n))
 
 module _ (P : Problem) {T : List Cell} {ss : List Strike} (t : Spanning (sources P) (sinks P) T ss) (totals : total (P .supply) ≡ total (P .demand))
-    {bags marks : List ℤ}
-    (b : Weights (sources P) (sinks P) (at (P .supply)) (at (P .demand)) bags)
+    {bags marks : List ℤ} (b : Weights (sources P) (sinks P) (at (P .supply)) (at (P .demand)) bags)
     (e : Weights (sources P) (sinks P) (λ i. 1) (markOf (sources P) (sinks P)) marks) where
   abbrev Both : Type 0
   Both = Carry T ss (λ a. a .q) (weightsOf bags) × Carry T ss (λ a. a .e) (weightsOf marks)
@@ -163,25 +157,15 @@ module _ (P : Problem) {T : List Cell} {ss : List Strike} (t : Spanning (sources
 
   from : Both → balanced P T ≡ true
   unfolding balanced rowsTest columnsTest pairedSupply pairedDemand
-  from (h, k) = rw (rows, columns)
-    where
-      add-bags : AddUp (sources P) (sinks P) T (λ a. a .q) (weightsOf bags)
-      add-bags = bags-iff .0 h
-
-      add-marks : AddUp (sources P) (sinks P) T (λ a. a .e) (weightsOf marks)
-      add-marks = marks-iff .0 k
-
-      row : (i : ℕ) → i < sources P → rowTotal T i ≡ pairedSupply P i
-      row i l = λ z. record { q = (add-bags .0 i l ∙ b .rows i l) z; e = (add-marks .0 i l ∙ e .rows i l) z }
-
-      column : (j : ℕ) → j < sinks P → columnTotal T j ≡ pairedDemand P j
-      column j l = λ z. record { q = (add-bags .1 j l ∙ b .columns j l) z; e = (add-marks .1 j l ∙ e .columns j l) z }
-
-      rows : rowsTest ≡ true
-      rows = all-below (λ i. same (rowTotal T i) (pairedSupply P i)) (sources P) (λ i l. rw (row i l) (same-self (pairedSupply P i)))
-
-      columns : columnsTest ≡ true
-      columns = all-below (λ j. same (columnTotal T j) (pairedDemand P j)) (sinks P) (λ j l. rw (column j l) (same-self (pairedDemand P j)))
+  from (h, k) = let (bagRows, bagColumns) = bags-iff .0 h in let (markRows, markColumns) = marks-iff .0 k in
+      let row : (i : ℕ) → i < sources P → rowTotal T i ≡ pairedSupply P i =
+      λ i l z. record { q = (bagRows i l ∙ b .rows i l) z; e = (markRows i l ∙ e .rows i l) z } in
+      let column : (j : ℕ) → j < sinks P → columnTotal T j ≡ pairedDemand P j =
+      λ j l z. record { q = (bagColumns j l ∙ b .columns j l) z; e = (markColumns j l ∙ e .columns j l) z } in
+      rw (
+        all-below (λ i. same (rowTotal T i) (pairedSupply P i)) (sources P) (λ i l. rw (row i l) (same-self (pairedSupply P i))),
+        all-below (λ j. same (columnTotal T j) (pairedDemand P j)) (sinks P) (λ j l. rw (column j l) (same-self (pairedDemand P j))),
+      )
 
   -- The tableau is balanced exactly if its bags and its marks are the flows.
   pub balanced-iff : (balanced P T ≡ true) ↔ (Carry T ss (λ a. a .q) (weightsOf bags) × Carry T ss (λ a. a .e) (weightsOf marks))

@@ -30,8 +30,7 @@ module _ (weight : ℕ → ℤ) (ss : List Strike) (amount : List ℤ) (lane : L
 
   pub carriesFlow-true : (count : ℕ) → ((k : ℕ) → k < count → CarriedAt k) → carriesFlow weight ss amount lane count ≡ true
   unfolding carriesFlow
-  carriesFlow-true count h =
-      all-below (λ k. eqZ (getD amount (getD lane k 0) (pos 0)) (flow weight ss (laneAt (getD lane k 0)))) count
+  carriesFlow-true count h = all-below (λ k. eqZ (getD amount (getD lane k 0) (pos 0)) (flow weight ss (laneAt (getD lane k 0)))) count
       (λ k l. rw (h k l) (eqZ-same (flow weight ss (laneAt (getD lane k 0)))))
 
   pub carriesFlow-at : (count : ℕ) → carriesFlow weight ss amount lane count ≡ true → (k : ℕ) → k < count → CarriedAt k

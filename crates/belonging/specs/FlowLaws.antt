@@ -1,6 +1,6 @@
 -- The laws of flows by strikes: the step through one strike, that the weights that are left never grow, and the same on the arrays of the code.
 use Rattle.prelude.specs.Words.{ℕ, zero, suc, _+_, _*_, _<_, _≤_, arith, add-one, eq-or-lt-of-le, _≡_, refl, sym, ap, _∙_, _≢_, ⊎-elim, Bool, true, false, cond}
-use Rattle.prelude.specs.Words.{List, eqb, ℤ, pos, natAbs, _-ℤ_, length, getD, set, length-set, lt-length-set, eqb-true, eq-eqb, ne-eqb, by-test}
+use Rattle.prelude.specs.Words.{List, eqb, ℤ, pos, natAbs, _-ℤ_, length, getD, set, length-set, lt-length-set, eqb-true, eq-eqb, ne-eqb, by-test, fun-ext}
 use lib.IntN.{+ℤ-invr}
 use Rattle.transport.specs.Lists.{sumTo}
 use Rattle.transport.specs.Laws.ListLaws.{sumTo-each, sumTo-cong}
@@ -30,8 +30,7 @@ size weight = sumTo nodeRoom (λ j. natAbs (weight j))
 sum-change : (n : ℕ) (f : ℕ → ℕ) (k v : ℕ) → k < n → sumTo n (λ j. cond (eqb j k) v (f j)) + f k ≡ sumTo n f + v
 unfolding sumTo
 sum-change zero f k v p = absurd (omega arith)
-sum-change (suc n) f k v p =
-    ⊎-elim
+sum-change (suc n) f k v p = ⊎-elim
     (λ e.
     let s : eqb n k ≡ true = eq-eqb n k (sym e) in
     rw s (omega (arith, ap f e, sumTo-cong n (λ j. cond (eqb j k) v (f j)) f (λ j q. rw (ne-eqb j k (λ r. omega arith))))))
@@ -40,16 +39,13 @@ sum-change (suc n) f k v p =
 
 size-takeFrom : (weight : ℕ → ℤ) (k : ℕ) (y : ℤ) → k < nodeRoom → size (takeFrom weight k y) + natAbs (weight k) ≡ size weight + natAbs (weight k -ℤ y)
 unfolding size
-size-takeFrom weight k y p =
-    omega (
-      arith,
-      sum-change nodeRoom (λ j. natAbs (weight j)) k (natAbs (weight k -ℤ y)) p,
-      sumTo-cong nodeRoom (λ j. natAbs (takeFrom weight k y j)) (λ j. cond (eqb j k) (natAbs (weight k -ℤ y)) (natAbs (weight j))) (λ j q. at j (eqb j k) refl),
-    )
-  where
-    at : (j : ℕ) (b : Bool) → eqb j k ≡ b → natAbs (takeFrom weight k y j) ≡ cond (eqb j k) (natAbs (weight k -ℤ y)) (natAbs (weight j))
-    at j true e = let s : j ≡ k = eqb-true j k e in ap natAbs (takeFrom-cond weight k y j) ∙ rw (e, s)
-    at j false e = ap natAbs (takeFrom-cond weight k y j) ∙ rw e
+size-takeFrom weight k y p = omega (
+  arith,
+  sum-change nodeRoom (λ j. natAbs (weight j)) k (natAbs (weight k -ℤ y)) p,
+  sumTo-cong nodeRoom (λ j. natAbs (takeFrom weight k y j)) (λ j. cond (eqb j k) (natAbs (weight k -ℤ y)) (natAbs (weight j))) (λ j q. by-test (eqb j k)
+      (λ e. let s : j ≡ k = eqb-true j k e in ap natAbs (takeFrom-cond weight k y j) ∙ rw (e, s))
+      (λ e. ap natAbs (takeFrom-cond weight k y j) ∙ rw e)),
+)
 
 size-each : (weight : ℕ → ℤ) (k : ℕ) → k < nodeRoom → natAbs (weight k) ≤ size weight
 unfolding size
@@ -57,16 +53,8 @@ size-each weight k p = sumTo-each nodeRoom (λ j. natAbs (weight j)) k p
 
 -- A strike leaves no greater weights.
 size-leftBy : (weight : ℕ → ℤ) (s : Strike) → s .leaf < nodeRoom → s .other < nodeRoom → size (leftBy weight s) ≤ size weight
-size-leftBy weight s p q =
-    let y = weight (s .leaf) in
-    let mid = takeFrom weight (s .leaf) y in
-    omega (
-      arith,
-      size-takeFrom weight (s .leaf) y p,
-      ap natAbs (+ℤ-invr y),
-      size-takeFrom mid (s .other) y q,
-      abs-diff (mid (s .other)) y,
-    )
+size-leftBy weight s p q = let y = weight (s .leaf) in let mid = takeFrom weight (s .leaf) y in
+    omega (arith, size-takeFrom weight (s .leaf) y p, ap natAbs (+ℤ-invr y), size-takeFrom mid (s .other) y q, abs-diff (mid (s .other)) y)
 
 -- ---- as the code has them
 
@@ -74,22 +62,15 @@ abbrev pub weightsOf : List ℤ → ℕ → ℤ
 weightsOf need j = getD need j (pos 0)
 
 need-take : (need : List ℤ) (k : ℕ) (y : ℤ) → k < length need → weightsOf (set need k (getD need k (pos 0) -ℤ y)) ≡ takeFrom (weightsOf need) k y
-need-take need k y p = λ i j. at j (eqb j k) refl i
-  where
-    at : (j : ℕ) (b : Bool) → eqb j k ≡ b → getD (set need k (getD need k (pos 0) -ℤ y)) j (pos 0) ≡ takeFrom (weightsOf need) k y j
-    at j true e =
-        let s : j ≡ k = eqb-true j k e in
-        getD-set need k j (getD need k (pos 0) -ℤ y) (pos 0) p ∙ (rw (e, s)) ∙ sym (takeFrom-cond (weightsOf need) k y j)
-    at j false e = getD-set need k j (getD need k (pos 0) -ℤ y) (pos 0) p ∙ (rw e) ∙ sym (takeFrom-cond (weightsOf need) k y j)
+need-take need k y p = fun-ext (λ j. getD-set need k j (getD need k (pos 0) -ℤ y) (pos 0) p ∙ by-test (eqb j k)
+    (λ e. let s : j ≡ k = eqb-true j k e in rw (e, s) (sym (takeFrom-cond (weightsOf need) k y k ∙ rw (eq-eqb k k refl))))
+    (λ e. rw e (sym (takeFrom-cond (weightsOf need) k y j ∙ rw e))))
 
 -- What a strike leaves.
-need-left : (need : List ℤ) (s : Strike) → s .leaf < length need → s .other < length need
-    → let y = getD need (s .leaf) (pos 0) in
+need-left : (need : List ℤ) (s : Strike) → s .leaf < length need → s .other < length need → let y = getD need (s .leaf) (pos 0) in
     let mid = set need (s .leaf) (pos 0) in
     weightsOf (set mid (s .other) (getD mid (s .other) (pos 0) -ℤ y)) ≡ leftBy (weightsOf need) s
-need-left need s p q =
-    let y = getD need (s .leaf) (pos 0) in
-    let mid = set need (s .leaf) (pos 0) in
+need-left need s p q = let y = getD need (s .leaf) (pos 0) in let mid = set need (s .leaf) (pos 0) in
     need-take mid (s .other) y (lt-length-set need (s .leaf) (pos 0) q)
     ∙ ap (λ (w : ℕ → ℤ). takeFrom w (s .other) y) (ap (λ (x : ℤ). weightsOf (set need (s .leaf) x)) (sym (+ℤ-invr y)) ∙ need-take need (s .leaf) y p)
 
@@ -100,8 +81,7 @@ pub record Needed (start : ℕ → ℤ) (most : ℕ) (leaf other lane : List ℕ
   pub within : k ≤ count
   pub needLong : length need ≡ nodeRoom
   pub small : size (weightsOf need) ≤ most
-  pub same : (i : ℕ) → k ≤ i → i < count
-      → flow start (strikesOf leaf other lane count) (laneAt (getD lane i 0))
+  pub same : (i : ℕ) → k ≤ i → i < count → flow start (strikesOf leaf other lane count) (laneAt (getD lane i 0))
       ≡ flow (weightsOf need) (strikesFrom leaf other lane count k) (laneAt (getD lane i 0))
 
 -- Strike k.
@@ -115,42 +95,33 @@ module _ {start : ℕ → ℤ} {most : ℕ} {leaf other lane : List ℕ} {count 
 
   -- Its lane carries what its leaf needs ..
   pub flow-now : flow start (strikesOf leaf other lane count) l ≡ y
-  flow-now =
-      h .same k (omega arith) p
-      ∙ (rw (strikesFrom-cons leaf other lane count k p))
+  flow-now = h .same k (omega arith) p ∙ (rw (strikesFrom-cons leaf other lane count k p))
       ∙ flow-here (weightsOf need) (strikeOf leaf other lane k) (strikesFrom leaf other lane count (suc k))
 
   -- .. and that is taken from both its ends.
-  pub needed-step : LanesApart lane count
-      → let mid = set need (getD leaf k 0) (pos 0) in
+  pub needed-step : LanesApart lane count → let mid = set need (getD leaf k 0) (pos 0) in
       Needed start most leaf other lane count (set mid (getD other k 0) (getD mid (getD other k 0) (pos 0) -ℤ y)) (k + 1)
-  needed-step n =
-      let s = strikeOf leaf other lane k in
-      let rest = strikesFrom leaf other lane count (suc k) in
+  needed-step n = let s = strikeOf leaf other lane k in let rest = strikesFrom leaf other lane count (suc k) in
       let left = need-left need s (omega (arith, w .leafIn k p)) (omega (arith, w .otherIn k p)) in
       record {
         within = omega arith;
         needLong = simp length-set (h .needLong);
         small = omega (arith, ap size left, size-leftBy (weightsOf need) s (w .leafIn k p) (w .otherIn k p));
-        same = λ i q r.
-            h .same i (omega arith) r
-            ∙ (rw (strikesFrom-cons leaf other lane count k p))
+        same = λ i q r. h .same i (omega arith) r ∙ (rw (strikesFrom-cons leaf other lane count k p))
             ∙ flow-later (weightsOf need) s rest (laneAt (getD lane i 0)) (places-apart (getD lane i 0) (getD lane k 0) (n k i (omega arith) r))
-            ∙ ap (λ (v : ℕ → ℤ). flow v rest (laneAt (getD lane i 0))) (sym left)
-            ∙ rw add-one;
+            ∙ ap (λ (v : ℕ → ℤ). flow v rest (laneAt (getD lane i 0))) (sym left) ∙ rw add-one;
       }
 
   -- Neither what the leaf needs nor what its neighbour needs is great.
   pub needed-room : natAbs (getD (set need (getD leaf k 0) (pos 0)) (getD other k 0) (pos 0)) + natAbs y ≤ 2 * most
-  needed-room =
-      omega (
-        arith,
-        h .small,
-        size-each (weightsOf need) (getD leaf k 0) (w .leafIn k p),
-        size-each (weightsOf need) (getD other k 0) (w .otherIn k p),
-        ap natAbs (getD-set need (getD leaf k 0) (getD other k 0) (pos 0) (pos 0) (omega (arith, w .leafIn k p, h .needLong))),
-        zero-or (eqb (getD other k 0) (getD leaf k 0)),
-      )
+  needed-room = omega (
+    arith,
+    h .small,
+    size-each (weightsOf need) (getD leaf k 0) (w .leafIn k p),
+    size-each (weightsOf need) (getD other k 0) (w .otherIn k p),
+    ap natAbs (getD-set need (getD leaf k 0) (getD other k 0) (pos 0) (pos 0) (omega (arith, w .leafIn k p, h .needLong))),
+    zero-or (eqb (getD other k 0) (getD leaf k 0)),
+  )
     where
       zero-or : (t : Bool) → natAbs (cond t (pos 0) (getD need (getD other k 0) (pos 0))) ≤ natAbs (getD need (getD other k 0) (pos 0))
       zero-or true = omega arith

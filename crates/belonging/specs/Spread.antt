@@ -1,6 +1,6 @@
 -- A tableau in the flat arrays: whether its lanes span and its amounts add up, as the code finds it.
 use Rattle.prelude.specs.Words.{ℕ, _+_, _-_, _*_, _<_, _≡_, refl, sym, ap, _∙_, subst, _↔_, Bool, true, false, _&&_, List, eqb, ltb, ltb-true, eq-eqb, ne-eqb}
-use Rattle.prelude.specs.Words.{ℤ, pos, length, getD, length-map, by-test}
+use Rattle.prelude.specs.Words.{ℤ, pos, length, getD, length-map, by-test, and-eq-true-iff, and-false}
 use Rattle.transport.specs.Lists.{all, at, total}
 use Rattle.transport.specs.Laws.ListLaws.{and-left, and-right, all-at, member-table, table-member}
 use Rattle.transport.specs.Problem.{Problem, sources, sinks}
@@ -47,41 +47,30 @@ module _ {m n : ℕ} (T : List Cell) (sides : Sides m n) (inside : Inside m n T)
   -- .. and only then.
   pub struck-spans : r ≡ basisSize m n → Spanning m n T (strikesOf leaf other lanes (basisSize m n))
   unfolding basisOf
-  struck-spans s =
-      let (spanned, struck) = w .sound (length-map T laneOf ∙ many) s in
+  struck-spans s = let (spanned, struck) = w .sound (length-map T laneOf ∙ many) s in
       subst (λ (k : ℕ). Spanning m n T (strikesOf leaf other lanes k)) s
       (record { rowsLow = sides .rowsLow; colsLow = sides .colsLow; inside = inside; distinct = distinct; spans = spanned; struck = struck })
 
 -- ---- the amounts in their array
 
 module _ {m n : ℕ} {T : List Cell} (leaf other lanes : List ℕ) (count : ℕ) (t : Spanning m n T (strikesOf leaf other lanes count)) (part : Pair → ℤ)
-    (amount : List ℤ)
-    (lies : (i j : ℕ) → i < m → j < n → getD amount (i * stride + j) (pos 0) ≡ part (amountAt T i j)) (w : ℕ → ℤ) where
+    (amount : List ℤ) (lies : (i j : ℕ) → i < m → j < n → getD amount (i * stride + j) (pos 0) ≡ part (amountAt T i j)) (w : ℕ → ℤ) where
   carriesFlow-iff : (carriesFlow w (strikesOf leaf other lanes count) amount lanes count ≡ true) ↔ Carry T (strikesOf leaf other lanes count) part w
   unfolding strikesOf
-  carriesFlow-iff = (to, from)
-    where
-      to : carriesFlow w (strikesOf leaf other lanes count) amount lanes count ≡ true → Carry T (strikesOf leaf other lanes count) part w
-      to c i j d =
-          let (s, mem, is) = t .struck .struck (lane i j) d in
-          let (k, l, at) = table-member count (strikeOf leaf other lanes) mem in
-          let here : laneAt (getD lanes k 0) ≡ lane i j = sym (ap (λ s. s .lane) at) ∙ is in
-          let there : getD lanes k 0 ≡ i * stride + j = sym (laneIndex-at (getD lanes k 0)) ∙ ap laneIndex here in
-          let (a, b) = fits-inside m n T (t .inside) (lane i j) d in
-          sym (lies i j a b)
-          ∙ ap (λ (l : ℕ). getD amount l (pos 0)) (sym there)
-          ∙ carriesFlow-at w (strikesOf leaf other lanes count) amount lanes count c k l
-          ∙ ap (flow w (strikesOf leaf other lanes count)) here
-
-      from : Carry T (strikesOf leaf other lanes count) part w → carriesFlow w (strikesOf leaf other lanes count) amount lanes count ≡ true
-      from h = carriesFlow-true w (strikesOf leaf other lanes count) amount lanes count at
-        where
-          at : (k : ℕ) → k < count → getD amount (getD lanes k 0) (pos 0) ≡ flow w (strikesOf leaf other lanes count) (laneAt (getD lanes k 0))
-          at k l =
-              let x = laneAt (getD lanes k 0) in
-              let d = t .struck .lanes (strikeOf leaf other lanes k) (member-table count (strikeOf leaf other lanes) k l) in
-              let (a, b) = fits-inside m n T (t .inside) x d in
-              ap (λ (l : ℕ). getD amount l (pos 0)) (sym (laneIndex-at (getD lanes k 0))) ∙ lies (x .row) (x .col) a b ∙ h (x .row) (x .col) d
+  carriesFlow-iff = (
+    λ c i j d.
+        let (s, mem, is) = t .struck .struck (lane i j) d in let (k, l, at) = table-member count (strikeOf leaf other lanes) mem in
+        let here : laneAt (getD lanes k 0) ≡ lane i j = sym (ap (λ s. s .lane) at) ∙ is in
+        let there : getD lanes k 0 ≡ i * stride + j = sym (laneIndex-at (getD lanes k 0)) ∙ ap laneIndex here in
+        let (a, b) = fits-inside m n T (t .inside) (lane i j) d in
+        sym (lies i j a b) ∙ ap (λ (l : ℕ). getD amount l (pos 0)) (sym there)
+        ∙ carriesFlow-at w (strikesOf leaf other lanes count) amount lanes count c k l ∙ ap (flow w (strikesOf leaf other lanes count)) here,
+    λ h. carriesFlow-true w (strikesOf leaf other lanes count) amount lanes count (λ k l.
+        let x = laneAt (getD lanes k 0) in
+        let d = t .struck .lanes (strikeOf leaf other lanes k) (member-table count (strikeOf leaf other lanes) k l) in
+        let (a, b) = fits-inside m n T (t .inside) x d in
+        ap (λ (l : ℕ). getD amount l (pos 0)) (sym (laneIndex-at (getD lanes k 0))) ∙ lies (x .row) (x .col) a b ∙ h (x .row) (x .col) d),
+  )
 
 -- ---- balanced, by the two flows
 
@@ -96,32 +85,14 @@ module _ (supply demand : List ℕ) (cost : List ℤ) {T : List Cell} {q e : Lis
     (t : Spanning (length supply) (length demand) T (strikesOf leaf other lanes count)) (totals : total supply ≡ total demand) {bags marks : List ℤ}
     (b : Weights (length supply) (length demand) (at supply) (at demand) bags)
     (k : Weights (length supply) (length demand) (λ i. 1) (markOf (length supply) (length demand)) marks) where
-  pub balanced-is : balanced (problem supply demand cost) T
-      ≡ carriesFlow (weightsOf bags) (strikesOf leaf other lanes count) q lanes count
+  pub balanced-is : balanced (problem supply demand cost) T ≡ carriesFlow (weightsOf bags) (strikesOf leaf other lanes count) q lanes count
       && carriesFlow (weightsOf marks) (strikesOf leaf other lanes count) e lanes count
   unfolding sources sinks
-  balanced-is = iff-same (balanced P T) (first && second)
-      (λ s. let (x, y) = both .0 s in rw (bagsAre .1 x, marksAre .1 y))
-      (λ s. both .1 (bagsAre .0 (and-left first second s), marksAre .0 (and-right first second s)))
-    where
-      P : Problem
-      P = problem supply demand cost
-
-      first : Bool
-      first = carriesFlow (weightsOf bags) (strikesOf leaf other lanes count) q lanes count
-
-      second : Bool
-      second = carriesFlow (weightsOf marks) (strikesOf leaf other lanes count) e lanes count
-
-      both : (balanced P T ≡ true) ↔ (Carry T (strikesOf leaf other lanes count) (λ a. a .q) (weightsOf bags)
-          × Carry T (strikesOf leaf other lanes count) (λ a. a .e) (weightsOf marks))
-      both = balanced-iff P t totals b k
-
-      bagsAre : (first ≡ true) ↔ Carry T (strikesOf leaf other lanes count) (λ a. a .q) (weightsOf bags)
-      bagsAre = carriesFlow-iff leaf other lanes count t (λ a. a .q) q (h .bags) (weightsOf bags)
-
-      marksAre : (second ≡ true) ↔ Carry T (strikesOf leaf other lanes count) (λ a. a .e) (weightsOf marks)
-      marksAre = carriesFlow-iff leaf other lanes count t (λ a. a .e) e (h .marks) (weightsOf marks)
+  balanced-is = let (to, from) = balanced-iff (problem supply demand cost) t totals b k in
+      let bagsAre = carriesFlow-iff leaf other lanes count t (λ a. a .q) q (h .bags) (weightsOf bags) in
+      let marksAre = carriesFlow-iff leaf other lanes count t (λ a. a .e) e (h .marks) (weightsOf marks) in iff-same _ _
+      (λ s. let (x, y) = to s in rw (bagsAre .1 x, marksAre .1 y))
+      (λ s. let (x, y) = and-eq-true-iff _ _ .0 s in from (bagsAre .0 x, marksAre .0 y))
 
 -- ---- belonging
 
@@ -157,11 +128,7 @@ module _ (supply demand : List ℕ) (cost : List ℤ) (t : Tableau) where
   other-count d = belongs-is ∙ rw (ne-eqb (t .count) size d)
 
   pub other-cells : fits ≡ false → belongs P t ≡ false
-  other-cells f = belongs-is ∙ rw f (both (eqb (t .count) size))
-    where
-      both : (b : Bool) → b && false ≡ false
-      both true = refl
-      both false = refl
+  other-cells f = belongs-is ∙ rw f (and-false (eqb (t .count) size))
 
   pub belongs-whole : t .count ≡ size → fits ≡ true → belongs P t ≡ whole
   belongs-whole c f = belongs-is ∙ rw (eq-eqb (t .count) size c, f)
@@ -170,15 +137,10 @@ module _ (supply demand : List ℕ) (cost : List ℤ) (t : Tableau) where
 module _ (m n : ℕ) (T : List Cell) (f : cellsFit m n T ≡ true) where
   pub fit-inside : Inside m n T
   unfolding cellsFit onBoard
-  fit-inside k l =
-      let c : ltb (rowOf T k) m && ltb (colOf T k) n ≡ true =
-      all-at (onBoard m n) T noCell k (and-left (all (onBoard m n) T) (inOrder n T && all aboveZero T) f) l in (
-        ltb-true (rowOf T k) m (and-left (ltb (rowOf T k) m) (ltb (colOf T k) n) c),
-        ltb-true (colOf T k) n (and-right (ltb (rowOf T k) m) (ltb (colOf T k) n) c),
-      )
+  fit-inside k l = let (r, c) = and-eq-true-iff (ltb (rowOf T k) m) (ltb (colOf T k) n) .0
+      (all-at (onBoard m n) T noCell k (and-left (all (onBoard m n) T) (inOrder n T && all aboveZero T) f) l) in (ltb-true _ m r, ltb-true _ n c)
 
   pub fit-distinct : Distinct T
   unfolding cellsFit
-  fit-distinct =
-      ordered-distinct n T (ordered-by n T
+  fit-distinct = ordered-distinct n T (ordered-by n T
       (order-true n T (and-left (inOrder n T) (all aboveZero T) (and-right (all (onBoard m n) T) (inOrder n T && all aboveZero T) f))))

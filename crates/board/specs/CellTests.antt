@@ -76,16 +76,8 @@ order-all n (c ∷ cs) = rw (le-leb 0 (place n (c .row) (c .col)) (omega arith))
 fits-parts : (m n least : ℕ) (T : List Cell) → fitsFrom m n least T ≡ all (onBoard m n) T && (orderFrom n least T && all aboveZero T)
 unfolding fitsFrom fitsAt orderFrom onBoard all
 fits-parts m n least [] = refl
-fits-parts m n least (c ∷ cs) =
-    rw (fits-parts m n (place n (c .row) (c .col) + 1) cs)
-    (sorted
-    (ltb (c .row) m)
-    (ltb (c .col) n)
-    (leb least (place n (c .row) (c .col)))
-    (aboveZero c)
-    (all (onBoard m n) cs)
-    (orderFrom n (place n (c .row) (c .col) + 1) cs)
-    (all aboveZero cs))
+fits-parts m n least (c ∷ cs) = rw (fits-parts m n (place n (c .row) (c .col) + 1) cs) (sorted (ltb (c .row) m) (ltb (c .col) n)
+    (leb least (place n (c .row) (c .col))) (aboveZero c) (all (onBoard m n) cs) (orderFrom n (place n (c .row) (c .col) + 1) cs) (all aboveZero cs))
   where
     -- The tests of a cell, and those of the others, test by test.
     sorted : (r k o z R O Z : Bool) → (r && (k && (o && z))) && (R && (O && Z)) ≡ ((r && k) && R) && ((o && O) && (z && Z))

@@ -1,7 +1,6 @@
 -- The masks of the basic lanes, drawn from the lanes of a tree; with them the arrays hold the cells as they do when a tableau is laid out.
-use Rattle.prelude.specs.Words.{ℕ, zero, suc, _+_, _-_, _/_, _%_, _<_, _≤_, arith, add-one, _≡_, refl, sym, ap, _∙_, _⊎_, inl, inr, by-cases, Bool, true, false}
-use Rattle.prelude.specs.Words.{_&&_, _||_, false≢true, or-true, List, ℕ-discrete, eqb-true, eq-eqb, eqb, ℤ, length, getD}
-use Rattle.transport.specs.Laws.ListLaws.{and-left, and-right}
+use Rattle.prelude.specs.Words.{ℕ, zero, suc, _+_, _-_, _/_, _%_, _<_, _≤_, arith, add-one, _≡_, sym, ap, _∙_, by-cases, Bool, true, false, _&&_, _||_}
+use Rattle.prelude.specs.Words.{false≢true, or-true, List, ℕ-discrete, eqb-true, eq-eqb, eqb, ℤ, length, getD, ⊎-elim, and-eq-true-iff}
 use Rattle.transport.specs.Problem.{Problem, Lane, sinks}
 use Rattle.transport.specs.Laws.ProblemLaws.{lane}
 use Rattle.transport.specs.declared.Cell.{Cell}
@@ -12,6 +11,7 @@ use Rattle.transport.specs.Statements.{Belongs}
 use Rattle.tableaux.specs.Order.{Ordered, ordered-by}
 use Rattle.tableaux.specs.Belonging.{belongs-iff, inside-of, fits-of}
 use Rattle.tree.specs.Mask.{has, has-zero}
+use Rattle.tree.specs.Bits.{or-cases}
 use Rattle.tree.specs.Layout.{stride, nodeRoom, laneAt}
 use Rattle.board.specs.Held.{isBasic, isBasic-true, true-isBasic, linked, length-linked, linked-row, linked-column, Held}
 use Rattle.tree.specs.Links.{iff-same}
@@ -23,40 +23,21 @@ unfoldable pub marked : List ℕ → ℕ → ℕ → ℕ → Bool
 marked lanes zero i j = false
 marked lanes (suc k) i j = eqb (getD lanes k 0 / stride) i && eqb (getD lanes k 0 % stride) j || marked lanes k i j
 
-or-parts : (a b : Bool) → a || b ≡ true → (a ≡ true) ⊎ (b ≡ true)
-or-parts true b e = inl refl
-or-parts false b e = inr e
-
 marked-place : (lanes : List ℕ) (k i j : ℕ) → marked lanes k i j ≡ true → (t : ℕ) × (t < k) × (laneAt (getD lanes t 0) ≡ lane i j)
 unfolding marked
 marked-place lanes zero i j e = absurd (false≢true e)
-marked-place lanes (suc k) i j e = go (or-parts _ (marked lanes k i j) e) (marked-place lanes k i j)
-  where
-    p : Bool
-    p = eqb (getD lanes k 0 / stride) i
-
-    r : Bool
-    r = eqb (getD lanes k 0 % stride) j
-
-    go : (p && r ≡ true) ⊎ (marked lanes k i j ≡ true) → (marked lanes k i j ≡ true → (t : ℕ) × (t < k) × (laneAt (getD lanes t 0) ≡ lane i j))
-        → (t : ℕ) × (t < suc k) × (laneAt (getD lanes t 0) ≡ lane i j)
-    go (inl s) rest =
-        let u : getD lanes k 0 / stride ≡ i = eqb-true _ i (and-left p r s) in
-        let v : getD lanes k 0 % stride ≡ j = eqb-true _ j (and-right p r s) in
-        (k, omega arith, λ t. lane (u t) (v t))
-    go (inr s) rest = let (t, l, w) = rest s in (t, omega arith, w)
+marked-place lanes (suc k) i j e = let l = getD lanes k 0 in ⊎-elim
+    (λ s. let (a, b) = and-eq-true-iff (eqb (l / stride) i) (eqb (l % stride) j) .0 s in
+    let u : l / stride ≡ i = eqb-true _ i a in let v : l % stride ≡ j = eqb-true _ j b in (k, omega arith, λ t. lane (u t) (v t)))
+    (λ s. let (t, l, w) = marked-place lanes k i j s in (t, omega arith, w)) (or-cases _ (marked lanes k i j) e)
 
 place-marked : (lanes : List ℕ) (k i j t : ℕ) → t < k → laneAt (getD lanes t 0) ≡ lane i j → marked lanes k i j ≡ true
 unfolding marked
 place-marked lanes zero i j t l w = absurd (omega arith)
 place-marked lanes (suc k) i j t l w = by-cases (ℕ-discrete t k)
-    (λ s. here s)
+    (λ s. let at = ap (λ (k : ℕ). laneAt (getD lanes k 0)) (sym s) ∙ w in
+    rw (eq-eqb (getD lanes k 0 / stride) i (ap (λ (l : Lane). l .row) at), eq-eqb (getD lanes k 0 % stride) j (ap (λ (l : Lane). l .col) at)))
     (λ s. rw (place-marked lanes k i j t (omega arith) w) (or-true (eqb (getD lanes k 0 / stride) i && eqb (getD lanes k 0 % stride) j)))
-  where
-    here : t ≡ k → eqb (getD lanes k 0 / stride) i && eqb (getD lanes k 0 % stride) j || marked lanes k i j ≡ true
-    here s =
-        let at = ap (λ (k : ℕ). laneAt (getD lanes k 0)) (sym s) ∙ w in
-        rw (eq-eqb (getD lanes k 0 / stride) i (ap (λ (l : Lane). l .row) at), eq-eqb (getD lanes k 0 % stride) j (ap (λ (l : Lane). l .col) at))
 
 -- The masks have the lanes of the first k places.
 pub record Redrawn (m : ℕ) (lanes : List ℕ) (k : ℕ) (adj : List ℕ) : Type 0 where

@@ -1,9 +1,8 @@
 -- How the flat arrays of a run hold a list of cells: a mask of basic lanes for each node, and an amount for each lane.
 use Rattle.prelude.specs.Words.{ℕ, zero, suc, _+_, _*_, _<_, _≤_, arith, _≡_, refl, sym, ap, _∙_, Bool, true, false, _&&_, _||_, cond, false≢true, or-true}
-use Rattle.prelude.specs.Words.{and-comm, List, [], _∷_, _↔_, _≢_, _⊎_, inl, inr, eqb, ℤ, pos, length, getD, set, length-set, length-map, lt-length-set}
-use Rattle.prelude.specs.Words.{getD-set-same, getD-set-other, eqb-true, eqb-false, eq-eqb, ne-eqb, by-test}
+use Rattle.prelude.specs.Words.{and-comm, List, [], _∷_, _↔_, _≢_, eqb, ℤ, pos, length, getD, set, length-set, length-map, lt-length-set, getD-set-same}
+use Rattle.prelude.specs.Words.{getD-set-other, eqb-true, eqb-false, eq-eqb, ne-eqb, by-test, ⊎-elim, and-eq-true-iff}
 use lib.ListN.{List·getD-map}
-use Rattle.transport.specs.Laws.ListLaws.{and-left, and-right}
 use Rattle.transport.specs.Problem.{Lane}
 use Rattle.transport.specs.Laws.ProblemLaws.{lane}
 use Rattle.transport.specs.Amount.{nothing}
@@ -15,6 +14,7 @@ use Rattle.tableaux.specs.View.{Distinct, Inside, rowOf, colOf, amountAt, basic
 use Rattle.tableaux.specs.Lanes.{Has, has-basic}
 use Rattle.tree.specs.Layout.{stride, nodeRoom, laneRoom, getD-set}
 use Rattle.tree.specs.Mask.{has, put, has-put, has-zero}
+use Rattle.tree.specs.Bits.{or-cases}
 
 -- ---- basic lanes, as a test
 
@@ -22,23 +22,13 @@ unfoldable pub isBasic : List Cell → ℕ → ℕ → Bool
 isBasic [] i j = false
 isBasic (c ∷ cs) i j = eqb (c .row) i && eqb (c .col) j || isBasic cs i j
 
-or-cases : (a b : Bool) → a || b ≡ true → (a ≡ true) ⊎ (b ≡ true)
-or-cases true b e = inl refl
-or-cases false b e = inr e
-
 pub isBasic-true : (T : List Cell) (i j : ℕ) → isBasic T i j ≡ true → Basic T i j
 unfolding isBasic
 isBasic-true [] i j e = absurd (false≢true e)
-isBasic-true (c ∷ cs) i j e = go (or-cases (eqb (c .row) i && eqb (c .col) j) (isBasic cs i j) e) (isBasic-true cs i j)
-  where
-    go : (eqb (c .row) i && eqb (c .col) j ≡ true) ⊎ (isBasic cs i j ≡ true) → (isBasic cs i j ≡ true → Basic cs i j) → Basic (c ∷ cs) i j
-    go (inl h) rest = record {
-      index = 0;
-      below = omega arith;
-      row = eqb-true _ _ (and-left _ (eqb (c .col) j) h);
-      column = eqb-true _ _ (and-right (eqb (c .row) i) _ h);
-    }
-    go (inr h) rest = basic-later c cs i j (rest h)
+isBasic-true (c ∷ cs) i j e = ⊎-elim
+    (λ h. let (r, k) = and-eq-true-iff (eqb (c .row) i) (eqb (c .col) j) .0 h in
+    record { index = 0; below = omega arith; row = eqb-true _ _ r; column = eqb-true _ _ k })
+    (λ h. basic-later c cs i j (isBasic-true cs i j h)) (or-cases (eqb (c .row) i && eqb (c .col) j) (isBasic cs i j) e)
 
 basic-at : (T : List Cell) (k i j : ℕ) → k < length T → rowOf T k ≡ i → colOf T k ≡ j → isBasic T i j ≡ true
 unfolding isBasic
@@ -93,24 +83,21 @@ inside-basic p b = rw (b .row, b .column) at (p (b .index) (b .below))
 
 -- With fewer columns in view.
 pub held-fewer : {m n k : ℕ} {T : List Cell} {adj : List ℕ} {q e : List ℤ} → k ≤ n → Held m n T adj q e → Held m k T adj q e
-held-fewer p h =
-    record {
-      adjLong = h .adjLong;
-      qLong = h .qLong;
-      eLong = h .eLong;
-      rows = h .rows;
-      columns = λ i j l. h .columns i j (omega arith);
-      bags = λ i j l r. h .bags i j l (omega arith);
-      marks = λ i j l r. h .marks i j l (omega arith);
-    }
+held-fewer p h = record {
+  adjLong = h .adjLong;
+  qLong = h .qLong;
+  eLong = h .eLong;
+  rows = h .rows;
+  columns = λ i j l. h .columns i j (omega arith);
+  bags = λ i j l r. h .bags i j l (omega arith);
+  marks = λ i j l r. h .marks i j l (omega arith);
+}
 
 -- ---- a lane becomes basic
 
 -- The lane (i, j) is put into the masks of its row and of its column.
 unfoldable pub linked : ℕ → ℕ → ℕ → List ℕ → List ℕ
-linked m i j adj =
-    let masks = set adj i (put (getD adj i 0) j) in
-    set masks (m + j) (put (getD masks (m + j) 0) i)
+linked m i j adj = let masks = set adj i (put (getD adj i 0) j) in set masks (m + j) (put (getD masks (m + j) 0) i)
 
 pub length-linked : (m i j : ℕ) (adj : List ℕ) → length (linked m i j adj) ≡ length adj
 unfolding linked
@@ -129,47 +116,47 @@ has-set-put adj i j h k p = by-test (eqb h i)
 module _ (m i j : ℕ) (adj : List ℕ) (p : i < m) where
   pub linked-row : (h k : ℕ) → i < length adj → h < m → has (getD (linked m i j adj) h 0) k ≡ eqb i h && eqb j k || has (getD adj h 0) k
   unfolding linked
-  linked-row h k l r =
-      let masks = set adj i (put (getD adj i 0) j) in
+  linked-row h k l r = let masks = set adj i (put (getD adj i 0) j) in
       rw (getD-set-other masks (m + j) h (put (getD masks (m + j) 0) i) 0 (λ s. omega arith)) (has-set-put adj i j h k l)
 
   pub linked-column : (h k : ℕ) → m + j < length adj → has (getD (linked m i j adj) (m + k) 0) h ≡ eqb i h && eqb j k || has (getD adj (m + k) 0) h
   unfolding linked
-  linked-column h k l =
-      let masks = set adj i (put (getD adj i 0) j) in
+  linked-column h k l = let masks = set adj i (put (getD adj i 0) j) in
       has-set-put masks (m + j) i (m + k) h (lt-length-set adj i (put (getD adj i 0) j) l)
-      ∙ rw (same-offset (eqb j k) refl, getD-set-other adj i (m + k) (put (getD adj i 0) j) 0 (λ s. omega arith), and-comm (eqb j k) (eqb i h))
+      ∙ rw (same-offset, getD-set-other adj i (m + k) (put (getD adj i 0) j) 0 (λ s. omega arith), and-comm (eqb j k) (eqb i h))
     where
-      same-offset : (t : Bool) → eqb j k ≡ t → eqb (m + j) (m + k) ≡ eqb j k
-      same-offset true s = rw s (eq-eqb (m + j) (m + k) (omega (arith, eqb-true j k s)))
-      same-offset false s = rw s (ne-eqb (m + j) (m + k) (λ r. eqb-false j k s (omega arith)))
+      same-offset : eqb (m + j) (m + k) ≡ eqb j k
+      same-offset = by-test (eqb j k)
+          (λ s. rw s (eq-eqb (m + j) (m + k) (omega (arith, eqb-true j k s))))
+          (λ s. rw s (ne-eqb (m + j) (m + k) (λ r. eqb-false j k s (omega arith))))
 
 -- An amount is put on the lane (i, j).
 on-lane : (xs : List ℤ) (i j h k : ℕ) (v : ℤ) → length xs ≡ laneRoom → i < stride → j < stride → k < stride
     → getD (set xs (i * stride + j) v) (h * stride + k) (pos 0) ≡ cond (eqb i h && eqb j k) v (getD xs (h * stride + k) (pos 0))
-on-lane xs i j h k v l p q r = getD-set xs (i * stride + j) (h * stride + k) v (pos 0) (omega arith) ∙ rw (same-place (eqb i h) refl (eqb j k) refl)
+on-lane xs i j h k v l p q r = getD-set xs (i * stride + j) (h * stride + k) v (pos 0) (omega arith) ∙ rw same-place
   where
-    same-place : (s : Bool) → eqb i h ≡ s → (t : Bool) → eqb j k ≡ t → eqb (h * stride + k) (i * stride + j) ≡ eqb i h && eqb j k
-    same-place true s true t = rw (s, t) (eq-eqb (h * stride + k) (i * stride + j) (omega (arith, eqb-true i h s, eqb-true j k t)))
-    same-place true s false t = rw (s, t) (ne-eqb (h * stride + k) (i * stride + j) (λ f. eqb-false j k t (omega (arith, eqb-true i h s))))
-    same-place false s t u = rw s (ne-eqb (h * stride + k) (i * stride + j) (λ f. eqb-false i h s (omega arith)))
+    same-place : eqb (h * stride + k) (i * stride + j) ≡ eqb i h && eqb j k
+    same-place = by-test (eqb i h)
+        (λ s. by-test (eqb j k)
+        (λ t. rw (s, t) (eq-eqb (h * stride + k) (i * stride + j) (omega (arith, eqb-true i h s, eqb-true j k t))))
+        (λ t. rw (s, t) (ne-eqb (h * stride + k) (i * stride + j) (λ f. eqb-false j k t (omega (arith, eqb-true i h s))))))
+        (λ s. rw s (ne-eqb (h * stride + k) (i * stride + j) (λ f. eqb-false i h s (omega arith))))
 
 -- One cell more is held.
 pub held-more : {m n : ℕ} {T : List Cell} {adj : List ℕ} {q e : List ℤ} (c : Cell) → Held m n T adj q e → m ≤ stride → n ≤ stride → c .row < m → c .col < stride
     → let lane = c .row * stride + c .col in Held m n (c ∷ T) (linked m (c .row) (c .col) adj) (set q lane (c .amount .q)) (set e lane (c .amount .e))
 unfolding isBasic amountAt
-held-more {m} {n} {T} {adj} {q} {e} c h mLow nLow p r =
-    record {
-      adjLong = length-linked m (c .row) (c .col) adj ∙ h .adjLong;
-      qLong = length-set q _ _ ∙ h .qLong;
-      eLong = length-set e _ _ ∙ h .eLong;
-      rows = λ i j l. linked-row m (c .row) (c .col) adj p i j (omega (arith, h .adjLong)) l ∙ rw (h .rows i j l);
-      columns = λ i j l. linked-column m (c .row) (c .col) adj p i j (omega (arith, h .adjLong)) ∙ rw (h .columns i j l);
-      bags = λ i j l s. on-lane q (c .row) (c .col) i j (c .amount .q) (h .qLong) (omega arith) r (omega arith) ∙ (rw (h .bags i j l s))
-          ∙ part (λ a. a .q) (eqb (c .row) i && eqb (c .col) j) (amountAt T i j);
-      marks = λ i j l s. on-lane e (c .row) (c .col) i j (c .amount .e) (h .eLong) (omega arith) r (omega arith) ∙ (rw (h .marks i j l s))
-          ∙ part (λ a. a .e) (eqb (c .row) i && eqb (c .col) j) (amountAt T i j);
-    }
+held-more {m} {n} {T} {adj} {q} {e} c h mLow nLow p r = record {
+  adjLong = length-linked m (c .row) (c .col) adj ∙ h .adjLong;
+  qLong = length-set q _ _ ∙ h .qLong;
+  eLong = length-set e _ _ ∙ h .eLong;
+  rows = λ i j l. linked-row m (c .row) (c .col) adj p i j (omega (arith, h .adjLong)) l ∙ rw (h .rows i j l);
+  columns = λ i j l. linked-column m (c .row) (c .col) adj p i j (omega (arith, h .adjLong)) ∙ rw (h .columns i j l);
+  bags = λ i j l s. on-lane q (c .row) (c .col) i j (c .amount .q) (h .qLong) (omega arith) r (omega arith) ∙ (rw (h .bags i j l s))
+      ∙ part (λ a. a .q) (eqb (c .row) i && eqb (c .col) j) (amountAt T i j);
+  marks = λ i j l s. on-lane e (c .row) (c .col) i j (c .amount .e) (h .eLong) (omega arith) r (omega arith) ∙ (rw (h .marks i j l s))
+      ∙ part (λ a. a .e) (eqb (c .row) i && eqb (c .col) j) (amountAt T i j);
+}
   where
     part : (f : Pair → ℤ) (t : Bool) (a : Pair) → cond t (f (c .amount)) (f a) ≡ f (cond t (c .amount) a)
     part f true a = refl
@@ -189,13 +176,12 @@ pub record Cleared (adj : List ℕ) (q e : List ℤ) : Type 0 where
 -- They hold no cells.
 pub held-none : {m n : ℕ} {adj : List ℕ} {q e : List ℤ} → Cleared adj q e → Held m n [] adj q e
 unfolding isBasic amountAt nothing
-held-none {m} z =
-    record {
-      adjLong = z .adjLong;
-      qLong = z .qLong;
-      eLong = z .eLong;
-      rows = λ i j a. rw (z .noBits i) (has-zero j);
-      columns = λ i j a. rw (z .noBits (m + j)) (has-zero i);
-      bags = λ i j a b. z .noBags (i * stride + j);
-      marks = λ i j a b. z .noMarks (i * stride + j);
-    }
+held-none {m} z = record {
+  adjLong = z .adjLong;
+  qLong = z .qLong;
+  eLong = z .eLong;
+  rows = λ i j a. rw (z .noBits i) (has-zero j);
+  columns = λ i j a. rw (z .noBits (m + j)) (has-zero i);
+  bags = λ i j a b. z .noBags (i * stride + j);
+  marks = λ i j a b. z .noMarks (i * stride + j);
+}

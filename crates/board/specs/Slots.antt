@@ -88,13 +88,7 @@ pub record Added (x : ℤ) (lanes : List ℕ) (slots bits : ℕ) (old new : List
   pub off : (l : ℕ) → ((t : ℕ) → has slots t ≡ true → getD lanes t 0 ≢ l) → getD new l (pos 0) ≡ getD old l (pos 0)
 
 pub add-start : (x : ℤ) (lanes : List ℕ) (slots : ℕ) (old : List ℤ) → Added x lanes slots slots old old
-add-start x lanes slots old = record {
-  part = λ t h. h;
-  long = refl;
-  on = λ t h b. clash h b;
-  still = λ t h. refl;
-  off = λ l h. refl;
-}
+add-start x lanes slots old = record { part = λ t h. h; long = refl; on = λ t h b. clash h b; still = λ t h. refl; off = λ l h. refl }
 
 pub add-step : {x : ℤ} {lanes : List ℕ} {slots bits r : ℕ} {old new : List ℤ} → Added x lanes slots bits old new → Slotted lanes slots → length old ≡ laneRoom
     → Least bits r → Added x lanes slots (bitAnd bits (bits - 1)) old (set new (getD lanes r 0) (getD new (getD lanes r 0) (pos 0) +ℤ x))

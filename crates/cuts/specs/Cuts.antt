@@ -112,8 +112,7 @@ xor-false false = refl
 
 module _ {m n : ℕ} {B : List Lane} {count : ℕ} {at : ℕ → Lane} {far : ℕ → ℕ → Bool} (w : Cuts m n B count at far) (fits : Fits m n B)
     {s : ℕ} (hs : s < count) {enter : Lane} (hr : enter .row < m) (hc : enter .col < n) (loop : far s (enter .row) ≢ far s (m + enter .col)) where
-  module _ {B′ : List Lane} (new : Exchanged B (at s) enter B′)
-      {at′ : ℕ → Lane} (here : at′ s ≡ enter) (there : (t : ℕ) → t ≢ s → at′ t ≡ at t)
+  module _ {B′ : List Lane} (new : Exchanged B (at s) enter B′) {at′ : ℕ → Lane} (here : at′ s ≡ enter) (there : (t : ℕ) → t ≢ s → at′ t ≡ at t)
       {far′ : ℕ → ℕ → Bool} (is : (t x : ℕ) → t < count → x < m + n → far′ t x ≡ turned far (enter .row) (m + enter .col) s t x) where
     stays : (x : ℕ) → x < m + n → far′ s x ≡ far s x
     stays x l = is s x hs l ∙ rw (eq-eqb s s refl, and-false (far s x)) (xor-false (far s x))
@@ -129,34 +128,24 @@ module _ {m n : ℕ} {B : List Lane} {count : ℕ} {at : ℕ → Lane} {far : �
       basic = λ t p. by-cases (ℕ-discrete t s)
           (λ e. new (at′ t) .1 (inl (ap at′ e ∙ here)))
           (λ e. new (at′ t) .1 (inr (rw (there t e) (w .basic t p, (λ q. e (slots-apart w s t hs p q))))));
-      listed = λ l q. ⊎-elim (λ e. (s, hs, here ∙ sym e)) (λ (b, d). old l d (w .listed l b)) (new l .0 q);
+      listed = λ l q. ⊎-elim (λ e. (s, hs, here ∙ sym e)) (λ (b, d). let (t, p, e) = w .listed l b in (t, p, there t (λ f. d (sym e ∙ ap at f)) ∙ e))
+          (new l .0 q);
       root = λ t p. is t 0 p (omega arith) ∙ rw (w .root t p, w .root s hs) (xor-false false);
-      across = λ t p. by-cases (ℕ-discrete t s) (λ e. rw (e, here) own-s) (own t p);
+      across = λ t p. by-cases (ℕ-discrete t s)
+          (λ e. rw (e, here, stays (enter .row) (omega arith), stays (m + enter .col) (omega arith)) loop)
+          (λ e. rw (there t e, is t (at t .row) p (row-in t p), is t (m + at t .col) p (col-in t p), w .along s t hs p e)
+          (xor-across (far t (at t .row)) (far t (m + at t .col)) _ (w .across t p)));
       along = λ t k p q d. by-cases (ℕ-discrete t s)
-          (λ e. rw e (along-s k q (λ f. d (f ∙ sym e))))
-          (λ e. by-cases (ℕ-discrete k s) (λ f. rw (f, here) (enters t p e)) (λ f. rw (there k f) (keeps t k p q d e f)));
+          (λ e. let f : k ≢ s = λ f. d (f ∙ sym e) in
+          rw (e, there k f, stays (at k .row) (row-in k q), stays (m + at k .col) (col-in k q)) (w .along s k hs q f))
+          (λ e. by-cases (ℕ-discrete k s) (λ f. rw (f, here) (enters t p e))
+          (λ f. rw (there k f, is t (at k .row) p (row-in k q), is t (m + at k .col) p (col-in k q), w .along t k p q d, w .along s k hs q f)));
     }
       where
-        old : (l : Lane) → l ≢ at s → (t : ℕ) × (t < count) × (at t ≡ l) → (t : ℕ) × (t < count) × (at′ t ≡ l)
-        old l d (t, p, e) = (t, p, there t (λ f. d (sym e ∙ ap at f)) ∙ e)
-
-        own-s : far′ s (enter .row) ≢ far′ s (m + enter .col)
-        own-s = rw (stays (enter .row) (omega arith), stays (m + enter .col) (omega arith)) loop
-
-        own : (t : ℕ) → t < count → t ≢ s → far′ t (at′ t .row) ≢ far′ t (m + at′ t .col)
-        own t p e = rw (there t e, is t (at t .row) p (row-in t p), is t (m + at t .col) p (col-in t p), w .along s t hs p e)
-            (xor-across (far t (at t .row)) (far t (m + at t .col)) _ (w .across t p))
-
-        along-s : (k : ℕ) → k < count → k ≢ s → far′ s (at′ k .row) ≡ far′ s (m + at′ k .col)
-        along-s k q f = rw (there k f, stays (at k .row) (row-in k q), stays (m + at k .col) (col-in k q)) (w .along s k hs q f)
-
         enters : (t : ℕ) → t < count → t ≢ s → far′ t (enter .row) ≡ far′ t (m + enter .col)
         enters t p e = is t (enter .row) p (omega arith) ∙ (rw (ne-eqb t s e)
             (xor-along (far t (enter .row)) (far t (m + enter .col)) (far s (enter .row)) (far s (m + enter .col)) loop))
             ∙ sym (is t (m + enter .col) p (omega arith))
-
-        keeps : (t k : ℕ) → t < count → k < count → k ≢ t → t ≢ s → k ≢ s → far′ t (at k .row) ≡ far′ t (m + at k .col)
-        keeps t k p q d e f = rw (is t (at k .row) p (row-in k q), is t (m + at k .col) p (col-in k q), w .along t k p q d, w .along s k hs q f)
 
   -- ---- the potentials after it
 
@@ -176,8 +165,9 @@ module _ {m n : ℕ} {B : List Lane} {count : ℕ} {at : ℕ → Lane} {far : �
         → (l : Lane) → List·Memᴰ l B′ → toZ (π′ (l .row)) ⊕ toZ (π′ (m + l .col)) ≈ toZ (cost l)
     shifted-tight new tight l q = ⊎-elim
         (λ e. rw e (enters (far s (enter .row)) (far s (m + enter .col)) loop (f .by) (f .rows (enter .row) hr) (f .cols (enter .col) hc)))
-        (λ (b, d). keeps b (along l d (w .listed l b)) (f .rows (l .row) (fits l b .0)) (f .cols (l .col) (fits l b .1)))
-        (new l .0 q)
+        (λ (b, d). let (t, p, e) = w .listed l b in
+        let same : far s (l .row) ≡ far s (m + l .col) = rw (← e) (w .along s t hs p (λ r. d (sym e ∙ ap at r))) in
+        omega (arith, tight l b, rw same at (f .rows (l .row) (fits l b .0)), f .cols (l .col) (fits l b .1))) (new l .0 q)
       where
         enters : (a b : Bool) → a ≢ b → x ≈ (let r = toZ (cost enter) ⊖ toZ (π (enter .row)) ⊖ toZ (π (m + enter .col)) in cond a r (neg r))
             → toZ (π′ (enter .row)) ≈ toZ (π (enter .row)) ⊕ cond a x (nat 0) → toZ (π′ (m + enter .col)) ≈ toZ (π (m + enter .col)) ⊖ cond b x (nat 0)
@@ -186,10 +176,3 @@ module _ {m n : ℕ} {B : List Lane} {count : ℕ} {at : ℕ → Lane} {far : �
         enters false false d e g h = absurd (d refl)
         enters true false d e g h = omega arith
         enters false true d e g h = omega arith
-
-        along : (l : Lane) → l ≢ at s → (t : ℕ) × (t < count) × (at t ≡ l) → far s (l .row) ≡ far s (m + l .col)
-        along l d (t, p, e) = rw (← e) (w .along s t hs p (λ r. d (sym e ∙ ap at r)))
-
-        keeps : List·Memᴰ l B → far s (l .row) ≡ far s (m + l .col) → toZ (π′ (l .row)) ≈ toZ (π (l .row)) ⊕ cond (far s (l .row)) x (nat 0)
-            → toZ (π′ (m + l .col)) ≈ toZ (π (m + l .col)) ⊖ cond (far s (m + l .col)) x (nat 0) → toZ (π′ (l .row)) ⊕ toZ (π′ (m + l .col)) ≈ toZ (cost l)
-        keeps b e g h = omega (arith, tight l b, rw e at g)

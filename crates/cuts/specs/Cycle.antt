@@ -1,7 +1,7 @@
 -- The loop that an entering lane closes with the tree, by the paths of its two nodes: its slots as bits, those whose lane loses the step and those whose lane
 -- gains it.
-use Rattle.prelude.specs.Words.{_≡_, refl, sym, ap, _∙_, _≢_, by-cases, Bool, true, false, not, xor, _&&_, _||_, and-true, and-false, or-false, List, ℕ, _-_}
-use Rattle.prelude.specs.Words.{_/_, ℕ-discrete, eq-eqb, ne-eqb, eqb, getD}
+use Rattle.prelude.specs.Words.{_≡_, refl, sym, _∙_, by-cases, Bool, true, false, not, xor, _&&_, and-true, and-false, or-false, List, ℕ, _-_, _/_, ℕ-discrete}
+use Rattle.prelude.specs.Words.{eq-eqb, ne-eqb, eqb, getD, by-test}
 use lib.Bits.{bitAnd, bitOr, bitXor}
 use Rattle.transport.specs.Laws.ListLaws.{and-right}
 use Rattle.tree.specs.Layout.{stride}
@@ -30,28 +30,17 @@ pub record FarRows (path lanes : List ℕ) (loop bits far : ℕ) : Type 0 where
   pub each : (t : ℕ) → has far t ≡ (not (has bits t) && has loop t) && rowFar path lanes t
 
 pub far-start : (path lanes : List ℕ) (loop : ℕ) → FarRows path lanes loop loop 0
-far-start path lanes loop = record { part = λ t e. e; each = λ t. has-zero t ∙ go (has loop t) (rowFar path lanes t) }
-  where
-    go : (b f : Bool) → false ≡ (not b && b) && f
-    go true f = refl
-    go false f = refl
+far-start path lanes loop = record { part = λ t e. e; each = λ t. has-zero t ∙ by-test (has loop t) (λ e. rw e) (λ e. rw e) }
 
 module _ {path lanes : List ℕ} {loop bits far r : ℕ} (g : FarRows path lanes loop bits far) (w : Least bits r) where
   pub far-step : FarRows path lanes loop (bitAnd bits (bits - 1)) (bitOr far (bitAnd (getD path (getD lanes r 0 / stride) 0) (put 0 r)))
   far-step = record {
     part = λ t e. g .part t (and-right (not (eqb t r)) (has bits t) (sym (has-rest bits r t w) ∙ e));
-    each = λ t. has-or far _ t ∙ (rw (has-and (getD path (getD lanes r 0 / stride) 0) (put 0 r) t, has-one r t, g .each t))
-        ∙ by-cases (ℕ-discrete t r) (here t) (there t)
-        ∙ ap (λ b. (not b && has loop t) && rowFar path lanes t) (sym (has-rest bits r t w));
+    each = λ t. has-or far _ t
+        ∙ rw (has-and (getD path (getD lanes r 0 / stride) 0) (put 0 r) t, has-one r t, g .each t, has-rest bits r t w) (by-cases (ℕ-discrete t r)
+        (λ e. rw (e, eq-eqb r r refl, has-least w, g .part r (has-least w)) (and-true (rowFar path lanes r)))
+        (λ d. rw (ne-eqb t r d, and-false (has (getD path (getD lanes r 0 / stride) 0) t)) (or-false _)));
   }
-    where
-      here : (t : ℕ) → t ≡ r → (not (has bits t) && has loop t) && rowFar path lanes t || has (getD path (getD lanes r 0 / stride) 0) t && eqb t r
-          ≡ (not (not (eqb t r) && has bits t) && has loop t) && rowFar path lanes t
-      here t e = rw (e, eq-eqb r r refl, has-least w, g .part r (has-least w)) (and-true (rowFar path lanes r))
-
-      there : (t : ℕ) → t ≢ r → (not (has bits t) && has loop t) && rowFar path lanes t || has (getD path (getD lanes r 0 / stride) 0) t && eqb t r
-          ≡ (not (not (eqb t r) && has bits t) && has loop t) && rowFar path lanes t
-      there t d = rw (ne-eqb t r d, and-false (has (getD path (getD lanes r 0 / stride) 0) t)) (or-false _)
 
 -- The far rows against the side of the entering lane's row.
 pub loop-slots : (path lanes : List ℕ) (row sink far : ℕ) → FarRows path lanes (onLoop path row sink) 0 far
@@ -63,10 +52,6 @@ loop-slots path lanes row sink far g = record {
   gaining = gains;
 }
   where
-    plus-of : (l f x : Bool) → l && xor (l && f) x ≡ l && xor f x
-    plus-of true f x = refl
-    plus-of false f x = refl
-
     minus-of : (l a : Bool) → xor l (l && a) ≡ l && not a
     minus-of true true = refl
     minus-of true false = refl
@@ -74,5 +59,4 @@ loop-slots path lanes row sink far g = record {
 
     gains : (t : ℕ) → has (bitAnd (onLoop path row sink) (bitXor far (getD path row 0))) t ≡ has (onLoop path row sink) t && against path lanes row t
     gains t = has-and (onLoop path row sink) (bitXor far (getD path row 0)) t
-        ∙ (rw (has-xor far (getD path row 0) t, g .each t, has-zero t))
-        ∙ plus-of (has (onLoop path row sink) t) (rowFar path lanes t) (has (getD path row 0) t)
+        ∙ rw (has-xor far (getD path row 0) t, g .each t, has-zero t) (by-test (has (onLoop path row sink) t) (λ e. rw e) (λ e. rw e))

@@ -1,6 +1,6 @@
 -- The tree after an exchange of lanes, as masks.
-use Rattle.prelude.specs.Words.{_≡_, refl, ap, sym, _∙_, _≢_, Bool, true, false, not, xor, _&&_, and-comm, and-false, false≢true, List, ℕ, _+_, _-_, _*_, _<_}
-use Rattle.prelude.specs.Words.{_≤_, arith, lt-ltb, eqb, ltb, length, getD, set, length-set, getD-set-same, getD-set-other}
+use Rattle.prelude.specs.Words.{_≡_, ap, sym, _∙_, _≢_, Bool, true, false, not, xor, _&&_, and-comm, and-false, false≢true, List, ℕ, _+_, _-_, _*_, _<_, _≤_}
+use Rattle.prelude.specs.Words.{arith, lt-ltb, eqb, ltb, length, getD, set, length-set, getD-set-same, getD-set-other, by-test}
 use Rattle.transport.specs.Laws.ListLaws.{and-right}
 use Rattle.transport.specs.Problem.{Lane}
 use Rattle.transport.specs.Laws.ProblemLaws.{lane}
@@ -27,20 +27,14 @@ module _ {m n : ℕ} {B : List Lane} {sub path lanes : List ℕ} (w : Tree m n B
   -- The slots of a loop are slots of the tree.
   pub loop-slot : (p q t : ℕ) → p < m + n → q < m + n → has (onLoop path p q) t ≡ true → t < m + n - 1
   unfolding xor
-  loop-slot p q t hp hq e = go (has (getD path p 0) t) (has (getD path q 0) t) refl refl (sym (has-xor (getD path p 0) (getD path q 0) t) ∙ e)
-    where
-      go : (a b : Bool) → has (getD path p 0) t ≡ a → has (getD path q 0) t ≡ b → xor a b ≡ true → t < m + n - 1
-      go true b x y r = w .slots p t hp x
-      go false true x y r = w .slots q t hq y
-      go false false x y r = absurd (false≢true r)
+  loop-slot p q t hp hq e = by-test (has (getD path p 0) t) (w .slots p t hp)
+      (λ x. w .slots q t hq (sym (has-xor (getD path p 0) (getD path q 0) t ∙ rw x (xor-of _)) ∙ e))
 
   pub loop-across : (p q t : ℕ) → has (onLoop path p q) t ≡ true → has (getD path p 0) t ≢ has (getD path q 0) t
   unfolding xor
-  loop-across p q t e d = go (has (getD path q 0) t) (sym (has-xor (getD path p 0) (getD path q 0) t ∙ rw d) ∙ e)
-    where
-      go : (b : Bool) → xor b b ≡ true → ⊥
-      go true r = false≢true r
-      go false r = false≢true r
+  loop-across p q t e d = by-test (has (getD path q 0) t)
+      (λ b. false≢true (sym (has-xor (getD path p 0) (getD path q 0) t ∙ rw (d, b)) ∙ e))
+      (λ b. false≢true (sym (has-xor (getD path p 0) (getD path q 0) t ∙ rw (d, b)) ∙ e))
 
   module _ {row col s into : ℕ} (fits : Fits m n B) (hr : row < m) (hc : col < n) (hm : m ≤ stride) (hn : n ≤ stride) (is-into : into ≡ row * stride + col)
       (loop : has (onLoop path row (m + col)) s ≡ true)
@@ -63,7 +57,10 @@ module _ {m n : ℕ} {B : List Lane} {sub path lanes : List ℕ} (w : Tree m n B
       pathLong = g .paths .long ∙ w .pathLong;
       laneLong = ap length (g .laid) ∙ simp length-set (w .laneLong);
       cuts = cuts-exchanged (w .cuts) fits hs {enter = lane row col} hr hc (loop-across row (m + col) s loop) new here there far-is;
-      slots = λ p t l e. keeps p t l (has (getD path p 0) t) refl (sym (grafted-bit (unset (onLoop path row (m + col)) s) (g .paths) p t) ∙ e);
+      slots = λ p t l e. by-test (has (getD path p 0) t) (w .slots p t l)
+          (λ b. loop-slot row (m + col) t (omega arith) (omega arith) (and-right (not (eqb t s)) (has (onLoop path row (m + col)) t)
+          (sym (has-unset (onLoop path row (m + col)) s t)
+          ∙ and-right (has moved p) _ (sym (grafted-bit (unset (onLoop path row (m + col)) s) (g .paths) p t ∙ rw b (xor-of _)) ∙ e))));
       turns = λ t p l. grafted-bit moved (g .subs) t p ∙ (rw (w .turns t p l, in-far p))
           ∙ both (ltb p (m + n)) (has (getD path p 0) t) (has (getD path p 0) s) (has (unset (onLoop path row (m + col)) s) t)
           ∙ ap (λ b. ltb p (m + n) && b) (sym (outside p t));
@@ -74,13 +71,6 @@ module _ {m n : ℕ} {B : List Lane} {sub path lanes : List ℕ} (w : Tree m n B
 
         there : (t : ℕ) → t ≢ s → laneAt (getD lanes′ t 0) ≡ laneAt (getD lanes t 0)
         there t d = rw (g .laid, getD-set-other lanes s t into 0 d)
-
-        keeps : (p t : ℕ) → p < m + n → (b : Bool) → has (getD path p 0) t ≡ b → xor b (has moved p && has (unset (onLoop path row (m + col)) s) t) ≡ true
-            → t < m + n - 1
-        keeps p t l true e r = w .slots p t l e
-        keeps p t l false e r = loop-slot row (m + col) t (omega arith) (omega arith)
-            (and-right (not (eqb t s)) (has (onLoop path row (m + col)) t)
-            (sym (has-unset (onLoop path row (m + col)) s t) ∙ and-right (has moved p) _ (sym (xor-of _) ∙ r)))
 
         outside : (p t : ℕ) → has (getD path′ p 0) t ≡ xor (has (getD path p 0) t)
             ((ltb p (m + n) && has (getD path p 0) s) && has (unset (onLoop path row (m + col)) s) t)

@@ -6,11 +6,11 @@ use Rattle.transport.specs.Laws.ListLaws.{member-at, member-table, table-member
 use Rattle.transport.specs.Problem.{Lane}
 use Rattle.transport.specs.Leaf.{Strike}
 use Rattle.tableaux.specs.Leaves.{Ends, row-struck, column-struck, ends-differ}
-use Rattle.tableaux.specs.Striking.{Peeled, bare, peel, Struck, step-of, Live, struck-hung, root-no-leaf}
+use Rattle.tableaux.specs.Striking.{Peeled, bare, peel, Struck, step-of, struck-hung, root-no-leaf}
 use Rattle.tree.specs.Mask.{has, put, has-put, has-zero}
 use Rattle.tree.specs.Layout.{stride, nodeRoom, laneAt, strikeOf, strikesOf, length-strikes, getD-strikes}
 use Rattle.tree.specs.Strikes.{leaf-in, other-in}
-use Rattle.tree.specs.Bits.{has-one, Grafted, grafted-bit}
+use Rattle.tree.specs.Bits.{or-cases, has-one, Grafted, grafted-bit}
 use Rattle.cuts.specs.Cuts.{Cuts, xor-false}
 
 -- ---- the order of strikes
@@ -40,8 +40,7 @@ module _ {m n : ℕ} {B : List Lane} (leaf other lanes : List ℕ) (count : ℕ)
   ends-at k l = step-of (st .peels) (strikeOf leaf other lanes k) (strike-at k l) .1 .ends
 
   clears : (i k : ℕ) → i < k → k < count → (getD leaf k 0 ≢ getD leaf i 0) × (getD other k 0 ≢ getD leaf i 0)
-  clears i k l r =
-      let s = strikeOf leaf other lanes 0 in
+  clears i k l r = let s = strikeOf leaf other lanes 0 in
       rw (getD-strikes leaf other lanes count k s r, getD-strikes leaf other lanes count i s (omega arith)) at
       (clear-at s (st .peels) i k l (omega (arith, length-strikes leaf other lanes count)))
 
@@ -53,7 +52,9 @@ module _ {m n : ℕ} {B : List Lane} (leaf other lanes : List ℕ) (count : ℕ)
     otherIn = λ k l. omega (arith, other-in m n leaf other lanes count (st .peels) k l);
     proper = λ k l. root-no-leaf (st .peels) (strikeOf leaf other lanes k) (strike-at k l);
     clear = clears;
-    later = λ k l. hangs k l (struck-hung st (strikeOf leaf other lanes k) (strike-at k l));
+    later = λ k l. ⊎-elim inl
+        (λ (t, h, e). let (i, r, s) = table-member count (strikeOf leaf other lanes) h in inr (at k i l r (sym e ∙ ap (λ (t : Strike). t .leaf) s)))
+        (struck-hung st (strikeOf leaf other lanes k) (strike-at k l));
   }
     where
       apart : (k : ℕ) → k < count → getD other k 0 ≢ getD leaf k 0
@@ -63,11 +64,6 @@ module _ {m n : ℕ} {B : List Lane} (leaf other lanes : List ℕ) (count : ℕ)
       at k i l r e = by-cases (decLt k i) (λ p. (i, p, r, e)) (λ p. by-cases (ℕ-discrete i k)
           (λ s. absurd (apart k l (e ∙ ap (λ (j : ℕ). getD leaf j 0) s)))
           (λ s. absurd (clears i k (omega arith) l .1 e)))
-
-      hangs : (k : ℕ) → k < count → Live (strikesOf leaf other lanes count) (getD other k 0)
-          → (getD other k 0 ≡ 0) ⊎ ((i : ℕ) × (k < i) × (i < count) × (getD other k 0 ≡ getD leaf i 0))
-      hangs k l (inl z) = inl z
-      hangs k l (inr (t, h, e)) = let (i, r, s) = table-member count (strikeOf leaf other lanes) h in inr (at k i l r (sym e ∙ ap (λ (t : Strike). t .leaf) s))
 
 strike-index : (leaf other lanes : List ℕ) (count : ℕ) {s : Strike} → List·Memᴰ s (strikesOf leaf other lanes count)
     → (k : ℕ) × (k < count) × (s ≡ strikeOf leaf other lanes k)
@@ -91,13 +87,8 @@ hang-start leaf other count zeros l z = record {
   long = l;
   root = z 0;
   hangs = λ i p q. absurd (omega arith);
-  within = λ i t p q. absurd
-      (omega arith);
+  within = λ i t p q. absurd (omega arith);
 }
-
-or-parts : (a b : Bool) → a || b ≡ true → (a ≡ true) ⊎ (b ≡ true)
-or-parts true b e = inl refl
-or-parts false b e = inr e
 
 module _ {leaf other : List ℕ} {count : ℕ} (o : Order leaf other count) where
   -- Of the node that strike k hangs on, the path has later slots only.
@@ -105,8 +96,7 @@ module _ {leaf other : List ℕ} {count : ℕ} (o : Order leaf other count) wher
       → (k < t) × (t < count)
   above {path} {k} h l t e = ⊎-elim
       (λ z. clash (ap (λ (x : ℕ). has x t) (sym (ap (λ (j : ℕ). getD path j 0) z ∙ h .root)) ∙ e) (has-zero t))
-      (λ (i, p, q, s). let (a, b) = h .within i t (omega arith) q (rw s at e) in (omega arith, b))
-      (o .later k l)
+      (λ (i, p, q, s). let (a, b) = h .within i t (omega arith) q (rw s at e) in (omega arith, b)) (o .later k l)
 
   not-own : (k : ℕ) → k < count → getD other k 0 ≢ getD leaf k 0
   not-own k l e = ⊎-elim (λ z. o .proper k l (sym e ∙ z)) (λ (i, p, q, s). o .clear k i p q .0 (sym s ∙ e)) (o .later k l)
@@ -138,9 +128,8 @@ module _ {leaf other : List ℕ} {count : ℕ} (o : Order leaf other count) wher
 
       own : (i : ℕ) → i ≡ k → (t : ℕ) → eqb t k || has (getD path (getD other k 0) 0) t ≡ true → (i ≤ t) × (t < count)
       own i s t e = ⊎-elim
-          (λ p. let q : t ≡ k = eqb-true t k p in (omega arith, omega arith))
-          (λ p. let (a, b) = above h l t p in (omega arith, b))
-          (or-parts (eqb t k) (has (getD path (getD other k 0) 0) t) e)
+          (λ p. let q : t ≡ k = eqb-true t k p in omega arith)
+          (λ p. let (a, b) = above h l t p in (omega arith, b)) (or-cases (eqb t k) (has (getD path (getD other k 0) 0) t) e)
 
 -- ---- the tree
 
@@ -155,17 +144,21 @@ pub record Tree (m n : ℕ) (B : List Lane) (sub path lanes : List ℕ) : Type 0
 
 -- The paths are those of the tree of the strikes: the two ends of a lane differ in its own slot alone.
 hung-cuts : {m n : ℕ} {B : List Lane} (leaf other lanes path : List ℕ) (count : ℕ) → Struck m n B (strikesOf leaf other lanes count)
-    → Order leaf other count → Hanging leaf other count path 0
-    → Cuts m n B count (λ t. laneAt (getD lanes t 0)) (λ t p. has (getD path p 0) t)
+    → Order leaf other count → Hanging leaf other count path 0 → Cuts m n B count (λ t. laneAt (getD lanes t 0)) (λ t p. has (getD path p 0) t)
 unfolding strikesOf
 hung-cuts {m} {n} {B} leaf other lanes path count st o h = record {
   basic = λ t p. st .lanes (strikeOf leaf other lanes t) (strike-at leaf other lanes count st t p);
-  listed = λ l q. let (s, mem, e) = st .struck l q in
-      let (k, p, is) = table-member count (strikeOf leaf other lanes) mem in
+  listed = λ l q. let (s, mem, e) = st .struck l q in let (k, p, is) = table-member count (strikeOf leaf other lanes) mem in
       (k, p, sym (ap (λ (t : Strike). t .lane) is) ∙ e);
   root = λ t p. rw (h .root) (has-zero t);
-  across = λ t p. by-ends-across t (ends-at leaf other lanes count st t p) (differ t p);
-  along = λ t k p q d. by-ends-along t k (ends-at leaf other lanes count st k q) (same t k q d);
+  across = λ t p. elim (ends-at leaf other lanes count st t p) [
+    | row-struck a b ↦ rw (a, b) at (differ t p)
+    | column-struck a b ↦ λ e. (rw (a, b) at (differ t p)) (sym e)
+  ];
+  along = λ t k p q d. elim (ends-at leaf other lanes count st k q) [
+    | row-struck a b ↦ rw (a, b) at (same t k q d)
+    | column-struck a b ↦ sym (rw (a, b) at (same t k q d))
+  ];
 }
   where
     far : ℕ → ℕ → Bool
@@ -178,19 +171,8 @@ hung-cuts {m} {n} {B} leaf other lanes path count st o h = record {
     same t k q d = rw (h .hangs k (omega arith) q, has-put (getD path (getD other k 0) 0) k t, ne-eqb t k (λ e. d (sym e)))
 
     differ : (t : ℕ) → t < count → far t (getD leaf t 0) ≢ far t (getD other t 0)
-    differ t p e =
-        let on : far t (getD leaf t 0) ≡ true = rw (h .hangs t (omega arith) p, has-put (getD path (getD other t 0) 0) t t, eq-eqb t t refl) in
+    differ t p e = let on : far t (getD leaf t 0) ≡ true = rw (h .hangs t (omega arith) p, has-put (getD path (getD other t 0) 0) t t, eq-eqb t t refl) in
         omega (arith, above o (low t p) p t (sym e ∙ on))
-
-    by-ends-across : (t : ℕ) → Ends m (strikeOf leaf other lanes t) → far t (getD leaf t 0) ≢ far t (getD other t 0)
-        → far t (laneAt (getD lanes t 0) .row) ≢ far t (m + laneAt (getD lanes t 0) .col)
-    by-ends-across t (row-struck a b) d = rw (a, b) at d
-    by-ends-across t (column-struck a b) d = λ e. (rw (a, b) at d) (sym e)
-
-    by-ends-along : (t k : ℕ) → Ends m (strikeOf leaf other lanes k) → far t (getD leaf k 0) ≡ far t (getD other k 0)
-        → far t (laneAt (getD lanes k 0) .row) ≡ far t (m + laneAt (getD lanes k 0) .col)
-    by-ends-along t k (row-struck a b) e = rw (a, b) at e
-    by-ends-along t k (column-struck a b) e = sym (rw (a, b) at e)
 
 -- ---- the cuts from the paths
 
@@ -210,21 +192,12 @@ turning-start path zeros l z = record { long = l; each = λ t x. rw (z t, le-ltb
 pub turning-step : {path sub sub′ : List ℕ} {p : ℕ} → Turning path p sub → Grafted sub (getD path p 0) (put 0 p) sub′ → Turning path (p + 1) sub′
 turning-step {path} {sub} {sub′} {p} w g = record {
   long = g .long ∙ w .long;
-  each = λ t x. grafted-bit (put 0 p) g t x ∙ (rw (has-one p x, w .each t x))
-      ∙ by-cases (ℕ-discrete x p) (here t x) (there t x);
+  each = λ t x. grafted-bit (put 0 p) g t x ∙ rw (has-one p x, w .each t x) (by-cases (ℕ-discrete x p)
+      (λ e. rw (e, le-ltb p p (omega arith), lt-ltb p (p + 1) (omega arith), eq-eqb p p refl, and-true (has (getD path p 0) t)) (xor-of _))
+      (λ d. rw (ne-eqb x p d, and-false (has (getD path p 0) t), xor-false (ltb x p && has (getD path x 0) t)) (by-cases (decLt x p)
+      (λ l. rw (lt-ltb x p l, lt-ltb x (p + 1) (omega arith)))
+      (λ l. rw (le-ltb x p (omega arith), le-ltb x (p + 1) (omega arith))))));
 }
-  where
-    here : (t x : ℕ) → x ≡ p → xor (ltb x p && has (getD path x 0) t) (has (getD path p 0) t && eqb x p) ≡ ltb x (p + 1) && has (getD path x 0) t
-    here t x e = rw (e, le-ltb p p (omega arith), lt-ltb p (p + 1) (omega arith), eq-eqb p p refl, and-true (has (getD path p 0) t))
-        (xor-of (has (getD path p 0) t))
-
-    there : (t x : ℕ) → x ≢ p → xor (ltb x p && has (getD path x 0) t) (has (getD path p 0) t && eqb x p) ≡ ltb x (p + 1) && has (getD path x 0) t
-    there t x d = rw (ne-eqb x p d, and-false (has (getD path p 0) t), xor-false (ltb x p && has (getD path x 0) t))
-        (ap (λ b. b && has (getD path x 0) t) (bound (decLt x p)))
-      where
-        bound : Dec (x < p) → ltb x p ≡ ltb x (p + 1)
-        bound (yes l) = rw (lt-ltb x p l, lt-ltb x (p + 1) (omega arith))
-        bound (no l) = rw (le-ltb x p (omega arith), le-ltb x (p + 1) (omega arith))
 
 -- ---- planted
 
@@ -238,12 +211,7 @@ planted {m} {n} {B} leaf other lanes path sub count c l st o h w = record {
   cuts = rw (← c) (hung-cuts leaf other lanes path count st o h);
   slots = λ p t q e. by-cases (ℕ-discrete p 0)
       (λ z. clash (ap (λ (x : ℕ). has x t) (sym (ap (λ (j : ℕ). getD path j 0) z ∙ h .root)) ∙ e) (has-zero t))
-      (λ z. at p t e (st .leaves p z q));
+      (λ z. let (s, mem, is) = st .leaves p z q in let (k, r, i) = strike-index leaf other lanes count mem in
+      omega (arith, h .within k t (omega arith) r (rw (← ap (λ (v : Strike). v .leaf) i, is) e)));
   turns = λ t p q. w .each t p;
 }
-  where
-    at : (p t : ℕ) → has (getD path p 0) t ≡ true → (s : Strike) × List·Memᴰ s (strikesOf leaf other lanes count) × (s .leaf ≡ p) → t < m + n - 1
-    at p t e (s, mem, is) = go (strike-index leaf other lanes count mem)
-      where
-        go : (k : ℕ) × (k < count) × (s ≡ strikeOf leaf other lanes k) → t < m + n - 1
-        go (k, q, r) = omega (arith, h .within k t (omega arith) q (rw (← ap (λ (v : Strike). v .leaf) r, is) e))

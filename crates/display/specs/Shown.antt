@@ -1,6 +1,6 @@
 -- What is shown of a sheet that was read, and of a text that is no sheet text.
-use Rattle.prelude.specs.Words.{_≡_, refl, sym, ap, _∙_, by-cases, Bool, Option, none, some, List, [], _∷_, _++_, ℕ, suc, min, _*_, _-_, _≤_, arith, decLe}
-use Rattle.prelude.specs.Words.{length, take, take-all, eq-eqb, by-test, by-option}
+use Rattle.prelude.specs.Words.{_≡_, refl, sym, ap, _∙_, by-cases, Bool, none, some, List, [], _∷_, _++_, ℕ, suc, min, _*_, _-_, _≤_, arith, decLe, length}
+use Rattle.prelude.specs.Words.{take, take-all, eq-eqb, by-test, by-option}
 use Rattle.transport.specs.declared.WriteAnswer.the-variants.{Written, Refused}
 use Rattle.transport.specs.Limits.{maxSources, maxSinks, maxText}
 use Rattle.transport.specs.Sheet.{Sheet, sheetTests, numberTests, badSides, badLength, badAmount, badCost, lacking, crowded, idle, refusal}

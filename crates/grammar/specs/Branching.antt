@@ -3,7 +3,7 @@
 use Rattle.prelude.specs.Words.{_≡_, refl, sym, _∙_, ap, _⊎_, inl, inr, true, false, cond, List, [], _∷_, _++_, ℕ, arith, eqb, eqb-true, eq-eqb, ne-eqb}
 use Rattle.prelude.specs.Words.{by-test}
 use Rattle.transport.specs.SheetText.{stuck, got, Reader}
-use Rattle.grammar.specs.Exact.{Exact, Taken, Stopped, Any}
+use Rattle.grammar.specs.Exact.{Exact, Taken, Stopped, Any, stopped-there, stopped-behind}
 
 module _ {A : Type 0} where
   unfoldable pub branch : ℕ → Reader A → Reader A → Reader A
@@ -36,8 +36,7 @@ module _ {A : Type 0} (b : ℕ) {r s : Reader A} {L M : A → List ℕ → Type 
 
   other-takes : (a : A) (t rest : List ℕ) → M a t → branch b r s (t ++ rest) ≡ got a rest
   other-takes a [] rest m = absurd (some a m)
-  other-takes a (d ∷ t) rest m =
-      let other : ¬ (b ≡ d) = λ e. apart a t (rw e m) in
+  other-takes a (d ∷ t) rest m = let other : ¬ (b ≡ d) = λ e. apart a t (rw e m) in
       branch-else b r s d (t ++ rest) (ne-eqb b d other) ∙ y .takes a (d ∷ t) rest m tt
 
   branch-takes : (a : A) (t rest : List ℕ) → Either a t → Any rest → branch b r s (t ++ rest) ≡ got a rest
@@ -48,8 +47,7 @@ module _ {A : Type 0} (b : ℕ) {r s : Reader A} {L M : A → List ℕ → Type 
   begun d e t = ap (λ (z : ℕ). z ∷ t) (sym (eqb-true b d e))
 
   branch-taken : (text : List ℕ) (a : A) (rest : List ℕ) → branch b r s text ≡ got a rest → Taken Either Any a text rest
-  branch-taken [] a rest e =
-      let h = y .taken [] a rest (sym (branch-none b r s) ∙ e) in
+  branch-taken [] a rest e = let h = y .taken [] a rest (sym (branch-none b r s) ∙ e) in
       record { part = h .part; member = inr (h .member); split = h .split; after = tt }
   branch-taken (d ∷ t) a rest e = by-test (eqb b d)
       (λ f.
@@ -70,50 +68,23 @@ module _ {A : Type 0} (b : ℕ) {r s : Reader A} {L M : A → List ℕ → Type 
   other-closed d t rest f h c old new e = go (h .part) (h .split) (h .closed c old new e)
     where
       go : (p : List ℕ) → d ∷ t ≡ p ++ rest → s (p ++ c ∷ new) ≡ stuck (c ∷ new) → branch b r s (p ++ c ∷ new) ≡ stuck (c ∷ new)
-      go [] g k =
-          let whole : d ∷ t ≡ c ∷ old = g ∙ e in
-          let same : d ≡ c = cc in
-          branch-else b r s c new (rw (← same) f) ∙ k
-      go (q ∷ p) g k =
-          let same : d ≡ q = cc in
-          branch-else b r s q (p ++ c ∷ new) (rw (← same) f) ∙ k
+      go [] g k = let whole : d ∷ t ≡ c ∷ old = g ∙ e in let same : d ≡ c = cc in branch-else b r s c new (rw (← same) f) ∙ k
+      go (q ∷ p) g k = let same : d ≡ q = cc in branch-else b r s q (p ++ c ∷ new) (rw (← same) f) ∙ k
 
   branch-stopped : (text rest : List ℕ) → branch b r s text ≡ stuck rest → Stopped (branch b r s) Either text rest
-  branch-stopped [] rest e =
-      let h = y .stopped [] rest (sym (branch-none b r s) ∙ e) in
-      record {
-        part = h .part;
-        split = h .split;
-        value = h .value;
-        more = h .more;
-        completed = inr (h .completed);
-        closed = λ c old new f. absurd (nothing-left (h .part) c old (h .split ∙ ap (λ (l : List ℕ). h .part ++ l) f));
-      }
+  branch-stopped [] rest e = let h = y .stopped [] rest (sym (branch-none b r s) ∙ e) in
+      stopped-there h (h .value) (h .more) (inr (h .completed))
+      (λ c old new f. absurd (nothing-left (h .part) c old (h .split ∙ ap (λ (l : List ℕ). h .part ++ l) f)))
     where
       nothing-left : (p : List ℕ) (c : ℕ) (old : List ℕ) → [] ≡ p ++ c ∷ old → ⊥
       nothing-left [] c old e = let n : _≡_ {A = ℕ} 0 1 = cc in omega arith
       nothing-left (q ∷ p) c old e = let n : _≡_ {A = ℕ} 0 1 = cc in omega arith
   branch-stopped (d ∷ t) rest e = by-test (eqb b d)
-      (λ f.
-      let h = x .stopped t rest (sym (branch-here b r s d t f) ∙ e) in
-      record {
-        part = d ∷ h .part;
-        split = ap (λ (l : List ℕ). d ∷ l) (h .split);
-        value = h .value;
-        more = h .more;
-        completed = inl (record { back = h .part ++ h .more; text = begun d f (h .part ++ h .more); member = h .completed });
-        closed = λ c old new i. branch-here b r s d (h .part ++ c ∷ new) f ∙ h .closed c old new i;
-      })
-      (λ f.
-      let h = y .stopped (d ∷ t) rest (sym (branch-else b r s d t f) ∙ e) in
-      record {
-        part = h .part;
-        split = h .split;
-        value = h .value;
-        more = h .more;
-        completed = inr (h .completed);
-        closed = other-closed d t rest f h;
-      })
+      (λ f. let h = x .stopped t rest (sym (branch-here b r s d t f) ∙ e) in
+      stopped-behind d h (inl (record { back = h .part ++ h .more; text = begun d f (h .part ++ h .more); member = h .completed }))
+      (λ z. branch-here b r s d z f))
+      (λ f. let h = y .stopped (d ∷ t) rest (sym (branch-else b r s d t f) ∙ e) in
+      stopped-there h (h .value) (h .more) (inr (h .completed)) (other-closed d t rest f h))
 
   pub branch-exact : Exact (branch b r s) Either Any
   branch-exact = record { takes = branch-takes; taken = branch-taken; stopped = branch-stopped }

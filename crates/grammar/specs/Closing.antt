@@ -5,7 +5,8 @@ use Rattle.transport.specs.Text.{digits}
 use Rattle.transport.specs.SheetText.{Reading, stuck, got, Reader, _>>=_, _>>_, pure, byteThat, word, isDigit, digitValue, moreDigits}
 use Rattle.grammar.specs.Digits.{value-of}
 use Rattle.grammar.specs.Numeral.{value, Follows, Numeral}
-use Rattle.grammar.specs.Exact.{Exact, Taken, Stopped, Any, Then, glued, bind, then, reworded, agreeing, stuck≢got}
+use Rattle.grammar.specs.Exact.{Exact, Taken, Stopped, Any, Then, glued, bind, then, reworded, agreeing, stuck≢got, by-reading, stopped-at-once}
+use Rattle.grammar.specs.Exact.{stopped-behind}
 use Rattle.grammar.specs.Readers.{Only, pure-exact, Byte, byte-exact, Bytes, word-exact, Of}
 
 -- A number, and the byte c after it.
@@ -18,24 +19,14 @@ closedBy c r = do
 -- The byte after a number may be read with the number ..
 pub spaced : {A B : Type 0} (c : ℕ) (r : Reader A) (f : A → Reader B) (t : List ℕ) → (closedBy c r >>= f) t ≡ (r >>= (λ x. word (c ∷ []) >> f x)) t
 unfolding closedBy _>>=_ _>>_ pure
-spaced c r f t = go (r t) refl
-  where
-    inner : (x : _) (z : List ℕ) (o : Reading (Unit {0})) → word (c ∷ []) z ≡ o → ((word (c ∷ []) >> pure x) >>= f) z ≡ (word (c ∷ []) >> f x) z
-    inner x z (stuck rest) d = rw (d, _>>_, _>>=_)
-    inner x z (got u rest) d = rw (d, _>>_, _>>=_)
-
-    go : (o : Reading _) → r t ≡ o → (closedBy c r >>= f) t ≡ (r >>= (λ x. word (c ∷ []) >> f x)) t
-    go (stuck rest) e = rw (e, _>>=_)
-    go (got x z) e = rw (e, _>>=_) (inner x z (word (c ∷ []) z) refl)
+spaced c r f t = by-reading (r t) (λ rest e. rw (e, _>>=_)) (λ x z e. rw (e, _>>=_) (by-reading (word (c ∷ []) z)
+    (λ rest d. rw (d, _>>_, _>>=_))
+    (λ u rest d. rw (d, _>>_, _>>=_))))
 
 -- .. or with its last part.
 pub closed-later : {A B : Type 0} (c : ℕ) (r : Reader A) (f : A → Reader B) (t : List ℕ) → (r >>= (λ b. closedBy c (f b))) t ≡ closedBy c (r >>= f) t
 unfolding closedBy _>>=_
-closed-later c r f t = go (r t) refl
-  where
-    go : (o : Reading _) → r t ≡ o → (r >>= (λ b. closedBy c (f b))) t ≡ closedBy c (r >>= f) t
-    go (stuck rest) e = rw (e, _>>=_)
-    go (got b rest) e = rw (e, _>>=_)
+closed-later c r f t = by-reading (r t) (λ rest e. rw (e, _>>=_)) (λ b rest e. rw (e, _>>=_))
 
 -- ---- the digits after the first
 
@@ -103,12 +94,7 @@ module _ (test : ℕ → Bool) (c : ℕ) (plain : isDigit c ≡ false) where
     longer : (b : ℕ) → isDigit b ≡ true → test (x * 10 + digitValue b) ≡ true → (y : ℕ) (t : List ℕ)
         → Tail test c k (x * 10 + digitValue b) y t → Tail test c (suc k) x y (b ∷ t)
     unfolding value
-    longer b d p y t h = record {
-      ds = b ∷ h .ds;
-      follows = (d, p, h .follows);
-      whole = h .whole;
-      written = ap (λ (l : List ℕ). b ∷ l) (h .written);
-    }
+    longer b d p y t h = record { ds = b ∷ h .ds; follows = (d, p, h .follows); whole = h .whole; written = ap (λ (l : List ℕ). b ∷ l) (h .written) }
 
     tail-takes : (y : ℕ) (t rest : List ℕ) → Tail test c (suc k) x y t → Any rest → closedBy c (moreDigits test (suc k) x) (t ++ rest) ≡ got y rest
     unfolding value
@@ -116,12 +102,8 @@ module _ (test : ℕ → Bool) (c : ℕ) (plain : isDigit c ≡ false) where
       where
         go : (ds : List ℕ) → Follows test (suc k) x ds → y ≡ value x ds → t ≡ ds ++ (c ∷ []) → closedBy c (moreDigits test (suc k) x) (t ++ rest) ≡ got y rest
         go [] f e g = rw g (more-last k x c rest (rw plain) ∙ last-exact x .takes y (c ∷ []) rest (e, refl) tt)
-        go (b ∷ ds) f e g =
-            let both : isDigit b && test (x * 10 + digitValue b) ≡ true = and-eq-true-iff _ _ .1 (f .0, f .1) in
-            let z = x * 10 + digitValue b in
-            rw
-            g
-            (more-digit k x b ((ds ++ (c ∷ [])) ++ rest) both
+        go (b ∷ ds) f e g = let both : isDigit b && test (x * 10 + digitValue b) ≡ true = and-eq-true-iff _ _ .1 (f .0, f .1) in
+            let z = x * 10 + digitValue b in rw g (more-digit k x b ((ds ++ (c ∷ [])) ++ rest) both
             ∙ ih z .takes y (ds ++ (c ∷ [])) rest (record { ds = ds; follows = f .2; whole = e; written = refl }) tt)
 
     tail-taken : (text : List ℕ) (y : ℕ) (rest : List ℕ) → closedBy c (moreDigits test (suc k) x) text ≡ got y rest
@@ -143,58 +125,24 @@ module _ (test : ℕ → Bool) (c : ℕ) (plain : isDigit c ≡ false) where
 
     tail-stopped : (text rest : List ℕ) → closedBy c (moreDigits test (suc k) x) text ≡ stuck rest
         → Stopped (closedBy c (moreDigits test (suc k) x)) (Tail test c (suc k) x) text rest
-    tail-stopped [] rest e =
-        let same : _≡_ {A = Reading ℕ} (stuck rest) (stuck []) = sym e ∙ more-end k x ∙ last-end x in
-        let none : rest ≡ [] = cc in
-        record {
-          part = [];
-          split = sym none;
-          value = x;
-          more = c ∷ [];
-          completed = closed x (c ∷ []) (refl, refl);
-          closed = λ b old new f. let n : _≡_ {A = ℕ} 0 1 = cc in absurd (omega arith);
-        }
-    tail-stopped (b ∷ t) rest e = go (isDigit b && test (x * 10 + digitValue b)) (eqb c b) refl refl
-      where
-        go : (o p : Bool) → isDigit b && test (x * 10 + digitValue b) ≡ o → eqb c b ≡ p
-            → Stopped (closedBy c (moreDigits test (suc k) x)) (Tail test c (suc k) x) (b ∷ t) rest
-        go true p f g =
-            let h = ih (x * 10 + digitValue b) .stopped t rest (sym (more-digit k x b t f) ∙ e) in
-            let both = and-eq-true-iff (isDigit b) (test (x * 10 + digitValue b)) .0 f in
-            record {
-              part = b ∷ h .part;
-              split = ap (λ (l : List ℕ). b ∷ l) (h .split);
-              value = h .value;
-              more = h .more;
-              completed = longer b (both .0) (both .1) (h .value) (h .part ++ h .more) (h .completed);
-              closed = λ d old new i. more-digit k x b (h .part ++ d ∷ new) f ∙ h .closed d old new i;
-            }
-        go false true f g = absurd (stuck≢got (sym e ∙ more-last k x b t f ∙ last-same x b t g))
-        go false false f g =
-            let same : _≡_ {A = Reading ℕ} (stuck rest) (stuck (b ∷ t)) = sym e ∙ more-last k x b t f ∙ last-other x b t g in
-            let whole : b ∷ t ≡ rest = cc in
-            record {
-              part = [];
-              split = whole;
-              value = x;
-              more = c ∷ [];
-              completed = closed x (c ∷ []) (refl, refl);
-              closed = λ d old new i.
-                  let first : d ≡ b = cc in
-                  rw first (more-last k x b new f ∙ last-other x b new g);
-            }
+    tail-stopped [] rest e = let same : _≡_ {A = Reading ℕ} (stuck rest) (stuck []) = sym e ∙ more-end k x ∙ last-end x in
+        let none : [] ≡ rest = cc in
+        stopped-at-once none x (c ∷ []) (closed x (c ∷ []) (refl, refl)) (λ b old new f. let n : _≡_ {A = ℕ} 0 1 = cc in absurd (omega arith))
+    tail-stopped (b ∷ t) rest e = by-test (isDigit b && test (x * 10 + digitValue b))
+        (λ f. let h = ih (x * 10 + digitValue b) .stopped t rest (sym (more-digit k x b t f) ∙ e) in
+        let both = and-eq-true-iff (isDigit b) (test (x * 10 + digitValue b)) .0 f in
+        stopped-behind b h (longer b (both .0) (both .1) (h .value) (h .part ++ h .more) (h .completed)) (λ z. more-digit k x b z f))
+        (λ f. by-test (eqb c b)
+        (λ g. absurd (stuck≢got (sym e ∙ more-last k x b t f ∙ last-same x b t g)))
+        (λ g. let same : _≡_ {A = Reading ℕ} (stuck rest) (stuck (b ∷ t)) = sym e ∙ more-last k x b t f ∙ last-other x b t g in
+        let whole : b ∷ t ≡ rest = cc in stopped-at-once whole x (c ∷ []) (closed x (c ∷ []) (refl, refl))
+        (λ d old new i. let first : d ≡ b = cc in rw first (more-last k x b new f ∙ last-other x b new g))))
 
   -- By k: a digit that may come leads to the same with one digit less, and any other byte is c or refused.
   tail-exact : (k x : ℕ) → Exact (closedBy c (moreDigits test k x)) (Tail test c k x) Any
-  tail-exact zero x =
-      reworded
-      (none-iff x)
+  tail-exact zero x = reworded (none-iff x)
       (agreeing (word (c ∷ []) >> pure x) (closedBy c (moreDigits test zero x)) (λ t. sym (more-none x t)) (last-exact x))
-  tail-exact (suc k) x = record {
-    takes = tail-takes k x (tail-exact k);
-    taken = tail-taken k x (tail-exact k);
-    stopped = tail-stopped k x (tail-exact k);
-  }
+  tail-exact (suc k) x = record { takes = tail-takes k x (tail-exact k); taken = tail-taken k x (tail-exact k); stopped = tail-stopped k x (tail-exact k) }
 
 -- ---- the first digit
 
@@ -212,11 +160,7 @@ BegunNumber c head test room = Then (Byte head) (λ b. Tail test c (room b) (dig
 pub first-exact : (c : ℕ) → isDigit c ≡ false → (head test : ℕ → Bool) (room : ℕ → ℕ) (b : ℕ) → head b ≡ true
     → Exact (closedBy c (first-then head test room)) (BegunNumber c head test room) Any
 unfolding first-then
-first-exact c plain head test room b e =
-    agreeing
-    _
-    _
-    (closed-later c (byteThat head) (λ d. moreDigits test (room d) (digitValue d)))
+first-exact c plain head test room b e = agreeing _ _ (closed-later c (byteThat head) (λ d. moreDigits test (room d) (digitValue d)))
     (bind (byte-exact head b e) (λ d. tail-exact test c plain (room d) (digitValue d)))
 
 -- A text of this kind that is known to hold the digits of n.
@@ -232,12 +176,7 @@ numeral-begun c head test room k n t x e r w = record {
   front = (48 + x .first) ∷ [];
   back = x .rest ++ (c ∷ []);
   first = (e, refl);
-  second = record {
-    ds = x .rest;
-    follows = rw (r, value-of (x .first)) (x .follows);
-    whole = rw (value-of (x .first)) (sym (x .whole));
-    written = refl;
-  };
+  second = record { ds = x .rest; follows = rw (r, value-of (x .first)) (x .follows); whole = rw (value-of (x .first)) (sym (x .whole)); written = refl };
   joined = w ∙ rw (x .written);
 }
 

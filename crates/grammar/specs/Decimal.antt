@@ -1,6 +1,6 @@
 -- The digits of a number are its one decimal numeral with no leading 0, of whatever length (paper 01, "Texts"), and a cost may have a minus before it.
 use Rattle.prelude.specs.Words.{_≡_, refl, sym, _∙_, ap, _↔_, _⊎_, inl, inr, Bool, true, List, [], _∷_, ℕ, zero, suc, _+_, _*_, _^_, _≤_, _<_, arith, decLt, ℤ}
-use Rattle.prelude.specs.Words.{pos, negsuc, negℤ, length}
+use Rattle.prelude.specs.Words.{pos, negsuc, negℤ, length, by-cases}
 use mathlib.Core.List.{head-eq-of-cons-eq}
 use Rattle.transport.specs.Text.{bytes, digits, wholeDigits}
 use Rattle.transport.specs.SheetText.{isDigit, digitValue}
@@ -28,15 +28,10 @@ below-power zero = omega arith
 below-power (suc n) = omega (arith, below-power n)
 
 pub digits-decimal : (n : ℕ) → Decimal (digits n)
-digits-decimal zero =
-    rw
-    (digits-small 0 (omega arith))
+digits-decimal zero = rw (digits-small 0 (omega arith))
     (record { digit = (digit-of 0 (omega arith), tt); some = omega arith; leading = λ more e. let h : [] ≡ more = cc in sym h })
-digits-decimal (suc n) =
-    let x = numeral (λ y. true) (λ y l e. refl) (suc n) (suc n) (omega arith) (below-power (suc n)) refl in
-    rw
-    (x .written)
-    (record {
+digits-decimal (suc n) = let x = numeral (λ y. true) (λ y l e. refl) (suc n) (suc n) (omega arith) (below-power (suc n)) refl in
+    rw (x .written) (record {
       digit = (digit-of (x .first) (x .small), follows-every (λ y. true) (suc n) (x .first) (x .rest) (x .follows));
       some = omega arith;
       leading = λ more e. absurd (omega (arith, x .above, head-eq-of-cons-eq e));
@@ -45,20 +40,11 @@ digits-decimal (suc n) =
 pub decimal-digits : (ds : List ℕ) → Decimal ds → digits (value 0 ds) ≡ ds
 unfolding value
 decimal-digits [] h = absurd (omega (arith, h .some))
-decimal-digits (b ∷ ds) h = go (decLt (digitValue b) 1)
-  where
-    v : (48 + digitValue b ≡ b) × (digitValue b < 10)
-    v = digit-value b (h .digit .0)
-
-    start : 0 * 10 + digitValue b ≡ digitValue b
-    start = omega arith
-
-    go : Dec (digitValue b < 1) → digits (value (0 * 10 + digitValue b) ds) ≡ b ∷ ds
-    go (yes z) =
-        let e : b ≡ 48 = omega (arith, v .0) in
-        let none : ds ≡ [] = h .leading ds (ap (λ (x : ℕ). x ∷ ds) e) in
-        rw (start, none) (digits-small (digitValue b) (v .1) ∙ rw (v .0))
-    go (no z) = rw start (first-digits (λ x. true) (length ds) b ds (h .digit .0) (omega arith) (every-follows (digitValue b) ds (h .digit .1)))
+decimal-digits (b ∷ ds) h = let (v, s) = digit-value b (h .digit .0) in let start : 0 * 10 + digitValue b ≡ digitValue b = omega arith in
+    rw start (by-cases (decLt (digitValue b) 1)
+    (λ z. let e : b ≡ 48 = omega arith in let none : ds ≡ [] = h .leading ds (ap (λ (x : ℕ). x ∷ ds) e) in
+    rw none (digits-small (digitValue b) s ∙ rw v))
+    (λ z. first-digits (λ x. true) (length ds) b ds (h .digit .0) (omega arith) (every-follows (digitValue b) ds (h .digit .1))))
 
 -- What is written of a number is such a numeral.
 pub digits-iff : (n : ℕ) (ds : List ℕ) → (ds ≡ digits n) ↔ Decimal ds × (value 0 ds ≡ n)

@@ -1,6 +1,6 @@
 -- Laws of decimal digits: how they grow, how many there are, and the number that they give back.
-use Rattle.prelude.specs.Words.{_≡_, refl, sym, _∙_, ap, _↔_, Bool, true, false, List, [], _∷_, _++_, ℕ, zero, suc, _+_, _*_, _/_, _%_, _^_, _≤_, _<_, arith}
-use Rattle.prelude.specs.Words.{decLt, ltb, eqb, length, length-append, ltb-true, ltb-false, by-test}
+use Rattle.prelude.specs.Words.{_≡_, sym, _∙_, ap, _↔_, true, List, [], _∷_, _++_, ℕ, zero, suc, _+_, _*_, _/_, _%_, _^_, _≤_, _<_, arith, decLt, ltb, eqb}
+use Rattle.prelude.specs.Words.{length, length-append, ltb-true, ltb-false, by-test, by-cases}
 use Rattle.transport.specs.Lists.{within}
 use Rattle.transport.specs.Text.{kindOf, digitsUpTo, digits}
 use Rattle.transport.specs.SheetText.{isDigit, digitValue}
@@ -20,13 +20,10 @@ upTo-large k n h = by-test (ltb n 10) (λ e. absurd (omega (arith, ltb-true n 10
 upTo-enough : (k l n : ℕ) → n < k → n < l → digitsUpTo k n ≡ digitsUpTo l n
 upTo-enough zero l n h i = absurd (omega arith)
 upTo-enough (suc k) zero n h i = absurd (omega arith)
-upTo-enough (suc k) (suc l) n h i = go (decLt n 10) (upTo-enough k l (n / 10))
-  where
-    go : Dec (n < 10) → (n / 10 < k → n / 10 < l → digitsUpTo k (n / 10) ≡ digitsUpTo l (n / 10)) → digitsUpTo (suc k) n ≡ digitsUpTo (suc l) n
-    go (yes s) ih = upTo-small k n s ∙ sym (upTo-small l n s)
-    go (no s) ih =
-        let e : digitsUpTo k (n / 10) ≡ digitsUpTo l (n / 10) = ih (omega arith) (omega arith) in
-        upTo-large k n (omega arith) ∙ ap (λ (ds : List ℕ). ds ++ ((48 + n % 10) ∷ [])) e ∙ sym (upTo-large l n (omega arith))
+upTo-enough (suc k) (suc l) n h i = by-cases (decLt n 10)
+    (λ s. upTo-small k n s ∙ sym (upTo-small l n s))
+    (λ s. let e : digitsUpTo k (n / 10) ≡ digitsUpTo l (n / 10) = upTo-enough k l (n / 10) (omega arith) (omega arith) in
+    upTo-large k n (omega arith) ∙ rw e (sym (upTo-large l n (omega arith))))
 
 pub digits-small : (n : ℕ) → n < 10 → digits n ≡ (48 + n) ∷ []
 unfolding digits
@@ -34,24 +31,16 @@ digits-small n h = upTo-small n n h
 
 pub digits-large : (n : ℕ) → 10 ≤ n → digits n ≡ digits (n / 10) ++ ((48 + n % 10) ∷ [])
 unfolding digits
-digits-large n h =
-    upTo-large n n h
-    ∙ ap (λ (ds : List ℕ). ds ++ ((48 + n % 10) ∷ [])) (upTo-enough n (suc (n / 10)) (n / 10) (omega arith) (omega arith))
+digits-large n h = upTo-large n n h ∙ ap (λ (ds : List ℕ). ds ++ ((48 + n % 10) ∷ [])) (upTo-enough n (suc (n / 10)) (n / 10) (omega arith) (omega arith))
 
 pub digits-push : (x d : ℕ) → 1 ≤ x → d < 10 → digits (x * 10 + d) ≡ digits x ++ ((48 + d) ∷ [])
-digits-push x d h k =
-    let q : (x * 10 + d) / 10 ≡ x = omega arith in
-    let m : (x * 10 + d) % 10 ≡ d = omega arith in
+digits-push x d h k = let q : (x * 10 + d) / 10 ≡ x = omega arith in let m : (x * 10 + d) % 10 ≡ d = omega arith in
     digits-large (x * 10 + d) (omega arith) ∙ rw (q, m)
 
 -- ---- how many there are
 
 pub digits-some : (n : ℕ) → 1 ≤ length (digits n)
-digits-some n = go (decLt n 10)
-  where
-    go : Dec (n < 10) → 1 ≤ length (digits n)
-    go (yes s) = rw (digits-small n s) (omega arith)
-    go (no s) = rw (digits-large n (omega arith)) (simp length-append (omega arith))
+digits-some n = by-cases (decLt n 10) (λ s. rw (digits-small n s) (omega arith)) (λ s. rw (digits-large n (omega arith)) (simp length-append (omega arith)))
 
 power-some : (k : ℕ) → 1 ≤ 10 ^ k
 power-some zero = omega arith
@@ -59,34 +48,21 @@ power-some (suc k) = omega (arith, power-some k)
 
 -- At most k digits, for k from 1, exactly if n is below the k-th power of ten.
 pub digits-length : (k n : ℕ) → (length (digits n) ≤ suc k) ↔ (n < 10 ^ suc k)
-digits-length zero n = go (decLt n 10)
-  where
-    go : Dec (n < 10) → (length (digits n) ≤ 1) ↔ (n < 10 ^ 1)
-    go (yes s) = rw (digits-small n s) (omega arith)
-    go (no s) = rw (digits-large n (omega arith)) (simp length-append (omega (arith, digits-some (n / 10))))
-digits-length (suc k) n = go (decLt n 10) (digits-length k (n / 10))
-  where
-    go : Dec (n < 10) → (length (digits (n / 10)) ≤ suc k) ↔ (n / 10 < 10 ^ suc k) → (length (digits n) ≤ suc (suc k)) ↔ (n < 10 ^ suc (suc k))
-    go (yes s) ih = rw (digits-small n s) (omega (arith, power-some k))
-    go (no s) ih =
-        rw
-        (digits-large n (omega arith))
-        (simp
-        length-append
-        (λ h. let l : n / 10 < 10 ^ suc k = ih .0 (omega arith) in omega arith, λ h. omega (arith, ih .1 (omega arith))))
+digits-length zero n = by-cases (decLt n 10)
+    (λ s. rw (digits-small n s) (omega arith))
+    (λ s. rw (digits-large n (omega arith)) (simp length-append (omega (arith, digits-some (n / 10)))))
+digits-length (suc k) n = let ih = digits-length k (n / 10) in by-cases (decLt n 10)
+    (λ s. rw (digits-small n s) (omega (arith, power-some k)))
+    (λ s. rw (digits-large n (omega arith)) (simp length-append
+    (λ h. let l : n / 10 < 10 ^ suc k = ih .0 (omega arith) in omega arith, λ h. omega (arith, ih .1 (omega arith)))))
 
 -- ---- a digit and its value
 
 pub digit-within : (b : ℕ) → isDigit b ≡ within 48 57 b
 unfolding isDigit kindOf
-digit-within b = go (within 48 57 b) (eqb b 32) (eqb b 10) (within 97 122 b) refl refl refl refl
-  where
-    go : (o p q r : Bool) → within 48 57 b ≡ o → eqb b 32 ≡ p → eqb b 10 ≡ q → within 97 122 b ≡ r → isDigit b ≡ within 48 57 b
-    go true p q r e f g h = rw (e, isDigit)
-    go false true q r e f g h = rw (e, f, isDigit)
-    go false false true r e f g h = rw (e, f, g, isDigit)
-    go false false false true e f g h = rw (e, f, g, h, isDigit)
-    go false false false false e f g h = rw (e, f, g, h, isDigit)
+digit-within b = by-test (within 48 57 b) (λ e. rw (e, isDigit)) (λ e. by-test (eqb b 32) (λ f. rw (e, f, isDigit))
+    (λ f. by-test (eqb b 10) (λ g. rw (e, f, g, isDigit))
+    (λ g. by-test (within 97 122 b) (λ h. rw (e, f, g, h, isDigit)) (λ h. rw (e, f, g, h, isDigit)))))
 
 digit-iff : (b : ℕ) → (isDigit b ≡ true) ↔ (48 ≤ b) × (b ≤ 57)
 digit-iff b = rw (digit-within b) (within-iff 48 57 b)

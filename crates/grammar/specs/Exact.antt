@@ -1,5 +1,5 @@
 -- Exact readers: they take the texts of a language and no others, and are stuck at the first byte with which no text of the language goes on.
-use Rattle.prelude.specs.Words.{_≡_, refl, sym, _∙_, ap, subst, fun-ext, _↔_, List, [], _∷_, _++_, append-assoc, ℕ, arith}
+use Rattle.prelude.specs.Words.{_≡_, refl, sym, _∙_, ap, subst, fun-ext, _↔_, List, [], _∷_, _++_, append-assoc, ℕ, arith, append-nil}
 use mathlib.Core.Path.{ap₂}
 use Rattle.transport.specs.SheetText.{Reading, stuck, got, Reader, _>>=_, _>>_}
 
@@ -47,12 +47,46 @@ pub joining : {A B : Type 0} {L : A → List ℕ → Type 0} {M : A → B → Li
     → L a front → M a b back → Then L M b (front ++ back)
 joining a front back h k = record { value = a; front = front; back = back; first = h; second = k; joined = refl }
 
+-- A text of L, and nothing after it.
+pub ending : {A B : Type 0} {L : A → List ℕ → Type 0} {M : A → B → List ℕ → Type 0} {b : B} (a : A) (t : List ℕ) → L a t → M a b [] → Then L M b t
+ending a t h k = record { value = a; front = t; back = []; first = h; second = k; joined = sym (append-nil t) }
+
 -- The two parts in other words.
 pub glued : {t front back left right : List ℕ} → t ≡ front ++ back → front ≡ left → back ≡ right → t ≡ left ++ right
 glued e p q = e ∙ ap₂ (λ (l m : List ℕ). l ++ m) p q
 
 pub stuck≢got : {A : Type 0} {a : A} {text rest : List ℕ} → stuck text ≡ got a rest → ⊥
 stuck≢got e = let n : _≡_ {A = ℕ} 0 1 = cc in omega arith
+
+-- A statement that holds whatever was read.
+pub by-reading : {A P : Type 0} (o : Reading A) → ((rest : List ℕ) → o ≡ stuck rest → P) → ((a : A) (rest : List ℕ) → o ≡ got a rest → P) → P
+by-reading (stuck rest) f g = f rest refl
+by-reading (got a rest) f g = g a rest refl
+
+-- ---- where a reader is stuck
+
+module _ {A : Type 0} {r : Reader A} {L : A → List ℕ → Type 0} where
+  -- It has read nothing.
+  pub stopped-at-once : {text rest : List ℕ} → text ≡ rest → (a : A) (more : List ℕ) → L a more
+      → ((b : ℕ) (old new : List ℕ) → rest ≡ b ∷ old → r (b ∷ new) ≡ stuck (b ∷ new)) → Stopped r L text rest
+  stopped-at-once e a more h k = record { part = []; split = e; value = a; more = more; completed = h; closed = k }
+
+  -- It has read what another reader has read that is stuck there ..
+  pub stopped-there : {B : Type 0} {s : Reader B} {M : B → List ℕ → Type 0} {text rest : List ℕ} (h : Stopped s M text rest) (a : A) (more : List ℕ)
+      → L a (h .part ++ more) → ((b : ℕ) (old new : List ℕ) → rest ≡ b ∷ old → r (h .part ++ b ∷ new) ≡ stuck (b ∷ new)) → Stopped r L text rest
+  stopped-there h a more l k = record { part = h .part; split = h .split; value = a; more = more; completed = l; closed = k }
+
+  -- .. or a byte d and this, if after d it does the same.
+  pub stopped-behind : {s : Reader A} {M : A → List ℕ → Type 0} {text rest : List ℕ} (d : ℕ) (h : Stopped s M text rest)
+      → L (h .value) (d ∷ (h .part ++ h .more)) → ((t : List ℕ) → r (d ∷ t) ≡ s t) → Stopped r L (d ∷ text) rest
+  stopped-behind d h l same = record {
+    part = d ∷ h .part;
+    split = ap (λ (z : List ℕ). d ∷ z) (h .split);
+    value = h .value;
+    more = h .more;
+    completed = l;
+    closed = λ b old new e. same (h .part ++ b ∷ new) ∙ h .closed b old new e;
+  }
 
 -- ---- one reader after another
 
@@ -72,11 +106,9 @@ record Inhabited {A : Type 0} (L : A → List ℕ → Type 0) : Type 0 where
 
 -- The language of an exact reader is not empty: on the empty text the reader takes one of its texts or begins one.
 inhabited : {A : Type 0} (r : Reader A) (L : A → List ℕ → Type 0) (After : List ℕ → Type 0) → Exact r L After → Inhabited L
-inhabited r L After x = go (r []) refl
-  where
-    go : (o : Reading _) → r [] ≡ o → Inhabited L
-    go (stuck rest) e = let h = x .stopped [] rest e in record { value = h .value; text = h .part ++ h .more; member = h .completed }
-    go (got a rest) e = let h = x .taken [] a rest e in record { value = a; text = h .part; member = h .member }
+inhabited r L After x = by-reading (r [])
+    (λ rest e. let h = x .stopped [] rest e in record { value = h .value; text = h .part ++ h .more; member = h .completed })
+    (λ a rest e. let h = x .taken [] a rest e in record { value = a; text = h .part; member = h .member })
 
 regroup : (text p z q rest : List ℕ) → text ≡ p ++ z → z ≡ q ++ rest → text ≡ (p ++ q) ++ rest
 regroup text p z q rest d e = rw (d, e, append-assoc)
@@ -84,72 +116,38 @@ regroup text p z q rest d e = rw (d, e, append-assoc)
 module _ {A B : Type 0} {r : Reader A} {s : A → Reader B} {L : A → List ℕ → Type 0} {M : A → B → List ℕ → Type 0} {After : List ℕ → Type 0}
     (x : Exact r L Any) (y : (a : A) → Exact (s a) (M a) After) where
   bind-takes : (b : B) (t rest : List ℕ) → Then L M b t → After rest → (r >>= s) (t ++ rest) ≡ got b rest
-  bind-takes b t rest h k =
-      let e : r (t ++ rest) ≡ got (h .value) (h .back ++ rest) =
-      rw (h .joined, append-assoc) (x .takes (h .value) (h .front) (h .back ++ rest) (h .first) tt)
-      in
+  bind-takes b t rest h k = let e : r (t ++ rest) ≡ got (h .value) (h .back ++ rest) =
+      rw (h .joined, append-assoc) (x .takes (h .value) (h .front) (h .back ++ rest) (h .first) tt) in
       bind-got r s (t ++ rest) (h .value) (h .back ++ rest) e ∙ y (h .value) .takes b (h .back) rest (h .second) k
 
   bind-taken : (text : List ℕ) (b : B) (rest : List ℕ) → (r >>= s) text ≡ got b rest → Taken (Then L M) After b text rest
-  bind-taken text b rest e = go (r text) refl
-    where
-      go : (o : Reading A) → r text ≡ o → Taken (Then L M) After b text rest
-      go (stuck z) d = absurd (stuck≢got (sym (bind-stuck r s text z d) ∙ e))
-      go (got a z) d =
-          let h = x .taken text a z d in
-          let k = y a .taken z b rest (sym (bind-got r s text a z d) ∙ e) in
-          record {
-            part = h .part ++ k .part;
-            member = record { value = a; front = h .part; back = k .part; first = h .member; second = k .member; joined = refl };
-            split = regroup text (h .part) z (k .part) rest (h .split) (k .split);
-            after = k .after;
-          }
+  bind-taken text b rest e = by-reading (r text) (λ z d. absurd (stuck≢got (sym (bind-stuck r s text z d) ∙ e)))
+      (λ a z d. let h = x .taken text a z d in let k = y a .taken z b rest (sym (bind-got r s text a z d) ∙ e) in
+      record {
+        part = h .part ++ k .part;
+        member = joining a (h .part) (k .part) (h .member) (k .member);
+        split = regroup text (h .part) z (k .part) rest (h .split) (k .split);
+        after = k .after;
+      })
 
   bind-stopped : (text rest : List ℕ) → (r >>= s) text ≡ stuck rest → Stopped (r >>= s) (Then L M) text rest
-  bind-stopped text rest e = go (r text) refl
-    where
-      go : (o : Reading A) → r text ≡ o → Stopped (r >>= s) (Then L M) text rest
-      go (stuck z) d =
-          let same : z ≡ rest = cc (bind-stuck r s text z d) in
-          let h = x .stopped text rest (d ∙ ap stuck same) in
-          let k = inhabited (s (h .value)) (M (h .value)) After (y (h .value)) in
-          record {
-            part = h .part;
-            split = h .split;
-            value = k .value;
-            more = h .more ++ k .text;
-            completed = record {
-              value = h .value;
-              front = h .part ++ h .more;
-              back = k .text;
-              first = h .completed;
-              second = k .member;
-              joined = rw append-assoc;
-            };
-            closed = λ b old new f. bind-stuck r s (h .part ++ b ∷ new) (b ∷ new) (h .closed b old new f);
-          }
-      go (got a z) d =
-          let h = x .taken text a z d in
-          let k = y a .stopped z rest (sym (bind-got r s text a z d) ∙ e) in
-          record {
-            part = h .part ++ k .part;
-            split = regroup text (h .part) z (k .part) rest (h .split) (k .split);
-            value = k .value;
-            more = k .more;
-            completed = record {
-              value = a;
-              front = h .part;
-              back = k .part ++ k .more;
-              first = h .member;
-              second = k .completed;
-              joined = append-assoc (h .part) (k .part) (k .more);
-            };
-            closed = λ b old new f.
-                let g : r ((h .part ++ k .part) ++ b ∷ new) ≡ got a (k .part ++ b ∷ new) =
-                rw append-assoc (x .takes a (h .part) (k .part ++ b ∷ new) (h .member) tt)
-                in
-                bind-got r s ((h .part ++ k .part) ++ b ∷ new) a (k .part ++ b ∷ new) g ∙ k .closed b old new f;
-          }
+  bind-stopped text rest e = by-reading (r text)
+      (λ z d. let same : z ≡ rest = cc (bind-stuck r s text z d) in let h = x .stopped text rest (d ∙ ap stuck same) in
+      let k = inhabited (s (h .value)) (M (h .value)) After (y (h .value)) in stopped-there h (k .value) (h .more ++ k .text)
+      (rw (← append-assoc) (joining (h .value) (h .part ++ h .more) (k .text) (h .completed) (k .member)))
+      (λ b old new f. bind-stuck r s (h .part ++ b ∷ new) (b ∷ new) (h .closed b old new f)))
+      (λ a z d. let h = x .taken text a z d in let k = y a .stopped z rest (sym (bind-got r s text a z d) ∙ e) in
+      record {
+        part = h .part ++ k .part;
+        split = regroup text (h .part) z (k .part) rest (h .split) (k .split);
+        value = k .value;
+        more = k .more;
+        completed = rw append-assoc (joining a (h .part) (k .part ++ k .more) (h .member) (k .completed));
+        closed = λ b old new f.
+            let g : r ((h .part ++ k .part) ++ b ∷ new) ≡ got a (k .part ++ b ∷ new) =
+            rw append-assoc (x .takes a (h .part) (k .part ++ b ∷ new) (h .member) tt) in
+            bind-got r s ((h .part ++ k .part) ++ b ∷ new) a (k .part ++ b ∷ new) g ∙ k .closed b old new f;
+      })
 
   -- Where the first reader is stuck, what it has read is completed to a text of its own and then by any text of the second; where the second is, the first
   -- takes the same part of every text that goes on so.
@@ -172,14 +170,7 @@ module _ {A : Type 0} {r : Reader A} {L M : A → List ℕ → Type 0} {After : 
         record { part = h .part; member = same a (h .part) .0 (h .member); split = h .split; after = h .after };
     stopped = λ text rest e.
         let h = x .stopped text rest e in
-        record {
-          part = h .part;
-          split = h .split;
-          value = h .value;
-          more = h .more;
-          completed = same (h .value) (h .part ++ h .more) .0 (h .completed);
-          closed = h .closed;
-        };
+        stopped-there h (h .value) (h .more) (same (h .value) (h .part ++ h .more) .0 (h .completed)) (h .closed);
   }
 
 -- A reader that does the same on every text.

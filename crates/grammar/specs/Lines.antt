@@ -5,7 +5,7 @@ use Rattle.transport.specs.Text.{bytes, kindOf, wholeDigits, numberLine, rowLin
 use Rattle.transport.specs.Limits.{maxSources, maxSinks}
 use Rattle.transport.specs.SheetText.{Reader, _>>=_, pure, isDigit, number, side, whole, line, row}
 use Rattle.grammar.specs.Numbers.{Side, Small, SmallWhole}
-use Rattle.grammar.specs.Exact.{Exact, Any, Then, glued, bind, then, reworded, agreeing}
+use Rattle.grammar.specs.Exact.{Exact, Any, Then, glued, joining, ending, bind, then, reworded, agreeing}
 use Rattle.grammar.specs.Every.{Count}
 use Rattle.grammar.specs.Readers.{Only, pure-exact, Bytes, word-exact, Of}
 use Rattle.grammar.specs.Closing.{closedBy, ClosedText, spaced}
@@ -47,26 +47,16 @@ module _ {A : Type 0} (Good : A → Type 0) (write : A → List ℕ) where
   row-none xs t = (λ h. rw (h .second .0) ((refl, tt), glued (h .joined) (h .first) (h .second .1)), back xs)
     where
       back : (ys : List A) → Row 0 ys t → Then (Bytes (bytes "\n")) (λ u. Only []) ys t
-      back [] h = record { value = tt; front = bytes "\n"; back = []; first = refl; second = (refl, refl); joined = h .1 ∙ rw append-nil }
+      back [] h = ending tt t (h .1) (refl, refl)
       back (y ∷ ys) h = absurd (omega arith)
 
   row-one : (xs : List A) (t : List ℕ) → Then (ClosedText Good write 10) (λ x. Only (x ∷ [])) xs t ↔ Row 1 xs t
   unfolding rowLine bytes
-  row-one xs t = (
-    λ h. rw (h .second .0) ((refl, (h .first .0, tt)), glued (h .joined) (h .first .1) (h .second .1) ∙ append-nil _),
-    back xs,
-  )
+  row-one xs t = (λ h. rw (h .second .0) ((refl, (h .first .0, tt)), glued (h .joined) (h .first .1) (h .second .1) ∙ append-nil _), back xs)
     where
       back : (ys : List A) → Row 1 ys t → Then (ClosedText Good write 10) (λ x. Only (x ∷ [])) ys t
       back [] h = absurd (omega arith)
-      back (y ∷ []) h = record {
-        value = y;
-        front = write y ++ (10 ∷ []);
-        back = [];
-        first = (h .0 .1 .0, refl);
-        second = (refl, refl);
-        joined = h .1 ∙ rw append-nil;
-      }
+      back (y ∷ []) h = rw (h .1) (ending y (write y ++ (10 ∷ [])) (h .0 .1 .0, refl) (refl, refl))
       back (y ∷ z ∷ ys) h = absurd (omega arith)
 
   abbrev Longer : ℕ → List A → List ℕ → Type 0
@@ -82,12 +72,9 @@ module _ {A : Type 0} (Good : A → Type 0) (write : A → List ℕ) where
   row-more n xs t = (there, back xs)
     where
       there : Longer n xs t → Row (suc (suc n)) xs t
-      there h =
-          let k = h .second in
-          let l : suc (length (k .value)) ≡ suc (suc n) = ap suc (k .first .0 .0) in
+      there h = let k = h .second in let l : suc (length (k .value)) ≡ suc (suc n) = ap suc (k .first .0 .0) in
           let e : h .back ≡ rowLine write (k .value) = glued (k .joined) (k .first .1) (k .second .1) ∙ append-nil _ in
-          rw
-          (k .second .0) (
+          rw (k .second .0) (
             (l, (h .first .0, k .first .0 .1)),
             glued (h .joined) (h .first .1) e ∙ sym (rowLine-cons (h .value) n (k .value) (k .first .0 .0)),
           )
@@ -95,34 +82,15 @@ module _ {A : Type 0} (Good : A → Type 0) (write : A → List ℕ) where
       back : (ys : List A) → Row (suc (suc n)) ys t → Longer n ys t
       back [] h = absurd (omega arith)
       back (y ∷ []) h = absurd (omega arith)
-      back (y ∷ z ∷ ys) h = record {
-        value = y;
-        front = write y ++ (32 ∷ []);
-        back = rowLine write (z ∷ ys);
-        first = (h .0 .1 .0, refl);
-        second = record {
-          value = z ∷ ys;
-          front = rowLine write (z ∷ ys);
-          back = [];
-          first = ((omega arith, h .0 .1 .1), refl);
-          second = (refl, refl);
-          joined = rw append-nil;
-        };
-        joined = h .1;
-      }
+      back (y ∷ z ∷ ys) h = rw (h .1) (joining y (write y ++ (32 ∷ [])) (rowLine write (z ∷ ys)) (h .0 .1 .0, refl)
+          (ending (z ∷ ys) (rowLine write (z ∷ ys)) ((omega arith, h .0 .1 .1), refl) (refl, refl)))
 
   module _ (r : Reader A) (last : Exact (line r) (ClosedText Good write 10) Any) (inner : Exact (closedBy 32 r) (ClosedText Good write 32) Any) where
     row-exact : (n : ℕ) → Exact (row r n) (Row n) Any
     unfolding row bytes
     row-exact zero = reworded row-none (then (word-exact (bytes "\n")) (pure-exact []))
     row-exact (suc zero) = reworded row-one (bind last (λ x. pure-exact (x ∷ [])))
-    row-exact (suc (suc n)) =
-        reworded
-        (row-more n)
-        (agreeing
-        _
-        _
-        (spaced 32 r (λ x. row r (suc n) >>= (λ xs. pure (x ∷ xs))))
+    row-exact (suc (suc n)) = reworded (row-more n) (agreeing _ _ (spaced 32 r (λ x. row r (suc n) >>= (λ xs. pure (x ∷ xs))))
         (bind inner (λ x. bind (row-exact (suc n)) (λ xs. pure-exact (x ∷ xs)))))
 
 -- A row of costs.

@@ -62,25 +62,18 @@ side-length m h = digits-length 1 m .1 (omega arith)
 -- No sheet text is longer: 10 bytes for each of the first two heads and 8 for the third, 8 for each supply and demand, and 9 for each cost.
 pub text-length : (S : Sheet) → HasText S → length (sheetText S) ≤ maxText
 unfolding sheetText headLine bytes roasteries cafes at atZ maxSources maxSinks maxSide maxDigits maxText
-text-length S h =
-    let m : ℕ = roasteries S in
-    let n : ℕ = cafes S in
+text-length S h = let m : ℕ = roasteries S in let n : ℕ = cafes S in
     let ms : (1 ≤ m) × (m ≤ maxSources) = within-iff 1 maxSources m .0 (h .sides .0) in
     let ns : (1 ≤ n) × (n ≤ maxSinks) = within-iff 1 maxSinks n .0 (h .sides .1) in
-    let rows : List (List ℤ) = rowsOf m n (S .cost) in
-    let costs : Every (Count SmallWhole n) rows =
-    rowsOf-every SmallWhole n m (S .cost) (h .lengths) (at-every SmallWhole (pos 0) (S .cost) (λ k. h .numbers k .2))
-    in
+    let rows : List (List ℤ) = rowsOf m n (S .cost) in let costs : Every (Count SmallWhole n) rows =
+    rowsOf-every SmallWhole n m (S .cost) (h .lengths) (at-every SmallWhole (pos 0) (S .cost) (λ k. h .numbers k .2)) in
     let supplies : length (flatMap numberLine (S .supply)) ≤ m * suc maxDigits =
-    lines-length Small numberLine (suc maxDigits) numberLine-length (S .supply) (at-every Small 0 (S .supply) (λ k. h .numbers k .0))
-    in
+    lines-length Small numberLine (suc maxDigits) numberLine-length (S .supply) (at-every Small 0 (S .supply) (λ k. h .numbers k .0)) in
     let demands : length (flatMap numberLine (S .demand)) ≤ n * suc maxDigits =
-    lines-length Small numberLine (suc maxDigits) numberLine-length (S .demand) (at-every Small 0 (S .demand) (λ k. h .numbers k .1))
-    in
+    lines-length Small numberLine (suc maxDigits) numberLine-length (S .demand) (at-every Small 0 (S .demand) (λ k. h .numbers k .1)) in
     let lanes : length (flatMap (rowLine wholeDigits) rows) ≤ m * (n * (2 + maxDigits)) =
     rw (rowsOf-length n m (S .cost)) at (lines-length (Count SmallWhole n) (rowLine wholeDigits) (n * (2 + maxDigits)) (row-length n (ns .0)) rows costs)
-    in
-    let most : m * n ≤ maxSources * maxSinks = mul-le-mul (ms .1) (ns .1) in
+    in let most : m * n ≤ maxSources * maxSinks = mul-le-mul (ms .1) (ns .1) in
     simp length-append (omega (arith, side-length m (omega (arith, ms .1)), side-length n (omega (arith, ns .1))))
 
 -- The bound is met, and by a sheet that the sheet check accepts: the largest, with every cost the least one.

@@ -33,8 +33,7 @@ number-digits b ds d f = go (eqb (digitValue b) 0) refl ds f
         → Small (value (digitValue b) es) × (digits (value (digitValue b) es) ≡ b ∷ es)
     go true e [] i = (omega (arith, v .1), digits-small (digitValue b) (v .1) ∙ rw (v .0))
     go true e (c ∷ es) i = absurd i
-    go false e es i =
-        let n : digitValue b ≡ 0 → ⊥ = eqb-false (digitValue b) 0 e in
+    go false e es i = let n : digitValue b ≡ 0 → ⊥ = eqb-false (digitValue b) 0 e in
         let w : digits (value (digitValue b) es) ≡ b ∷ es = first-digits (λ x. true) (maxDigits - 1) b es d (omega arith) i in
         (digits-length (maxDigits - 1) (value (digitValue b) es) .0 (rw w (omega (arith, follows-length (λ x. true) (maxDigits - 1) (digitValue b) es i))), w)
 
@@ -59,9 +58,7 @@ module _ (low : ℕ) (few : low ≤ 1) where
   module _ (c : ℕ) (plain : isDigit c ≡ false) where
     from-there : (n : ℕ) (t : List ℕ) → BegunNumber c head (λ x. true) room n t → ClosedNumber (From low) c n t
     unfolding head
-    from-there n t h =
-        let b = h .value in
-        let ds = h .second .ds in
+    from-there n t h = let b = h .value in let ds = h .second .ds in
         let (digit, above) = and-eq-true-iff (isDigit b) (leb low (digitValue b)) .0 (h .first .0) in
         let (small, written) = number-digits b ds digit (h .second .follows) in
         let least : low ≤ value (digitValue b) ds = omega (arith, leb-true low (digitValue b) above, value-grows (digitValue b) ds) in
@@ -77,8 +74,7 @@ module _ (low : ℕ) (few : low ≤ 1) where
       second = record { ds = []; follows = tt; whole = refl; written = refl };
       joined = h .1 ∙ rw (digits-small 0 (omega arith));
     }
-    from-back (suc n) t h =
-        let x = numeral (λ y. true) (λ y l e. refl) (maxDigits - 1) (suc n) (omega arith) (h .0 .1) refl in
+    from-back (suc n) t h = let x = numeral (λ y. true) (λ y l e. refl) (maxDigits - 1) (suc n) (omega arith) (h .0 .1) refl in
         let first : head (48 + x .first) ≡ true = head-of (x .first) (x .small) (omega (arith, x .above)) in
         numeral-begun c head (λ y. true) room (maxDigits - 1) (suc n) t x first (room-after (x .first) (x .above)) (h .1)
 
@@ -107,27 +103,17 @@ module _ (most : ℕ) (some : 1 ≤ most) (few : most < 100) where
   module _ (c : ℕ) (plain : isDigit c ≡ false) where
     side-there : (n : ℕ) (t : List ℕ) → BegunNumber c isFirst (within 1 most) (λ b. 1) n t → ClosedNumber (Side most) c n t
     unfolding isFirst
-    side-there n t h =
-        let b = h .value in
-        let ds = h .second .ds in
+    side-there n t h = let b = h .value in let ds = h .second .ds in
         let k = and-eq-true-iff (isDigit b) (within 1 most (digitValue b)) .0 (h .first .0) in
         let l = within-iff 1 most (digitValue b) .0 (k .1) .0 in (
           rw (h .second .whole) (follows-test (within 1 most) 1 (digitValue b) ds (k .1) (h .second .follows)),
-          begun-written
-              c
-              isFirst
-              (within 1 most)
-              (λ d. 1)
-              n
-              t
-              h
-              (rw (h .second .whole) (first-digits (within 1 most) 1 b ds (k .0) l (h .second .follows))),
+          begun-written c isFirst (within 1 most)
+              (λ d. 1) n t h (rw (h .second .whole) (first-digits (within 1 most) 1 b ds (k .0) l (h .second .follows))),
         )
 
     side-back : (n : ℕ) (t : List ℕ) → ClosedNumber (Side most) c n t → BegunNumber c isFirst (within 1 most) (λ b. 1) n t
     unfolding isFirst
-    side-back n t h =
-        let k = within-iff 1 most n .0 (h .0) in
+    side-back n t h = let k = within-iff 1 most n .0 (h .0) in
         let x = numeral (within 1 most) side-begins 1 n (k .0) (omega (arith, k .1, few)) (h .0) in
         let d : isDigit (48 + x .first) ≡ true = digit-of (x .first) (x .small) in
         numeral-begun c isFirst (within 1 most) (λ b. 1) 1 n t x (rw (d, value-of (x .first)) (x .passes)) refl (h .1)

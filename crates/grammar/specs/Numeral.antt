@@ -1,6 +1,6 @@
 -- Numbers as their digits are read, from the front.
 use Rattle.prelude.specs.Words.{_≡_, refl, _∙_, Bool, true, List, [], _∷_, _++_, append-assoc, append-nil, ℕ, zero, suc, _+_, _*_, _/_, _%_, _^_, _≤_, _<_}
-use Rattle.prelude.specs.Words.{arith, decLt, length}
+use Rattle.prelude.specs.Words.{arith, decLt, length, by-cases}
 use Rattle.transport.specs.Text.{digits}
 use Rattle.transport.specs.SheetText.{isDigit, digitValue}
 use Rattle.grammar.specs.Digits.{digits-small, digits-large, digits-push, digit-value, digit-of, value-of}
@@ -20,16 +20,11 @@ pub value-digits : (n : ℕ) → value 0 (digits n) ≡ n
 unfolding value
 value-digits n = below (suc n) n (omega arith)
   where
-    large : (m : ℕ) → 10 ≤ m → value 0 (digits (m / 10)) ≡ m / 10 → value 0 (digits m) ≡ m
-    large m l ih = rw (digits-large m l) (value-push 0 (digits (m / 10)) (m % 10) ∙ rw ih (omega arith))
-
-    step : (m : ℕ) → Dec (m < 10) → (10 ≤ m → value 0 (digits (m / 10)) ≡ m / 10) → value 0 (digits m) ≡ m
-    step m (yes s) ih = rw (digits-small m s) (omega (arith, value-of m))
-    step m (no s) ih = large m (omega arith) (ih (omega arith))
-
     below : (k m : ℕ) → m < k → value 0 (digits m) ≡ m
     below zero m h = absurd (omega arith)
-    below (suc k) m h = step m (decLt m 10) (λ l. below k (m / 10) (omega arith))
+    below (suc k) m h = by-cases (decLt m 10)
+        (λ s. rw (digits-small m s) (omega (arith, value-of m)))
+        (λ s. rw (digits-large m (omega arith)) (value-push 0 (digits (m / 10)) (m % 10) ∙ rw (below k (m / 10) (omega arith)) (omega arith)))
 
 -- ---- digits that may follow
 
@@ -55,17 +50,13 @@ follows-digits : (test : ℕ → Bool) (k x : ℕ) (ds : List ℕ) → 1 ≤ x �
 unfolding value
 follows-digits test k x [] l h = rw append-nil
 follows-digits test zero x (b ∷ ds) l h = absurd h
-follows-digits test (suc k) x (b ∷ ds) l h =
-    let v = digit-value b (h .0) in
-    follows-digits test k (x * 10 + digitValue b) ds (omega arith) (h .2)
-    ∙ rw (digits-push x (digitValue b) l (v .1), v .0, append-assoc)
+follows-digits test (suc k) x (b ∷ ds) l h = let v = digit-value b (h .0) in
+    follows-digits test k (x * 10 + digitValue b) ds (omega arith) (h .2) ∙ rw (digits-push x (digitValue b) l (v .1), v .0, append-assoc)
 
 -- A first digit above 0 and those that follow are the digits of the number.
 pub first-digits : (test : ℕ → Bool) (k b : ℕ) (ds : List ℕ) → isDigit b ≡ true → 1 ≤ digitValue b → Follows test k (digitValue b) ds
     → digits (value (digitValue b) ds) ≡ b ∷ ds
-first-digits test k b ds d l f =
-    let v = digit-value b d in
-    follows-digits test k (digitValue b) ds l f ∙ rw (digits-small (digitValue b) (v .1), v .0)
+first-digits test k b ds d l f = let v = digit-value b d in follows-digits test k (digitValue b) ds l f ∙ rw (digits-small (digitValue b) (v .1), v .0)
 
 follows-push : (test : ℕ → Bool) (k x : ℕ) (ds : List ℕ) (d : ℕ) → d < 10 → test (value x ds * 10 + d) ≡ true → Follows test k x ds
     → Follows test (suc k) x (ds ++ ((48 + d) ∷ []))
@@ -93,20 +84,10 @@ Beginnings test = (n : ℕ) → 10 ≤ n → test n ≡ true → test (n / 10) �
 
 one-digit : (test : ℕ → Bool) (k n : ℕ) → 1 ≤ n → n < 10 → test n ≡ true → Numeral test k n
 unfolding value
-one-digit test k n l s e = record {
-  first = n;
-  rest = [];
-  above = l;
-  small = s;
-  written = digits-small n s;
-  passes = e;
-  follows = tt;
-  whole = refl;
-}
+one-digit test k n l s e = record { first = n; rest = []; above = l; small = s; written = digits-small n s; passes = e; follows = tt; whole = refl }
 
 one-more : (test : ℕ → Bool) (k n : ℕ) → 10 ≤ n → test n ≡ true → Numeral test k (n / 10) → Numeral test (suc k) n
-one-more test k n l e h =
-    let d : value (h .first) (h .rest) * 10 + n % 10 ≡ n = rw (h .whole) (omega arith) in
+one-more test k n l e h = let d : value (h .first) (h .rest) * 10 + n % 10 ≡ n = rw (h .whole) (omega arith) in
     record {
       first = h .first;
       rest = h .rest ++ ((48 + n % 10) ∷ []);
@@ -121,10 +102,6 @@ one-more test k n l e h =
 -- Every number from 1 with at most k + 1 digits is a numeral: that of n / 10 with one digit more.
 pub numeral : (test : ℕ → Bool) → Beginnings test → (k n : ℕ) → 1 ≤ n → n < 10 ^ suc k → test n ≡ true → Numeral test k n
 numeral test begins zero n l h e = one-digit test 0 n l (omega arith) e
-numeral test begins (suc k) n l h e = go (decLt n 10) (numeral test begins k (n / 10))
-  where
-    go : Dec (n < 10) → (1 ≤ n / 10 → n / 10 < 10 ^ suc k → test (n / 10) ≡ true → Numeral test k (n / 10)) → Numeral test (suc k) n
-    go (yes s) ih = one-digit test (suc k) n l s e
-    go (no s) ih =
-        let t : 10 ≤ n = omega arith in
-        one-more test k n t e (ih (omega arith) (omega arith) (begins n t e))
+numeral test begins (suc k) n l h e = by-cases (decLt n 10)
+    (λ s. one-digit test (suc k) n l s e)
+    (λ s. let t : 10 ≤ n = omega arith in one-more test k n t e (numeral test begins k (n / 10) (omega arith) (omega arith) (begins n t e)))

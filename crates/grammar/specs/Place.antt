@@ -13,16 +13,11 @@ use Rattle.grammar.specs.Longest.{text-length}
 
 -- The reader takes a text exactly if it is a sheet text, as the sheet that the text is of, and to its end.
 pub reader-iff : (text : List ℕ) (S : Sheet) (rest : List ℕ) → (sheetReader text ≡ got S rest) ↔ (rest ≡ []) × SheetTextOf S text
-reader-iff text S rest = (there, back)
-  where
-    there : sheetReader text ≡ got S rest → (rest ≡ []) × SheetTextOf S text
-    there e =
-        let h = sheet-exact .taken text S rest e in
-        let whole : text ≡ h .part = h .split ∙ ap (λ (l : List ℕ). h .part ++ l) (h .after) ∙ append-nil (h .part) in
-        (h .after, rw whole (h .member))
-
-    back : (rest ≡ []) × SheetTextOf S text → sheetReader text ≡ got S rest
-    back h = rw (h .0) (rw append-nil at (sheet-exact .takes S text [] (h .1) refl))
+reader-iff text S rest = (
+  λ e. let h = sheet-exact .taken text S rest e in
+      let whole : text ≡ h .part = h .split ∙ ap (λ (l : List ℕ). h .part ++ l) (h .after) ∙ append-nil (h .part) in (h .after, rw whole (h .member)),
+  λ h. rw (h .0) (rw append-nil at (sheet-exact .takes S text [] (h .1) refl)),
+)
 
 -- ---- the place
 --
@@ -32,14 +27,9 @@ reader-iff text S rest = (there, back)
 -- A text that shares more with another than its beginning `part` goes on there with the same byte.
 next-byte : (part old other : List ℕ) (b q : ℕ) → suc (length part) ≤ q → take q (part ++ b ∷ old) ≡ take q other
     → other ≡ part ++ b ∷ drop (suc (length part)) other
-next-byte part old other b q l e =
-    let n : ℕ = suc (length part) in
-    let first : take n (part ++ b ∷ old) ≡ part ++ (b ∷ []) =
-    ap (take n) (sym (append-assoc part (b ∷ []) old)) ∙ take-at (part ++ (b ∷ [])) old n (length-append part (b ∷ []) ∙ omega arith)
-    in
-    let same : take n other ≡ part ++ (b ∷ []) =
-    sym (take-take n q other l) ∙ ap (take n) (sym e) ∙ take-take n q (part ++ b ∷ old) l ∙ first
-    in
+next-byte part old other b q l e = let n : ℕ = suc (length part) in let first : take n (part ++ b ∷ old) ≡ part ++ (b ∷ []) =
+    ap (take n) (sym (append-assoc part (b ∷ []) old)) ∙ take-at (part ++ (b ∷ [])) old n (length-append part (b ∷ []) ∙ omega arith) in
+    let same : take n other ≡ part ++ (b ∷ []) = sym (take-take n q other l) ∙ ap (take n) (sym e) ∙ take-take n q (part ++ b ∷ old) l ∙ first in
     sym (take-append-drop n other) ∙ ap (λ (z : List ℕ). z ++ drop n other) same ∙ append-assoc part (b ∷ []) (drop n other)
 
 module _ (text rest : List ℕ) (s : Stopped sheetReader SheetTextOf text rest) where
@@ -48,9 +38,7 @@ module _ (text rest : List ℕ) (s : Stopped sheetReader SheetTextOf text rest) 
 
   -- What was read begins a sheet text.
   stop-shared : Shared text (length (s .part))
-  stop-shared =
-      let n : ℕ = length (s .part) in
-      let whole : s .part ++ s .more ≡ sheetText (s .value) = s .completed .written in
+  stop-shared = let n : ℕ = length (s .part) in let whole : s .part ++ s .more ≡ sheetText (s .value) = s .completed .written in
       record {
         sheet = s .value;
         has = s .completed .sheet;
@@ -71,12 +59,10 @@ module _ (text rest : List ℕ) (s : Stopped sheetReader SheetTextOf text rest) 
       go : Dec (q ≤ length (s .part)) → (z : List ℕ) → rest ≡ z → q ≤ length (s .part)
       go (yes l) z e = l
       go (no l) [] e = absurd (omega (arith, stop-length, ap length e, h .inText))
-      go (no l) (b ∷ old) e =
-          let text-is : text ≡ s .part ++ b ∷ old = s .split ∙ ap (λ (z : List ℕ). s .part ++ z) e in
+      go (no l) (b ∷ old) e = let text-is : text ≡ s .part ++ b ∷ old = s .split ∙ ap (λ (z : List ℕ). s .part ++ z) e in
           let same : take q (s .part ++ b ∷ old) ≡ take q (sheetText (h .sheet)) = sym (ap (take q) text-is) ∙ h .same in
           let more : suc (length (s .part)) ≤ q = omega arith in
-          absurd
-          (stop-closed (h .sheet) (h .has) b old _ e (next-byte (s .part) old (sheetText (h .sheet)) b q more same))
+          absurd (stop-closed (h .sheet) (h .has) b old _ e (next-byte (s .part) old (sheetText (h .sheet)) b q more same))
 
   -- It is no longer than a sheet text.
   stop-short : length (s .part) ≤ maxText
@@ -85,9 +71,7 @@ module _ (text rest : List ℕ) (s : Stopped sheetReader SheetTextOf text rest) 
   -- A cut behind the refused byte.
   stop-cut : (room : ℕ) → length (s .part) < room → (b : ℕ) (old : List ℕ) → rest ≡ b ∷ old
       → take room text ≡ s .part ++ b ∷ take (room - suc (length (s .part))) old
-  stop-cut room l b old e =
-      let k : ℕ = room - suc (length (s .part)) in
-      let n : room ≡ length (s .part) + suc k = omega arith in
+  stop-cut room l b old e = let k : ℕ = room - suc (length (s .part)) in let n : room ≡ length (s .part) + suc k = omega arith in
       let t : text ≡ s .part ++ b ∷ old = s .split ∙ ap (λ (z : List ℕ). s .part ++ z) e in
       ap (take room) t ∙ ap (λ (q : ℕ). take q (s .part ++ b ∷ old)) n ∙ take-append-add (s .part) (b ∷ old) (suc k)
 
@@ -95,8 +79,7 @@ module _ (text rest : List ℕ) (s : Stopped sheetReader SheetTextOf text rest) 
 -- be completed to a sheet text. If one byte more began a sheet text as well, that text would go on with the byte at which the reader is stuck; but then the
 -- reader is stuck there whatever follows, and of a sheet text it takes all.
 pub place : (text rest : List ℕ) → sheetReader text ≡ stuck rest → Place text (length text - length rest)
-place text rest e =
-    let s = sheet-exact .stopped text rest e in
+place text rest e = let s = sheet-exact .stopped text rest e in
     let p : length text - length rest ≡ length (s .part) = omega (arith, stop-length text rest s) in
     rw p (record { shared = stop-shared text rest s; longest = stop-longest text rest s })
 
@@ -115,11 +98,8 @@ place-cut text rest e l = go rest refl
     go : (y : List ℕ) → rest ≡ y
         → (z : List ℕ) × (sheetReader (take (suc maxText) text) ≡ stuck z) × (length (take (suc maxText) text) - length z ≡ length text - length rest)
     go [] f = absurd (omega (arith, stop-length text rest s, stop-short text rest s, ap length f))
-    go (b ∷ old) f =
-        let k : ℕ = suc maxText - suc (length (s .part)) in
-        let cut : take (suc maxText) text ≡ s .part ++ b ∷ take k old =
-        stop-cut text rest s (suc maxText) (omega (arith, stop-short text rest s)) b old f
-        in (
+    go (b ∷ old) f = let k : ℕ = suc maxText - suc (length (s .part)) in let cut : take (suc maxText) text ≡ s .part ++ b ∷ take k old =
+        stop-cut text rest s (suc maxText) (omega (arith, stop-short text rest s)) b old f in (
           b ∷ take k old,
           rw cut (s .closed b old (take k old) f),
           omega (arith, ap length cut, length-append (s .part) (b ∷ take k old), stop-length text rest s),

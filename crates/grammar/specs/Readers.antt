@@ -4,7 +4,7 @@ use Rattle.prelude.specs.Words.{eq-eqb, by-test}
 use mathlib.Core.List.{cons≢nil, nil≢cons}
 use Rattle.transport.specs.SheetText.{Reading, stuck, got, Reader, _>>_, pure, byteThat, word, end, times}
 use Rattle.grammar.specs.Every.{Count}
-use Rattle.grammar.specs.Exact.{Exact, Taken, Stopped, Any, AtEnd, Then, glued, stuck≢got, bind, then, reworded}
+use Rattle.grammar.specs.Exact.{Exact, Taken, Stopped, Any, AtEnd, Then, glued, stuck≢got, bind, then, reworded, joining, ending, stopped-at-once}
 
 module _ {A : Type 0} where
   -- No byte, and the value a.
@@ -16,8 +16,7 @@ module _ {A : Type 0} where
   pure-exact a = record {
     takes = λ b t rest h k. rw (h .0, h .1);
     taken = λ text b rest e.
-        let same : b ≡ a = cc in
-        let all : text ≡ rest = cc in
+        let same : b ≡ a = cc in let all : text ≡ rest = cc in
         record { part = []; member = (same, refl); split = all; after = tt };
     stopped = λ text rest e. absurd (stuck≢got (sym e));
   }
@@ -33,33 +32,17 @@ module _ (test : ℕ → Bool) (c : ℕ) (passes : test c ≡ true) where
   byte-taken [] b rest e = absurd (stuck≢got e)
   byte-taken (d ∷ t) b rest e = by-test (test d)
       (λ f.
-      let g : got d t ≡ got b rest = rw f at e in
-      let same : d ≡ b = cc in
+      let g : got d t ≡ got b rest = rw f at e in let same : d ≡ b = cc in
       record { part = b ∷ []; member = (rw (← same) f, refl); split = cc; after = tt })
       (λ f. absurd (stuck≢got (rw f at e)))
 
   byte-stopped : (text rest : List ℕ) → byteThat test text ≡ stuck rest → Stopped (byteThat test) (Byte test) text rest
   unfolding byteThat
-  byte-stopped [] rest e = record {
-    part = [];
-    split = let h : [] ≡ rest = cc in h;
-    value = c;
-    more = c ∷ [];
-    completed = (passes, refl);
-    closed = λ b old new f. let h : [] ≡ rest = cc in absurd (nil≢cons (h ∙ f));
-  }
+  byte-stopped [] rest e = let none : [] ≡ rest = cc in stopped-at-once none c (c ∷ []) (passes, refl) (λ b old new f. absurd (nil≢cons (none ∙ f)))
   byte-stopped (d ∷ t) rest e = by-test (test d)
       (λ f. absurd (stuck≢got (sym (rw f at e))))
-      (λ f.
-      let g : _≡_ {A = Reading ℕ} (stuck (d ∷ t)) (stuck rest) = rw f at e in
-      record {
-        part = [];
-        split = let h : d ∷ t ≡ rest = cc in h;
-        value = c;
-        more = c ∷ [];
-        completed = (passes, refl);
-        closed = λ b old new h. let same : b ≡ d = cc in rw (same, f);
-      })
+      (λ f. let g : _≡_ {A = Reading ℕ} (stuck (d ∷ t)) (stuck rest) = rw f at e in let all : d ∷ t ≡ rest = cc in
+      stopped-at-once all c (c ∷ []) (passes, refl) (λ b old new h. let same : b ≡ d = cc in rw (same, f)))
 
   pub byte-exact : Exact (byteThat test) (Byte test) Any
   unfolding byteThat
@@ -77,8 +60,7 @@ word-exact (c ∷ cs) = reworded same (then (byte-exact (eqb c) c (eq-eqb c c re
     same : (u : Unit {0}) (t : List ℕ) → Then (Byte (eqb c)) (λ b. Bytes cs) u t ↔ (t ≡ c ∷ cs)
     same u t = (
       λ h.
-          let e : c ≡ h .value = eqb-true c (h .value) (h .first .0) in
-          rw e (glued (h .joined) (h .first .1) (h .second)),
+          let e : c ≡ h .value = eqb-true c (h .value) (h .first .0) in rw e (glued (h .joined) (h .first .1) (h .second)),
       λ h. record { value = c; front = c ∷ []; back = cs; first = (eq-eqb c c refl, refl); second = refl; joined = h },
     )
 
@@ -93,29 +75,16 @@ module _ {A : Type 0} (a : A) where
   end-stuck b t = refl
 
   end-taken : (text : List ℕ) (b : A) (rest : List ℕ) → (end >> pure a) text ≡ got b rest → Taken (Only a) AtEnd b text rest
-  end-taken [] b rest e =
-      let same : b ≡ a = cc end-got in
-      let none : rest ≡ [] = cc end-got in
+  end-taken [] b rest e = let same : b ≡ a = cc end-got in let none : rest ≡ [] = cc end-got in
       record { part = []; member = (same, refl); split = sym none; after = none }
   end-taken (d ∷ t) b rest e = absurd (stuck≢got (sym (end-stuck d t) ∙ e))
 
   end-stopped : (text rest : List ℕ) → (end >> pure a) text ≡ stuck rest → Stopped (end >> pure a) (Only a) text rest
   end-stopped [] rest e = absurd (stuck≢got (sym e ∙ end-got))
-  end-stopped (d ∷ t) rest e = record {
-    part = [];
-    split = let h : d ∷ t ≡ rest = cc (end-stuck d t) in h;
-    value = a;
-    more = [];
-    completed = (refl, refl);
-    closed = λ b old new f. end-stuck b new;
-  }
+  end-stopped (d ∷ t) rest e = let all : d ∷ t ≡ rest = cc (end-stuck d t) in stopped-at-once all a [] (refl, refl) (λ b old new f. end-stuck b new)
 
   pub end-exact : Exact (end >> pure a) (Only a) AtEnd
-  end-exact = record {
-    takes = λ b t rest h k. rw (h .0, h .1, k) end-got;
-    taken = end-taken;
-    stopped = end-stopped;
-  }
+  end-exact = record { takes = λ b t rest h k. rw (h .0, h .1, k) end-got; taken = end-taken; stopped = end-stopped }
 
 -- ---- what a writer writes
 
@@ -138,31 +107,16 @@ module _ {A : Type 0} (Good : A → Type 0) (write : A → List ℕ) where
   times-suc k xs t = (there, back xs)
     where
       there : Further k xs t → Of (Count Good (suc k)) (flatMap write) xs t
-      there h =
-          let n : suc (length (h .second .value)) ≡ suc k = ap suc (h .second .first .0 .0) in
-          rw
-          (h .second .second .0) (
+      there h = let n : suc (length (h .second .value)) ≡ suc k = ap suc (h .second .first .0 .0) in
+          rw (h .second .second .0) (
             (n, (h .first .0, h .second .first .0 .1)),
             glued (h .joined) (h .first .1) (glued (h .second .joined) (h .second .first .1) (h .second .second .1) ∙ append-nil _),
           )
 
       back : (zs : List A) → Of (Count Good (suc k)) (flatMap write) zs t → Further k zs t
       back [] h = absurd (omega arith)
-      back (y ∷ ys) h = record {
-        value = y;
-        front = write y;
-        back = flatMap write ys;
-        first = (h .0 .1 .0, refl);
-        second = record {
-          value = ys;
-          front = flatMap write ys;
-          back = [];
-          first = ((omega arith, h .0 .1 .1), refl);
-          second = (refl, refl);
-          joined = rw append-nil;
-        };
-        joined = h .1;
-      }
+      back (y ∷ ys) h = rw (h .1) (joining y (write y) (flatMap write ys) (h .0 .1 .0, refl)
+          (ending ys (flatMap write ys) ((omega arith, h .0 .1 .1), refl) (refl, refl)))
 
   pub times-exact : {r : Reader A} → Exact r (Of Good write) Any → (k : ℕ) → Exact (times k r) (Of (Count Good k) (flatMap write)) Any
   unfolding times

@@ -23,10 +23,9 @@ text-accepted S h = (
 -- A sheet that is accepted has a text: its numbers are within limits of seven digits.
 pub accepted-text : (S : Sheet) → Accepted S → HasText S
 unfolding maxAmount maxCost maxDigits
-accepted-text S a =
-    let c = a .limits in
+accepted-text S a = let c = a .limits in
     record {
       sides = (true-within 1 maxSources (roasteries S) (c .roasteriesLow) (c .roasteriesHigh), true-within 1 maxSinks (cafes S) (c .cafesLow) (c .cafesHigh));
       lengths = c .costLength;
-      numbers = λ k. (omega (arith, c .supplyHigh k), omega (arith, c .demandHigh k), omega (arith, abs-between (c .costLow k) (c .costHigh k)));
+      numbers = λ k. omega (arith, c .supplyHigh k, c .demandHigh k, abs-between (c .costLow k) (c .costHigh k));
     }

@@ -19,8 +19,7 @@ module _ {A : Type 0} (Good : A → Type 0) (n : ℕ) where
   pub rowsOf-flatten : (rows : List (List A)) → Every (Count Good n) rows → rowsOf (length rows) n (flatten rows) ≡ rows
   unfolding rowsOf flatten
   rowsOf-flatten [] h = refl
-  rowsOf-flatten (row ∷ rows) h =
-      rw (take-at row (flatten rows) n (h .0 .0), drop-at row (flatten rows) n (h .0 .0), rowsOf-flatten rows (h .1))
+  rowsOf-flatten (row ∷ rows) h = rw (take-at row (flatten rows) n (h .0 .0), drop-at row (flatten rows) n (h .0 .0), rowsOf-flatten rows (h .1))
 
   pub rowsOf-every : (m : ℕ) (xs : List A) → length xs ≡ m * n → Every Good xs → Every (Count Good n) (rowsOf m n xs)
   unfolding rowsOf

@@ -6,7 +6,7 @@ use Rattle.transport.specs.Lists.{within}
 use Rattle.transport.specs.SheetText.{Reader, _>>=_, pure, isDigit, numberFrom, minus, signed, whole}
 use Rattle.grammar.specs.Numbers.{SmallWhole}
 use Rattle.grammar.specs.Decimal.{Decimal, digits-decimal}
-use Rattle.grammar.specs.Exact.{Exact, Any, Then, glued, bind, reworded, agreeing}
+use Rattle.grammar.specs.Exact.{Exact, Any, Then, glued, ending, bind, reworded, agreeing}
 use Rattle.grammar.specs.Readers.{Only, pure-exact}
 use Rattle.grammar.specs.Closing.{closedBy, ClosedText, ClosedNumber, spaced, closed-later}
 use Rattle.grammar.specs.Number.{From, from-exact}
@@ -38,9 +38,7 @@ module _ (c : ℕ) (plain : isDigit c ≡ false) where
 
   sign-whole : (t : List ℕ) → branch 45 (afterSign true) (afterSign false) t ≡ closedBy c whole t
   unfolding whole
-  sign-whole t =
-      sym (by-minus t)
-      ∙ ap (λ (r : Bool → Reader ℤ). (minus >>= r) t)
+  sign-whole t = sym (by-minus t) ∙ ap (λ (r : Bool → Reader ℤ). (minus >>= r) t)
       (fun-ext (λ negative. fun-ext (transformed-closed c (signed negative) (numberFrom (cond negative 1 0)))))
       ∙ closed-later c minus (λ negative. transformed (signed negative) (numberFrom (cond negative 1 0))) t
 
@@ -66,26 +64,9 @@ module _ (c : ℕ) (plain : isDigit c ≡ false) where
 
   whole-back : (z : ℤ) (t : List ℕ) → ClosedText SmallWhole wholeDigits c z t → Behind 45 (AfterSign true) z t ⊎ AfterSign false z t
   unfolding wholeDigits bytes
-  whole-back (pos n) t h = inr (record {
-    value = n;
-    front = t;
-    back = [];
-    first = ((omega arith, h .0), h .1);
-    second = (refl, refl);
-    joined = sym (append-nil t);
-  })
-  whole-back (negsuc n) t h = inl (record {
-    back = digits (suc n) ++ (c ∷ []);
-    text = h .1;
-    member = record {
-      value = suc n;
-      front = digits (suc n) ++ (c ∷ []);
-      back = [];
-      first = ((omega arith, h .0), refl);
-      second = (refl, refl);
-      joined = sym (append-nil _);
-    };
-  })
+  whole-back (pos n) t h = inr (ending n t ((omega arith, h .0), h .1) (refl, refl))
+  whole-back (negsuc n) t h = let back = digits (suc n) ++ (c ∷ []) in
+      inl (record { back = back; text = h .1; member = ending (suc n) back ((omega arith, h .0), refl) (refl, refl) })
 
   -- A cost without a minus begins with a digit, so the two ways have no text in common.
   some-byte : (z : ℤ) → ¬ AfterSign false z []
@@ -96,12 +77,9 @@ module _ (c : ℕ) (plain : isDigit c ≡ false) where
     where
       go : (ds : List ℕ) → Decimal ds → 45 ∷ t ≡ ds ++ (c ∷ []) → ⊥
       go [] d e = omega (arith, d .some)
-      go (b ∷ ds) d e =
-          let same : 45 ≡ b = cc in
-          true≢false (sym (d .digit .0) ∙ rw (← same) minus-plain)
+      go (b ∷ ds) d e = let same : 45 ≡ b = cc in true≢false (sym (d .digit .0) ∙ rw (← same) minus-plain)
 
   -- A minus promises a number from 1, and any other byte begins a number: each way is exact, and the first byte tells them apart.
   pub whole-exact : Exact (closedBy c whole) (ClosedText SmallWhole wholeDigits c) Any
-  whole-exact =
-      agreeing _ _ sign-whole
+  whole-exact = agreeing _ _ sign-whole
       (reworded (λ z t. (whole-there z t, whole-back z t)) (branch-exact 45 (sign-exact true) (sign-exact false) some-byte no-minus))

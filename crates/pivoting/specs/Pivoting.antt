@@ -1,8 +1,8 @@
 -- A pivot on the arrays that hold a tableau: its amounts by lane, and its tree. What the loop's slots, the slot with the least pair and the amounts after the
 -- step are, in the terms of the specification; and that the arrays then hold the next tableau, with its tree.
-use Rattle.prelude.specs.Words.{_≡_, refl, sym, ap, _∙_, _≢_, _⊎_, inl, inr, ⊎-elim, by-cases, Dec·and, Bool, true, false, not, cond, xor, _&&_, List}
-use Rattle.prelude.specs.Words.{List·Memᴰ, ℕ, zero, suc, _+_, _-_, _*_, _/_, _%_, _<_, _≤_, arith, ℕ-discrete, decLt, lt-ltb, le-ltb, ℤ, pos, negsuc, natAbs}
-use Rattle.prelude.specs.Words.{negℤ, _+ℤ_, _-ℤ_, +ℤ-idl, ltZ, length, getD, set, length-set, getD-set-same, getD-set-other, by-test, clash}
+use Rattle.prelude.specs.Words.{_≡_, refl, sym, ap, _∙_, inl, inr, ⊎-elim, by-cases, Dec·and, Bool, true, false, not, cond, xor, _&&_, List, List·Memᴰ, ℕ, zero}
+use Rattle.prelude.specs.Words.{suc, _+_, _-_, _*_, _/_, _%_, _<_, _≤_, arith, ℕ-discrete, decLt, lt-ltb, le-ltb, ℤ, pos, negsuc, natAbs, negℤ, _+ℤ_, _-ℤ_}
+use Rattle.prelude.specs.Words.{+ℤ-idl, ltZ, length, getD, set, length-set, getD-set-same, getD-set-other, by-test, clash}
 use Rattle.integers.specs.Integer.{Z, _≈_, _⊕_, _⊖_, neg, nat, Within}
 use Rattle.integers.specs.Bridge.{toZ, eq-z, z-add, z-neg}
 use Rattle.transport.specs.Limits.{maxSide, maxAmount, maxBags}
@@ -12,7 +12,7 @@ use Rattle.transport.specs.Laws.ProblemLaws.{lane}
 use Rattle.transport.specs.Laws.Sound.{Sound, supply-most}
 use Rattle.transport.specs.Amount.{nothing, add, subtract, less, Fit}
 use Rattle.transport.specs.Laws.RangeLaws.{abs-add, abs-diff}
-use Rattle.transport.specs.Laws.AmountLaws.{less-q, less-e, ltZ-tie, Compared, fewer, equal, more, compared}
+use Rattle.transport.specs.Laws.AmountLaws.{less-q, less-e, ltZ-tie, fewer, equal, more, compared}
 use Rattle.transport.specs.Tableau.{laneOf, basisOf}
 use Rattle.transport.specs.Belonging.{spans}
 use Rattle.transport.specs.Potential.{potential, reducedCost}
@@ -21,7 +21,7 @@ use Rattle.transport.specs.Statements.{Basic, Belongs}
 use Rattle.transport.specs.declared.Pair.{Pair}
 use Rattle.transport.specs.declared.Cell.{Cell}
 use Rattle.tableaux.specs.View.{amountAt, amount-none}
-use Rattle.tableaux.specs.Lanes.{Has, Fits, has-basic}
+use Rattle.tableaux.specs.Lanes.{Fits, has-basic}
 use Rattle.tableaux.specs.Flows.{signs-of, sign-off}
 use Rattle.tableaux.specs.Potentials.{potential-root, potential-tight, potential-only}
 use Rattle.tableaux.specs.Belonging.{belongs-iff, inside-of, distinct-of, fits-of, spans-of}
@@ -65,31 +65,25 @@ pub record Pivoted (P : Problem) (T : List Cell) (m n row col : ℕ) (q e : List
 -- On a basic lane lie at most as many bags as a row has, and at most as many marks as there are sources.
 amount-bound : {P : Problem} {T : List Cell} → Sound P → Belongs P T → (i j : ℕ) → Basic T i j
     → (natAbs (amountAt T i j .q) ≤ maxBags) × (natAbs (amountAt T i j .e) ≤ maxSide)
-amount-bound {P} {T} ok w i j b = let x = cell-at b in at (x .cell) (x .member) (x .row) (x .col)
+amount-bound {P} {T} ok w i j b = let x = cell-at b in let a = x .cell .amount in
+    let here : amountAt T i j ≡ a = (λ k. amountAt T (sym (x .row) k) (sym (x .col) k)) ∙ amount-member (distinct-of ok w) (x .member) in
+    let bound = cell-bounded ok w (x .member) in
+    rw here (
+      abs-within (a .q) maxBags (omega (arith, bound .nonneg, bound .supply, supply-most ok (x .cell .row))),
+      omega (arith, abs-within (a .e) (sources P) (bound .few), ok .sourcesHigh),
+    )
   where
     abs-within : (z : ℤ) (H : ℕ) → Within H (toZ z) → natAbs z ≤ H
     abs-within (pos k) H p = omega arith
     abs-within (negsuc k) H p = omega arith
 
-    at : (c : Cell) → List·Memᴰ c T → c .row ≡ i → c .col ≡ j → (natAbs (amountAt T i j .q) ≤ maxBags) × (natAbs (amountAt T i j .e) ≤ maxSide)
-    at c mem p q =
-        let here : amountAt T i j ≡ c .amount = rw (← p, ← q) (amount-member (distinct-of ok w) mem) in
-        let bound = cell-bounded ok w mem in
-        rw here (
-          abs-within (c .amount .q) maxBags (omega (arith, bound .nonneg, bound .supply, supply-most ok (c .row))),
-          omega (arith, abs-within (c .amount .e) (sources P) (bound .few), ok .sourcesHigh),
-        )
-
 -- Of two pairs, neither less than the other, both are the same.
 less-tie : (a b : Pair) → less a b ≡ false → less b a ≡ false → a ≡ b
-less-tie a b p r = go (compared (a .q) (b .q))
-  where
-    go : Compared (a .q) (b .q) → a ≡ b
-    go (fewer s) = clash (less-q a b s) p
-    go (more s) = clash (less-q b a s) r
-    go (equal s) =
-        let t : a .e ≡ b .e = ltZ-tie (a .e) (b .e) (sym (less-e a b s) ∙ p) (sym (less-e b a (sym s)) ∙ r) in
-        λ i. record { q = s i; e = t i }
+less-tie a b p r = elim (compared (a .q) (b .q)) [
+  | fewer s ↦ clash (less-q a b s) p
+  | more s ↦ clash (less-q b a s) r
+  | equal s ↦ let t : a .e ≡ b .e = ltZ-tie (a .e) (b .e) (sym (less-e a b s) ∙ p) (sym (less-e b a (sym s)) ∙ r) in λ i. record { q = s i; e = t i }
+]
 
 -- ---- signs
 
@@ -99,33 +93,20 @@ isMinus z = ltZ z (pos 0)
 abbrev isPlus : ℤ → Bool
 isPlus z = ltZ (pos 0) z
 
-minus-by : (a p q : Bool) → isMinus (signBy a p q) ≡ xor p q && not (xor a p)
+sign-tests : (a p q : Bool) → (isMinus (signBy a p q) ≡ xor p q && not (xor a p)) × (isPlus (signBy a p q) ≡ xor p q && xor a p)
 unfolding xor
-minus-by true true true = refl
-minus-by true true false = refl
-minus-by true false true = refl
-minus-by true false false = refl
-minus-by false true true = refl
-minus-by false true false = refl
-minus-by false false true = refl
-minus-by false false false = refl
-
-plus-by : (a p q : Bool) → isPlus (signBy a p q) ≡ xor p q && xor a p
-unfolding xor
-plus-by true true true = refl
-plus-by true true false = refl
-plus-by true false true = refl
-plus-by true false false = refl
-plus-by false true true = refl
-plus-by false true false = refl
-plus-by false false true = refl
-plus-by false false false = refl
+sign-tests true true true = (refl, refl)
+sign-tests true true false = (refl, refl)
+sign-tests true false true = (refl, refl)
+sign-tests true false false = (refl, refl)
+sign-tests false true true = (refl, refl)
+sign-tests false true false = (refl, refl)
+sign-tests false false true = (refl, refl)
+sign-tests false false false = (refl, refl)
 
 -- What one part of an amount becomes where x is taken away, and where it is added.
 abbrev moved : Bool → Bool → ℤ → ℤ → ℤ
-moved loses gains x a =
-    let left = cond loses (a +ℤ negℤ x) a in
-    cond gains (left +ℤ x) left
+moved loses gains x a = let left = cond loses (a +ℤ negℤ x) a in cond gains (left +ℤ x) left
 
 gain-part : (part : Pair → ℤ) → ((a b : Pair) → part (add a b) ≡ part a +ℤ part b) → ((a b : Pair) → part (subtract a b) ≡ part a -ℤ part b)
     → (z : ℤ) (s a : Pair) → part (gain z s a) ≡ moved (isMinus z) (isPlus z) (part s) (part a)
@@ -171,14 +152,10 @@ module _ {P : Problem} {T : List Cell} {q e : List ℤ} {sub path lanes : List �
 
   -- .. and the slot of a basic lane.
   lane-slot : (i j : ℕ) → Basic T i j → (t : ℕ) × (t < count) × (getD lanes t 0 ≡ i * stride + j)
-  lane-slot i j d =
-      let (t, p, s) = b .tree .cuts .listed (lane i j) (has-basic T i j .1 d) in
-      (t, p, sym (laneIndex-at (getD lanes t 0)) ∙ ap laneIndex s)
+  lane-slot i j d = let (t, p, s) = b .tree .cuts .listed (lane i j) (has-basic T i j .1 d) in (t, p, sym (laneIndex-at (getD lanes t 0)) ∙ ap laneIndex s)
 
   slot-pair : (t : ℕ) → t < count → pairAt q e (getD lanes t 0) ≡ amountAt T (getD lanes t 0 / stride) (getD lanes t 0 % stride)
-  slot-pair t p =
-      let (hi, hj) = slot-on t p in
-      let l = getD lanes t 0 in
+  slot-pair t p = let (hi, hj) = slot-on t p in let l = getD lanes t 0 in
       let x = ap (λ (k : ℕ). getD q k (pos 0)) (sym (laneIndex-at l)) ∙ b .amounts .bags (l / stride) (l % stride) hi hj in
       let y = ap (λ (k : ℕ). getD e k (pos 0)) (sym (laneIndex-at l)) ∙ b .amounts .marks (l / stride) (l % stride) hi hj in
       λ i. record { q = x i; e = y i }
@@ -186,8 +163,7 @@ module _ {P : Problem} {T : List Cell} {q e : List ℤ} {sub path lanes : List �
   -- Little lies on a basic lane.
   slot-light : (t : ℕ) → t < sources P + sinks P - 1
       → (natAbs (pairAt q e (getD lanes t 0) .q) ≤ maxBags) × (natAbs (pairAt q e (getD lanes t 0) .e) ≤ maxSide)
-  slot-light t p =
-      let a = amount-bound (b .sound) (board-belongs b) _ _ (slot-basic t p) in
+  slot-light t p = let a = amount-bound (b .sound) (board-belongs b) _ _ (slot-basic t p) in
       (rw (ap (λ (x : Pair). x .q) (slot-pair t p)) (a .0), rw (ap (λ (x : Pair). x .e) (slot-pair t p)) (a .1))
 
   slots-lie : (slots : ℕ) → ((t : ℕ) → has slots t ≡ true → t < sources P + sinks P - 1) → Slotted lanes slots
@@ -224,17 +200,16 @@ module _ {P : Problem} {T : List Cell} {q e : List ℤ} {sub path lanes : List �
 
     minus-sign : (t : ℕ) → t < count → has minus t ≡ isMinus (signOf (laneAt (getD lanes t 0)))
     minus-sign t p = g .losing t ∙ (rw (has-xor (getD path row 0) (getD path (M + col) 0) t))
-        ∙ sym (minus-by (rowFar path lanes t) (has (getD path row 0) t) (has (getD path (M + col) 0) t)) ∙ ap isMinus (sym (slot-sign t p))
+        ∙ sym (sign-tests (rowFar path lanes t) (has (getD path row 0) t) (has (getD path (M + col) 0) t) .0) ∙ ap isMinus (sym (slot-sign t p))
 
     plus-sign : (t : ℕ) → t < count → has plus t ≡ isPlus (signOf (laneAt (getD lanes t 0)))
     plus-sign t p = g .gaining t ∙ (rw (has-xor (getD path row 0) (getD path (M + col) 0) t))
-        ∙ sym (plus-by (rowFar path lanes t) (has (getD path row 0) t) (has (getD path (M + col) 0) t)) ∙ ap isPlus (sym (slot-sign t p))
+        ∙ sym (sign-tests (rowFar path lanes t) (has (getD path row 0) t) (has (getD path (M + col) 0) t) .1) ∙ ap isPlus (sym (slot-sign t p))
 
     -- The leaving lane has a slot, which is a minus slot.
     out-slot : (t : ℕ) × (has minus t ≡ true) × (getD lanes t 0 ≡ out .row * stride + out .col)
     unfolding laneOf
-    out-slot =
-        let (t, p, s) = lane-slot (out .row) (out .col) (basic-member (leaves .member)) in
+    out-slot = let (t, p, s) = lane-slot (out .row) (out .col) (basic-member (leaves .member)) in
         let (hi, hj) = inside-member (inside-of (b .sound) (board-belongs b)) (leaves .member) in
         let is : laneAt (getD lanes t 0) ≡ lane (out .row) (out .col) = ap laneAt s ∙ laneAt-place (out .row) (out .col) (omega (arith, high)) in
         (t, minus-sign t p ∙ ap (λ l. isMinus (signOf l)) is ∙ leaves .minus, s)
@@ -249,30 +224,21 @@ module _ {P : Problem} {T : List Cell} {q e : List ℤ} {sub path lanes : List �
       slot-in = minus-in s (f .inside)
 
       held-by : {c : Cell} → List·Memᴰ c T → (t : ℕ) → getD lanes t 0 ≡ c .row * stride + c .col → pairAt q e (getD lanes t 0) ≡ c .amount
-      held-by {c} mem t is =
-          let (hi, hj) = inside-member (inside-of (b .sound) (board-belongs b)) mem in
-          let x = b .amounts .bags (c .row) (c .col) hi hj in
-          let y = b .amounts .marks (c .row) (c .col) hi hj in
+      held-by {c} mem t is = let (hi, hj) = inside-member (inside-of (b .sound) (board-belongs b)) mem in
+          let x = b .amounts .bags (c .row) (c .col) hi hj in let y = b .amounts .marks (c .row) (c .col) hi hj in
           ap (pairAt q e) is ∙ (λ i. record { q = x i; e = y i }) ∙ amount-member (distinct-of (b .sound) (board-belongs b)) mem
 
       slot-leaves : getD lanes s 0 ≡ out .row * stride + out .col
       unfolding laneOf
-      slot-leaves = let c = cell-at (slot-basic s slot-in) in at (c .cell) (c .member) (c .row) (c .col)
-        where
-          at : (c : Cell) → List·Memᴰ c T → c .row ≡ getD lanes s 0 / stride → c .col ≡ getD lanes s 0 % stride → getD lanes s 0 ≡ out .row * stride + out .col
-          at c mem x y =
-              let (t, ht, is) = out-slot in
-              let place : getD lanes s 0 ≡ c .row * stride + c .col = sym ((rw (x, y)) ∙ laneIndex-at (getD lanes s 0)) in
-              let on : laneAt (getD lanes s 0) ≡ lane (c .row) (c .col) = λ i. lane (sym x i) (sym y i) in
-              let minus-cell : isMinus (signOf (laneOf c)) ≡ true =
-              ap (λ l. isMinus (signOf l)) (sym on) ∙ sym (minus-sign s slot-in) ∙ f .inside
-              in
-              let above : less (out .amount) (c .amount) ≡ false =
-              rw (← held-by (leaves .member) t is, ← held-by mem s place) (f .least t ht (has-zero t))
-              in
-              let same : c .amount ≡ out .amount = less-tie (c .amount) (out .amount) (leaves .least c mem minus-cell) above in
-              place ∙ ap (λ (c : Cell). c .row * stride + c .col)
-              (pivot-no-tie (b .sound) (board-belongs b) (h .inRow) (h .inCol) (h .new) mem minus-cell same)
+      slot-leaves = let x = cell-at (slot-basic s slot-in) in let c = x .cell in let (t, ht, is) = out-slot in
+          let place : getD lanes s 0 ≡ c .row * stride + c .col = sym (rw (x .row, x .col) (laneIndex-at (getD lanes s 0))) in
+          let on : laneAt (getD lanes s 0) ≡ lane (c .row) (c .col) = λ i. lane (sym (x .row) i) (sym (x .col) i) in
+          let minus-cell : isMinus (signOf (laneOf c)) ≡ true = ap (λ l. isMinus (signOf l)) (sym on) ∙ sym (minus-sign s slot-in) ∙ f .inside in
+          let above : less (out .amount) (c .amount) ≡ false =
+          rw (← held-by (leaves .member) t is, ← held-by (x .member) s place) (f .least t ht (has-zero t)) in
+          let same : c .amount ≡ out .amount = less-tie (c .amount) (out .amount) (leaves .least c (x .member) minus-cell) above in
+          place ∙ ap (λ (c : Cell). c .row * stride + c .col)
+          (pivot-no-tie (b .sound) (board-belongs b) (h .inRow) (h .inCol) (h .new) (x .member) minus-cell same)
 
       step-is : pairAt q e (getD lanes s 0) ≡ step (sources P) (sinks P) T (lane row col)
       step-is = held-by (leaves .member) s slot-leaves
@@ -294,8 +260,7 @@ module _ {P : Problem} {T : List Cell} {q e : List ℤ} {sub path lanes : List �
           go : Dec (Basic T i j) → Dec (Stands out i j) → amountAt (pivot M N T enter) i j ≡ gain (signOf (lane i j)) (out .amount) (amountAt T i j)
           go (no d′) o = amount-elsewhere order (board-belongs b .onSheet) (h .inCol) (h .new) i j d′ d ∙ rw (sign-none i j d′, amount-none T i j d′)
           go (yes y) (no o) = amount-stays order (board-belongs b .onSheet) (h .inCol) (h .new) i j y o
-          go (yes y) (yes o) = rw (o .0, o .1)
-              (amount-leaves order (board-belongs b .onSheet) (h .inCol) (h .new) (leaves .member)
+          go (yes y) (yes o) = rw (o .0, o .1) (amount-leaves order (board-belongs b .onSheet) (h .inCol) (h .new) (leaves .member)
               ∙ sym (ap (gain (signOf (laneOf out)) (out .amount)) (amount-member (distinct-of (b .sound) (board-belongs b)) (leaves .member))
               ∙ gains-minus (signOf (laneOf out)) (out .amount) (leaves .minus)))
 
@@ -304,23 +269,18 @@ module _ {P : Problem} {T : List Cell} {q e : List ℤ} {sub path lanes : List �
           → getD new (getD lanes t 0) (pos 0) ≡ cond (has slots t) (getD old (getD lanes t 0) (pos 0) +ℤ x) (getD old (getD lanes t 0) (pos 0))
       added-at {x} {slots} {old} {new} w a t p = by-test (has slots t)
           (λ s. rw s (a .on t s (has-zero t)))
-          (λ s. rw s
-          (a .off (getD lanes t 0) (λ k r is.
-          clash r (ap (has slots) (slots-apart (b .tree .cuts) t k p (w k r) (ap laneAt is)) ∙ s))))
+          (λ s. rw s (a .off (getD lanes t 0) (λ k r is. clash r (ap (has slots) (slots-apart (b .tree .cuts) t k p (w k r) (ap laneAt is)) ∙ s))))
 
       -- One part of the amounts, after the step went round and came to lie on the entering lane, is that of the pivot.
       turned-part : (part : Pair → ℤ) → ((a c : Pair) → part (add a c) ≡ part a +ℤ part c) → ((a c : Pair) → part (subtract a c) ≡ part a -ℤ part c)
           → {xs mid ys : List ℤ} → length ys ≡ laneRoom → ((i j : ℕ) → i < M → j < N → getD xs (i * stride + j) (pos 0) ≡ part (amountAt T i j))
-          → Added (negℤ (part (out .amount))) lanes minus 0 xs mid → Added (part (out .amount)) lanes plus 0 mid ys
-          → (i j : ℕ) → i < M → j < N
+          → Added (negℤ (part (out .amount))) lanes minus 0 xs mid → Added (part (out .amount)) lanes plus 0 mid ys → (i j : ℕ) → i < M → j < N
           → getD (set ys (row * stride + col) (part (out .amount))) (i * stride + j) (pos 0) ≡ part (amountAt (pivot M N T enter) i j)
       turned-part part f₁ f₂ {xs} {mid} {ys} long lie down up i j hi hj = by-cases (Dec·and (ℕ-discrete i row) (ℕ-discrete j col))
           (λ s. rw (s .0, s .1) (getD-set-same ys (row * stride + col) _ (pos 0) (omega (arith, high, h .inRow, h .inCol))
           ∙ sym (ap part (amount-enters order (board-belongs b .onSheet) (h .inCol) (h .new)))))
-          (λ d. getD-set-other ys (row * stride + col) (i * stride + j) _ (pos 0) (λ s. d (omega (arith, high, h .inCol)))
-          ∙ here
-          ∙ sym (gain-part part f₁ f₂ (signOf (lane i j)) (out .amount) (amountAt T i j))
-          ∙ sym (ap part (amount-gains i j d)))
+          (λ d. getD-set-other ys (row * stride + col) (i * stride + j) _ (pos 0) (λ s. d (omega (arith, high, h .inCol))) ∙ here
+          ∙ sym (gain-part part f₁ f₂ (signOf (lane i j)) (out .amount) (amountAt T i j)) ∙ sym (ap part (amount-gains i j d)))
         where
           here : getD ys (i * stride + j) (pos 0) ≡ moved (isMinus (signOf (lane i j))) (isPlus (signOf (lane i j))) (part (out .amount))
               (part (amountAt T i j))
@@ -328,21 +288,17 @@ module _ {P : Problem} {T : List Cell} {q e : List ℤ} {sub path lanes : List �
               (λ y. let (t, p, is) = lane-slot i j y in
               let on : laneAt (getD lanes t 0) ≡ lane i j = ap laneAt is ∙ laneAt-place i j (omega (arith, high)) in
               rw (← on, ← minus-sign t p, ← plus-sign t p, ← lie i j hi hj, ← is) (added-at plus-in up t p ∙ rw (added-at minus-in down t p)))
-              (λ d. rw (sign-none i j d)
-              (up .off (i * stride + j) (λ t r is. d (nowhere t (plus-in t r) is))
-              ∙ down .off (i * stride + j) (λ t r is. d (nowhere t (minus-in t r) is))
-              ∙ lie i j hi hj))
+              (λ d. rw (sign-none i j d) (up .off (i * stride + j) (λ t r is. d (nowhere t (plus-in t r) is))
+              ∙ down .off (i * stride + j) (λ t r is. d (nowhere t (minus-in t r) is)) ∙ lie i j hi hj))
             where
               nowhere : (t : ℕ) → t < count → getD lanes t 0 ≡ i * stride + j → Basic T i j
-              nowhere t p is =
-                  let on : laneAt (getD lanes t 0) ≡ lane i j = ap laneAt is ∙ laneAt-place i j (omega (arith, high)) in
+              nowhere t p is = let on : laneAt (getD lanes t 0) ≡ lane i j = ap laneAt is ∙ laneAt-place i j (omega (arith, high)) in
                   has-basic T i j .0 (rw on at (b .tree .cuts .basic t p))
 
       -- ---- the tree after it
 
       slot-is : laneAt (getD lanes s 0) ≡ lane (out .row) (out .col)
-      slot-is =
-          let (hi, hj) = inside-member (inside-of (b .sound) (board-belongs b)) (leaves .member) in
+      slot-is = let (hi, hj) = inside-member (inside-of (b .sound) (board-belongs b)) (leaves .member) in
           ap laneAt slot-leaves ∙ laneAt-place (out .row) (out .col) (omega (arith, high))
 
       slot-on-loop : has (onLoop path row (M + col)) s ≡ true
@@ -352,19 +308,15 @@ module _ {P : Problem} {T : List Cell} {q e : List ℤ} {sub path lanes : List �
       after = pivot (sources P) (sinks P) T (lane row col)
 
       exchanged : Exchanged (basisOf T) (laneAt (getD lanes s 0)) enter (basisOf after)
-      exchanged l = (to, from)
-        where
-          to : Has (basisOf after) (l .row) (l .col) → (l ≡ enter) ⊎ (List·Memᴰ l (basisOf T) × (l ≢ laneAt (getD lanes s 0)))
-          to x = ⊎-elim
-              (λ (u, v). inl (λ i. lane (u i) (v i)))
-              (λ (u, v). inr (has-basic T (l .row) (l .col) .1 u, (λ r. v (ap (λ (k : Lane). k .row) (r ∙ slot-is), ap (λ (k : Lane). k .col) (r ∙ slot-is)))))
-              (pivot-basic M N T enter (l .row) (l .col) .0 (has-basic after (l .row) (l .col) .0 x))
-
-          from : (l ≡ enter) ⊎ (List·Memᴰ l (basisOf T) × (l ≢ laneAt (getD lanes s 0))) → Has (basisOf after) (l .row) (l .col)
-          from x = has-basic after (l .row) (l .col) .1 (pivot-basic M N T enter (l .row) (l .col) .1 (⊎-elim
-              (λ r. inl (ap (λ (k : Lane). k .row) r, ap (λ (k : Lane). k .col) r))
-              (λ (u, v). inr (has-basic T (l .row) (l .col) .0 u, (λ (r, c). v ((λ i. lane (r i) (c i)) ∙ sym slot-is))))
-              x))
+      exchanged l = (
+        λ x. ⊎-elim
+            (λ (u, v). inl (λ i. lane (u i) (v i)))
+            (λ (u, v). inr (has-basic T (l .row) (l .col) .1 u, (λ r. v (ap (λ (k : Lane). k .row) (r ∙ slot-is), ap (λ (k : Lane). k .col) (r ∙ slot-is)))))
+            (pivot-basic M N T enter (l .row) (l .col) .0 (has-basic after (l .row) (l .col) .0 x)),
+        λ x. has-basic after (l .row) (l .col) .1 (pivot-basic M N T enter (l .row) (l .col) .1 (⊎-elim
+            (λ r. inl (ap (λ (k : Lane). k .row) r, ap (λ (k : Lane). k .col) r))
+            (λ (u, v). inr (has-basic T (l .row) (l .col) .0 u, (λ (r, c). v ((λ i. lane (r i) (c i)) ∙ sym slot-is)))) x)),
+      )
 
       belongs-after : Belongs P after
       belongs-after = pivot-belongs (b .sound) (board-belongs b) (h .inRow) (h .inCol) (h .new)
@@ -401,9 +353,7 @@ module _ {P : Problem} {T : List Cell} {q e : List ℤ} {sub path lanes : List �
 
           prices-after : (k : ℕ) → k < M + N → π k ≡ potential P after k
           unfolding potential
-          prices-after =
-              let across = loop-across (b .tree) row (M + col) s slot-on-loop in
-              let low = b .sound .sourcesLow in
+          prices-after = let across = loop-across (b .tree) row (M + col) s slot-on-loop in let low = b .sound .sourcesLow in
               potential-only low (fits-of (b .sound) belongs-after) (spans-of (b .sound) belongs-after) (laneCost P) π
               (shifted-root (b .tree .cuts) fits slot-in {enter = enter} (h .inRow) (h .inCol) across shifted low
               (potential-root low fits spanned (laneCost P)))
@@ -430,8 +380,7 @@ module _ {P : Problem} {T : List Cell} {q e : List ℤ} {sub path lanes : List �
             → Added (x .q) lanes plus 0 q₁ q₂ → Added (x .e) lanes plus 0 e₁ e₂
             → Pivoted P T (sources P) (sinks P) row col (set q₂ (row * stride + col) (x .q)) (set e₂ (row * stride + col) (x .e)) sub′ path′ lanes′ far
         unfolding add subtract
-        pivoted-by {q₂ = q₂} {e₂} qd ed qu eu =
-            let x : pairAt q e (getD lanes s 0) .q ≡ out .amount .q = ap (λ (a : Pair). a .q) step-is in
+        pivoted-by {q₂ = q₂} {e₂} qd ed qu eu = let x : pairAt q e (getD lanes s 0) .q ≡ out .amount .q = ap (λ (a : Pair). a .q) step-is in
             let y : pairAt q e (getD lanes s 0) .e ≡ out .amount .e = ap (λ (a : Pair). a .e) step-is in
             let qLong : length q₂ ≡ laneRoom = qu .long ∙ qd .long ∙ b .amounts .qLong in
             let eLong : length e₂ ≡ laneRoom = eu .long ∙ ed .long ∙ b .amounts .eLong in
@@ -455,7 +404,7 @@ module _ {P : Problem} {T : List Cell} {q e : List ℤ} {sub path lanes : List �
   whole = rw (b .rows, b .columns) at b
 
   pub pivot-room : (row < stride) × (m ≤ stride) × (col < stride)
-  pivot-room = (omega (arith, high whole h, h .inRow), omega (arith, high whole h, b .rows), omega (arith, high whole h, h .inCol))
+  pivot-room = omega (arith, high whole h, h .inRow, b .rows, h .inCol)
 
   pub loop-rows : (t : ℕ) → has (onLoop path row (m + col)) t ≡ true → getD lanes t 0 / stride < nodeRoom
   loop-rows t s = omega (arith, high whole h, slot-on whole h t (on-loop whole h t (rw (b .rows) at s)))
@@ -493,14 +442,10 @@ module _ {P : Problem} {T : List Cell} {q e : List ℤ} {sub path lanes : List �
       -- What goes back is as light.
       back-light : (natAbs (subtract nothing held .q) ≤ maxBags) × (natAbs (subtract nothing held .e) ≤ maxSide)
       unfolding subtract nothing
-      back-light = (
-        omega (arith, abs-diff (pos 0) (held .q), held-light),
-        omega (arith, abs-diff (pos 0) (held .e), held-light),
-      )
+      back-light = omega (arith, abs-diff (pos 0) (held .q), held-light, abs-diff (pos 0) (held .e))
 
       pub minus-fits : (t : ℕ) → has minus t ≡ true → Fit (pairAt q e (getD lanes t 0)) (subtract nothing (pairAt q e (getD lanes s 0)))
-      minus-fits t i =
-          let a = slot-light whole h t (minus-in whole h g t i) in
+      minus-fits t i = let a = slot-light whole h t (minus-in whole h g t i) in
           light-fit (omega (arith, a .0)) (omega (arith, a .1)) (back-light .0) (back-light .1)
 
       -- x is what the slot holds, and y what goes back.
@@ -525,8 +470,7 @@ module _ {P : Problem} {T : List Cell} {q e : List ℤ} {sub path lanes : List �
             go false = omega arith
 
         pub plus-fits : (t : ℕ) → has plus t ≡ true → Fit (pairAt q₁ e₁ (getD lanes t 0)) x
-        plus-fits t i =
-            let a = slot-light whole h t (plus-in whole h g t i) in
+        plus-fits t i = let a = slot-light whole h t (plus-in whole h g t i) in
             rw is-x (light-fit (added-light bags-lost (back-light .0) t i (a .0)) (added-light marks-lost (back-light .1) t i (a .1))
             (held-light .0) (held-light .1))
 
@@ -534,8 +478,7 @@ module _ {P : Problem} {T : List Cell} {q e : List ℤ} {sub path lanes : List �
             → Regrafted row (m + col) s (row * stride + col) sub path lanes sub′ path′ lanes′ far
             → Pivoted P T m n row col (set q₂ (row * stride + col) (x .q)) (set e₂ (row * stride + col) (x .e)) sub′ path′ lanes′ far
         unfolding subtract nothing
-        pivot-is {q₂} {e₂} gainedBags gainedMarks w =
-            let u : x .q ≡ held .q = ap (λ (a : Pair). a .q) is-x in
+        pivot-is {q₂} {e₂} gainedBags gainedMarks w = let u : x .q ≡ held .q = ap (λ (a : Pair). a .q) is-x in
             let v : x .e ≡ held .e = ap (λ (a : Pair). a .e) is-x in
             rw (b .rows, b .columns, u, v) (pivoted-by whole h g f (rw (b .rows) at w) (rw +ℤ-idl at bags-lost) (rw +ℤ-idl at marks-lost)
             (rw u at gainedBags) (rw v at gainedMarks))

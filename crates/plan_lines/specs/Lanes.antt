@@ -46,8 +46,7 @@ text-next n plan k = rw add-one
 pub text-grows : (n : ℕ) (plan : List ℕ) (k m : ℕ) → k ≤ m → length (usedText n plan k) ≤ length (usedText n plan m)
 unfolding usedText
 text-grows n plan k zero p = let e : k ≡ 0 = omega arith in rw e (omega arith)
-text-grows n plan k (suc m) p =
-    by-cases (decLe k m)
+text-grows n plan k (suc m) p = by-cases (decLe k m)
     (λ q. omega (arith, length-append (usedText n plan m) (laneText n m (at plan m)), text-grows n plan k m q))
     (λ q. let e : k ≡ suc m = omega arith in rw e (omega arith))
 
@@ -71,9 +70,7 @@ laneOfPlace n l = lane (l / n) (l % n)
 
 lanes-places : (m n : ℕ) → 1 ≤ n → lanes m n ≡ table (m * n) (laneOfPlace n)
 unfolding place
-lanes-places m n p =
-    sym (table-getD (lanes m n) (lane 0 0))
-    ∙ ap (λ (k : ℕ). table k (λ l. getD (lanes m n) l (lane 0 0))) (length-lanes m n)
+lanes-places m n p = sym (table-getD (lanes m n) (lane 0 0)) ∙ ap (λ (k : ℕ). table k (λ l. getD (lanes m n) l (lane 0 0))) (length-lanes m n)
     ∙ table-cong (m * n) (λ l. getD (lanes m n) l (lane 0 0)) (laneOfPlace n) each
   where
     each : (l : ℕ) → l < m * n → getD (lanes m n) l (lane 0 0) ≡ laneOfPlace n l
@@ -105,11 +102,9 @@ module _ (n : ℕ) (plan : List ℕ) where
       joined = keep-append hasBag (table k (laneOfPlace n)) (laneOfPlace n k ∷ [])
 
       go : (bags : ℕ) → at plan k ≡ bags → Told k → Told (suc k)
-      go zero e t =
-          let same : usedTo (suc k) ≡ usedTo k = joined ∙ rw (keep-no hasBag (laneOfPlace n k) [] (rw (carried-at k, e)), append-nil) in
+      go zero e t = let same : usedTo (suc k) ≡ usedTo k = joined ∙ rw (keep-no hasBag (laneOfPlace n k) [] (rw (carried-at k, e)), append-nil) in
           rw (same, e, line-none n k, append-nil) (omega (arith, t .0), t .1)
-      go (suc b) e t =
-          let bags : at plan k ≡ 0 → ⊥ = λ z. omega (arith, e) in
+      go (suc b) e t = let bags : at plan k ≡ 0 → ⊥ = λ z. omega (arith, e) in
           let yes = keep-yes hasBag (laneOfPlace n k) [] (rw (carried-at k, ne-eqb (at plan k) 0 bags)) in
           let more : usedTo (suc k) ≡ usedTo k ++ (laneOfPlace n k ∷ []) = joined ∙ rw yes in
           let row = lines-row digits 3 (laneNumbers n k (at plan k)) [] (omega arith) refl in

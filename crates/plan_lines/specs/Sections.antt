@@ -30,11 +30,8 @@ planSections f u v plan = figuresText f ++ (pricesText u v ++ lanesText (f .used
 
 -- Its length, section by section.
 pub sections-length : (f : Figures) (u v : List ℤ) (plan : List ℕ) → length (planSections f u v plan) ≡
-    length (sectionText wholeDigits (bytes "total ") 1 1 (f .total ∷ []))
-    + length (sectionText digits (bytes "rounds ") 1 1 (f .rounds ∷ []))
-    + length (priceSection (bytes "roasteries ") u)
-    + length (priceSection (bytes "cafes ") v)
-    + length (bytes "lanes " ++ ended digits (f .used) 10)
+    length (sectionText wholeDigits (bytes "total ") 1 1 (f .total ∷ [])) + length (sectionText digits (bytes "rounds ") 1 1 (f .rounds ∷ []))
+    + length (priceSection (bytes "roasteries ") u) + length (priceSection (bytes "cafes ") v) + length (bytes "lanes " ++ ended digits (f .used) 10)
     + length (usedText (length v) plan (length plan))
 unfolding planSections figuresText pricesText lanesText
 sections-length f u v plan = simp length-append (omega arith)
@@ -62,21 +59,15 @@ prices-section name m zs e = rw (← e) (column-section wholeLine wholeDigits wh
 lanes-section : (m n : ℕ) (plan : List ℕ) → 1 ≤ n → length plan ≡ m * n →
     headLine "lanes" (length (used m n plan)) ++ flatMap (laneLine n plan) (used m n plan) ≡ lanesText (usedCount plan (length plan)) n plan
 unfolding lanesText bytes
-lanes-section m n plan p e =
-    let whole = used-whole n plan m p e in
-    rw (whole .0, whole .1, head-line)
+lanes-section m n plan p e = let whole = used-whole n plan m p e in rw (whole .0, whole .1, head-line)
 
 regroup : (a b c d e f g h i j : List ℕ) → a ++ b ++ c ++ d ++ e ++ f ++ g ++ h ++ i ++ j ≡ a ++ b ++ (c ++ d) ++ (e ++ f ++ (g ++ h) ++ (i ++ j))
 regroup a b c d e f g h i j = simp append-assoc
 
 -- The plan text is the sections of the solution: its figures, its prices, and the lanes that its plan uses.
-pub plan-sections : (S : Sheet) → 1 ≤ cafes S → Fills S (solution S) → let a = solution S in
-    planText S ≡ planSections (figuresOf a) (a .u) (a .v) (a .plan)
+pub plan-sections : (S : Sheet) → 1 ≤ cafes S → Fills S (solution S) → let a = solution S in planText S ≡ planSections (figuresOf a) (a .u) (a .v) (a .plan)
 unfolding planText planSections figuresText pricesText bytes
-plan-sections S p fills =
-    let a = solution S in
-    let m = roasteries S in
-    let n = cafes S in
+plan-sections S p fills = let a = solution S in let m = roasteries S in let n = cafes S in
     rw (
       regroup,
       one-section wholeLine wholeDigits whole-lines "total" (a .cost),

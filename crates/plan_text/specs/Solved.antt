@@ -1,5 +1,5 @@
 -- What write plan knows once solve has answered, with lists that have room for any sheet.
-use Rattle.prelude.specs.Words.{_≡_, refl, sym, ap, _∙_, Option, none, some, List, ℕ, _≤_, _*_, arith, mul-le-mul, ℤ, length, take, drop, take-at, by-option}
+use Rattle.prelude.specs.Words.{_≡_, sym, ap, _∙_, none, some, List, ℕ, _≤_, _*_, arith, mul-le-mul, ℤ, length, take, drop, take-at, by-option}
 use Rattle.transport.specs.declared.SolveAnswer.the-variants.{Solved, Refused}
 use Rattle.transport.specs.Limits.{maxSide}
 use Rattle.transport.specs.Sheet.{Sheet, roasteries, cafes, sheetTests, refusal}

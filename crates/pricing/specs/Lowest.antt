@@ -1,6 +1,6 @@
 -- The least of some numbers: taken number by number, kept where all of them rise or some fall, and the first place that has it.
-use Rattle.prelude.specs.Words.{_≡_, refl, sym, ap, _∙_, _≢_, _⊎_, inl, inr, ⊎-elim, by-cases, Bool, true, false, cond, ℕ, zero, suc, _+_, _-_, _<_, _≤_, arith}
-use Rattle.prelude.specs.Words.{add-one, ℕ-discrete, eq-or-lt-of-le, ne-eqb, ℤ, _+ℤ_, ltZ, clash}
+use Rattle.prelude.specs.Words.{_≡_, refl, sym, ap, _∙_, _≢_, _⊎_, inl, inr, ⊎-elim, by-cases, true, false, cond, ℕ, zero, suc, _+_, _-_, _<_, _≤_, arith}
+use Rattle.prelude.specs.Words.{add-one, ℕ-discrete, eq-or-lt-of-le, ne-eqb, ℤ, _+ℤ_, ltZ, clash, by-test}
 use lib.Bits.{bitAnd}
 use Rattle.integers.specs.Integer.{_≼_, _≺_}
 use Rattle.integers.specs.Bridge.{toZ, eq-z, z-eq, z-add}
@@ -34,32 +34,24 @@ pub record Low (b : ℤ) (f : ℕ → ℤ) (n : ℕ) (r : ℤ) : Type 0 where
 pub lowest-low : (b : ℤ) (f : ℕ → ℤ) (n : ℕ) → Low b f n (lowest b f n)
 unfolding lowest
 lowest-low b f zero = record { cap = omega arith; least = λ k l. absurd (omega arith); meets = inl refl }
-lowest-low b f (suc n) = go (ltZ (f n) (lowest b f n)) refl (lowest-low b f n)
-  where
-    later : (k : ℕ) (r : ℤ) → toZ r ≼ toZ (f n) → ((k : ℕ) → k < n → toZ r ≼ toZ (f k)) → k < suc n → toZ r ≼ toZ (f k)
-    later k r last rest l = by-cases (ℕ-discrete k n) (λ e. rw e last) (λ e. rest k (omega arith))
-
-    go : (t : Bool) → ltZ (f n) (lowest b f n) ≡ t → Low b f n (lowest b f n) → Low b f (suc n) (cond t (f n) (lowest b f n))
-    go true e w = record {
-      cap = omega (arith, lt-yes (f n) (lowest b f n) e, w .cap);
-      least = λ k l. later k (f n) (omega arith) (λ k q. omega (arith, lt-yes (f n) (lowest b f n) e, w .least k q)) l;
+lowest-low b f (suc n) = let x = lowest b f n in let w = lowest-low b f n in by-test (ltZ (f n) x)
+    (λ e. rw e (record {
+      cap = omega (arith, lt-yes (f n) x e, w .cap);
+      least = λ k l. by-cases (ℕ-discrete k n) (λ s. rw s (omega arith)) (λ s. omega (arith, lt-yes (f n) x e, w .least k (omega arith)));
       meets = inr (n, omega arith, refl);
-    }
-    go false e w = record {
+    }))
+    (λ e. rw e (record {
       cap = w .cap;
-      least = λ k l. later k (lowest b f n) (lt-no (f n) (lowest b f n) e) (w .least) l;
+      least = λ k l. by-cases (ℕ-discrete k n) (λ s. rw s (lt-no (f n) x e)) (λ s. w .least k (omega arith));
       meets = ⊎-elim inl (λ (k, l, s). inr (k, omega arith, s)) (w .meets);
-    }
+    }))
 
 -- There is one such number.
 low-only : {b : ℤ} {f : ℕ → ℤ} {n : ℕ} {r s : ℤ} → Low b f n r → Low b f n s → r ≡ s
 low-only {b} {f} {n} {r} {s} v w = eq-z r s (omega (arith, below v w, below w v))
   where
     below : {r s : ℤ} → Low b f n r → Low b f n s → toZ r ≼ toZ s
-    below {r} {s} v w = ⊎-elim
-        (λ e. omega (arith, z-eq e, v .cap))
-        (λ (k, l, e). omega (arith, z-eq e, v .least k l))
-        (w .meets)
+    below {r} {s} v w = ⊎-elim (λ e. omega (arith, z-eq e, v .cap)) (λ (k, l, e). omega (arith, z-eq e, v .least k l)) (w .meets)
 
 -- All numbers are raised by x, and b is another bound.
 pub low-raised : {b c : ℤ} {f : ℕ → ℤ} {n : ℕ} {r : ℤ} (x : ℤ) → Low b f n r → toZ r ≺ toZ b → toZ (r +ℤ x) ≼ toZ c → Low c (λ k. f k +ℤ x) n (r +ℤ x)
@@ -83,23 +75,21 @@ over-start f at s = record { cap = omega arith; least = λ k e d. clash e d; mee
 
 pub over-step : {f : ℕ → ℤ} {at bits j : ℕ} {s r : ℤ} → LeastOver f at bits s r → Least bits j → has at j ≡ true
     → LeastOver f at (bitAnd bits (bits - 1)) s (lesser (f j) r)
-over-step {f} {at} {bits} {j} {s} {r} w l on = go (ltZ (f j) r) refl
+over-step {f} {at} {bits} {j} {s} {r} w l on = by-test (ltZ (f j) r)
+    (λ e. rw e (record {
+      cap = omega (arith, lt-yes (f j) r e, w .cap);
+      least = λ k p q. by-cases (ℕ-discrete k j) (λ d. rw d (omega arith)) (λ d. omega (arith, lt-yes (f j) r e, w .least k p (out k q d)));
+      meets = inr (j, on, refl);
+    }))
+    (λ e. rw e (record {
+      cap = w .cap;
+      least = λ k p q. by-cases (ℕ-discrete k j) (λ d. rw d (lt-no (f j) r e)) (λ d. w .least k p (out k q d));
+      meets = w .meets;
+    }))
   where
     -- What is out of the mask now is j, or was before.
     out : (k : ℕ) → has (bitAnd bits (bits - 1)) k ≡ false → k ≢ j → has bits k ≡ false
     out k e d = sym (rw (has-rest bits j k l, ne-eqb k j d)) ∙ e
-
-    go : (t : Bool) → ltZ (f j) r ≡ t → LeastOver f at (bitAnd bits (bits - 1)) s (cond t (f j) r)
-    go true e = record {
-      cap = omega (arith, lt-yes (f j) r e, w .cap);
-      least = λ k p q. by-cases (ℕ-discrete k j) (λ d. rw d (omega arith)) (λ d. omega (arith, lt-yes (f j) r e, w .least k p (out k q d)));
-      meets = inr (j, on, refl);
-    }
-    go false e = record {
-      cap = w .cap;
-      least = λ k p q. by-cases (ℕ-discrete k j) (λ d. rw d (lt-no (f j) r e)) (λ d. w .least k p (out k q d));
-      meets = w .meets;
-    }
 
 -- .. and where s was the least of older numbers, of which those at `at` have not risen and the others are as they were, r is the least of them all.
 pub over-end : {b : ℤ} {old new : ℕ → ℤ} {n at bits : ℕ} {s r : ℤ} → Low b old n s → ((k : ℕ) → has at k ≡ true → k < n)
@@ -107,23 +97,20 @@ pub over-end : {b : ℤ} {old new : ℕ → ℤ} {n at bits : ℕ} {s r : ℤ} �
     → LeastOver new at bits s r → bits ≡ 0 → r ≡ lowest b new n
 over-end {b} {old} {new} {n} {at} {bits} {s} {r} w inside falls same o none = low-only now (lowest-low b new n)
   where
-    least : (k : ℕ) → k < n → (t : Bool) → has at k ≡ t → toZ r ≼ toZ (new k)
-    least k l true e = o .least k e (rw (none, has-zero k))
-    least k l false e = rw (same k l e) (omega (arith, o .cap, w .least k l))
+    least : (k : ℕ) → k < n → toZ r ≼ toZ (new k)
+    least k l = by-test (has at k) (λ e. o .least k e (rw (none, has-zero k))) (λ e. rw (same k l e) (omega (arith, o .cap, w .least k l)))
 
     -- The older least is at k: if k is among those that fell, it is the least still.
-    stays : r ≡ s → (k : ℕ) → k < n → old k ≡ s → (t : Bool) → has at k ≡ t → new k ≡ r
-    stays e k l d true h = eq-z (new k) r (omega (arith, least k l true h, falls k h, z-eq d, z-eq e))
-    stays e k l d false h = same k l h ∙ d ∙ sym e
+    stays : r ≡ s → (k : ℕ) → k < n → old k ≡ s → new k ≡ r
+    stays e k l d = by-test (has at k) (λ h. eq-z (new k) r (omega (arith, least k l, falls k h, z-eq d, z-eq e))) (λ h. same k l h ∙ d ∙ sym e)
 
     now : Low b new n r
     now = record {
       cap = omega (arith, o .cap, w .cap);
-      least = λ k l. least k l (has at k) refl;
+      least = least;
       meets = ⊎-elim
-          (λ e. ⊎-elim (λ d. inl (e ∙ d)) (λ (k, l, d). inr (k, l, stays e k l d (has at k) refl)) (w .meets))
-          (λ (k, h, e). inr (k, inside k h, e))
-          (o .meets);
+          (λ e. ⊎-elim (λ d. inl (e ∙ d)) (λ (k, l, d). inr (k, l, stays e k l d)) (w .meets))
+          (λ (k, h, e). inr (k, inside k h, e)) (o .meets);
     }
 
 -- ---- the place of the least
@@ -170,15 +157,8 @@ pub record FirstLow (f : ℕ → ℤ) (z : ℤ) (n p : ℕ) : Type 0 where
 pub first-inside : {b : ℤ} {f : ℕ → ℤ} {n p : ℕ} {z y : ℤ} → Low b f n z → toZ z ≺ toZ b → toZ z ≼ toZ y → FirstAt f y n p → p < n
 first-inside {n = n} {p} w h le a = ⊎-elim
     (λ (s : p ≡ n). ⊎-elim (λ r. absurd (omega (arith, z-eq r))) (λ (k, l, r). absurd (omega (arith, a .above k (omega arith), z-eq r))) (w .meets))
-    (λ l. l)
-    (eq-or-lt-of-le {n = p} {m = n} (a .within))
+    (λ l. l) (eq-or-lt-of-le {n = p} {m = n} (a .within))
 
 pub low-first : {b : ℤ} {f : ℕ → ℤ} {n p : ℕ} {z : ℤ} → Low b f n z → toZ z ≺ toZ b → FirstAt f z n p → FirstLow f z n p
-low-first {b} {f} {n} {p} {z} w h a =
-    let inside = first-inside w h (omega arith) a in
-    record {
-      inside = inside;
-      is = eq-z (f p) z (omega (arith, a .there inside, w .least p inside));
-      least = w .least;
-      first = a .above;
-    }
+low-first {b} {f} {n} {p} {z} w h a = let inside = first-inside w h (omega arith) a in
+    record { inside = inside; is = eq-z (f p) z (omega (arith, a .there inside, w .least p inside)); least = w .least; first = a .above }

@@ -48,10 +48,7 @@ module _ {cost price slack : List ℤ} {m n : ℕ} (w : InRange cost price m n) 
 
   -- No reduced cost of a row is below the row's least.
   row-least : (i j : ℕ) → i < m → j < n → toZ (rowReduced slack price i) ≼ toZ (reducedAt cost price m i j)
-  row-least i j p q =
-      let c = getD cost (j * stride + i) (pos 0) in
-      let u = getD price i (pos 0) in
-      let v = getD price (m + j) (pos 0) in
+  row-least i j p q = let c = getD cost (j * stride + i) (pos 0) in let u = getD price i (pos 0) in let v = getD price (m + j) (pos 0) in
       let r = getD slack i (pos 0) in
       omega (arith, slacks-low w s i (omega (arith, w .rows)) .least j q, reduced-z c u v, z-add r (negℤ u), z-neg u)
 
@@ -61,8 +58,7 @@ module _ {cost price slack : List ℤ} {m n : ℕ} (w : InRange cost price m n) 
 
     pub scanned-no : ltZ best (pos 0) ≡ false → Scanned cost price m n 0 0 (pos 0)
     scanned-no h = record {
-      finished = λ r i j p q. no-lt (reducedAt cost price m i j) (pos 0)
-          (omega (arith, lt-no best (pos 0) h, best-low .least i p, row-least i j p q));
+      finished = λ r i j p q. no-lt (reducedAt cost price m i j) (pos 0) (omega (arith, lt-no best (pos 0) h, best-low .least i p, row-least i j p q));
       found = λ r. absurd (true≢false (sym r));
     }
 

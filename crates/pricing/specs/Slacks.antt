@@ -1,9 +1,9 @@
 -- Slacks: what is left of a lane's cost when the potential of its sink is taken off. The least slack of each row is kept between rounds. Where the prices of
 -- some columns rise, it falls to the least of what it was and of the new slacks of those columns. Where they fall, all slacks are raised by as much, and it is
 -- the other columns that are lower then.
-use Rattle.prelude.specs.Words.{_≡_, refl, sym, ap, _∙_, inl, ⊎-elim, by-cases, Bool, true, false, cond, not, xor, List, ℕ, _+_, _-_, _*_, _/_, _^_, _<_, _≤_}
-use Rattle.prelude.specs.Words.{arith, ℕ-discrete, decLt, ltb-true, lt-ltb, le-ltb, not-true, not-false, eqb, ltb, ℤ, pos, natAbs, negℤ, _+ℤ_, _-ℤ_, length}
-use Rattle.prelude.specs.Words.{getD, set, replicate, length-set, getD-replicate, getD-set-same, getD-set-other, ltZ, clash}
+use Rattle.prelude.specs.Words.{_≡_, refl, sym, ap, _∙_, inl, ⊎-elim, by-cases, true, false, cond, not, xor, List, ℕ, _+_, _-_, _*_, _/_, _^_, _<_, _≤_, arith}
+use Rattle.prelude.specs.Words.{ℕ-discrete, decLt, ltb-true, lt-ltb, le-ltb, not-true, not-false, eqb, ltb, ℤ, pos, natAbs, negℤ, _+ℤ_, _-ℤ_, length, getD, set}
+use Rattle.prelude.specs.Words.{replicate, length-set, getD-replicate, getD-set-same, getD-set-other, ltZ, clash, by-test, false≢true}
 use lib.Bits.{bitAnd, bitXor}
 use Rattle.integers.specs.Integer.{_≼_, _≺_}
 use Rattle.integers.specs.Bridge.{toZ, z-eq, z-add, z-neg, eq!, !, _+'_, _-'_, neg'}
@@ -55,11 +55,9 @@ module _ {cost price : List ℤ} {m n : ℕ} (w : InRange cost price m n) where
 
     -- A column at least is in, so that it is a slack.
     pub slacks-abs : natAbs (getD slack i (pos 0)) ≤ costAbove + maxPotential
-    slacks-abs =
-        ⊎-elim
+    slacks-abs = ⊎-elim
         (λ e. absurd (omega (arith, z-eq e, slacks-low .least 0 (w .some), slack-far i 0 (w .some))))
-        (λ (j, l, e). omega (arith, ap natAbs e, slack-abs i j l))
-        (slacks-low .meets)
+        (λ (j, l, e). omega (arith, ap natAbs e, slack-abs i j l)) (slacks-low .meets)
 
 -- ---- the number of each row is changed
 
@@ -79,16 +77,13 @@ module _ (f : ℕ → ℤ → ℤ) (old : List ℤ) where
   changing-start e = record { long = e; done = λ k l. absurd (omega arith); still = λ k l. refl }
 
   pub changing-step : {i : ℕ} {new : List ℤ} → Changing f old i new → i < stride → Changing f old (i + 1) (set new i (f i (getD new i (pos 0))))
-  changing-step {i} {new} w l = record {
+  changing-step {i} {new} w l = let x = f i (getD new i (pos 0)) in record {
     long = simp length-set (w .long);
     done = λ k p. by-cases (ℕ-discrete k i)
         (λ e. rw (e, getD-set-same new i x (pos 0) (omega (arith, w .long)), w .still i (omega arith)))
         (λ d. getD-set-other new i k x (pos 0) d ∙ w .done k (omega arith));
     still = λ k p. getD-set-other new i k x (pos 0) (omega arith) ∙ w .still k (omega arith);
   }
-    where
-      x : ℤ
-      x = f i (getD new i (pos 0))
 
   pub changing-end : {i : ℕ} {new : List ℤ} → Changing f old i new → stride ≤ i → Changed f old new
   changing-end w l = record { long = w .long; each = λ k p. w .done k (omega arith) }
@@ -125,15 +120,10 @@ module _ {cost price : List ℤ} {m cols : ℕ} {old : List ℤ} where
 
 -- Where the slacks of these columns have not risen, and those of the others are as they were, the least slack of each row is kept so.
 relaxed-slacks : {cost price : List ℤ} {m n cols : ℕ} {old new : List ℤ} (before : ℕ → ℕ → ℤ)
-    → ((i : ℕ) → i < stride → Low (pos far) (before i) n (getD old i (pos 0)))
-    → ((j : ℕ) → has cols j ≡ true → j < n)
+    → ((i : ℕ) → i < stride → Low (pos far) (before i) n (getD old i (pos 0))) → ((j : ℕ) → has cols j ≡ true → j < n)
     → ((i j : ℕ) → has cols j ≡ true → toZ (slackAt cost price m i j) ≼ toZ (before i j))
-    → ((i j : ℕ) → j < n → has cols j ≡ false → slackAt cost price m i j ≡ before i j)
-    → Relaxed cost price m cols old new → Slacks cost price m n new
-relaxed-slacks before low inside falls same r = record {
-  long = r .long;
-  least = λ i p. over-end (low i p) inside (falls i) (same i) (r .each i p) refl;
-}
+    → ((i j : ℕ) → j < n → has cols j ≡ false → slackAt cost price m i j ≡ before i j) → Relaxed cost price m cols old new → Slacks cost price m n new
+relaxed-slacks before low inside falls same r = record { long = r .long; least = λ i p. over-end (low i p) inside (falls i) (same i) (r .each i p) refl }
 
 -- All columns, as a mask.
 module _ (n : ℕ) {first : ℕ} (all : first ≡ firstBits n) where
@@ -146,14 +136,9 @@ module _ (n : ℕ) {first : ℕ} (all : first ≡ firstBits n) where
   -- Before any column is in, all rows stand at `far`.
   pub slacks-anew : {cost price : List ℤ} {m : ℕ} {slack : List ℤ} → InRange cost price m n
       → Relaxed cost price m first (replicate stride (pos far)) slack → Slacks cost price m n slack
-  slacks-anew w = relaxed-slacks (λ i j. pos far)
-      (λ i p. rw (getD-replicate stride i (pos far) (pos 0) p) none)
-      all-inside
-      (λ i j e. omega (arith, slack-far w i j (all-inside j e)))
-      (λ i j l e. clash (has-all j ∙ lt-ltb j n l) e)
-    where
-      none : Low (pos far) (λ j. pos far) n (pos far)
-      none = record { cap = omega arith; least = λ k l. omega arith; meets = inl refl }
+  slacks-anew w = relaxed-slacks (λ i j. pos far) (λ i p. rw (getD-replicate stride i (pos far) (pos 0) p)
+      (record { cap = omega arith; least = λ k l. omega arith; meets = inl refl }))
+      all-inside (λ i j e. omega (arith, slack-far w i j (all-inside j e))) (λ i j l e. clash (has-all j ∙ lt-ltb j n l) e)
 
 -- ---- after a pivot
 
@@ -193,14 +178,10 @@ module _ {cost old price slack : List ℤ} {m n side row : ℕ} {reduced : ℤ} 
 
   -- Where the row is among the nodes that moved, the columns among them rose: these alone are taken in.
   pub slacks-risen : {new : List ℤ} → has side row ≡ true → Relaxed cost price m moving slack new → Slacks cost price m n new
-  slacks-risen e = relaxed-slacks (slackAt cost old m)
-      (slacks-low (w .range) (w .slacks))
-      moving-inside
-      (λ i j h. less-off (getD cost (j * stride + i) (pos 0)) (v j) (getD price (m + j) (pos 0)) (rises j h))
+  slacks-risen e = relaxed-slacks (slackAt cost old m) (slacks-low (w .range) (w .slacks)) moving-inside
+      (λ i j h. less-off (getD cost (j * stride + i) (pos 0)) (v j) (getD price (m + j) (pos 0)) (rw (moves j h, e)
+      (omega (arith, z-add (v j) (negℤ reduced), z-neg reduced, lt-yes reduced (pos 0) (w .negative)))))
       (λ i j l h. rw (rests j h))
-    where
-      rises : (j : ℕ) → has moving j ≡ true → toZ (v j) ≼ toZ (getD price (m + j) (pos 0))
-      rises j h = rw (moves j h, e) (omega (arith, z-add (v j) (negℤ reduced), z-neg reduced, lt-yes reduced (pos 0) (w .negative)))
 
   -- Where it is not, they fell by some x, and no column rose. A row's least old slack, raised by x, is the least of all its old slacks raised by x. Of these
   -- the columns that moved have their new slacks, just so; the others have theirs raised by x, so that their new slacks, which are their old ones, are lower.
@@ -215,27 +196,18 @@ module _ {cost old price slack : List ℤ} {m n side row : ℕ} {reduced : ℤ} 
 
     apart : (j : ℕ) → j < n → has resting j ≡ not (has moving j)
     unfolding xor
-    apart j l = has-resting j ∙ (rw (lt-ltb j n l)) ∙ go (has moving j)
-      where
-        go : (b : Bool) → xor true b ≡ not b
-        go true = refl
-        go false = refl
+    apart j l = has-resting j ∙ rw (lt-ltb j n l) (by-test (has moving j) (λ e. rw e) (λ e. rw e))
 
     pub resting-inside : (j : ℕ) → has resting j ≡ true → j < n
     unfolding xor
-    resting-inside j h =
-        by-cases (decLt j n) (λ l. l) (λ l. moving-inside j (go (has moving j) (rw (le-ltb j n (omega arith)) at (sym (has-resting j) ∙ h))))
-      where
-        go : (b : Bool) → xor false b ≡ true → b ≡ true
-        go true e = refl
-        go false e = e
+    resting-inside j h = by-cases (decLt j n) (λ l. l) (λ l. moving-inside j (by-test (has moving j) (λ e. e)
+        (λ e. absurd (false≢true (rw (le-ltb j n (omega arith), e) at (sym (has-resting j) ∙ h))))))
 
     pub slacks-fallen : {x : ℤ} {mid new : List ℤ} → has side row ≡ false → x ≡ negℤ reduced → Changed (raising x) slack mid
         → Relaxed cost price m resting mid new → Slacks cost price m n new
     unfolding costAbove maxCost
     slacks-fallen e is-x up = relaxed-slacks (λ i j. slackAt cost old m i j +ℤ negℤ reduced)
-        (λ i p. rw (up .each i p, is-x) (low-raised (negℤ reduced) (slacks-low (w .range) (w .slacks) i p) (near i p) (high i p)))
-        resting-inside
+        (λ i p. rw (up .each i p, is-x) (low-raised (negℤ reduced) (slacks-low (w .range) (w .slacks) i p) (near i p) (high i p))) resting-inside
         (λ i j h. let z = slackAt cost old m i j in
         rw (rests j (not-true (has moving j) (sym (apart j (resting-inside j h)) ∙ h)))
         (omega (arith, z-add z (negℤ reduced), z-neg reduced, lt-yes reduced (pos 0) (w .negative))))
@@ -248,8 +220,7 @@ module _ {cost old price slack : List ℤ} {m n side row : ℕ} {reduced : ℤ} 
         near i p = omega (arith, slacks-abs (w .range) (w .slacks) i p, abs-z (getD slack i (pos 0)))
 
         high : (i : ℕ) → i < stride → toZ (getD slack i (pos 0) +ℤ negℤ reduced) ≼ toZ (pos far)
-        high i p =
-            let z = getD slack i (pos 0) in
+        high i p = let z = getD slack i (pos 0) in
             omega (arith, slacks-abs (w .range) (w .slacks) i p, abs-z z, z-add z (negℤ reduced), z-neg reduced, w .small, abs-z reduced)
 
   -- The slacks can be raised.

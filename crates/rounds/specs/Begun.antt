@@ -48,14 +48,7 @@ module _ {P : Problem} {T : List Cell} {q e cost : List ℤ} {leaf other tree : 
   spanned = rw (d .rows, d .columns) (spans-of (d .sound) begun-belongs)
 
   begun-board : {sub path : List ℕ} → Tree m n (basisOf T) sub path tree → Board P T q e sub path tree m n
-  begun-board grown = record {
-    sound = d .sound;
-    rows = d .rows;
-    columns = d .columns;
-    belongs = d .belongs;
-    amounts = d .loaded .amounts;
-    tree = grown;
-  }
+  begun-board grown = record { sound = d .sound; rows = d .rows; columns = d .columns; belongs = d .belongs; amounts = d .loaded .amounts; tree = grown }
 
   -- The potentials by any strikes, from the costs by column, are the prices.
   module _ {price : List ℤ} (long : length price ≡ nodeRoom)
@@ -65,16 +58,12 @@ module _ {P : Problem} {T : List Cell} {q e cost : List ℤ} {leaf other tree : 
     begun-prices = record { long = long; are = are; none = none }
       where
         are : (k : ℕ) → k < m + n → getD price k (pos 0) ≡ potential P T k
-        are k l =
-            let same : (t : Lane) → List·Memᴰ t (basisOf T) → costOf cost t ≡ laneCost P t =
-            λ t r. let (x, y) = fits t r in d .costs .lanes (t .row) (t .col) (omega (arith, d .rows)) (omega (arith, d .columns))
-            in
+        are k l = let same : (t : Lane) → List·Memᴰ t (basisOf T) → costOf cost t ≡ laneCost P t =
+            λ t r. let (x, y) = fits t r in d .costs .lanes (t .row) (t .col) (omega (arith, d .rows)) (omega (arith, d .columns)) in
             let low : 1 ≤ m = begun-sides .rowsLow in
-            by k (omega (arith, begun-sides .rowsHigh, begun-sides .colsHigh))
-            ∙ potential-any low fits spanned (costOf cost) (d .loaded .struck) k l
+            by k (omega (arith, begun-sides .rowsHigh, begun-sides .colsHigh)) ∙ potential-any low fits spanned (costOf cost) (d .loaded .struck) k l
             ∙ potential-only low fits spanned (laneCost P) (potentialBy (costOf cost) (strikes m n (basisOf T))) (potential-root low fits spanned (costOf cost))
-            (λ t r. omega (arith, potential-tight low fits spanned (costOf cost) t r, z-eq (same t r))) k l
-            ∙ rw (d .rows, d .columns)
+            (λ t r. omega (arith, potential-tight low fits spanned (costOf cost) t r, z-eq (same t r))) k l ∙ rw (d .rows, d .columns)
 
         none : (k : ℕ) → m + n ≤ k → k < nodeRoom → getD price k (pos 0) ≡ pos 0
         none k l r = by k r ∙ potential-off (costOf cost) (strikesOf leaf other tree (m + n - 1)) k

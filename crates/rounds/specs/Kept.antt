@@ -76,14 +76,12 @@ module _ {P : Problem} {T : List Cell} {q e cost price : List ℤ} {sub path tre
       (λ l. rw (prices .are k l) (omega (
         arith,
         price-limit,
-        price-size P (b .sound) T (fits-of (b .sound) (board-belongs b))
-            (spans-of (b .sound) (board-belongs b)) k,
+        price-size P (b .sound) T (fits-of (b .sound) (board-belongs b)) (spans-of (b .sound) (board-belongs b)) k,
       )))
       (λ l. rw (prices .none k (omega arith) r) (omega arith))
 
   pub in-range : InRange cost price m n
-  in-range =
-      let s = sound-sides (b .sound) (b .rows) (b .columns) in
+  in-range = let s = sound-sides (b .sound) (b .rows) (b .columns) in
       record { rows = s .rowsHigh; some = s .colsLow; columns = s .colsHigh; costs = costs .small; prices = price-small }
 
 module _ {P : Problem} {T : List Cell} {bags marks cost price slack : List ℤ} {sub path tree : List ℕ} {m n : ℕ}
@@ -103,13 +101,12 @@ module _ {P : Problem} {T : List Cell} {bags marks cost price slack : List ℤ} 
 
   reduced-are : (i j : ℕ) → i < m → j < n → reducedAt cost price m i j ≡ reducedCost P T (lane i j)
   unfolding reducedCost
-  reduced-are i j x y =
-      rw (
-        h .costs .lanes i j (omega (arith, b .rows)) (omega (arith, b .columns)),
-        h .prices .are i (omega arith),
-        h .prices .are (m + j) (omega arith),
-        b .rows,
-      )
+  reduced-are i j x y = rw (
+    h .costs .lanes i j (omega (arith, b .rows)) (omega (arith, b .columns)),
+    h .prices .are i (omega arith),
+    h .prices .are (m + j) (omega arith),
+    b .rows,
+  )
 
   -- ---- what the scan finds
 
@@ -117,8 +114,7 @@ module _ {P : Problem} {T : List Cell} {bags marks cost price slack : List ℤ} 
     -- What holds of the lane at each place.
     at-place : (k : ℕ) → k < length (lanes (sources P) (sinks P)) → (Q : Lane → Type 0)
         → ((i j : ℕ) → i < m → j < n → place (sinks P) i j ≡ k → Q (lane i j)) → Q (getD (lanes (sources P) (sinks P)) k (laneOf noCell))
-    at-place k l Q f =
-        let t : Placed (sources P) (sinks P) k = place-of (sources P) (sinks P) k (omega (arith, length-lanes (sources P) (sinks P))) in
+    at-place k l Q f = let t : Placed (sources P) (sinks P) k = place-of (sources P) (sinks P) k (omega (arith, length-lanes (sources P) (sinks P))) in
         rw (← t .placed, getD-lanes (sources P) (sinks P) (t .row) (t .col) (laneOf noCell) (t .rowBelow) (t .colBelow))
         (f (t .row) (t .col) (omega (arith, b .rows, t .rowBelow)) (omega (arith, b .columns, t .colBelow)) (t .placed))
 
@@ -127,7 +123,7 @@ module _ {P : Problem} {T : List Cell} {bags marks cost price slack : List ℤ} 
       found = w .found t
 
       on-sheet : (row < sources P) × (col < sinks P)
-      on-sheet = (omega (arith, b .rows, found .rowIn), omega (arith, b .columns, found .colIn))
+      on-sheet = omega (arith, b .rows, found .rowIn, b .columns, found .colIn)
 
       is-reduced : reducedCost P T (lane row col) ≡ reduced
       is-reduced = sym (reduced-are row col (found .rowIn) (found .colIn)) ∙ found .is
@@ -135,13 +131,9 @@ module _ {P : Problem} {T : List Cell} {bags marks cost price slack : List ℤ} 
       -- The lane that the scan finds is the specification's entering lane: the first in sheet order of those with the least reduced cost.
       scanned-enters : entering P T ≡ lane row col
       unfolding entering
-      scanned-enters =
-          let M = sources P in
-          let N = sinks P in
-          let below = place-below M N row col (on-sheet .0) (on-sheet .1) in
+      scanned-enters = let M = sources P in let N = sinks P in let below = place-below M N row col (on-sheet .0) (on-sheet .1) in
           firstLeast-unique (λ k l. ltZ (reducedCost P T k) (reducedCost P T l)) (by-key (reducedCost P T) ltZ-weak) (laneOf noCell) (lanes M N) (lane row col)
-          (place N row col)
-          (record {
+          (place N row col) (record {
             inside = omega (arith, below, length-lanes M N);
             stands = getD-lanes M N row col (laneOf noCell) (on-sheet .0) (on-sheet .1);
             least = λ k l. at-place k l (λ t. ltZ (reducedCost P T t) (reducedCost P T (lane row col)) ≡ false)
@@ -155,14 +147,12 @@ module _ {P : Problem} {T : List Cell} {bags marks cost price slack : List ℤ} 
     pub scanned-done : isFinished P T ≡ not (ltZ reduced (pos 0))
     unfolding isFinished
     scanned-done = by-test (ltZ reduced (pos 0))
-        (λ s. rw s
-        (by-test (isFinished P T)
+        (λ s. rw s (by-test (isFinished P T)
         (λ r.
         let one = all-lanes-at (λ l. nonNeg (reducedCost P T l)) (sources P) (sinks P) row col r (on-sheet s .0) (on-sheet s .1) in
         clash one (negative (reducedCost P T (lane row col)) (rw (is-reduced s) s)))
         (λ r. r)))
-        (λ s. rw s
-        (all-lanes (λ l. nonNeg (reducedCost P T l)) (sources P) (sinks P)
+        (λ s. rw s (all-lanes (λ l. nonNeg (reducedCost P T l)) (sources P) (sinks P)
         (λ i j x y. not-negative (reducedCost P T (lane i j)) (rw (← reduced-are i j (omega (arith, b .rows)) (omega (arith, b .columns)))
         (w .finished s i j (omega (arith, b .rows)) (omega (arith, b .columns)))))))
 
@@ -176,19 +166,12 @@ module _ {P : Problem} {T : List Cell} {bags marks cost price slack : List ℤ} 
       unfinished = scanned-done ∙ ap not t
 
       pub lane-enters : Enters P T row col
-      lane-enters =
-          let inside = rw (scanned-enters t) at (entering-inside (b .sound) T) in
-          record {
-            inRow = inside .0;
-            inCol = inside .1;
-            new = rw (scanned-enters t) at (entering-new (b .sound) T unfinished (board-belongs b));
-          }
+      lane-enters = let inside = rw (scanned-enters t) at (entering-inside (b .sound) T) in
+          record { inRow = inside .0; inCol = inside .1; new = rw (scanned-enters t) at (entering-new (b .sound) T unfinished (board-belongs b)) }
 
       reduced-small : natAbs reduced ≤ costAbove + 2 * maxPotential
-      reduced-small =
-          let c = getD cost (col * stride + row) (pos 0) in
-          let u = getD price row (pos 0) in
-          let v = getD price (m + col) (pos 0) in
+      reduced-small = let c = getD cost (col * stride + row) (pos 0) in
+          let u = getD price row (pos 0) in let v = getD price (m + col) (pos 0) in
           rw (← found t .is) (omega (
             arith,
             abs-diff (c -ℤ u) v,
@@ -260,8 +243,7 @@ module _ {P : Problem} {T : List Cell} {bags marks cost price slack : List ℤ} 
               (λ l. clash s (v .inside k (omega arith)));
         }
 
-        pub advanced-moves : {slack′ : List ℤ} → Slacks cost price′ m n slack′
-            → Advanced P T bags′ marks′ cost price′ slack′ sub′ path′ tree′ m n false
+        pub advanced-moves : {slack′ : List ℤ} → Slacks cost price′ m n slack′ → Advanced P T bags′ marks′ cost price′ slack′ sub′ path′ tree′ m n false
         advanced-moves s = record { done = unfinished; kept = record { board = board-next; costs = h .costs; prices = prices-next; slacks = s } }
 
 -- What is kept after a round, by its answer.

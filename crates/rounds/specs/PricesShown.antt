@@ -14,8 +14,7 @@ use Rattle.rounds.specs.Begun.{Rounded}
 pub prices-small : {P : Problem} {T : List Cell} {q e : List ℤ} {sub path lanes : List ℕ} {m n : ℕ} → Board P T q e sub path lanes m n → (price : List ℤ)
     → ((k : ℕ) → k < m + n → getD price k (pos 0) ≡ potential P T k) → (k : ℕ) → k < m + n → natAbs (getD price k (pos 0)) ≤ maxPotential
 unfolding costAbove maxCost
-prices-small {P} {T} b price p k l =
-    let w = belongs-iff P T (b .sound .sourcesLow) (b .sound .sinksLow) .0 (b .belongs) in
+prices-small {P} {T} b price p k l = let w = belongs-iff P T (b .sound .sourcesLow) (b .sound .sinksLow) .0 (b .belongs) in
     rw (p k l) (omega (arith, price-limit, price-size P (b .sound) T (fits-of (b .sound) w) (spans-of (b .sound) w) k))
 
 -- After a round.

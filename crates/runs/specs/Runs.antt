@@ -39,10 +39,8 @@ boardValue q e cost m n = let x = laneValue q e cost m n in x .up + costBelow * 
 module _ {P : Problem} {T : List Cell} {q e cost price slack : List ℤ} {sub path tree : List ℕ} {m n : ℕ}
     (k : Kept P T q e cost price slack sub path tree m n) where
   board-value : laneValue q e cost m n ≈ measure P (plan.costs P) T
-  board-value =
-      let b = k .board in
-      rw (b .rows, b .columns)
-      (sum₂-cong (sources P) (sinks P) (λ i j. valued (sources P) (onLane q) (onLane e) i j ⊗ costOn cost i j)
+  board-value = let b = k .board in
+      rw (b .rows, b .columns) (sum₂-cong (sources P) (sinks P) (λ i j. valued (sources P) (onLane q) (onLane e) i j ⊗ costOn cost i j)
       (λ i j. valued (sources P) (bagsAt T) (marksAt T) i j ⊗ plan.costs P i j)
       (λ i j x y. rw (
         b .amounts .bags i j (omega (arith, b .rows)) (omega (arith, b .columns)),
@@ -104,8 +102,7 @@ module _ {P : Problem} {T : List Cell} {allowance : ℕ} {q e cost price slack :
     pub going-next : {q′ e′ price′ slack′ : List ℤ} {sub′ path′ tree′ : List ℕ} (k : ℕ) → left ≡ suc k → isFinished P (g .here) ≡ false
         → Kept P (next P (g .here)) q′ e′ cost price′ slack′ sub′ path′ tree′ m n
         → Going P T allowance q′ e′ cost price′ slack′ sub′ path′ tree′ m n k (made + 1)
-    going-next k s f b =
-        let r = ap (λ (a : ℕ). run P a (g .here)) s ∙ run-more P k (g .here) f in
+    going-next k s f b = let r = ap (λ (a : ℕ). run P a (g .here)) s ∙ run-more P k (g .here) f in
         record {
           here = next P (g .here);
           kept = b;
@@ -125,8 +122,7 @@ module _ {P : Problem} {T : List Cell} {allowance : ℕ} {q e cost price slack :
     module _ {q′ e′ price′ slack′ : List ℤ} {sub′ path′ tree′ : List ℕ} {finished : Bool}
         (b : Kept P (g .here) q′ e′ cost price′ slack′ sub′ path′ tree′ m n) where
       ran : run P left (g .here) ≡ record { finished = finished; tableau = g .here; rounds = 0 } → Ran P T allowance q′ e′ price′ tree′ m n finished made
-      ran r =
-          let t : run P allowance T .tableau ≡ g .here = g .tableau ∙ ap (λ x. x .tableau) r in
+      ran r = let t : run P allowance T .tableau ≡ g .here = g .tableau ∙ ap (λ x. x .tableau) r in
           record {
             ended = record {
               done = g .done ∙ ap (λ x. x .finished) r;

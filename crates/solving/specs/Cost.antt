@@ -42,8 +42,7 @@ module _ {plan : List ℕ} {cost : List ℤ} (s : Summable plan cost) (l : ℕ) 
 
 -- A lane of a plan that meets the sheet carries no more than its roastery's supply.
 pub meets-small : {S : Sheet} {Q : List ℕ} → Accepted S → Meets S 1 Q → (l : ℕ) → l < roasteries S * cafes S → at Q l ≤ maxAmount
-meets-small {S} {Q} ok meets l p =
-    let w = place-of (roasteries S) (cafes S) l p in
+meets-small {S} {Q} ok meets l p = let w = place-of (roasteries S) (cafes S) l p in
     let most = sumTo-each (cafes S) (λ j. at Q (place (cafes S) (w .row) j)) (w .col) (w .colBelow) in
     rw (← w .placed) (omega (arith, most, meets .rows (w .row) (w .rowBelow), ok .limits .supplyHigh (w .row)))
 
@@ -64,6 +63,5 @@ module _ {S : Sheet} (ok : Accepted S) {plan : List ℕ} {costs : List ℤ} (res
 
   pub settled-cost : planCost S (settled S) ≡ sumZ (length costs) (laneTotal plan costs)
   unfolding planCost
-  settled-cost =
-      ap (λ (n : ℕ). sumZ n (laneTotal (settled S) (S .cost))) (sym (ok .limits .costLength))
+  settled-cost = ap (λ (n : ℕ). sumZ n (laneTotal (settled S) (S .cost))) (sym (ok .limits .costLength))
       ∙ rw (planIs, ← costsAre) (sumZ-cong (length (S .cost)) _ _ (λ l p. ap (λ (x : ℕ). pos x *ℤ atZ (S .cost) l) (sym (settled-at l p))))

@@ -44,16 +44,8 @@ pub record Finished (P : Problem) (T : List Cell) (adj : List ℕ) (q e cost pri
 -- Once the masks of its basic lanes are drawn.
 pub judged-finished : {P : Problem} {T : List Cell} {q e cost price : List ℤ} {lanes adj : List ℕ} {m n : ℕ} → Judged P T q e price lanes m n true
     → Costed P cost → Redrawn m lanes (m + n - 1) adj → Finished P T adj q e cost price m n
-judged-finished j costs w = record {
-  sound = j .board .sound;
-  rows = j .board .rows;
-  columns = j .board .columns;
-  belongs = j .board .belongs;
-  costs = costs;
-  held = board-held (j .board) w;
-  done = j .done;
-  prices = j .prices;
-}
+judged-finished j costs w = let b = j .board in let f = j .done in let p = j .prices in
+    record { sound = b .sound; rows = b .rows; columns = b .columns; belongs = b .belongs; costs = costs; held = board-held b w; done = f; prices = p }
 
 module _ {P : Problem} {T : List Cell} {adj : List ℕ} {q e cost price : List ℤ} {m n : ℕ} (f : Finished P T adj q e cost price m n) where
   node-prices : (k : ℕ) → k < sources P + sinks P → getD price k (pos 0) ≡ potential P T k
@@ -85,13 +77,11 @@ module _ {P : Problem} {T : List Cell} {adj : List ℕ} {q e cost price : List �
 
   module _ {masks : List ℕ} (t : TightLanes cost price m n m masks) where
     tight : (i j : ℕ) → i < m → j < n → InMask masks i j ↔ Tight (costs P) (rowPotential P T) (columnPotential P T) i j
-    tight i j hi hj =
-        let same = tight-same P T (rw (f .rows, f .columns) at t) (f .costs .lanes) node-prices in
+    tight i j hi hj = let same = tight-same P T (rw (f .rows, f .columns) at t) (f .costs .lanes) node-prices in
         rw (same i j (omega (arith, f .rows)) (omega (arith, f .columns))) (tight-lanes P T i j)
 
     start : DecidedTo m n (supplies P) (demands P) (InMask masks) 0 (laneBags q)
-    start =
-        let d = settling-start (f .sound) its-own in
+    start = let d = settling-start (f .sound) its-own in
         let d : DecidedTo m n (supplies P) (demands P) (Tight (costs P) (rowPotential P T) (columnPotential P T)) 0 (bagsAt T) =
         rw (f .rows, f .columns) d in
         decided-start (flow-cong same-bags (flow-on (λ i j hi hj s. tight i j hi hj .1 s) (d .flow)))
@@ -120,16 +110,12 @@ module _ {P : Problem} {T : List Cell} {adj : List ℕ} {q e cost price : List �
       plan = table (m * n) (bagsIn n q′)
 
       at-end : DecidedTo m n (supplies P) (demands P) (Tight (costs P) (rowPotential P T) (columnPotential P T)) (m * n) (carried n plan)
-      at-end =
-          let same = plan-carries q′ (d .nonneg) in
-          let d = decided-on tight d in
+      at-end = let same = plan-carries q′ (d .nonneg) in let d = decided-on tight d in
           decided-other (flow-cong same (d .flow)) (λ i j hi hj. omega arith) (λ i j hi hj l. same i j hi hj) d
 
       settled-optimal : Optimal P plan (flowCost P plan)
-      settled-optimal =
-          let d = rw (f .rows, f .columns) at at-end in
-          rw (f .rows, f .columns)
-          (decided-optimal P (rowPotential P T) (columnPotential P T) (finished-feasible P T (f .done)) _
+      settled-optimal = let d = rw (f .rows, f .columns) at at-end in
+          rw (f .rows, f .columns) (decided-optimal P (rowPotential P T) (columnPotential P T) (finished-feasible P T (f .done)) _
           (length-table (bagsIn (sinks P) q′) (sources P * sinks P)) d)
 
 -- The bags on the lanes of m rows and n columns are those of the problem's optimal plan.

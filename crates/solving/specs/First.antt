@@ -28,13 +28,10 @@ module _ {P : Problem} (ok : Sound P) {supplies demands : List ℕ} (s : supplie
   begins = first ∙ rw (s, d) (ap tableauOf (start-costless P))
 
   -- Its cells can be laid out over the arrays ..
-  pub first-fits : (t .count ≤ cellRoom)
-      × Sides (length supplies) (length demands)
-      × Inside (length supplies) (length demands) (cellsOf t)
+  pub first-fits : (t .count ≤ cellRoom) × Sides (length supplies) (length demands) × Inside (length supplies) (length demands) (cellsOf t)
       × Distinct (cellsOf t)
   unfolding sources sinks tableauOf
-  first-fits =
-      let b = start-belongs P ok in
+  first-fits = let b = start-belongs P ok in
       rw (begins, cells-of (start P), s, d) (
         omega (arith, length-start P ok, stride-is, ok .sourcesHigh, ok .sinksHigh),
         sound-sides ok refl refl,
@@ -47,11 +44,9 @@ module _ {P : Problem} (ok : Sound P) {supplies demands : List ℕ} (s : supplie
       → length lanes ≡ nodeRoom → Stripped (length supplies) (length demands) (basisOf (cellsOf t)) (strikesOf leaf other lanes r) r
       → Costed P cost → Begun P (start P) q e cost leaf other lanes (length supplies) (length demands)
   unfolding sources sinks basisSize
-  first-begun {leaf = leaf} {other} {lanes} {r} a long w c =
-      let b = start-belongs P ok in
+  first-begun {leaf = leaf} {other} {lanes} {r} a long w c = let b = start-belongs P ok in
       let w : Stripped (length (P .supply)) (length (P .demand)) (basisOf (start P)) (strikesOf leaf other lanes r) r =
-      rw (begins, cells-of (start P), s, d) at w in
-      let (all, struck) = w .complete (spans-of ok b) in
+      rw (begins, cells-of (start P), s, d) at w in let (all, struck) = w .complete (spans-of ok b) in
       rw (s, d) (record {
         sound = ok;
         rows = refl;

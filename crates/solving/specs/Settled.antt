@@ -4,13 +4,13 @@ use Rattle.prelude.specs.Words.{take-append-drop, ext-getD, getD-take, length-t
 use Rattle.transport.specs.Lists.{at, table}
 use Rattle.transport.specs.Problem.{place}
 use Rattle.transport.specs.Sheet.{Sheet, roasteries, cafes}
-use Rattle.transport.specs.Extended.{surplus, wanted, extended}
+use Rattle.transport.specs.Extended.{surplus, extended}
 use Rattle.transport.specs.Parties.{left, among, rowsLeft, columnsLeft, problemOf}
 use Rattle.transport.specs.Plan.{settled}
 use Rattle.transport.specs.Statements.{Accepted}
 use Rattle.transport.specs.Laws.ListLaws.{getD-table}
 use Rattle.transport.specs.Laws.ProblemLaws.{place-of, place-below}
-use Rattle.transport.specs.Laws.ExtendedLaws.{Extra, without, with, extra}
+use Rattle.transport.specs.Laws.ExtendedLaws.{without, with, extra}
 use Rattle.transport.specs.Laws.PartiesLaws.{left-at, left-append, among-left, struck-sources, struck-sinks}
 use Rattle.transport.specs.Laws.Sound.{sound}
 use Rattle.reduction.specs.Reduction.{ownSheetPlan, carries-left, carries-row, carries-column, length-ownSheetPlan, problem-settled}
@@ -21,11 +21,10 @@ module _ {S : Sheet} (ok : Accepted S) {q : List ℤ} {m n : ℕ} (b : SettledBa
   -- The cafés left are the first columns.
   cafes-first : length (left (S .demand)) ≤ n
   unfolding problemOf extended columnsLeft
-  cafes-first = rw (b .columns, struck-sinks (extended S)) (go (extra S))
-    where
-      go : Extra S → length (left (S .demand)) ≤ length (left (wanted S))
-      go (without z e) = rw e (omega arith)
-      go (with z e) = rw (e, left-append (S .demand) (surplus S) z) (omega (arith, length-append (left (S .demand)) (length (S .demand) ∷ [])))
+  cafes-first = rw (b .columns, struck-sinks (extended S)) (elim (extra S) [
+    | without z e ↦ rw e (omega arith)
+    | with z e ↦ rw (e, left-append (S .demand) (surplus S) z) (omega (arith, length-append (left (S .demand)) (length (S .demand) ∷ [])))
+  ])
 
   pub settled-storable : {plan : List ℕ} → roasteries S * cafes S ≤ length plan
       → Storable q (rowsLeft (extended S)) (left (S .demand)) (roasteries S) (cafes S) plan
@@ -48,15 +47,11 @@ module _ {S : Sheet} (ok : Accepted S) {q : List ℤ} {m n : ℕ} (b : SettledBa
     lane-left : (i j : ℕ) → i < roasteries S → j < cafes S → 1 ≤ at (S .supply) i → 1 ≤ at (S .demand) j
         → at new (place (cafes S) i j) ≡ at (ownSheetPlan S x) (place (cafes S) i j)
     unfolding at place rowsLeft extended
-    lane-left i j l h some any =
-        let (hi, hj) = among-inside i j h some any in
-        let r = among-left (S .supply) i some in
-        let c = among-left (S .demand) j any in
-        (λ t. at new (place (cafes S) (sym (r .stands) t) (sym (c .stands) t)))
-        ∙ w .on (among (S .supply) i) (among (S .demand) j) (r .inside) (c .inside)
+    lane-left i j l h some any = let (hi, hj) = among-inside i j h some any in
+        let r = among-left (S .supply) i some in let c = among-left (S .demand) j any in
+        (λ t. at new (place (cafes S) (sym (r .stands) t) (sym (c .stands) t))) ∙ w .on (among (S .supply) i) (among (S .demand) j) (r .inside) (c .inside)
         ∙ sym (getD-table (bagsIn n q) (m * n) _ 0 (place-below m n _ _ hi hj) ∙ bagsIn-place n (among (S .supply) i) (among (S .demand) j) q hj)
-        ∙ ap (λ (t : ℕ). at x (place t (among (S .supply) i) (among (S .demand) j))) (b .columns)
-        ∙ sym (carries-left S x i j l h some any)
+        ∙ ap (λ (t : ℕ). at x (place t (among (S .supply) i) (among (S .demand) j))) (b .columns) ∙ sym (carries-left S x i j l h some any)
 
     lane-stored : (i j : ℕ) → i < roasteries S → j < cafes S → at new (place (cafes S) i j) ≡ at (ownSheetPlan S x) (place (cafes S) i j)
     unfolding rowsLeft extended
@@ -68,15 +63,12 @@ module _ {S : Sheet} (ok : Accepted S) {q : List ℤ} {m n : ℕ} (b : SettledBa
 
     front : take (roasteries S * cafes S) new ≡ ownSheetPlan S x
     unfolding at
-    front =
-        let size : ℕ = roasteries S * cafes S in
+    front = let size : ℕ = roasteries S * cafes S in
         let long : length (take size new) ≡ size = length-take-le size new (omega (arith, w .long)) in
         ext-getD 0 _ _ (long ∙ sym (length-ownSheetPlan S x)) (λ l h.
         let p = place-of (roasteries S) (cafes S) l (omega arith) in
         getD-take size new l 0 (omega arith) ∙ rw (← p .placed) (lane-stored (p .row) (p .col) (p .rowBelow) (p .colBelow)))
 
     pub stored-settled : new ≡ settled S ++ drop (roasteries S * cafes S) old
-    stored-settled =
-        let size : ℕ = roasteries S * cafes S in
-        sym (take-append-drop size new)
-        ∙ rw (w .rest, front, problem-settled S x _ (sound ok) (b .optimal))
+    stored-settled = let size : ℕ = roasteries S * cafes S in
+        sym (take-append-drop size new) ∙ rw (w .rest, front, problem-settled S x _ (sound ok) (b .optimal))

@@ -40,13 +40,7 @@ pub record ProblemSolved (P : Problem) (made : ℕ) (q price : List ℤ) : Type 
 -- The rounds have come from the start to the finished tableau.
 module _ {P : Problem} {q e price : List ℤ} {lanes : List ℕ} {m n made : ℕ} (r : Ran P (start P) (roundBound P) q e price lanes m n true made) where
   pub ran-judged : Judged P (lastOf P) q e price lanes m n true
-  ran-judged = record {
-    done = start-finished (r .ended .board .sound);
-    sub = r .ended .sub;
-    path = r .ended .path;
-    board = r .ended .board;
-    prices = r .prices;
-  }
+  ran-judged = let e = r .ended in record { done = start-finished (e .board .sound); sub = e .sub; path = e .path; board = e .board; prices = r .prices }
 
   pub ran-solved : {q′ : List ℤ} → SettledBags P m n q′ → ProblemSolved P made q′ price
   ran-solved b = record {

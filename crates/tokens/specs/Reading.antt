@@ -12,6 +12,8 @@ use Rattle.transport.specs.Laws.SheetLaws.{within-true, true-within, within-low
 use Rattle.transport.specs.declared.ByteKind.{ByteKind}
 use Rattle.transport.specs.declared.ByteKind.the-variants.{Digit, Space, LineEnd, Letter, Other}
 use Rattle.grammar.specs.Closing.{closedBy}
+use Rattle.grammar.specs.Exact.{by-reading}
+use Rattle.grammar.specs.Digits.{digit-within}
 use Rattle.sections.specs.Lines.{ending}
 pub use Rattle.tokens.specs.declared.Taken.{Taken}
 pub use Rattle.tokens.specs.declared.Taken.the-variants.{Got, Stuck}
@@ -36,7 +38,7 @@ valueSide most (Got value next) = (1 ≤ value) × (value ≤ most)
 valueSide most (Stuck place) = Unit {0}
 
 pub side-value : (most k : ℕ) (r : Taken) → 1 ≤ k → k ≤ most → valueIs k r → valueSide most r
-side-value most k (Got value next) p q e = (omega arith, omega arith)
+side-value most k (Got value next) p q e = omega arith
 side-value most k (Stuck place) p q e = tt
 
 -- ---- what comes next
@@ -84,11 +86,7 @@ module _ (text : List ℕ) (at : ℕ) where
 
   -- Where a byte comes next, the text goes on.
   pub byte-inside : (b : ℕ) → byteNext b (drop at text) ≡ true → at < length text
-  byte-inside b e = go (decLt at (length text))
-    where
-      go : Dec (at < length text) → at < length text
-      go (yes p) = p
-      go (no p) = clash e (byte-end b (omega arith))
+  byte-inside b e = by-cases (decLt at (length text)) (λ p. p) (λ p. clash e (byte-end b (omega arith)))
 
   pub drop-next : drop 1 (drop at text) ≡ drop (at + 1) text
   drop-next = drop-drop 1 at text
@@ -113,17 +111,6 @@ module _ (b : ℕ) where
   pub kind-other : within 48 57 b ≡ false → (b ≡ 32 → ⊥) → (b ≡ 10 → ⊥) → within 97 122 b ≡ false → kindOf b ≡ Other
   unfolding kindOf
   kind-other d s e l = rw (kindOf, d, ne-eqb b 32 s, ne-eqb b 10 e, l)
-
-  digit-within : isDigit b ≡ true → within 48 57 b ≡ true
-  unfolding isDigit kindOf
-  digit-within e = go (within 48 57 b) (eqb b 32) (eqb b 10) (within 97 122 b) e
-    where
-      go : (d s e l : Bool) → ofDigit (kindBy d s e l) ≡ true → d ≡ true
-      go true s e l h = refl
-      go false true e l h = absurd (true≢false (sym h))
-      go false false true l h = absurd (true≢false (sym h))
-      go false false false true h = absurd (true≢false (sym h))
-      go false false false false h = absurd (true≢false (sym h))
 
 -- The kind tells a digit.
 pub digit-told : (t : List ℕ) (k : ByteKind) → kindNext t ≡ k → digitNext t ≡ ofDigit k
@@ -170,13 +157,10 @@ pub record DigitAt (text : List ℕ) (at : ℕ) : Type 0 where
   pub high : getD text at 0 ≤ 57
 
 pub digit-at : (text : List ℕ) (at : ℕ) → digitNext (drop at text) ≡ true → DigitAt text at
-digit-at text at e = by-cases (decLt at (length text)) there (λ p. clash e (digit-end text at (omega arith)))
-  where
-    there : at < length text → DigitAt text at
-    there p =
-        let d : isDigit (getD text at 0) ≡ true = sym (digit-here text at p) ∙ e in
-        let w = within-true 48 57 (getD text at 0) (digit-within (getD text at 0) d) in
-        record { inside = p; digit = d; low = w .0; high = w .1 }
+digit-at text at e = by-cases (decLt at (length text))
+    (λ p. let d : isDigit (getD text at 0) ≡ true = sym (digit-here text at p) ∙ e in
+    let w = within-true 48 57 (getD text at 0) (sym (digit-within (getD text at 0)) ∙ d) in record { inside = p; digit = d; low = w .0; high = w .1 })
+    (λ p. clash e (digit-end text at (omega arith)))
 
 -- ---- one reader after another
 
@@ -200,19 +184,14 @@ module _ {A B : Type 0} (r : Reader A) (t rest : List ℕ) where
 module _ {A B : Type 0} (r : Reader A) (t : List ℕ) where
   -- A reader that gave a value had one from the reader that it begins with.
   pub bind-inside : (f : A → Reader B) (b : B) (rest : List ℕ) → (r >>= f) t ≡ got b rest → (a : A) × (u : List ℕ) × (r t ≡ got a u) × (f a u ≡ got b rest)
-  bind-inside f b rest e = go (r t) refl
-    where
-      go : (v : Reading A) → r t ≡ v → (a : A) × (u : List ℕ) × (r t ≡ got a u) × (f a u ≡ got b rest)
-      go (stuck u) h = let s : (r >>= f) t ≡ stuck u = bind-stuck r t u f h in let z : _≡_ {A = ℕ} 0 1 = cc in absurd (omega arith)
-      go (got a u) h = (a, u, h, sym (bind-got r t u f a h) ∙ e)
+  bind-inside f b rest e = by-reading (r t)
+      (λ u h. let s : (r >>= f) t ≡ stuck u = bind-stuck r t u f h in let z : _≡_ {A = ℕ} 0 1 = cc in absurd (omega arith))
+      (λ a u h. (a, u, h, sym (bind-got r t u f a h) ∙ e))
 
   -- What comes after matters only on what was read.
   pub bind-same : (f g : A → Reader B) → ((a : A) (u : List ℕ) → r t ≡ got a u → f a u ≡ g a u) → (r >>= f) t ≡ (r >>= g) t
-  bind-same f g h = go (r t) refl
-    where
-      go : (v : Reading A) → r t ≡ v → (r >>= f) t ≡ (r >>= g) t
-      go (stuck u) e = bind-stuck r t u f e ∙ sym (bind-stuck r t u g e)
-      go (got a u) e = bind-got r t u f a e ∙ h a u e ∙ sym (bind-got r t u g a e)
+  bind-same f g h = by-reading (r t) (λ u e. bind-stuck r t u f e ∙ sym (bind-stuck r t u g e))
+      (λ a u e. bind-got r t u f a e ∙ h a u e ∙ sym (bind-got r t u g a e))
 
   pub then-same : (p q : Reader B) → ((a : A) (u : List ℕ) → r t ≡ got a u → p u ≡ q u) → (r >> p) t ≡ (r >> q) t
   unfolding _>>_ _>>=_
@@ -225,11 +204,9 @@ bind-on r s t u f e = rw (_>>=_, e)
 -- Three readers one after another, grouped either way.
 module _ {A B C : Type 0} (r : Reader A) (g : B → Reader C) (t : List ℕ) where
   pub bind-assoc : (f : A → Reader B) → ((r >>= f) >>= g) t ≡ (r >>= λ a. f a >>= g) t
-  bind-assoc f = go (r t) refl
-    where
-      go : (v : Reading A) → r t ≡ v → ((r >>= f) >>= g) t ≡ (r >>= λ a. f a >>= g) t
-      go (stuck u) e = bind-stuck (r >>= f) t u g (bind-stuck r t u f e) ∙ sym (bind-stuck r t u (λ a. f a >>= g) e)
-      go (got a u) e = bind-on (r >>= f) (f a) t u g (bind-got r t u f a e) ∙ sym (bind-got r t u (λ a. f a >>= g) a e)
+  bind-assoc f = by-reading (r t)
+      (λ u e. bind-stuck (r >>= f) t u g (bind-stuck r t u f e) ∙ sym (bind-stuck r t u (λ a. f a >>= g) e))
+      (λ a u e. bind-on (r >>= f) (f a) t u g (bind-got r t u f a e) ∙ sym (bind-got r t u (λ a. f a >>= g) a e))
 
   pub then-assoc : (s : Reader B) → ((r >> s) >>= g) t ≡ (r >> (s >>= g)) t
   unfolding _>>_ _>>=_
@@ -308,8 +285,7 @@ module _ (test : ℕ → Bool) where
     starts-no e = rw (drop-cons text at 0 (d .inside)) (byte-no (startsBy test) (getD text at 0) (drop (suc at) text) (rw (d .digit, e)))
 
     starts-yes : test (getD text at 0 - 48) ≡ true → byteThat (startsBy test) (drop at text) ≡ got (getD text at 0) (drop (at + 1) text)
-    starts-yes e =
-        rw (drop-cons text at 0 (d .inside), add-one) (byte-yes (startsBy test) (getD text at 0) (drop (suc at) text) (rw (d .digit, e)))
+    starts-yes e = rw (drop-cons text at 0 (d .inside), add-one) (byte-yes (startsBy test) (getD text at 0) (drop (suc at) text) (rw (d .digit, e)))
 
   -- A first digit that was read passed the test.
   starts-got : (t : List ℕ) (b : ℕ) (rest : List ℕ) → byteThat (startsBy test) t ≡ got b rest → startsBy test b ≡ true
@@ -336,8 +312,7 @@ module _ (low : ℕ) where
         number-is _ ∙ bind-stuck (byteThat (startsBy (leb low))) (drop at text) (drop at text) afterFirst (starts-no (leb low) d (lt-leb low _ p))
 
     first-digit : low ≤ getD text at 0 - 48 → numberFrom low (drop at text) ≡ afterFirst (getD text at 0) (drop (at + 1) text)
-    first-digit p =
-        number-is _
+    first-digit p = number-is _
         ∙ bind-got (byteThat (startsBy (leb low))) (drop at text) (drop (at + 1) text) afterFirst (getD text at 0) (starts-yes (leb low) d (le-leb low _ p))
 
     pub number-zero : low ≤ getD text at 0 - 48 → getD text at 0 - 48 ≡ 0 → numberFrom low (drop at text) ≡ got 0 (drop (at + 1) text)
@@ -391,15 +366,11 @@ module _ {A : Type 0} where
   -- What the grammar closes by a byte is what ends with it.
   pub closed-end : (c : ℕ) (r : Reader A) (t : List ℕ) → closedBy c r t ≡ endReading c (r t)
   unfolding closedBy pure
-  closed-end c r t = go (r t) refl
-    where
-      ended : (x : A) (u : List ℕ) (b : Bool) → byteNext c u ≡ b → (word (c ∷ []) >> pure x) u ≡ endReading c (got x u)
-      ended x u false e = one-no c (pure x) u e ∙ sym (end-no c x u e)
-      ended x u true e = one-yes c (pure x) u e ∙ sym (end-yes c x u e)
-
-      go : (v : Reading A) → r t ≡ v → closedBy c r t ≡ endReading c v
-      go (stuck u) e = bind-stuck r t u _ e ∙ sym (end-stuck c u)
-      go (got x u) e = bind-got r t u _ x e ∙ ended x u (byteNext c u) refl
+  closed-end c r t = by-reading (r t)
+      (λ u e. rw e (bind-stuck r t u _ e ∙ sym (end-stuck c u)))
+      (λ x u e. rw e (bind-got r t u _ x e ∙ by-test (byteNext c u)
+      (λ b. one-yes c (pure x) u b ∙ sym (end-yes c x u b))
+      (λ b. one-no c (pure x) u b ∙ sym (end-no c x u b))))
 
   pub line-end : (r : Reader A) (t : List ℕ) → line r t ≡ endReading 10 (r t)
   unfolding line closedBy bytes
@@ -417,9 +388,7 @@ more-passes test (suc k) x (b ∷ t) m rest p e = by-test (isDigit b && test (x 
     let s : moreDigits test (suc k) x (b ∷ t) ≡ moreDigits test k (x * 10 + digitValue b) t = rw (moreDigits, h) in
     more-passes test k (x * 10 + digitValue b) t m rest (and-right (isDigit b) (test (x * 10 + digitValue b)) h) (sym s ∙ e))
     (λ h.
-    let s : moreDigits test (suc k) x (b ∷ t) ≡ got x (b ∷ t) = rw (moreDigits, h) in
-    let z : x ≡ m = cc in
-    rw z at p)
+    let s : moreDigits test (suc k) x (b ∷ t) ≡ got x (b ∷ t) = rw (moreDigits, h) in let z : x ≡ m = cc in rw z at p)
 
 module _ (most : ℕ) where
   abbrev afterSide : ℕ → Reader ℕ
@@ -434,9 +403,7 @@ module _ (most : ℕ) where
 
   module _ {text : List ℕ} {at : ℕ} (d : DigitAt text at) where
     pub side-zero : getD text at 0 - 48 ≡ 0 → side most (drop at text) ≡ stuck (drop at text)
-    side-zero e =
-        side-is _
-        ∙ bind-stuck (byteThat (startsBy (within 1 most))) (drop at text) (drop at text) afterSide
+    side-zero e = side-is _ ∙ bind-stuck (byteThat (startsBy (within 1 most))) (drop at text) (drop at text) afterSide
         (starts-no (within 1 most) d (within-low 1 most (getD text at 0 - 48) (omega arith)))
 
     -- A first digit other than 0 is a side, since limits are no less than 9.
@@ -449,8 +416,7 @@ module _ (most : ℕ) where
 
   -- A side that was read is within its limit.
   side-within : (m : ℕ) (rest t : List ℕ) → side most t ≡ got m rest → within 1 most m ≡ true
-  side-within m rest t e =
-      let a = bind-inside (byteThat (startsBy (within 1 most))) t afterSide m rest (sym (side-is t) ∙ e) in
+  side-within m rest t e = let a = bind-inside (byteThat (startsBy (within 1 most))) t afterSide m rest (sym (side-is t) ∙ e) in
       let first = and-right (isDigit (a .0)) (within 1 most (a .0 - 48)) (starts-got (within 1 most) t (a .0) (a .1) (a .2)) in
       more-passes (within 1 most) 1 (a .0 - 48) (a .1) m rest first (a .3)
 

@@ -4,6 +4,7 @@ use Rattle.prelude.specs.Words.{negℤ, _-ℤ_, length, drop, drop-drop, lt-ltb
 use mir.Syntax.{w64}
 use mir.Val.{toZ, ofZ, SFits, boolByte}
 use mir.Facts.{toZ-ofZ, toZ-pos}
+use Rattle.grammar.specs.Exact.{by-reading}
 use Rattle.grammar.specs.Number.{from-exact}
 use Rattle.grammar.specs.Lines.{LF-plain, space-plain}
 use Rattle.sections.specs.Lines.{ending}
@@ -44,18 +45,13 @@ valueBelow limit (Stuck place) = Unit {0}
 
 ending-plain : (left : ℕ) → isDigit (ending left) ≡ false
 unfolding ending
-ending-plain left = go (eqb left 1)
-  where
-    go : (last : Bool) → isDigit (cond last 10 32) ≡ false
-    go true = LF-plain
-    go false = space-plain
+ending-plain left = by-test (eqb left 1) (λ e. rw e LF-plain) (λ e. rw e space-plain)
 
 -- It has at most seven digits.
 pub number-value : (text : List ℕ) (left low : ℕ) → low ≤ 1 → (t : List ℕ) (r : Taken)
     → endReading (ending left) (numberFrom low t) ≡ readingOf text (λ v. v) r → valueBelow (2 ^ 63) r
 unfolding maxDigits
-number-value text left low few t (Got value next) e =
-    let closed = closed-end (ending left) (numberFrom low) t ∙ e in
+number-value text left low few t (Got value next) e = let closed = closed-end (ending left) (numberFrom low) t ∙ e in
     let read = from-exact low few (ending left) (ending-plain left) .taken t value (drop next text) closed in
     omega (arith, read .member .0 .1)
 number-value text left low few t (Stuck place) e = tt
@@ -69,11 +65,7 @@ changed f (got x rest) = got (f x) rest
 
 changed-pure : {A B : Type 0} (f : A → B) (r : Reader A) (t : List ℕ) → (r >>= λ x. pure (f x)) t ≡ changed f (r t)
 unfolding changed pure
-changed-pure f r t = go (r t) refl
-  where
-    go : (v : Reading _) → r t ≡ v → (r >>= λ x. pure (f x)) t ≡ changed f v
-    go (stuck u) e = bind-stuck r t u _ e
-    go (got x u) e = bind-got r t u _ x e
+changed-pure f r t = by-reading (r t) (λ u e. rw e (bind-stuck r t u _ e)) (λ x u e. rw e (bind-got r t u _ x e))
 
 changed-end : {A B : Type 0} (f : A → B) (end : ℕ) (r : Reading A) → endReading end (changed f r) ≡ changed f (endReading end r)
 unfolding changed
@@ -101,11 +93,8 @@ minus-size true = refl
 minus-size false = refl
 
 pub minus-few : (b : Bool) → boolByte b ≤ 1
-minus-few b = rw (minus-size b) (go b)
-  where
-    go : (b : Bool) → cond b 1 0 ≤ 1
-    go true = omega arith
-    go false = omega arith
+minus-few true = omega arith
+minus-few false = omega arith
 
 pub minus-fits : (text : List ℕ) (at : ℕ) (b : Bool) → at ≤ length text → byteNext 45 (drop at text) ≡ b → at + boolByte b ≤ length text
 minus-fits text at true p e = omega (arith, byte-inside text at 45 e)
@@ -116,8 +105,7 @@ pub whole-read : (text : List ℕ) (at end : ℕ) (b : Bool) (r : Taken) → byt
     → endReading end (numberFrom (boolByte b) (drop (at + boolByte b) text)) ≡ readingOf text (λ v. v) r
     → endReading end (whole (drop at text)) ≡ readingOf text (signed b) r
 unfolding whole
-whole-read text at end b r m e =
-    let rest = drop (at + cond b 1 0) text in
+whole-read text at end b r m e = let rest = drop (at + cond b 1 0) text in
     let number : whole (drop at text) ≡ changed (signed b) (numberFrom (cond b 1 0) rest) =
     bind-got minus (drop at text) (drop (cond b 1 0) (drop at text)) _ b (minus-next (drop at text) b m)
     ∙ (rw (drop-drop (cond b 1 0) at text) (changed-pure (signed b) (numberFrom (cond b 1 0)) rest)) in

@@ -1,34 +1,27 @@
 -- The bits of a mask, one after the other, least first: a mask without its least bit, and a change of the array at each bit.
 use Rattle.prelude.specs.Words.{_≡_, refl, sym, ap, _∙_, _≢_, by-cases, Bool, true, false, not, cond, xor, _&&_, _||_, or-false, List, ℕ, zero, suc, _-_, _/_}
 use Rattle.prelude.specs.Words.{_<_, min, max, arith, ℕ-discrete, decLt, eqb, ltb, length, getD, set, length-set, eqb-true, eqb-false, eq-eqb, ne-eqb, lt-ltb}
-use Rattle.prelude.specs.Words.{le-ltb, getD-set-same, getD-set-other, by-test}
+use Rattle.prelude.specs.Words.{le-ltb, getD-set-same, getD-set-other, by-test, and-comm, _⊎_, inl, inr}
+use Rattle.transport.specs.Laws.ListLaws.{and-right}
 use lib.Bits.{bitAnd, bitOr, bitXor, differ, and-le-r}
-use Rattle.tree.specs.Mask.{bit, has, put, has-put, has-zero, bit-suc, bit-and, bit-or, bit-xor}
+use Rattle.tree.specs.Mask.{bit, has, put, has-put, has-zero, bit-suc, bit-and, bit-or, bit-xor, on-bits}
 use Rattle.tree.specs.MaskLaws.{firstBits, first-below, first-above}
 
 -- ---- tests of bits
 
--- An operation on digits as one on tests.
-by-digits : (op : ℕ → ℕ → ℕ) (test : Bool → Bool → Bool) → eqb (op 0 0) 1 ≡ test false false → eqb (op 0 1) 1 ≡ test false true
-    → eqb (op 1 0) 1 ≡ test true false → eqb (op 1 1) 1 ≡ test true true
-    → (x y : ℕ) → x < 2 → y < 2 → eqb (op x y) 1 ≡ test (eqb x 1) (eqb y 1)
-by-digits op test e f g h zero zero p q = e
-by-digits op test e f g h zero (suc zero) p q = f
-by-digits op test e f g h (suc zero) zero p q = g
-by-digits op test e f g h (suc zero) (suc zero) p q = h
-by-digits op test e f g h (suc (suc x)) y p q = absurd (omega arith)
-by-digits op test e f g h zero (suc (suc y)) p q = absurd (omega arith)
-by-digits op test e f g h (suc zero) (suc (suc y)) p q = absurd (omega arith)
+pub or-cases : (a b : Bool) → a || b ≡ true → (a ≡ true) ⊎ (b ≡ true)
+or-cases true b e = inl refl
+or-cases false b e = inr e
 
 pub has-xor : (a b k : ℕ) → has (bitXor a b) k ≡ xor (has a k) (has b k)
 unfolding xor
-has-xor a b k = rw (bit-xor a b k) (by-digits differ xor refl refl refl refl (bit a k) (bit b k) (omega arith) (omega arith))
+has-xor a b k = rw (bit-xor a b k) (on-bits (λ x y. eqb (differ x y) 1 ≡ xor (eqb x 1) (eqb y 1)) refl refl refl refl a b k)
 
 pub has-and : (a b k : ℕ) → has (bitAnd a b) k ≡ has a k && has b k
-has-and a b k = rw (bit-and a b k) (by-digits min _&&_ refl refl refl refl (bit a k) (bit b k) (omega arith) (omega arith))
+has-and a b k = rw (bit-and a b k) (on-bits (λ x y. eqb (min x y) 1 ≡ eqb x 1 && eqb y 1) refl refl refl refl a b k)
 
 pub has-or : (a b k : ℕ) → has (bitOr a b) k ≡ has a k || has b k
-has-or a b k = rw (bit-or a b k) (by-digits max _||_ refl refl refl refl (bit a k) (bit b k) (omega arith) (omega arith))
+has-or a b k = rw (bit-or a b k) (on-bits (λ x y. eqb (max x y) 1 ≡ eqb x 1 || eqb y 1) refl refl refl refl a b k)
 
 -- A mask of one bit.
 pub has-one : (j k : ℕ) → has (put 0 j) k ≡ eqb k j
@@ -46,18 +39,14 @@ least-half {x} {r} w = record { on = sym (bit-suc x r) ∙ w .on; off = λ k l. 
 
 less-one-here : (x r : ℕ) → Least x r → min (bit x r) (bit (x - 1) r) ≡ 0
 less-one-here x zero w = omega (arith, w .on)
-less-one-here x (suc r) w =
-    let e : (x - 1) / 2 ≡ x / 2 - 1 = omega (arith, w .off 0 (omega arith)) in
+less-one-here x (suc r) w = let e : (x - 1) / 2 ≡ x / 2 - 1 = omega (arith, w .off 0 (omega arith)) in
     rw (bit-suc x r, bit-suc (x - 1) r, e) (less-one-here (x / 2) r (least-half w))
 
 less-one-there : (x r k : ℕ) → Least x r → k ≢ r → min (bit x k) (bit (x - 1) k) ≡ bit x k
 less-one-there x zero zero w d = absurd (d refl)
-less-one-there x zero (suc k) w d =
-    let e : (x - 1) / 2 ≡ x / 2 = omega (arith, w .on) in
-    rw (bit-suc x k, bit-suc (x - 1) k, e) (omega arith)
+less-one-there x zero (suc k) w d = let e : (x - 1) / 2 ≡ x / 2 = omega (arith, w .on) in rw (bit-suc x k, bit-suc (x - 1) k, e) (omega arith)
 less-one-there x (suc r) zero w d = omega (arith, w .off 0 (omega arith))
-less-one-there x (suc r) (suc k) w d =
-    let e : (x - 1) / 2 ≡ x / 2 - 1 = omega (arith, w .off 0 (omega arith)) in
+less-one-there x (suc r) (suc k) w d = let e : (x - 1) / 2 ≡ x / 2 - 1 = omega (arith, w .off 0 (omega arith)) in
     rw (bit-suc x k, bit-suc (x - 1) k, e) (less-one-there (x / 2) r k (least-half w) (λ s. d (ap suc s)))
 
 pub has-rest : (x r k : ℕ) → Least x r → has (bitAnd x (x - 1)) k ≡ not (eqb k r) && has x k
@@ -75,18 +64,10 @@ rest-less x p = omega (arith, and-le-r x (x - 1))
 -- ---- the bits below a bound
 
 pub has-first : (m k : ℕ) → has (firstBits m) k ≡ ltb k m
-has-first m k = by-cases (decLt k m)
-    (λ l. rw (first-below m k l, lt-ltb k m l))
-    (λ l. rw (first-above m k (omega arith), le-ltb k m (omega arith)))
+has-first m k = by-cases (decLt k m) (λ l. rw (first-below m k l, lt-ltb k m l)) (λ l. rw (first-above m k (omega arith), le-ltb k m (omega arith)))
 
 pub has-low : (x m k : ℕ) → has (bitAnd x (firstBits m)) k ≡ ltb k m && has x k
-has-low x m k = has-and x (firstBits m) k ∙ (rw (has-first m k)) ∙ go (has x k) (ltb k m)
-  where
-    go : (a b : Bool) → a && b ≡ b && a
-    go true true = refl
-    go true false = refl
-    go false true = refl
-    go false false = refl
+has-low x m k = has-and x (firstBits m) k ∙ rw (has-first m k) (and-comm (has x k) (ltb k m))
 
 -- ---- the elements of an array changed at the bits of a mask
 
@@ -102,11 +83,7 @@ pub record Touching {A : Type 0} (f : A → A) (d : A) (old : List A) (at bits :
   pub each : (k : ℕ) → getD new k d ≡ cond (not (has bits k) && has at k) (f (getD old k d)) (getD old k d)
 
 pub touch-start : {A : Type 0} (f : A → A) (d : A) (old : List A) (at : ℕ) → Touching f d old at at old
-touch-start f d old at = record { long = refl; part = λ k h. h; each = λ k. go k (has at k) }
-  where
-    go : (k : ℕ) (b : Bool) → getD old k d ≡ cond (not b && b) (f (getD old k d)) (getD old k d)
-    go k true = refl
-    go k false = refl
+touch-start f d old at = record { long = refl; part = λ k h. h; each = λ k. by-test (has at k) (λ e. rw e) (λ e. rw e) }
 
 module _ {A : Type 0} {f : A → A} {d : A} {old new : List A} {at bits r : ℕ} (g : Touching f d old at bits new) (w : Least bits r) where
   -- What comes is not changed yet ..
@@ -117,22 +94,11 @@ module _ {A : Type 0} {f : A → A} {d : A} {old new : List A} {at bits r : ℕ}
   pub touch-step : r < length old → Touching f d old at (bitAnd bits (bits - 1)) (set new r (f (getD old r d)))
   touch-step l = record {
     long = simp length-set (g .long);
-    part = λ k h. g .part k (within (not (eqb k r)) (has bits k) (sym (has-rest bits r k w) ∙ h));
-    each = λ k. by-cases (ℕ-discrete k r) (here k) (there k);
+    part = λ k h. g .part k (and-right (not (eqb k r)) (has bits k) (sym (has-rest bits r k w) ∙ h));
+    each = λ k. by-cases (ℕ-discrete k r)
+        (λ e. rw (e, getD-set-same new r (f (getD old r d)) d (omega (arith, g .long)), has-rest bits r r w, eq-eqb r r refl, g .part r (has-least w)))
+        (λ n. rw (getD-set-other new r k (f (getD old r d)) d n, has-rest bits r k w, ne-eqb k r n) (g .each k));
   }
-    where
-      within : (a b : Bool) → a && b ≡ true → b ≡ true
-      within true b e = e
-      within false true e = refl
-      within false false e = e
-
-      here : (k : ℕ) → k ≡ r → getD (set new r (f (getD old r d))) k d ≡ cond (not (has (bitAnd bits (bits - 1)) k) && has at k) (f (getD old k d))
-          (getD old k d)
-      here k e = rw (e, getD-set-same new r (f (getD old r d)) d (omega (arith, g .long)), has-rest bits r r w, eq-eqb r r refl, g .part r (has-least w))
-
-      there : (k : ℕ) → k ≢ r → getD (set new r (f (getD old r d))) k d ≡ cond (not (has (bitAnd bits (bits - 1)) k) && has at k) (f (getD old k d))
-          (getD old k d)
-      there k d′ = rw (getD-set-other new r k (f (getD old r d)) d d′, has-rest bits r k w, ne-eqb k r d′) (g .each k)
 
 pub touch-end : {A : Type 0} {f : A → A} {d : A} {old new : List A} {at bits : ℕ} → Touching f d old at bits new → bits ≡ 0 → Touched f d old at new
 touch-end {bits = bits} g e = record { long = g .long; each = λ k. g .each k ∙ rw (e, has-zero k) }
@@ -145,12 +111,8 @@ Grafted old at x new = Touched (λ (y : ℕ). bitXor y x) 0 old at new
 pub grafted-bit : {old new : List ℕ} {at : ℕ} (x : ℕ) → Grafted old at x new → (k j : ℕ)
     → has (getD new k 0) j ≡ xor (has (getD old k 0) j) (has at k && has x j)
 unfolding xor
-grafted-bit {old} {at = at} x g k j = rw (g .each k) (go (has at k))
+grafted-bit {old} {at = at} x g k j = rw (g .each k) (by-test (has at k) (λ e. rw e (has-xor (getD old k 0) x j)) (λ e. rw e (keep (has (getD old k 0) j))))
   where
     keep : (b : Bool) → b ≡ xor b false
     keep true = refl
     keep false = refl
-
-    go : (b : Bool) → has (cond b (bitXor (getD old k 0) x) (getD old k 0)) j ≡ xor (has (getD old k 0) j) (b && has x j)
-    go true = has-xor (getD old k 0) x j
-    go false = keep (has (getD old k 0) j)

@@ -38,10 +38,7 @@ laneIndex-at l = div-add-mod' l stride
 
 -- The lane of row i and column j lies at i * stride + j.
 pub laneAt-place : (i j : ℕ) → j < stride → laneAt (i * stride + j) ≡ lane i j
-laneAt-place i j l =
-    let p : (i * stride + j) / stride ≡ i = omega arith in
-    let q : (i * stride + j) % stride ≡ j = omega arith in
-    λ t. lane (p t) (q t)
+laneAt-place i j l = let p : (i * stride + j) / stride ≡ i = omega arith in let q : (i * stride + j) % stride ≡ j = omega arith in λ t. lane (p t) (q t)
 
 -- A cost for each lane. Costs lie by column: that of row i and column j at j * stride + i.
 abbrev pub costOf : List ℤ → Lane → ℤ
@@ -77,11 +74,10 @@ strikesFrom leaf other lane count k = drop k (strikesOf leaf other lane count)
 
 pub strikesFrom-cons : (leaf other lane : List ℕ) (count k : ℕ) → k < count
     → strikesFrom leaf other lane count k ≡ strikeOf leaf other lane k ∷ strikesFrom leaf other lane count (suc k)
-strikesFrom-cons leaf other lane count k p =
-    rw (
-      drop-cons (strikesOf leaf other lane count) k (strikeOf leaf other lane k) (omega (arith, length-strikes leaf other lane count)),
-      getD-strikes leaf other lane count k (strikeOf leaf other lane k) p,
-    )
+strikesFrom-cons leaf other lane count k p = rw (
+  drop-cons (strikesOf leaf other lane count) k (strikeOf leaf other lane k) (omega (arith, length-strikes leaf other lane count)),
+  getD-strikes leaf other lane count k (strikeOf leaf other lane k) p,
+)
 
 pub strikesFrom-nil : (leaf other lane : List ℕ) (count : ℕ) → strikesFrom leaf other lane count count ≡ []
 strikesFrom-nil leaf other lane count =

@@ -1,12 +1,12 @@
 -- Masks as lanes: bit y of the mask of node x is the lane from x to the node `otherEnd m x y`.
-use Rattle.prelude.specs.Words.{_≡_, refl, sym, ap, _∙_, _↔_, _≢_, by-cases, Bool, true, false, not, _&&_, cond, List, ℕ, zero, suc, _+_, _-_, _*_, _/_, _^_}
-use Rattle.prelude.specs.Words.{_<_, _≤_, arith, ℕ-discrete, decLt, lt-ltb, le-ltb, eqb-true, eqb-false, eq-eqb, ne-eqb, not-true, eqb, ltb, length, getD, set}
+use Rattle.prelude.specs.Words.{_≡_, refl, sym, ap, _∙_, _↔_, _≢_, by-cases, Bool, true, false, not, _&&_, cond, List, ℕ, zero, suc, _+_, _-_, _*_, _/_, _<_}
+use Rattle.prelude.specs.Words.{_≤_, arith, ℕ-discrete, decLt, lt-ltb, le-ltb, eqb-true, eqb-false, eq-eqb, ne-eqb, not-true, eqb, ltb, length, getD, set}
 use Rattle.prelude.specs.Words.{length-set, getD-set-same, getD-set-other, clash}
 use lib.Count.{ones, ones-step, trailingZeros}
 use Rattle.transport.specs.Problem.{Lane}
 use Rattle.transport.specs.Laws.ProblemLaws.{lane}
 use Rattle.transport.specs.Laws.ListLaws.{and-left, and-right}
-use Rattle.tree.specs.Mask.{bit, has, unset, has-unset, has-zero, bit-suc, first-in, ones-zero}
+use Rattle.tree.specs.Mask.{bit, has, unset, has-unset, has-zero, bit-suc, first-in, ones-zero, lt-pow}
 use Rattle.tree.specs.Layout.{stride, nodeRoom}
 use Rattle.tableaux.specs.Lanes.{Has, Fits}
 
@@ -46,10 +46,6 @@ pub record Masks (m n : ℕ) (B : List Lane) (adj : List ℕ) : Type 0 where
 
 -- ---- counts of ones
 
-lt-pow : (x : ℕ) → x < 2 ^ x
-lt-pow zero = omega arith
-lt-pow (suc x) = omega (arith, lt-pow x)
-
 -- A mask that is not 0 has a bit.
 has-some : (x : ℕ) → 0 < x → (y : ℕ) × (has x y ≡ true)
 has-some x p = (trailingZeros x x, eq-eqb (bit x (trailingZeros x x)) 1 (first-in x x p (lt-pow x)))
@@ -66,13 +62,12 @@ bit-low x y h = omega arith
 -- A single bit is one.
 ones-one : (x y : ℕ) → bit x y ≡ 1 → ((z : ℕ) → bit x z ≡ 1 → z ≡ y) → ones x ≡ 1
 ones-one x zero e u = omega (arith, ones-step x, ones-none (x / 2) (λ z. sym (bit-suc x z) ∙ bit-low x (suc z) (λ f. omega (arith, u (suc z) f))))
-ones-one x (suc y) e u =
-    omega (
-      arith,
-      ones-step x,
-      bit-low x 0 (λ f. omega (arith, u 0 f)),
-      ones-one (x / 2) y (sym (bit-suc x y) ∙ e) (λ z f. omega (arith, u (suc z) (bit-suc x z ∙ f))),
-    )
+ones-one x (suc y) e u = omega (
+  arith,
+  ones-step x,
+  bit-low x 0 (λ f. omega (arith, u 0 f)),
+  ones-one (x / 2) y (sym (bit-suc x y) ∙ e) (λ z f. omega (arith, u (suc z) (bit-suc x z ∙ f))),
+)
 
 pub single : (x y : ℕ) → has x y ≡ true → ((z : ℕ) → has x z ≡ true → z ≡ y) → ones x ≡ 1
 single x y e u = ones-one x y (eqb-true (bit x y) 1 e) (λ z f. u z (eq-eqb (bit x z) 1 f))
@@ -114,45 +109,33 @@ module _ {m n : ℕ} {live : List ℕ} (w : Links m n live) where
   pub row-or-col : (x y : ℕ) → x < m + n → tied live x y ≡ true → RowOrCol x y
   row-or-col x y l e = by-cases (decLt x m)
       (λ p. of-row p (w .inRow x y p e))
-      (λ p. let s : m + (x - m) ≡ x = omega arith in
-      let h : tied live (m + (x - m)) y ≡ true = rw s e in
+      (λ p. let s : m + (x - m) ≡ x = omega arith in let h : tied live (m + (x - m)) y ≡ true = rw s e in
       of-col (omega arith) (omega arith) (w .inCol (x - m) y (omega arith) h) h)
 
   module _ (x y : ℕ) (l : x < m + n) (e : tied live x y ≡ true) where
     pub end-below : otherEnd m x y < m + n
-    end-below = go (row-or-col x y l e)
-      where
-        go : RowOrCol x y → otherEnd m x y < m + n
-        go (of-row p q) = omega (arith, end-row m x y p)
-        go (of-col p q r h) = omega (arith, end-col m x y p)
+    end-below = elim (row-or-col x y l e) [ of-row p q ↦ omega (arith, end-row m x y p) | of-col p q r h ↦ omega (arith, end-col m x y p) ]
 
     end-apart : otherEnd m x y ≢ x
-    end-apart = go (row-or-col x y l e)
-      where
-        go : RowOrCol x y → otherEnd m x y ≢ x
-        go (of-row p q) = omega (arith, end-row m x y p)
-        go (of-col p q r h) = omega (arith, end-col m x y p)
+    end-apart = elim (row-or-col x y l e) [ of-row p q ↦ omega (arith, end-row m x y p) | of-col p q r h ↦ omega (arith, end-col m x y p) ]
 
     pub end-back : tied live (otherEnd m x y) (ownBit m x) ≡ true
-    end-back = go (row-or-col x y l e)
-      where
-        go : RowOrCol x y → tied live (otherEnd m x y) (ownBit m x) ≡ true
-        go (of-row p q) = rw (end-row m x y p, own-row m x p) (w .same x y p q ∙ e)
-        go (of-col p q r h) = rw (end-col m x y p, own-col m x p) (sym (w .same y (x - m) r q) ∙ h)
+    end-back = elim (row-or-col x y l e) [
+      | of-row p q ↦ rw (end-row m x y p, own-row m x p) (w .same x y p q ∙ e)
+      | of-col p q r h ↦ rw (end-col m x y p, own-col m x p) (sym (w .same y (x - m) r q) ∙ h)
+    ]
 
     end-end : otherEnd m (otherEnd m x y) (ownBit m x) ≡ x
-    end-end = go (row-or-col x y l e)
-      where
-        go : RowOrCol x y → otherEnd m (otherEnd m x y) (ownBit m x) ≡ x
-        go (of-row p q) = rw (end-row m x y p, own-row m x p, end-col m (m + y) x (omega arith))
-        go (of-col p q r h) = rw (end-col m x y p, own-col m x p, end-row m y (x - m) r) (omega arith)
+    end-end = elim (row-or-col x y l e) [
+      | of-row p q ↦ rw (end-row m x y p, own-row m x p, end-col m (m + y) x (omega arith))
+      | of-col p q r h ↦ rw (end-col m x y p, own-col m x p, end-row m y (x - m) r) (omega arith)
+    ]
 
     own-end : ownBit m (otherEnd m x y) ≡ y
-    own-end = go (row-or-col x y l e)
-      where
-        go : RowOrCol x y → ownBit m (otherEnd m x y) ≡ y
-        go (of-row p q) = rw (end-row m x y p, own-col m (m + y) (omega arith)) (omega arith)
-        go (of-col p q r h) = rw (end-col m x y p, own-row m y r)
+    own-end = elim (row-or-col x y l e) [
+      | of-row p q ↦ rw (end-row m x y p, own-col m (m + y) (omega arith)) (omega arith)
+      | of-col p q r h ↦ rw (end-col m x y p, own-row m y r)
+    ]
 
 -- ---- a leaf's lane is taken out
 
@@ -182,24 +165,21 @@ module _ {m n : ℕ} {live : List ℕ} (w : Links m n live) (p b : ℕ) (len : l
       (λ s. by-cases (ℕ-discrete x (otherEnd m p b)) (at s) (off s))
     where
       at : x ≢ p → x ≡ otherEnd m p b → (tied live x y ≡ true) × (x ≢ p) × (otherEnd m x y ≢ p)
-      at s r =
-          let g : not (eqb y (ownBit m p)) && tied live x y ≡ true = rw r (sym (has-unset (getD live (otherEnd m p b) 0) (ownBit m p) y)
+      at s r = let g : not (eqb y (ownBit m p)) && tied live x y ≡ true = rw r (sym (has-unset (getD live (otherEnd m p b) 0) (ownBit m p) y)
           ∙ ap (λ z. has z y) (sym at-end) ∙ ap (λ z. tied (without-lane m live p b) z y) (sym r) ∙ h) in
           let t = and-right (not (eqb y (ownBit m p))) (tied live x y) g in
           let d = eqb-false y (ownBit m p) (not-true (eqb y (ownBit m p)) (and-left (not (eqb y (ownBit m p))) (tied live x y) g)) in
           (t, s, λ f. d (sym (own-end w x y l t) ∙ ap (ownBit m) f))
 
       off : x ≢ p → x ≢ otherEnd m p b → (tied live x y ≡ true) × (x ≢ p) × (otherEnd m x y ≢ p)
-      off s r =
-          let t : tied live x y ≡ true = ap (λ z. has z y) (sym (at-rest x s r)) ∙ h in
+      off s r = let t : tied live x y ≡ true = ap (λ z. has z y) (sym (at-rest x s r)) ∙ h in
           (t, s, λ f. r (sym (end-end w x y l t) ∙ ap (λ z. otherEnd m z (ownBit m x)) f ∙ ap (otherEnd m p) (few (ownBit m x) (rw f at (end-back w x y l t)))))
 
   pub gone-to : (x y : ℕ) → x < m + n → tied live x y ≡ true → x ≢ p → otherEnd m x y ≢ p → tied (without-lane m live p b) x y ≡ true
   gone-to x y l t s f = by-cases (ℕ-discrete x (otherEnd m p b)) at (λ r. ap (λ z. has z y) (at-rest x s r) ∙ t)
     where
       at : x ≡ otherEnd m p b → tied (without-lane m live p b) x y ≡ true
-      at r =
-          let d : y ≢ ownBit m p = λ g. f (ap (λ z. otherEnd m z y) r ∙ ap (otherEnd m (otherEnd m p b)) g ∙ end-end w p b low e) in
+      at r = let d : y ≢ ownBit m p = λ g. f (ap (λ z. otherEnd m z y) r ∙ ap (otherEnd m (otherEnd m p b)) g ∙ end-end w p b low e) in
           let t′ : tied live (otherEnd m p b) y ≡ true = rw (← r) t in
           rw (r, at-end, has-unset (getD live (otherEnd m p b) 0) (ownBit m p) y, ne-eqb y (ownBit m p) d) t′
 

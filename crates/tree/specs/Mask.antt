@@ -1,6 +1,6 @@
 -- A mask: a number as the set of its bits. Bit k is in the mask x where the binary digit k of x is 1.
-use Rattle.prelude.specs.Words.{ℕ, zero, suc, _+_, _-_, _*_, _/_, _%_, _^_, _<_, _≤_, min, max, arith, pow-suc, div-eq-of-lt, one-mul, eq-or-lt-of-le, decLt}
-use Rattle.prelude.specs.Words.{_≡_, refl, sym, ap, _∙_, subst, Bool, false, not, _&&_, _||_, eqb-true, eqb-false, ⊎-elim, _⊎_, inl, inr, eqb, by-test}
+use Rattle.prelude.specs.Words.{ℕ, zero, suc, _+_, _-_, _*_, _/_, _%_, _^_, _<_, _≤_, min, max, arith, pow-suc, div-eq-of-lt, one-mul, decLt, _≡_, refl, sym}
+use Rattle.prelude.specs.Words.{ap, _∙_, subst, Bool, false, not, _&&_, _||_, eqb-true, eqb-false, eqb, by-test, by-cases, ℕ-discrete}
 use lib.Bits.{bitAnd, bitOr, bitXor, differ, or-shr, or-step, and-shr, and-step, xor-shr, xor-step}
 use native.Mathlib.Numerals.{one-add}
 use lib.Pow.{shr-shr, shl-shr, shl-exact, pow-lt, pow-add}
@@ -25,24 +25,28 @@ pow-even : (d k : ℕ) → 2 ^ (d + 1 + k) / 2 ^ k % 2 ≡ 0
 pow-even d k = rw (pow-add 2 (d + 1) k, shl-shr (2 ^ (d + 1)) k, pow-add 2 d 1) (omega arith)
 
 bit-pow-below : (j k : ℕ) → k < j → bit (1 * 2 ^ j) k ≡ 0
-bit-pow-below j k p =
-    let e : j ≡ (j - k - 1) + 1 + k = omega arith in
+bit-pow-below j k p = let e : j ≡ (j - k - 1) + 1 + k = omega arith in
     rw one-mul (subst (λ (n : ℕ). 2 ^ n / 2 ^ k % 2 ≡ 0) (sym e) (pow-even (j - k - 1) k))
 
-bit-pow-above : (j k : ℕ) → j < k → bit (1 * 2 ^ j) k ≡ 0
-bit-pow-above j k p = rw (one-mul, div-eq-of-lt (pow-lt p))
+-- What holds of the digits 0 and 1 holds of every number below 2, and so of bits.
+two-digits : (P : ℕ → ℕ → Type 0) → P 0 0 → P 0 1 → P 1 0 → P 1 1 → (x y : ℕ) → x < 2 → y < 2 → P x y
+two-digits P e f g h zero zero p q = e
+two-digits P e f g h zero (suc zero) p q = f
+two-digits P e f g h (suc zero) zero p q = g
+two-digits P e f g h (suc zero) (suc zero) p q = h
+two-digits P e f g h (suc (suc x)) y p q = absurd (omega arith)
+two-digits P e f g h zero (suc (suc y)) p q = absurd (omega arith)
+two-digits P e f g h (suc zero) (suc (suc y)) p q = absurd (omega arith)
+
+pub on-bits : (P : ℕ → ℕ → Type 0) → P 0 0 → P 0 1 → P 1 0 → P 1 1 → (a b k : ℕ) → P (bit a k) (bit b k)
+on-bits P e f g h a b k = two-digits P e f g h (bit a k) (bit b k) (omega arith) (omega arith)
 
 pub bit-xor : (a b k : ℕ) → bit (bitXor a b) k ≡ differ (bit a k) (bit b k)
 bit-xor a b k = rw (xor-shr a b k, xor-step (a / 2 ^ k) (b / 2 ^ k))
-    (bottom (bitXor (a / 2 ^ k / 2) (b / 2 ^ k / 2)) (differ-lt (a / 2 ^ k % 2) (b / 2 ^ k % 2) (omega arith) (omega arith)))
+    (bottom _ (on-bits (λ x y. differ x y < 2) (omega arith) (omega arith) (omega arith) (omega arith) a b k))
   where
     bottom : (q : ℕ) {r : ℕ} → r < 2 → (q * 2 + r) % 2 ≡ r
     bottom q h = omega arith
-
-    differ-lt : (x y : ℕ) → x < 2 → y < 2 → differ x y < 2
-    differ-lt zero y p q = q
-    differ-lt (suc x) zero p q = p
-    differ-lt (suc x) (suc y) p q = differ-lt x y (omega arith) (omega arith)
 
 -- ---- a bit is put in, a bit is taken out
 
@@ -53,14 +57,10 @@ unfoldable pub unset : ℕ → ℕ → ℕ
 unset x j = bitXor (bitOr x (1 * 2 ^ j)) (1 * 2 ^ j)
 
 bit-pow-other : (j k : ℕ) → (k ≡ j → ⊥) → bit (1 * 2 ^ j) k ≡ 0
-bit-pow-other j k n = ⊎-elim (λ p. bit-pow-below j k p) (λ p. bit-pow-above j k p) (apart k j n)
+bit-pow-other j k n = by-cases (decLt k j) (bit-pow-below j k) (λ p. rw (one-mul, div-eq-of-lt (pow-lt (above p))))
   where
-    sides : (k j : ℕ) → (k ≡ j → ⊥) → Dec (k < j) → (k < j) ⊎ (j < k)
-    sides k j n (yes p) = inl p
-    sides k j n (no h) = inr (omega arith)
-
-    apart : (k j : ℕ) → (k ≡ j → ⊥) → (k < j) ⊎ (j < k)
-    apart k j n = sides k j n (decLt k j)
+    above : (k < j → ⊥) → j < k
+    above p = omega arith
 
 pub put-here : (x j : ℕ) → bit (put x j) j ≡ 1
 unfolding put
@@ -84,12 +84,9 @@ unfolding unset
 unset-there x j k n =
     bit-xor (bitOr x (1 * 2 ^ j)) (1 * 2 ^ j) k ∙ rw (bit-pow-other j k n, bit-or x (1 * 2 ^ j) k, bit-pow-other j k n) (low (x / 2 ^ k % 2))
   where
-    keep : (d : ℕ) → differ d 0 ≡ d
-    keep zero = refl
-    keep (suc d) = refl
-
     low : (d : ℕ) → differ (max d 0) 0 ≡ d
-    low d = let e : max d 0 ≡ d = omega arith in rw e (keep d)
+    low zero = refl
+    low (suc d) = let e : max (suc d) 0 ≡ suc d = omega arith in rw e
 
 -- ---- how many bits are in, and the least
 
@@ -107,15 +104,17 @@ only x zero (suc k) h p q = absurd (omega (arith, ones-step x, none (x / 2) k (o
 only x (suc j) zero h p q = absurd (omega (arith, ones-step x, none (x / 2) j (omega (arith, ones-step x)), bit-suc x j))
 only x (suc j) (suc k) h p q = ap suc (only (x / 2) j k (omega (arith, ones-step x)) (omega (arith, bit-suc x j)) (omega (arith, bit-suc x k)))
 
+pub lt-pow : (x : ℕ) → x < 2 ^ x
+lt-pow zero = omega arith
+lt-pow (suc x) = omega (arith, lt-pow x)
+
 -- The least bit that is in.
 pub first-in : (K x : ℕ) → 0 < x → x < 2 ^ K → bit x (trailingZeros K x) ≡ 1
 unfolding trailingZeros
 first-in zero x p q = absurd (omega arith)
-first-in (suc K) x p q = go (x % 2) refl (first-in K (x / 2))
-  where
-    go : (d : ℕ) → x % 2 ≡ d → (0 < x / 2 → x / 2 < 2 ^ K → bit (x / 2) (trailingZeros K (x / 2)) ≡ 1) → bit x (under d (trailingZeros K (x / 2))) ≡ 1
-    go zero e ih = bit-suc x (trailingZeros K (x / 2)) ∙ ih (omega arith) (omega (arith, pow-suc 2 K))
-    go (suc d) e ih = omega arith
+first-in (suc K) x p q = by-cases (ℕ-discrete (x % 2) 0)
+    (λ e. rw e (bit-suc x (trailingZeros K (x / 2)) ∙ first-in K (x / 2) (omega arith) (omega (arith, pow-suc 2 K))))
+    (λ e. let s : x % 2 ≡ 1 = omega arith in rw s (omega arith))
 
 pub first-least : (K x k : ℕ) → k < trailingZeros K x → bit x k ≡ 0
 unfolding trailingZeros
@@ -128,11 +127,8 @@ first-least (suc K) x k p = go (x % 2) refl k (first-least K (x / 2)) p
     go (suc d) e k ih q = absurd (omega arith)
 
 pub first-lt : (K x : ℕ) → 0 < x → x < 2 ^ K → trailingZeros K x < K
-first-lt K x p q =
-    ⊎-elim
-    (λ e. absurd (omega (arith, first-in K x p q, ap (λ (n : ℕ). bit x n) e, div-eq-of-lt q)))
-    (λ l. l)
-    (eq-or-lt-of-le (trailing-le K x))
+first-lt K x p q = by-cases (decLt (trailingZeros K x) K) (λ l. l) (λ l. let e : trailingZeros K x ≡ K = omega (arith, trailing-le K x) in
+    absurd (omega (arith, first-in K x p q, ap (λ (n : ℕ). bit x n) e, div-eq-of-lt q)))
 
 -- ---- as the code has them
 
@@ -151,9 +147,7 @@ ones-zero = refl
 -- ---- the same as tests
 
 pub has-put : (x j k : ℕ) → has (put x j) k ≡ eqb k j || has x k
-has-put x j k = by-test (eqb k j)
-    (λ e. rw e (let s : k ≡ j = eqb-true k j e in rw (s, put-here x j)))
-    (λ e. rw e (rw (put-there x j k (eqb-false k j e))))
+has-put x j k = by-test (eqb k j) (λ e. rw e (let s : k ≡ j = eqb-true k j e in rw (s, put-here x j))) (λ e. rw e (rw (put-there x j k (eqb-false k j e))))
 
 pub has-unset : (x j k : ℕ) → has (unset x j) k ≡ not (eqb k j) && has x k
 has-unset x j k = by-test (eqb k j)
@@ -162,5 +156,3 @@ has-unset x j k = by-test (eqb k j)
 
 pub has-zero : (k : ℕ) → has 0 k ≡ false
 has-zero k = rw (none 0 k ones-zero)
-
--- ---- the count of ones is the sum of the bits

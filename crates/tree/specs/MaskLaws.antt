@@ -3,7 +3,7 @@ use Rattle.prelude.specs.Words.{_≡_, refl, _∙_, ℕ, zero, suc, _+_, _-_, _
 use lib.Bits.{bitOr, bitXor, differ}
 use lib.Pow.{pow-pos, pow-mono, shl-exact, shr-shr}
 use lib.Count.{trailingZeros}
-use Rattle.tree.specs.Mask.{bit, bit-or, bit-xor, bit-suc, first-in}
+use Rattle.tree.specs.Mask.{bit, bit-or, bit-xor, bit-suc, first-in, on-bits, lt-pow}
 
 -- ---- the first n bits
 
@@ -14,16 +14,12 @@ pub first-below : (n k : ℕ) → k < n → bit (firstBits n) k ≡ 1
 unfolding firstBits
 first-below zero k p = absurd (omega arith)
 first-below (suc n) zero p = omega (arith, pow-suc 2 n, pow-pos n)
-first-below (suc n) (suc k) p =
-    let e : (2 ^ suc n - 1) / 2 ≡ 2 ^ n - 1 = omega (arith, pow-suc 2 n, pow-pos n) in
+first-below (suc n) (suc k) p = let e : (2 ^ suc n - 1) / 2 ≡ 2 ^ n - 1 = omega (arith, pow-suc 2 n, pow-pos n) in
     bit-suc (2 ^ suc n - 1) k ∙ rw e (first-below n k (omega arith))
 
 pub first-above : (n k : ℕ) → n ≤ k → bit (firstBits n) k ≡ 0
 unfolding firstBits
-first-above n k p = rw (div-eq-of-lt small)
-  where
-    small : 2 ^ n - 1 < 2 ^ k
-    small = omega (arith, pow-pos n, pow-mono p)
+first-above n k p = let small : 2 ^ n - 1 < 2 ^ k = omega (arith, pow-pos n, pow-mono p) in rw (div-eq-of-lt small)
 
 pub first-shl : (n : ℕ) → n < 64 → (1 * 2 ^ n) % 2 ^ 64 - 1 ≡ firstBits n
 unfolding firstBits
@@ -40,25 +36,12 @@ minus-is a b = refl
 
 pub bit-minus : (a b k : ℕ) → bit (minus a b) k + min (bit a k) (bit b k) ≡ bit a k
 unfolding minus
-bit-minus a b k = rw (bit-xor (bitOr a b) b k, bit-or a b k) (digit (bit a k) (bit b k) (omega arith) (omega arith))
-  where
-    digit : (x y : ℕ) → x < 2 → y < 2 → differ (max x y) y + min x y ≡ x
-    digit zero zero p q = refl
-    digit zero (suc zero) p q = refl
-    digit zero (suc (suc y)) p q = absurd (omega arith)
-    digit (suc zero) zero p q = refl
-    digit (suc zero) (suc zero) p q = refl
-    digit (suc zero) (suc (suc y)) p q = absurd (omega arith)
-    digit (suc (suc x)) y p q = absurd (omega arith)
+bit-minus a b k = rw (bit-xor (bitOr a b) b k, bit-or a b k) (on-bits (λ x y. differ (max x y) y + min x y ≡ x) refl refl refl refl a b k)
 
 -- ---- some bit
 
-own-power : (n : ℕ) → n < 2 ^ n
-own-power zero = omega arith
-own-power (suc n) = omega (arith, own-power n, pow-suc 2 n)
-
 pub some-bit : (x : ℕ) → 0 < x → (k : ℕ) × (bit x k ≡ 1)
-some-bit x p = (trailingZeros x x, first-in x x p (own-power x))
+some-bit x p = (trailingZeros x x, first-in x x p (lt-pow x))
 
 -- ---- shifts
 

@@ -33,27 +33,22 @@ record Free (f : ℕ → ℕ) (N t : ℕ) : Type 0 where
 
 free : (f : ℕ → ℕ) (N t : ℕ) → ((h : ℕ) → h < t → f h < N) → ((h k : ℕ) → h < k → k < t → f h ≢ f k) → Free f N t
 free f N zero b d = record { left = λ x. true; stays = λ x h. refl; count = omega (arith, sum-ones N) }
-free f N (suc t) b d = go (free f N t (λ h l. b h (omega arith)) (λ h k l r. d h k l (omega arith)))
-  where
-    go : Free f N t → Free f N (suc t)
-    go r = record {
-      left = unless (f t) (r .left);
-      stays = λ x h. rw (r .stays x (λ k l. h k (omega arith)), ne-eqb (f t) x (h t (omega arith)));
-      count = omega (
-        arith,
-        r .count,
-        sumTo-cong N (λ x. cond (r .left x) 1 0) (λ x. cond (unless (f t) (r .left) x) 1 0 + one-at (f t) x)
-            (λ x l. unless-bits (f t) (r .left) x (r .stays (f t) (λ k l. d k t l (omega arith)))),
-        sumTo-add N (λ x. cond (unless (f t) (r .left) x) 1 0) (one-at (f t)),
-        sum-one-at N (f t) (b t (omega arith)),
-      );
-    }
+free f N (suc t) b d = let r = free f N t (λ h l. b h (omega arith)) (λ h k l r. d h k l (omega arith)) in record {
+  left = unless (f t) (r .left);
+  stays = λ x h. rw (r .stays x (λ k l. h k (omega arith)), ne-eqb (f t) x (h t (omega arith)));
+  count = omega (
+    arith,
+    r .count,
+    sumTo-cong N (λ x. cond (r .left x) 1 0) (λ x. cond (unless (f t) (r .left) x) 1 0 + one-at (f t) x)
+        (λ x l. unless-bits (f t) (r .left) x (r .stays (f t) (λ k l. d k t l (omega arith)))),
+    sumTo-add N (λ x. cond (unless (f t) (r .left) x) 1 0) (one-at (f t)),
+    sum-one-at N (f t) (b t (omega arith)),
+  );
+}
 
 pub room : {N : ℕ} {P : ℕ → Type 0} {live leaf : List ℕ} {k tail : ℕ} → 1 ≤ N → QueueOf N P live leaf k tail → tail < N
-room {N} {P} {live} {leaf} {k} {tail} p q = go (free (λ t. getD leaf t 0) N tail (λ t l. q .nodes t l .1) (q .once))
-  where
-    go : Free (λ t. getD leaf t 0) N tail → tail < N
-    go r = omega (arith, r .count, sumTo-each N (λ x. cond (r .left x) 1 0) 0 p, ap (λ (b : Bool). cond {A = ℕ} b 1 0) (r .stays 0 (λ t l. q .nodes t l .0)))
+room {N} {leaf = leaf} {tail = tail} p q = let r = free (λ t. getD leaf t 0) N tail (λ t l. q .nodes t l .1) (q .once) in
+    omega (arith, r .count, sumTo-each N (λ x. cond (r .left x) 1 0) 0 p, ap (λ (b : Bool). cond {A = ℕ} b 1 0) (r .stays 0 (λ t l. q .nodes t l .0)))
 
 -- ---- a node comes to the queue, or not
 
@@ -80,8 +75,7 @@ module _ {N N′ : ℕ} {P P′ : ℕ → Type 0} {live leaf : List ℕ} {k tail
               ne-eqb o 0 (λ g. z (s ∙ g)),
               eq-eqb (ones (getD live o 0)) 1 (ap (λ y. ones (getD live y 0)) (sym s) ∙ u),
             )) e)
-            (λ s. let (t, a, b, c) = q .listed x z s u in (t, a, omega arith, before t b ∙ c))
-            (rest x p);
+            (λ s. let (t, a, b, c) = q .listed x z s u in (t, a, omega arith, before t b ∙ c)) (rest x p);
       }
       go true e = record {
         order = omega (arith, q .order);
@@ -98,8 +92,7 @@ module _ {N N′ : ℕ} {P P′ : ℕ → Type 0} {live leaf : List ℕ} {k tail
             (λ y v f g. only (getD live o 0) y v (omega (arith, one)) (eqb-true (bit (getD live o 0) y) 1 f) (eqb-true (bit (getD live o 0) v) 1 g)));
         listed = λ x z p u. ⊎-elim
             (λ s. (tail, q .order, omega arith, last ∙ sym s))
-            (λ s. let (t, a, b, c) = q .listed x z s u in (t, a, omega arith, before t b ∙ c))
-            (rest x p);
+            (λ s. let (t, a, b, c) = q .listed x z s u in (t, a, omega arith, before t b ∙ c)) (rest x p);
       }
         where
           proper : o ≢ 0
@@ -122,17 +115,14 @@ queue-start live leaf = record {
 
 pub queue-next : {live leaf : List ℕ} {tail : ℕ} (x : ℕ) → 1 ≤ x → x < nodeRoom → length leaf ≡ nodeRoom → Queue x live leaf 0 tail
     → Queue (x + 1) live (set leaf tail x) 0 (tail + cond (joins x (getD live x 0)) 1 0)
-queue-next x p l e q =
-    push x (omega (arith, room p q)) (omega arith) (omega arith)
+queue-next x p l e q = push x (omega (arith, room p q)) (omega arith) (omega arith)
     (λ y r. by-cases (ℕ-discrete y x) inl (λ s. inr (omega arith)))
-    (λ j t r s. omega (arith, q .nodes t r .1))
-    q
+    (λ j t r s. omega (arith, q .nodes t r .1)) q
 
 -- ---- a leaf is struck
 
 module _ {m n : ℕ} {live leaf : List ℕ} {k tail : ℕ} (w : Links m n live) (len : length live ≡ nodeRoom) (size : length leaf ≡ nodeRoom)
-    (q : Queue (m + n) live leaf k tail)
-    (waits : k < tail) (b : ℕ) (e : tied live (getD leaf k 0) b ≡ true) where
+    (q : Queue (m + n) live leaf k tail) (waits : k < tail) (b : ℕ) (e : tied live (getD leaf k 0) b ≡ true) where
   abbrev leaf-now : ℕ
   leaf-now = getD leaf k 0
 
@@ -147,9 +137,7 @@ module _ {m n : ℕ} {live leaf : List ℕ} {k tail : ℕ} (w : Links m n live) 
 
   -- A node without a lane stays so.
   never : (x y : ℕ) → x < m + n → tied live x y ≡ false → tied live-next x y ≡ false
-  never x y l f = by-test (tied live-next x y)
-      (λ h. clash (gone-from w leaf-now b len leaf-low e leaf-few x y l h .0) f)
-      (λ h. h)
+  never x y l f = by-test (tied live-next x y) (λ h. clash (gone-from w leaf-now b len leaf-low e leaf-few x y l h .0) f) (λ h. h)
 
   after-strike : QueueOf (m + n) (λ x. (x < m + n) × (x ≢ otherEnd m leaf-now b)) live-next leaf (k + 1) tail
   after-strike = record {
@@ -183,8 +171,7 @@ module _ {m n : ℕ} {live leaf : List ℕ} {k tail : ℕ} (w : Links m n live) 
           (and-right (not (eqb (otherEnd m leaf-now b) 0)) (eqb (ones (getD live-next (otherEnd m leaf-now b) 0)) 1) j)
 
       lone : (y : ℕ) × (tied live-next (otherEnd m leaf-now b) y ≡ true) → k ≤ t → ⊥
-      lone (y, h) r =
-          let f : not (eqb y (ownBit m leaf-now)) && tied live (otherEnd m leaf-now b) y ≡ true =
+      lone (y, h) r = let f : not (eqb y (ownBit m leaf-now)) && tied live (otherEnd m leaf-now b) y ≡ true =
           sym (has-unset (getD live (otherEnd m leaf-now b) 0) (ownBit m leaf-now) y) ∙ ap (λ z. has z y) (sym (at-end w leaf-now b len leaf-low e leaf-few))
           ∙ h in
           let g : tied live (getD leaf t 0) y ≡ true = rw s (and-right (not (eqb y (ownBit m leaf-now))) (tied live (otherEnd m leaf-now b) y) f) in
@@ -194,12 +181,9 @@ module _ {m n : ℕ} {live leaf : List ℕ} {k tail : ℕ} (w : Links m n live) 
 
   pub queue-struck : Queue (m + n) live-next (set leaf tail (otherEnd m leaf-now b)) (k + 1) (tail
       + cond (joins (otherEnd m leaf-now b) (unset (getD live (otherEnd m leaf-now b) 0) (ownBit m leaf-now))) 1 0)
-  queue-struck =
-      let r : Queue (m + n) live-next (set leaf tail (otherEnd m leaf-now b)) (k + 1) (tail
+  queue-struck = let r : Queue (m + n) live-next (set leaf tail (otherEnd m leaf-now b)) (k + 1) (tail
       + cond (joins (otherEnd m leaf-now b) (getD live-next (otherEnd m leaf-now b) 0)) 1 0) =
       push (otherEnd m leaf-now b) (omega (arith, room (omega (arith, w .rowsLow)) q, w .rowsHigh, w .colsHigh)) (omega arith)
       (end-below w leaf-now b leaf-low e)
-      (λ x p. by-cases (ℕ-discrete x (otherEnd m leaf-now b)) inl (λ s. inr (p, s)))
-      fresh-end
-      after-strike in
+      (λ x p. by-cases (ℕ-discrete x (otherEnd m leaf-now b)) inl (λ s. inr (p, s))) fresh-end after-strike in
       rw (at-end w leaf-now b len leaf-low e leaf-few) at r

@@ -32,13 +32,11 @@ pub repriced-by : (m far : ℕ) {x : ℤ} {old mid new : List ℤ} → Touched (
     → Touched (λ z. z +ℤ negℤ x) (pos 0) mid (bitXor far (bitAnd far (firstBits m))) new → Repriced m far x old new
 repriced-by m far {x} {old} {mid} {new} v w = record {
   long = w .long ∙ v .long;
-  each = λ k. w .each k ∙ (rw (has-high far m k, v .each k, has-low far m k))
-      ∙ go k (ltb k m) (has far k);
+  each = λ k. w .each k ∙ (rw (has-high far m k, v .each k, has-low far m k)) ∙ go k (ltb k m) (has far k);
 }
   where
     go : (k : ℕ) (l h : Bool) → cond (not l && h) (cond (l && h) (getD old k (pos 0) +ℤ x) (getD old k (pos 0)) +ℤ negℤ x)
-        (cond (l && h) (getD old k (pos 0) +ℤ x) (getD old k (pos 0)))
-        ≡ cond h (getD old k (pos 0) +ℤ cond l x (negℤ x)) (getD old k (pos 0))
+        (cond (l && h) (getD old k (pos 0) +ℤ x) (getD old k (pos 0))) ≡ cond h (getD old k (pos 0) +ℤ cond l x (negℤ x)) (getD old k (pos 0))
     go k true true = refl
     go k true false = refl
     go k false true = refl
@@ -47,8 +45,8 @@ repriced-by m far {x} {old} {mid} {new} v w = record {
 -- The columns are still as they were after the rows.
 pub rows-only : (m far : ℕ) {x : ℤ} {old mid : List ℤ} → Touched (λ z. z +ℤ x) (pos 0) old (bitAnd far (firstBits m)) mid
     → (k : ℕ) → has (bitXor far (bitAnd far (firstBits m))) k ≡ true → getD mid k (pos 0) ≡ getD old k (pos 0)
-rows-only m far {x} {old} v k e = v .each k ∙ (rw (has-low far m k)) ∙ go (ltb k m) (has far k) (sym (has-high far m k) ∙ e)
+rows-only m far {x} {old} v k e = v .each k ∙ rw (has-low far m k, lower (ltb k m) (has far k) (sym (has-high far m k) ∙ e))
   where
-    go : (l h : Bool) → not l && h ≡ true → cond (l && h) (getD old k (pos 0) +ℤ x) (getD old k (pos 0)) ≡ getD old k (pos 0)
-    go true h e = absurd (false≢true e)
-    go false h e = refl
+    lower : (l h : Bool) → not l && h ≡ true → l && h ≡ false
+    lower true h e = absurd (false≢true e)
+    lower false h e = refl

@@ -1,14 +1,14 @@
 -- What the arrays hold while leaves are struck off: at the start, after one strike more, and at the end.
-use Rattle.prelude.specs.Words.{_≡_, ap, _∙_, true, cond, List, [], _∷_, _++_, ℕ, _+_, _-_, _*_, _/_, _%_, _<_, _≤_, arith, length, getD, set, length-set}
-use Rattle.prelude.specs.Words.{getD-set-same, getD-set-other}
+use Rattle.prelude.specs.Words.{_≡_, ap, _∙_, true, cond, List, [], _∷_, _++_, ℕ, _+_, _-_, _<_, _≤_, arith, length, getD, set, length-set, getD-set-same}
+use Rattle.prelude.specs.Words.{getD-set-other}
 use Rattle.transport.specs.Lists.{table}
 use Rattle.transport.specs.Laws.ListLaws.{table-zero, table-one, table-cong}
 use Rattle.transport.specs.Problem.{Lane}
 use Rattle.transport.specs.Laws.ProblemLaws.{lane}
 use Rattle.tree.specs.Mask.{unset}
-use Rattle.tree.specs.Layout.{stride, nodeRoom, laneAt, strikeOf, strikesOf, length-strikes}
-use Rattle.tree.specs.Links.{Links, Masks, otherEnd, ownBit, laneTo, joins, tied, RowOrCol, of-row, of-col, row-or-col, without-lane, links-without}
-use Rattle.tree.specs.Links.{place-row, place-col}
+use Rattle.tree.specs.Layout.{nodeRoom, laneAt, strikeOf, strikesOf, length-strikes, laneAt-place}
+use Rattle.tree.specs.Links.{Links, Masks, otherEnd, ownBit, laneTo, joins, tied, of-row, of-col, row-or-col, without-lane, links-without, place-row}
+use Rattle.tree.specs.Links.{place-col}
 use Rattle.tree.specs.Queue.{Queue, room, leaf-low, leaf-few, queue-struck}
 use Rattle.tree.specs.Strip.{Strip, Stripped, nodeLane, nodeStrike, lane-row, lane-col, strip-start, strip-next, stripped-empty, stripped-lost}
 
@@ -23,19 +23,17 @@ pub record StrikeState (m n : ℕ) (adj live leaf other lane : List ℕ) (k tail
   pub strip : (B : List Lane) → Masks m n B adj → Strip m n B live leaf (strikesOf leaf other lane k) k
 
 pub state-start : {m n : ℕ} {adj leaf other lane : List ℕ} {tail : ℕ} → length adj ≡ nodeRoom → length leaf ≡ nodeRoom → length other ≡ nodeRoom → length lane
-    ≡ nodeRoom
-    → Links m n adj → Queue (m + n) adj leaf 0 tail → StrikeState m n adj adj leaf other lane 0 tail
+    ≡ nodeRoom → Links m n adj → Queue (m + n) adj leaf 0 tail → StrikeState m n adj adj leaf other lane 0 tail
 unfolding strikesOf
-state-start {leaf = leaf} {other = other} {lane = lane} a b c d w q =
-    record {
-      liveSize = a;
-      leafSize = b;
-      otherSize = c;
-      laneSize = d;
-      links = w;
-      queue = q;
-      strip = λ B M. rw (table-zero (strikeOf leaf other lane)) (strip-start M leaf w);
-    }
+state-start {leaf = leaf} {other = other} {lane = lane} a b c d w q = record {
+  liveSize = a;
+  leafSize = b;
+  otherSize = c;
+  laneSize = d;
+  links = w;
+  queue = q;
+  strip = λ B M. rw (table-zero (strikeOf leaf other lane)) (strip-start M leaf w);
+}
 
 module _ {m n : ℕ} {adj live leaf other lane : List ℕ} {k tail : ℕ} (s : StrikeState m n adj live leaf other lane k tail) where
   module _ (waits : k < tail) (b : ℕ) (e : tied live (getD leaf k 0) b ≡ true) where
@@ -52,22 +50,14 @@ module _ {m n : ℕ} {adj live leaf other lane : List ℕ} {k tail : ℕ} (s : S
     k-room = omega (arith, room (omega (arith, s .links .rowsLow)) (s .queue), s .links .rowsHigh, s .links .colsHigh)
 
     lane-placed : laneAt place ≡ nodeLane m now b
-    lane-placed = go (row-or-col (s .links) now b (s .queue .nodes k waits .1) e)
-      where
-        go : RowOrCol (s .links) now b → laneAt place ≡ nodeLane m now b
-        go (of-row p q) =
-            let u : (now * stride + b) / stride ≡ now = omega (arith, s .links .colsHigh) in
-            let v : (now * stride + b) % stride ≡ b = omega (arith, s .links .colsHigh) in
-            rw (place-row m now b p, lane-row m now b p, u, v)
-        go (of-col p q r h) =
-            let u : (b * stride + (now - m)) / stride ≡ b = omega (arith, s .links .colsHigh) in
-            let v : (b * stride + (now - m)) % stride ≡ now - m = omega (arith, s .links .colsHigh) in
-            rw (place-col m now b p, lane-col m now b p, u, v)
+    lane-placed = elim (row-or-col (s .links) now b (s .queue .nodes k waits .1) e) [
+      | of-row p q ↦ rw (place-row m now b p, lane-row m now b p, laneAt-place now b (omega (arith, s .links .colsHigh)))
+      | of-col p q r h ↦ rw (place-col m now b p, lane-col m now b p, laneAt-place b (now - m) (omega (arith, s .links .colsHigh)))
+    ]
 
     strikes-next : strikesOf (set leaf tail end) (set other k end) (set lane k place) (k + 1) ≡ strikesOf leaf other lane k ++ (nodeStrike m now b ∷ [])
     unfolding strikesOf
-    strikes-next =
-        table-one (strikeOf (set leaf tail end) (set other k end) (set lane k place)) k
+    strikes-next = table-one (strikeOf (set leaf tail end) (set other k end) (set lane k place)) k
         ∙ rw (table-cong k (strikeOf (set leaf tail end) (set other k end) (set lane k place)) (strikeOf leaf other lane) same)
         (ap (λ z. table k (strikeOf leaf other lane) ++ (z ∷ [])) last)
       where

@@ -1,8 +1,8 @@
 -- The lanes B while leaves are struck off: what is struck, what is left, and that all is struck exactly if the lanes span.
-use Rattle.prelude.specs.Words.{_≡_, refl, sym, ap, _∙_, _≢_, _⊎_, inl, inr, ⊎-elim, by-cases, Bool, true, false, not, _&&_, cond, true≢false, List, [], _∷_}
-use Rattle.prelude.specs.Words.{_++_, List·Memᴰ, List·Memᴰ·head, List·Memᴰ·tail, List·Memᴰ·not-nil, List·Memᴰ·cases-cons, List·Memᴰ·append-cases}
-use Rattle.prelude.specs.Words.{Memᴰ·append-left, Memᴰ·append-right, List·Memᴰ·eq-of-singleton, Memᴰ·cast, ℕ, suc, _+_, _-_, _<_, _≤_, arith, decLt, lt-ltb}
-use Rattle.prelude.specs.Words.{le-ltb, eq-eqb, ne-eqb, not-true, ltb, length, getD, set, getD-set-other, clash}
+use Rattle.prelude.specs.Words.{_≡_, refl, sym, ap, _∙_, _≢_, _⊎_, inl, inr, ⊎-elim, by-cases, Bool, true, not, _&&_, cond, true≢false, List, [], _∷_, _++_}
+use Rattle.prelude.specs.Words.{List·Memᴰ, List·Memᴰ·head, List·Memᴰ·tail, List·Memᴰ·not-nil, List·Memᴰ·cases-cons, List·Memᴰ·append-cases, Memᴰ·append-left}
+use Rattle.prelude.specs.Words.{Memᴰ·append-right, List·Memᴰ·eq-of-singleton, Memᴰ·cast, ℕ, suc, _+_, _-_, _<_, _≤_, arith, decLt, lt-ltb, le-ltb, eq-eqb}
+use Rattle.prelude.specs.Words.{ne-eqb, not-true, ltb, length, getD, set, getD-set-other, clash, by-test}
 use Rattle.transport.specs.Lists.{keep, table}
 use Rattle.transport.specs.Laws.ListLaws.{keep-yes, keep-no, keep-none, keep-all, keep-cong, keep-keep, keep-member, member-keep, all-members, member-place}
 use Rattle.transport.specs.Laws.ListLaws.{member-at, and-left, and-right}
@@ -18,46 +18,36 @@ use Rattle.tableaux.specs.Leaves.{Ends, row-struck, column-struck, Leaf, Linked
 use Rattle.tableaux.specs.Leaves.{leaf-lane, length-without, has-lane, touches-true, touches-false}
 use Rattle.tableaux.specs.Striking.{no-members, nodes-others, StrikeStep, Peeled, bare, peel, Struck, every-leaf, strike-once, struck-joined, joined-linked}
 use Rattle.tableaux.specs.Striking.{spans-iff}
-use Rattle.tree.specs.Links.{Links, Masks, otherEnd, ownBit, tied, single, iff-same, end-row, end-col, end-back, RowOrCol, of-row, of-col, row-or-col}
-use Rattle.tree.specs.Links.{without-lane, gone-from, gone-to}
+use Rattle.tree.specs.Links.{Links, Masks, otherEnd, ownBit, tied, single, iff-same, end-row, end-col, end-back, of-row, of-col, row-or-col, without-lane}
+use Rattle.tree.specs.Links.{gone-from, gone-to}
 use Rattle.tree.specs.Queue.{Queue, leaf-low, leaf-few}
 
 -- ---- a list of distinct elements, of which one passes the test
 
 keep-single : {A : Type 0} (p : A → Bool) (d y : A) (xs : List A) → ((h k : ℕ) → h < k → k < length xs → getD xs h d ≢ getD xs k d) → List·Memᴰ y xs → p y
-    ≡ true
-    → ((x : A) → List·Memᴰ x xs → p x ≡ true → x ≡ y) → keep p xs ≡ y ∷ []
+    ≡ true → ((x : A) → List·Memᴰ x xs → p x ≡ true → x ≡ y) → keep p xs ≡ y ∷ []
 keep-single p d y [] distinct h e u = absurd (List·Memᴰ·not-nil h)
-keep-single {A} p d y (x ∷ xs) distinct h e u = go (p x) refl (keep-single p d y xs (λ a b l r. distinct (suc a) (suc b) (omega arith) (omega arith)))
-  where
-    go : (b : Bool) → p x ≡ b → (List·Memᴰ y xs → p y ≡ true → ((x : A) → List·Memᴰ x xs → p x ≡ true → x ≡ y) → keep p xs ≡ y ∷ []) → keep p (x ∷ xs) ≡ y ∷ []
-    go true q rest = keep-yes p x xs q ∙ rw (keep-none p xs d (λ k l. other k l (p (getD xs k d)) refl)) (ap (λ z. z ∷ []) same)
-      where
-        same : x ≡ y
-        same = u x (List·Memᴰ·head refl) q
-
-        other : (k : ℕ) → k < length xs → (b : Bool) → p (getD xs k d) ≡ b → p (getD xs k d) ≡ false
-        other k l true r = absurd (distinct 0 (suc k) (omega arith) (omega arith) (same ∙ sym (u (getD xs k d) (List·Memᴰ·tail (member-at xs d k l)) r)))
-        other k l false r = r
-    go false q rest =
-        keep-no p x xs q ∙ rest (⊎-elim (λ r. clash e (ap p r ∙ q)) (λ r. r) (List·Memᴰ·cases-cons h)) e (λ z m. u z (List·Memᴰ·tail m))
+keep-single p d y (x ∷ xs) distinct h e u = by-test (p x)
+    (λ q. let same : x ≡ y = u x (List·Memᴰ·head refl) q in
+    keep-yes p x xs q ∙ rw (keep-none p xs d (λ k l. by-test (p (getD xs k d))
+    (λ r. absurd (distinct 0 (suc k) (omega arith) (omega arith) (same ∙ sym (u (getD xs k d) (List·Memᴰ·tail (member-at xs d k l)) r))))
+    (λ r. r))) (ap (λ z. z ∷ []) same))
+    (λ q. keep-no p x xs q ∙ keep-single p d y xs (λ a b l r. distinct (suc a) (suc b) (omega arith) (omega arith))
+    (⊎-elim (λ r. clash e (ap p r ∙ q)) (λ r. r) (List·Memᴰ·cases-cons h)) e (λ z m. u z (List·Memᴰ·tail m)))
 
 -- ---- one strike more at the end
 
 peeled-last : {m n : ℕ} {ss : List Strike} {s : Strike} → Peeled m n ss → StrikeStep m n s []
-    → ((t : Strike) → List·Memᴰ t ss → (s .leaf ≢ t .leaf) × (s .other ≢ t .leaf))
-    → Peeled m n (ss ++ (s ∷ []))
+    → ((t : Strike) → List·Memᴰ t ss → (s .leaf ≢ t .leaf) × (s .other ≢ t .leaf)) → Peeled m n (ss ++ (s ∷ []))
 peeled-last bare st clear = peel st bare
-peeled-last {m} {n} {ss} {s} (peel {s = t} {later} u rest) st clear =
-    peel (record {
-      ends = u .ends;
-      row = u .row;
-      col = u .col;
-      proper = u .proper;
-      clear = λ r h. ⊎-elim (u .clear r) (λ q. let e : r ≡ s = List·Memᴰ·eq-of-singleton q in
-          rw e (clear t (List·Memᴰ·head refl))) (List·Memᴰ·append-cases later h);
-    })
-    (peeled-last rest st (λ r h. clear r (List·Memᴰ·tail h)))
+peeled-last {m} {n} {ss} {s} (peel {s = t} {later} u rest) st clear = peel (record {
+  ends = u .ends;
+  row = u .row;
+  col = u .col;
+  proper = u .proper;
+  clear = λ r h. ⊎-elim (u .clear r) (λ q. let e : r ≡ s = List·Memᴰ·eq-of-singleton q in
+      rw e (clear t (List·Memᴰ·head refl))) (List·Memᴰ·append-cases later h);
+}) (peeled-last rest st (λ r h. clear r (List·Memᴰ·tail h)))
 
 -- ---- a node's lane
 
@@ -94,22 +84,19 @@ record NodeLane (m n : ℕ) (live : List ℕ) (x y : ℕ) : Type 0 where
 module _ {m n : ℕ} {live : List ℕ} (w : Links m n live) where
   laid : (x y : ℕ) → x < m + n → tied live x y ≡ true → NodeLane m n live x y
   unfolding touches
-  laid x y l e = go (row-or-col w x y l e)
-    where
-      go : RowOrCol w x y → NodeLane m n live x y
-      go (of-row p q) =
-          let r = lane-row m x y p in
-          record { row = rw r p; col = rw r q; lives = rw r e; touch = rw (r, eq-eqb x x refl); ends = row-struck (rw r) (rw (r, end-row m x y p)) }
-      go (of-col p q r h) =
-          let s = lane-col m x y p in
-          let back : m + (x - m) ≡ x = omega arith in
-          record {
-            row = rw s r;
-            col = rw s q;
-            lives = rw s (sym (w .same y (x - m) r q) ∙ h);
-            touch = rw (s, ne-eqb y x (omega arith), eq-eqb (m + (x - m)) x back);
-            ends = column-struck (rw s (sym back)) (rw (s, end-col m x y p));
-          }
+  laid x y l e = elim (row-or-col w x y l e) [
+    | of-row p q ↦ let r = lane-row m x y p in
+        record { row = rw r p; col = rw r q; lives = rw r e; touch = rw (r, eq-eqb x x refl); ends = row-struck (rw r) (rw (r, end-row m x y p)) }
+    | of-col p q r h ↦ let s = lane-col m x y p in
+        let back : m + (x - m) ≡ x = omega arith in
+        record {
+          row = rw s r;
+          col = rw s q;
+          lives = rw s (sym (w .same y (x - m) r q) ∙ h);
+          touch = rw (s, ne-eqb y x (omega arith), eq-eqb (m + (x - m)) x back);
+          ends = column-struck (rw s (sym back)) (rw (s, end-col m x y p));
+        }
+  ]
 
   -- A lane of the masks that touches node x is one of its lanes.
   touched : (x : ℕ) (l : Lane) → l .row < m → l .col < n → alive live l ≡ true → touches m x l ≡ true → (y : ℕ) × (tied live x y ≡ true) × (l ≡ nodeLane m x y)
@@ -118,10 +105,8 @@ module _ {m n : ℕ} {live : List ℕ} (w : Links m n live) where
       (λ r. let s : l .col ≡ x - m = omega arith in (
         l .row,
         ap (λ z. tied live z (l .row)) (sym r) ∙ w .same (l .row) (l .col) p q ∙ e,
-        (λ i. lane (l .row) (s i))
-            ∙ sym (lane-col m x (l .row) (omega arith)),
-      ))
-      (touches-true m x l t)
+        (λ i. lane (l .row) (s i)) ∙ sym (lane-col m x (l .row) (omega arith)),
+      )) (touches-true m x l t)
 
 -- ---- what is left of B
 
@@ -175,8 +160,7 @@ module _ {m n : ℕ} {B : List Lane} {adj : List ℕ} (M : Masks m n B adj) wher
 -- ---- a leaf of B is struck
 
 module _ {m n : ℕ} {B : List Lane} {adj live leaf : List ℕ} {k tail : ℕ} (M : Masks m n B adj) (w : Links m n live) (len : length live ≡ nodeRoom)
-    (size : length leaf ≡ nodeRoom)
-    (q : Queue (m + n) live leaf k tail) (waits : k < tail) (b : ℕ) (e : tied live (getD leaf k 0) b ≡ true) where
+    (size : length leaf ≡ nodeRoom) (q : Queue (m + n) live leaf k tail) (waits : k < tail) (b : ℕ) (e : tied live (getD leaf k 0) b ≡ true) where
   abbrev now : ℕ
   now = getD leaf k 0
 
@@ -211,13 +195,11 @@ module _ {m n : ℕ} {B : List Lane} {adj live leaf : List ℕ} {k tail : ℕ} (
       p = M .inside l h .0
 
       to : alive next l ≡ true → alive live l && not (touches m now l) ≡ true
-      to a =
-          let (t, s, f) = gone-from w now b len low e few (l .row) (l .col) (omega (arith, p)) a in
+      to a = let (t, s, f) = gone-from w now b len low e few (l .row) (l .col) (omega (arith, p)) a in
           rw (t, ne-eqb (l .row) now s, ne-eqb (m + l .col) now (λ g. f (end-row m (l .row) (l .col) p ∙ g)))
 
       from : alive live l && not (touches m now l) ≡ true → alive next l ≡ true
-      from a =
-          let (r, c) = touches-false m now l (not-true (touches m now l) (and-right (alive live l) (not (touches m now l)) a)) in
+      from a = let (r, c) = touches-false m now l (not-true (touches m now l) (and-right (alive live l) (not (touches m now l)) a)) in
           gone-to w now b len low e few (l .row) (l .col) (omega (arith, p)) (and-left (alive live l) (not (touches m now l)) a) r
           (λ g. c (sym (end-row m (l .row) (l .col) p) ∙ g))
 
@@ -239,11 +221,10 @@ module _ {m n : ℕ} {B : List Lane} {adj live leaf : List ℕ} {k tail : ℕ} (
 
     -- Neither end of the lane is a leaf that was struck before.
     apart : (t : Strike) → List·Memᴰ t ss → (now ≢ t .leaf) × (strike .other ≢ t .leaf)
-    apart t h =
-        let (a, l, g) = S .leaves t h in (
-          (λ f. q .once a k l waits (sym g ∙ sym f)),
-          (λ f. true≢false (sym (end-back w now b low e) ∙ ap (λ z. tied live z (ownBit m now)) (f ∙ g) ∙ q .dead a l (ownBit m now))),
-        )
+    apart t h = let (a, l, g) = S .leaves t h in (
+      (λ f. q .once a k l waits (sym g ∙ sym f)),
+      (λ f. true≢false (sym (end-back w now b low e) ∙ ap (λ z. tied live z (ownBit m now)) (f ∙ g) ∙ q .dead a l (ownBit m now))),
+    )
 
     before : (t : ℕ) → t < k + 1 → getD (set leaf tail (strike .other)) t 0 ≡ getD leaf t 0
     before t l = getD-set-other leaf tail t (strike .other) 0 (omega arith)
@@ -254,11 +235,12 @@ module _ {m n : ℕ} {B : List Lane} {adj live leaf : List ℕ} {k tail : ℕ} (
       peels = peeled-last (S .peels)
           (record { ends = own .ends; row = own .row; col = own .col; proper = q .nodes k waits .0; clear = λ t h. absurd (List·Memᴰ·not-nil h) }) apart;
       lanes = λ s h. ⊎-elim (S .lanes s) (λ r. Memᴰ·cast (ap (λ (t : Strike). t .lane) (List·Memᴰ·eq-of-singleton r)) inB) (List·Memᴰ·append-cases ss h);
-      struck = λ l h. ⊎-elim (λ a. at l h a (touches m now l) refl) (λ (s, r, g). inr (s, Memᴰ·append-left (strike ∷ []) r, g)) (S .struck l h);
+      struck = λ l h. ⊎-elim (λ a. by-test (touches m now l)
+          (λ t. inr (strike, Memᴰ·append-right ss (List·Memᴰ·head refl), sym (alone l h a t)))
+          (λ t. inl (after l h ∙ rw (a, t)))) (λ (s, r, g). inr (s, Memᴰ·append-left (strike ∷ []) r, g)) (S .struck l h);
       leaves = λ s h. ⊎-elim
           (λ r. let (t, l, g) = S .leaves s r in (t, omega arith, g ∙ sym (before t (omega arith))))
-          (λ r. (k, omega arith, ap (λ (t : Strike). t .leaf) (List·Memᴰ·eq-of-singleton r) ∙ sym (before k (omega arith))))
-          (List·Memᴰ·append-cases ss h);
+          (λ r. (k, omega arith, ap (λ (t : Strike). t .leaf) (List·Memᴰ·eq-of-singleton r) ∙ sym (before k (omega arith)))) (List·Memᴰ·append-cases ss h);
       count = omega (arith, S .count, ap length left-over, length-without is-leaf);
       hangs = λ s. let g = S .hangs s in record {
         left = unless now (g .left);
@@ -269,10 +251,6 @@ module _ {m n : ℕ} {B : List Lane} {adj live leaf : List ℕ} {k tail : ℕ} (
         linked = rw left-over (leaf-struck (g .linked) others is-leaf);
       };
     }
-      where
-        at : (l : Lane) → List·Memᴰ l B → alive live l ≡ true → (t : Bool) → touches m now l ≡ t → (alive next l ≡ true) ⊎ WasStruck (ss ++ (strike ∷ [])) l
-        at l h a true t = inr (strike, Memᴰ·append-right ss (List·Memᴰ·head refl), sym (alone l h a t))
-        at l h a false t = inl (after l h ∙ rw (a, t))
 
 -- ---- the end
 
@@ -301,21 +279,16 @@ module _ {m n : ℕ} {B : List Lane} {adj live leaf : List ℕ} {ss : List Strik
   stripped-empty l = stripped (λ s. omega (arith, S .count, spans-iff (w .rowsLow) (M .inside) .0 s .0, no-members (liveOf live B) (none s)))
     where
       waiting : (s : Strike) → Leaf m (table (basisSize m n) suc) (liveOf live B) s → ⊥
-      waiting s f =
-          let (r, t) = leaf-member f in
-          let (h, a) = keep-member (alive live) B r in
+      waiting s f = let (r, t) = leaf-member f in let (h, a) = keep-member (alive live) B r in
           let (z, low) = nodes-others m n (w .rowsLow) (s .leaf) .0 (f .listed) in
           let (y, g, v) = touched w (s .leaf) (s .lane) (M .inside (s .lane) h .0) (M .inside (s .lane) h .1) a t in
           let (t, c, d, x) = q .listed (s .leaf) z low (single (getD live (s .leaf) 0) y g (λ u i.
-          let o = laid w (s .leaf) u low i in
-          let p : List·Memᴰ (nodeLane m (s .leaf) u) (liveOf live B) =
+          let o = laid w (s .leaf) u low i in let p : List·Memᴰ (nodeLane m (s .leaf) u) (liveOf live B) =
           member-keep (alive live) (o .lives) (S .part (nodeLane m (s .leaf) u .row) (nodeLane m (s .leaf) u .col) (o .row) (o .col) (o .lives)) in
-          lane-same m (s .leaf) u y (leaf-lane f (nodeLane m (s .leaf) u) p (o .touch) ∙ v))) in
-          omega arith
+          lane-same m (s .leaf) u y (leaf-lane f (nodeLane m (s .leaf) u) p (o .touch) ∙ v))) in omega arith
 
       none : spans m n B ≡ true → (l : Lane) → List·Memᴰ l (liveOf live B) → ⊥
-      none s l h =
-          let (t, o) = leaf-exists (S .hangs s .linked) (w .rowsLow) (nodes-others m n (w .rowsLow)) l h in
+      none s l h = let (t, o) = leaf-exists (S .hangs s .linked) (w .rowsLow) (nodes-others m n (w .rowsLow)) l h in
           waiting t (found m (table (basisSize m n) suc) (liveOf live B) t o)
 
   -- A node that waits has a lane still, for it is joined to the root.
@@ -324,8 +297,6 @@ module _ {m n : ℕ} {B : List Lane} {adj live leaf : List ℕ} {ss : List Strik
       (g .stays (getD leaf k 0) (λ t r. q .once t k r l)) (no-members (at-node m (getD leaf k 0) (liveOf live B)) none)))
     where
       none : (l : Lane) → List·Memᴰ l (at-node m (getD leaf k 0) (liveOf live B)) → ⊥
-      none l h =
-          let (r, t) = keep-member (touches m (getD leaf k 0)) (liveOf live B) h in
-          let (p, a) = keep-member (alive live) B r in
+      none l h = let (r, t) = keep-member (touches m (getD leaf k 0)) (liveOf live B) h in let (p, a) = keep-member (alive live) B r in
           let (y, f, g) = touched w (getD leaf k 0) l (M .inside l p .0) (M .inside l p .1) a t in
           true≢false (sym f ∙ ap (λ z. has z y) e ∙ has-zero y)

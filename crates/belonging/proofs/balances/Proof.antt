@@ -14,9 +14,6 @@ use Rattle.belonging.proofs.balances.Tie as tie
 abbrev start : tie.After-weigh-marks → tie.Start
 start c = c .before .before .before .before .before .before
 
-weigh-bags-requires : tie.Need-weigh-bags-requires
-weigh-bags-requires c κs = sound-modest (c .before .before .before .pre .0 .1)
-
 weigh-marks-requires : tie.Need-weigh-marks-requires
 weigh-marks-requires c κs = let s = list-sides (c .before .before .before .before .before .pre .0 .1) in (s .rowsHigh, s .colsLow, s .colsHigh)
 
@@ -24,24 +21,18 @@ sub-count : tie.Need-sub-count
 sub-count c = omega (arith, list-sides (c .before .before .before .before .before .before .pre .0 .1) .rowsLow)
 
 -- The strikes are within their room, and no lane comes twice.
-strikes : (c : tie.Start)
-    → let a = c .args in
-    let count = length (a .supply .now) + length (a .demand .now) - 1 in
+strikes : (c : tie.Start) → let a = c .args in let count = length (a .supply .now) + length (a .demand .now) - 1 in
     StrikesInRoom (a .leaf .now) (a .other .now) (a .lane .now) count × LanesApart (a .lane .now) count
-strikes c =
-    let s = list-sides (c .pre .0 .1) in
-    let (T, h) = c .pre .1 in (
-      strikes-room _ _ _ _ _ _ (s .rowsHigh) (s .colsHigh) (h .long) (h .spanning .struck),
-      strikes-distinct _ _ _ _ _ _ (h .spanning .struck .peels),
-    )
+strikes c = let s = list-sides (c .pre .0 .1) in let (T, h) = c .pre .1 in (
+  strikes-room _ _ _ _ _ _ (s .rowsHigh) (s .colsHigh) (h .long) (h .spanning .struck),
+  strikes-distinct _ _ _ _ _ _ (h .spanning .struck .peels),
+)
 
 flows-match-requires : tie.Need-flows-match-requires
-flows-match-requires c κs = let (room, distinct) = strikes (start (c .before)) in
-    (room, (distinct, c .before .before .before .weigh-bags .ensures .light))
+flows-match-requires c κs = let (room, distinct) = strikes (start (c .before)) in (room, (distinct, c .before .before .before .weigh-bags .ensures .light))
 
 -- What is to be found: whether both flows are carried.
-flows : (c : tie.After-weigh-marks) (cost : List ℤ) (T : List Cell)
-    → let a = start c .args in
+flows : (c : tie.After-weigh-marks) (cost : List ℤ) (T : List Cell) → let a = start c .args in
     let count = length (a .supply .now) + length (a .demand .now) - 1 in
     let ss = strikesOf (a .leaf .now) (a .other .now) (a .lane .now) count in
     Balancing (length (a .supply .now)) (length (a .demand .now)) T (a .q .now) (a .e .now) (a .leaf .now) (a .other .now) (a .lane .now)
@@ -60,12 +51,9 @@ flows-match-requires-2 c κs = let m = c .before .before .before .before in
     let (room, distinct) = strikes (start m) in (room, (distinct, m .weigh-marks .ensures .light))
 
 returns-2 : tie.Need-returns-2
-returns-2 c cost T h =
-    let f = c .before .before .before in
-    sym (flows (f .before .before) cost T h
+returns-2 c cost T h = let f = c .before .before .before in sym (flows (f .before .before) cost T h
     ∙ rw (← f .flows-match .ensures, not-false (f .flows-match .result) (c .before .before .if1 .left), ← c .flows-match2 .ensures))
 
 pub balances-spec : {M : Type 1} → statement M
-balances-spec =
-    tie.close (tie.spec weigh-bags-requires weigh-marks-requires (λ c. search needs) sub-count flows-match-requires returns
-    flows-match-requires-2 returns-2)
+balances-spec = tie.close (tie.spec (λ c κs. sound-modest (c .before .before .before .pre .0 .1)) weigh-marks-requires (λ c. search needs) sub-count
+    flows-match-requires returns flows-match-requires-2 returns-2)

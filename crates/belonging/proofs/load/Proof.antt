@@ -28,9 +28,6 @@ few : (c : tie.Else1) → c .before .before .before .before .args .t .count ≤ 
 unfolding basisSize
 few c = omega (arith, counted c, sides (c .before .before .before .before) .rowsHigh, sides (c .before .before .before .before) .colsHigh)
 
-cells-fit-requires : tie.Need-cells-fit-requires
-cells-fit-requires c κs = let s = sides (c .before .before .before .before) in (few c, s .rowsHigh, s .colsHigh)
-
 returns-2 : tie.Need-returns-2
 returns-2 c = (
   (λ cost. sym (other-cells _ _ cost _ (sym (c .before .cells-fit .ensures) ∙ not-true (c .before .cells-fit .result) (c .if2 .taken)))),
@@ -48,37 +45,25 @@ abbrev startOf : tie.After-lay-out → tie.Start
 startOf c = elseOf c .before .before .before .before .before .before
 
 lay-out-requires : tie.Need-lay-out-requires
-lay-out-requires c κs =
-    let e = c .before .before .before .before .before in
-    let s = e .before .before .before .before .before .before in
+lay-out-requires c κs = let e = c .before .before .before .before .before in let s = e .before .before .before .before .before .before in
     ((few (e .before .before), sides s, fit-inside _ _ _ (fits e), fit-distinct _ _ _ (fits e)), s .pre .1)
 
 many : (c : tie.After-lay-out) → let a = startOf c .args in length (cellsOf (a .t)) ≡ basisSize (length (a .supply .now)) (length (a .demand .now))
-many c =
-    let e = c .before .before .before .before .before .before .before .before in
+many c = let e = c .before .before .before .before .before .before .before .before in
     length-cells (startOf c .args .t) (omega (arith, few e, roomy (e .before))) ∙ counted e
 
 returns-3 : tie.Need-returns-3
 unfolding basisSize
-returns-3 c =
-    let l = c .before in
-    let e = elseOf l in
+returns-3 c = let l = c .before in let e = elseOf l in
     let apart = struck-apart _ (sides (startOf l)) (fit-inside _ _ _ (fits e)) (fit-distinct _ _ _ (fits e)) (many l) _ _ _ _
     (l .lay-out .ensures .2) (c .if3 .taken)
-    in (
-      (λ cost. sym (belongs-whole _ _ cost _ (counted (e .before .before)) (fits e) ∙ rw apart)),
-      λ f. absurd (false≢true f),
-    )
+    in ((λ cost. sym (belongs-whole _ _ cost _ (counted (e .before .before)) (fits e) ∙ rw apart)), λ f. absurd (false≢true f))
 
 -- All lanes are struck off, so the cells are a tree.
-balancing : (c : tie.Else3)
-    → let a = startOf (c .before) .args in
-    let x = c .before .lay-out .last .1 .1 .1 in
+balancing : (c : tie.Else3) → let a = startOf (c .before) .args in let x = c .before .lay-out .last .1 .1 .1 in
     Balancing (length (a .supply .now)) (length (a .demand .now)) (cellsOf (a .t)) (x .0) (x .1 .0) (x .1 .1 .0) (x .1 .1 .1 .0) (x .1 .1 .1 .1 .0)
 unfolding basisSize
-balancing c =
-    let l = c .before in
-    let e = elseOf l in
+balancing c = let l = c .before in let e = elseOf l in
     record {
       amounts = l .lay-out .ensures .0;
       long = l .lay-out .ensures .1;
@@ -87,20 +72,15 @@ balancing c =
     }
 
 balances-requires : tie.Need-balances-requires
-balances-requires c κs =
-    let e = c .before .before .before .before .before in
-    (startOf (e .before) .pre .0, (_, balancing e))
+balances-requires c κs = let e = c .before .before .before .before .before in (startOf (e .before) .pre .0, (_, balancing e))
 
 returns-4 : tie.Need-returns-4
-returns-4 c =
-    let e = c .before .before .before .before .before .before in
-    let b = balancing e in
-    let f = elseOf (e .before) in (
-      (λ cost. c .balances .ensures cost _ b ∙ sym (belongs-whole _ _ cost _ (counted (f .before .before)) (fits f) ∙ rw (b .spanning .spans))),
-      λ s. record { amounts = b .amounts; long = b .long; struck = b .spanning .struck },
-    )
+returns-4 c = let e = c .before .before .before .before .before .before in let b = balancing e in let f = elseOf (e .before) in (
+  (λ cost. c .balances .ensures cost _ b ∙ sym (belongs-whole _ _ cost _ (counted (f .before .before)) (fits f) ∙ rw (b .spanning .spans))),
+  λ s. record { amounts = b .amounts; long = b .long; struck = b .spanning .struck },
+)
 
 pub load-spec : {M : Type 1} → statement M
-load-spec =
-    tie.close (tie.spec (λ c. search needs) (λ c. omega (arith, sides (c .before .before) .rowsLow)) returns cells-fit-requires returns-2
-    lay-out-requires (λ c. search needs) (λ c. omega (arith, sides (startOf c) .rowsLow)) returns-3 balances-requires returns-4)
+load-spec = tie.close (tie.spec (λ c. search needs) (λ c. omega (arith, sides (c .before .before) .rowsLow)) returns
+    (λ c κs. let s = sides (c .before .before .before .before) in (few c, s .rowsHigh, s .colsHigh)) returns-2 lay-out-requires (λ c. search needs)
+    (λ c. omega (arith, sides (startOf c) .rowsLow)) returns-3 balances-requires returns-4)

@@ -12,11 +12,8 @@ add-q : tie.Need-add-q
 add-q c = let a = c .before .args in sum-in w64 (getD (a .q .now) (a .i * stride + a .j) (pos 0)) (a .x) (c .before .pre .1 .1)
 
 returns : tie.Need-returns
-returns c =
-    let s = c .before .before .before .before .before .before in
-    let a = s .args in
-    let l = a .i * stride + a .j in
-    let z = getD (a .q .now) l (pos 0) +ℤ a .x in
+returns c = let s = c .before .before .before .before .before .before in
+    let a = s .args in let l = a .i * stride + a .j in let z = getD (a .q .now) l (pos 0) +ℤ a .x in
     let v : toZ w64 (ofZ w64 (toZ w64 (ofZ w64 (getD (a .q .now) l (pos 0))) +ℤ toZ w64 (ofZ w64 (a .x)))) ≡ z =
     sum-back w64 (getD (a .q .now) l (pos 0)) (a .x) (s .pre .1 .1) in
     let here : getD (set (a .q .now) l z) l (pos 0) ≡ z = getD-set-same (a .q .now) l z (pos 0) (omega (arith, s .pre .0 .2 .qLong)) in
@@ -30,8 +27,6 @@ returns c =
     )
 
 pub add-bags-spec : {M : Type 1} → statement M
-add-bags-spec =
-    tie.close (tie.spec (λ c. search needs) (λ c. search needs) (λ c. search needs) (λ c. search needs) add-q (λ c. search needs)
-    (λ c. search needs) (λ c. search needs) (λ c. search needs) (λ c. search needs) (λ c. search needs) (λ c κs. search needs)
-    (λ c. search needs) (λ c. search needs) (λ c. search needs) (λ c. search needs) (λ c κs. search needs) (λ c. search needs)
-    (λ c. search needs) returns)
+add-bags-spec = tie.close (tie.spec (λ c. search needs) (λ c. search needs) (λ c. search needs) (λ c. search needs) add-q (λ c. search needs)
+    (λ c. search needs) (λ c. search needs) (λ c. search needs) (λ c. search needs) (λ c. search needs) (λ c κs. search needs) (λ c. search needs)
+    (λ c. search needs) (λ c. search needs) (λ c. search needs) (λ c κs. search needs) (λ c. search needs) (λ c. search needs) returns)

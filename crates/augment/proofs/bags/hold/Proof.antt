@@ -23,14 +23,11 @@ loop-less : tie.Need-loop-less Inv-loop μ-loop
 loop-less c = rw (c .rest .ensures) (rest-less (c .before .before .before .before .before .loop .left) (omega arith))
 
 loop-again : tie.Need-loop-again Inv-loop μ-loop
-loop-again c =
-    let b = c .before .before .before in
-    let s = b .before .before in
+loop-again c = let b = c .before .before .before in let s = b .before .before in
     rw (c .rest .ensures, c .before .set-bit .ensures, touch-still (s .loop .inv) (least b))
     (touch-step (s .loop .inv) (least b) (omega (arith, inside b, s .before .pre .0)))
 
 pub hold-spec : {M : Type 1} → statement M
-hold-spec =
-    tie.close (tie.spec Inv-loop μ-loop (λ c. touch-start _ 0 (c .args .holds .now) (c .args .cols)) (λ c κs. omega arith)
-    (λ c. omega (arith, inside c)) inside (λ c κs. omega arith) (λ c. omega (arith, inside (c .before .before)))
-    (λ c. inside (c .before .before)) (λ c κs. omega arith) loop-less loop-again (λ c. touch-end (c .before .loop .inv) (omega arith)))
+hold-spec = tie.close (tie.spec Inv-loop μ-loop (λ c. touch-start _ 0 (c .args .holds .now) (c .args .cols)) (λ c κs. omega arith)
+    (λ c. omega (arith, inside c)) inside (λ c κs. omega arith) (λ c. omega (arith, inside (c .before .before))) (λ c. inside (c .before .before))
+    (λ c κs. omega arith) loop-less loop-again (λ c. touch-end (c .before .loop .inv) (omega arith)))

@@ -25,28 +25,18 @@ basics : (c : tie.In-loop Inv-loop μ-loop) (j : ℕ)
     → has (entry (c .before .before .before .before .args .basic .now) (c .before .loop .i)) j ≡ true → j < stride
 basics c j h = let s = c .before .before .before .before in omega (arith, s .pre .1 .inside (c .before .loop .i) j (omega arith) h, s .pre .1 .cols)
 
-row-bags-requires : tie.Need-row-bags-requires Inv-loop μ-loop
-row-bags-requires c κs = (low (c .before), basics (c .before))
-
 hold-requires : tie.Need-hold-requires Inv-loop μ-loop
-hold-requires c κs =
-    let r = c .before in
-    let w = r .before .before in
+hold-requires c κs = let r = c .before in let w = r .before .before in
     ((w .before .loop .inv .1 .holdsLong, low w), λ j h. basics w j (and-left _ _ (sym (r .row-bags .ensures j) ∙ h)))
 
 loop-again : tie.Need-loop-again Inv-loop μ-loop
-loop-again c =
-    let r = c .before .before in
-    let w = r .before .before in
+loop-again c = let r = c .before .before in let w = r .before .before in
     (omega arith, masked-more (w .before .loop .inv .1) (low w) (r .row-bags .ensures) (c .hold .ensures))
 
 returns : tie.Need-returns Inv-loop μ-loop
-returns c = λ n b.
-    let e : c .before .loop .i ≡ c .before .before .before .before .args .m = omega arith in
-    masked-all (rw e at (c .before .loop .inv .1)) b
+returns c = λ n b. let e : c .before .loop .i ≡ c .before .before .before .before .args .m = omega arith in masked-all (rw e at (c .before .loop .inv .1)) b
 
 pub mask-bags-spec : {M : Type 1} → statement M
-mask-bags-spec =
-    tie.close (tie.spec Inv-loop μ-loop loop-holds (λ c. omega (arith, low c)) (λ c. omega (arith, low c)) row-bags-requires
-    (λ c. omega (arith, low (c .before .before))) (λ c. low (c .before .before)) hold-requires
+mask-bags-spec = tie.close (tie.spec Inv-loop μ-loop loop-holds (λ c. omega (arith, low c)) (λ c. omega (arith, low c))
+    (λ c κs. (low (c .before), basics (c .before))) (λ c. omega (arith, low (c .before .before))) (λ c. low (c .before .before)) hold-requires
     (λ c. omega (arith, low (c .before .before .before .before))) (λ c. omega arith) loop-again returns)

@@ -26,17 +26,11 @@ loop-less : tie.Need-loop-less Inv-loop μ-loop
 loop-less c = rw (c .rest .ensures) (rest-less (c .before .before .before .before .before .loop .left) (omega arith))
 
 loop-again : tie.Need-loop-again Inv-loop μ-loop
-loop-again c =
-    let b = c .before .before .before in
-    let s = b .before .before in
-    let a = s .before .args in
-    let z = getD (a .q .now) (a .i * stride + b .first-bit .result) (pos 0) in
-    let v : toZ w64 (ofZ w64 z) ≡ z = search needs in
+loop-again c = let b = c .before .before .before in let s = b .before .before in let a = s .before .args in
+    let z = getD (a .q .now) (a .i * stride + b .first-bit .result) (pos 0) in let v : toZ w64 (ofZ w64 z) ≡ z = search needs in
     rw (c .rest .ensures) (row-more (s .loop .inv) (c .before .with-bit .result) (least b) (rw v at (c .before .with-bit .ensures)))
 
 pub row-bags-spec : {M : Type 1} → statement M
-row-bags-spec =
-    tie.close (tie.spec Inv-loop μ-loop (λ c. row-none (c .args .q .now) (c .args .basic) (c .args .i)) (λ c κs. omega arith)
+row-bags-spec = tie.close (tie.spec Inv-loop μ-loop (λ c. row-none (c .args .q .now) (c .args .basic) (c .args .i)) (λ c κs. omega arith)
     (λ c. omega (arith, inside c)) (λ c. omega (arith, inside c)) (λ c. omega (arith, inside c)) (λ c. omega (arith, inside c))
-    (λ c κs. omega (arith, inside (c .before))) (λ c κs. omega arith) loop-less loop-again
-    (λ c. row-all (c .before .loop .inv) (omega arith)))
+    (λ c κs. omega (arith, inside (c .before))) (λ c κs. omega arith) loop-less loop-again (λ c. row-all (c .before .loop .inv) (omega arith)))

@@ -12,21 +12,13 @@ use Rattle.augment.proofs.bags.shift.Tie as tie
 minus-is : (x : ℤ) → natAbs x < 2 ^ 62 → toZ w64 (ofZ w64 (pos 0 -ℤ toZ w64 (ofZ w64 x))) ≡ negℤ x
 minus-is x p = diff-back w64 (pos 0) x (omega arith) ∙ +ℤ-idl (negℤ x)
 
-sub-add-bags : tie.Need-sub-add-bags
-sub-add-bags c = let s = c .before .before .before in diff-in w64 (pos 0) (s .args .x) (omega (arith, s .pre .1 .1 .0))
-
 add-bags-requires : tie.Need-add-bags-requires
-add-bags-requires c κs =
-    let s = c .before .before .before in
-    let m = minus-is (s .args .x) (omega (arith, s .pre .1 .1 .0)) in
+add-bags-requires c κs = let s = c .before .before .before in let m = minus-is (s .args .x) (omega (arith, s .pre .1 .1 .0)) in
     (s .pre .0, ((s .pre .1 .0 .0, s .pre .1 .0 .2), rw m (omega (arith, s .pre .1 .1 .0, abs-neg (s .args .x)))))
 
 add-bags-requires-2 : tie.Need-add-bags-requires-2
-add-bags-requires-2 c κs =
-    let s = c .before .before .before .before .before .before .before in
-    let a = s .args in
-    let e = c .before .before .before .add-bags .ensures in
-    let v : toZ w64 (ofZ w64 (a .x)) ≡ a .x = search needs in
+add-bags-requires-2 c κs = let s = c .before .before .before .before .before .before .before in
+    let a = s .args in let e = c .before .before .before .add-bags .ensures in let v : toZ w64 (ofZ w64 (a .x)) ≡ a .x = search needs in
     let taken = rw (minus-is (a .x) (omega (arith, s .pre .1 .1 .0))) at (e .0) in (
       (s .pre .0 .0, s .pre .0 .1, e .1 .masked (s .pre .0 .2)),
       (
@@ -42,11 +34,8 @@ add-bags-requires-2 c κs =
     )
 
 returns : tie.Need-returns
-returns c =
-    let s = c .before .before .before .before .before .before .before .before in
-    let a = s .args in
-    let e = c .before .before .before .before .add-bags .ensures in
-    let v : toZ w64 (ofZ w64 (a .x)) ≡ a .x = search needs in
+returns c = let s = c .before .before .before .before .before .before .before .before in let a = s .args in
+    let e = c .before .before .before .before .add-bags .ensures in let v : toZ w64 (ofZ w64 (a .x)) ≡ a .x = search needs in
     let taken = rw (minus-is (a .x) (omega (arith, s .pre .1 .1 .0))) at (e .0) in
     let given = rw (v, taken) at (c .add-bags2 .ensures .0) in (
       rw given (shifted-by (a .from) (a .to) (a .j) (a .x) (a .q .now) (s .pre .1 .0 .0) (s .pre .1 .0 .1) (s .pre .1 .0 .2) (s .pre .0 .2 .qLong)),
@@ -54,4 +43,5 @@ returns c =
     )
 
 pub shift-spec : {M : Type 1} → statement M
-shift-spec = tie.close (tie.spec sub-add-bags add-bags-requires add-bags-requires-2 returns)
+shift-spec = tie.close (tie.spec (λ c. let s = c .before .before .before in diff-in w64 (pos 0) (s .args .x) (omega (arith, s .pre .1 .1 .0)))
+    add-bags-requires add-bags-requires-2 returns)

@@ -21,26 +21,18 @@ least c = record { on = c .first-bit .ensures .1; off = c .first-bit .ensures .2
 inside : (c : tie.After-first-bit Inv-loop μ-loop) → c .first-bit .result < stride
 inside c = let s = c .before .before in s .before .pre .1 (c .first-bit .result) (s .loop .inv .0 .part (c .first-bit .result) (has-least (least c)))
 
-loop-less : tie.Need-loop-less Inv-loop μ-loop
-loop-less c = rw (c .rest .ensures) (rest-less (c .before .before .before .before .loop .left) (omega arith))
-
 loop-again : tie.Need-loop-again Inv-loop μ-loop
-loop-again c =
-    let b = c .before .before in
-    let s = b .before .before in
-    let l = b .first-bit .result in
+loop-again c = let b = c .before .before in let s = b .before .before in let l = b .first-bit .result in
     rw (c .rest .ensures) (
       touch-step (s .loop .inv .0) (least b) (omega (arith, inside b, s .before .pre .0)),
       gather-step (s .before .args .cols) l (least b) (s .loop .inv .0 .part l (has-least (least b))) (s .loop .inv .1),
     )
 
 returns : tie.Need-returns Inv-loop μ-loop
-returns c =
-    let l = c .before .loop in
-    (touch-end (l .inv .0) (omega arith), gather-end (c .before .before .args .cols) (omega arith) (l .inv .1))
+returns c = let l = c .before .loop in (touch-end (l .inv .0) (omega arith), gather-end (c .before .before .args .cols) (omega arith) (l .inv .1))
 
 pub reach-spec : {M : Type 1} → statement M
-reach-spec =
-    tie.close (tie.spec Inv-loop μ-loop
+reach-spec = tie.close (tie.spec Inv-loop μ-loop
     (λ c. (touch-start _ 0 (c .args .from .now) (c .args .cols), gather-start (c .args .holds .now) (c .args .cols))) (λ c κs. omega arith)
-    (λ c. omega (arith, inside c)) inside (λ c. omega (arith, inside c)) inside (λ c κs. omega arith) loop-less loop-again returns)
+    (λ c. omega (arith, inside c)) inside (λ c. omega (arith, inside c)) inside (λ c κs. omega arith)
+    (λ c. rw (c .rest .ensures) (rest-less (c .before .before .before .before .loop .left) (omega arith))) loop-again returns)

@@ -57,11 +57,8 @@ module _ (c : tie.After-first-bit2 Inv-loop μ-loop) where
 
 -- It has a tight lane to a goal, ..
 returns : tie.Need-returns Inv-loop μ-loop
-returns c =
-    let r = c .before .before .before .before .before .before .before in
-    let l = turn (next r) .loop in
-    let i = next r .first-bit .result in
-    let j = r .first-bit2 .result in
+returns c = let r = c .before .before .before .before .before .before .before in
+    let l = turn (next r) .loop in let i = next r .first-bit .result in let j = r .first-bit2 .result in
     let fresh = c .before .before .before .without .ensures in (
       rooms-set i j (entry (l .from) j) (l .count) (l .inv .rooms),
       λ x g. sweep-hit (l .inv) i j (least-row (next r)) (least-col r) x g (c .first-bit3 .result)
@@ -70,19 +67,14 @@ returns c =
 
 -- .. or to none, and the fresh columns reach on it.
 reach-requires : tie.Need-reach-requires Inv-loop μ-loop
-reach-requires c κs =
-    let r = c .before .before .before .before .before .before .before .before in
-    let l = turn (next r) .loop in (
-      l .inv .rooms .fromLong,
-      λ k h. sweep-fresh (l .inv) (a (next r) .pre .0 .1) (next r .first-bit .result) (least-row (next r)) k
-          (rw (c .before .before .before .before .without .ensures) at h),
-    )
+reach-requires c κs = let r = c .before .before .before .before .before .before .before .before in let l = turn (next r) .loop in (
+  l .inv .rooms .fromLong,
+  λ k h. sweep-fresh (l .inv) (a (next r) .pre .0 .1) (next r .first-bit .result) (least-row (next r)) k
+      (rw (c .before .before .before .before .without .ensures) at h),
+)
 
 loop-again : tie.Need-loop-again Inv-loop μ-loop
-loop-again c =
-    let w = c .before .before .before .before .before in
-    let r = w .before .before .before .before in
-    let fresh = w .without in
+loop-again c = let w = c .before .before .before .before .before in let r = w .before .before .before .before in let fresh = w .without in
     let none : bitAnd (fresh .result) (a (next r) .args .target .goal) ≡ 0 = omega arith in
     rw (add-one, fresh .ensures, c .before .before .clear-bit .ensures)
     (sweep-on (turn (next r) .loop .inv) (next r .first-bit .result) (r .first-bit2 .result) (least-row (next r)) (least-col r)
@@ -94,8 +86,7 @@ returns-2 : tie.Need-returns-2 Inv-loop μ-loop
 returns-2 c = let l = c .before .before .loop in (l .inv .rooms, λ x g. sweep-ends (l .inv) g (omega arith))
 
 pub search-spec : {M : Type 1} → statement M
-search-spec =
-    tie.close (tie.spec Inv-loop μ-loop (λ c. omega (arith, c .pre .1 .rowLong)) (λ c. omega (arith, low c)) (λ c. low c)
+search-spec = tie.close (tie.spec Inv-loop μ-loop (λ c. omega (arith, c .pre .1 .rowLong)) (λ c. omega (arith, low c)) (λ c. low c)
     (λ c κs. omega (arith, low c)) (λ c. omega (arith, low (c .before))) (λ c. low (c .before)) loop-holds (λ c κs. omega arith)
     (λ c. omega (arith, row-low c)) (λ c. row-low c)
     (λ c κs. let n = c .before in sweep-some (turn n .loop .inv) (a n .pre .0 .1) (n .first-bit .result) (least-row n))

@@ -24,13 +24,9 @@ cast-weight : tie.Need-cast-weight Inv-loop μ-loop
 cast-weight c = omega arith
 
 returns : tie.Need-returns Inv-loop μ-loop
-returns c =
-    let a = c .before .before .before .args in
-    let i = c .before .loop in
-    let e : i .i ≡ a .m = omega arith in
+returns c = let a = c .before .before .before .args in let i = c .before .loop in let e : i .i ≡ a .m = omega arith in
     rw (toZ-pos w64 (cast-weight c .sfits)) (marks-put (a .m) (a .n) (omega arith) (omega arith) (omega arith) (rw e at (i .inv .1)))
 
 pub weigh-marks-spec : {M : Type 1} → statement M
-weigh-marks-spec =
-    tie.close (tie.spec Inv-loop μ-loop loop-holds (λ c. omega arith) (λ c. omega arith) (λ c. omega arith) (λ c. omega arith) loop-again
-    cast-weight (λ c. omega arith) (λ c. omega arith) (λ c. omega arith) (λ c. omega arith) returns)
+weigh-marks-spec = tie.close (tie.spec Inv-loop μ-loop loop-holds (λ c. omega arith) (λ c. omega arith) (λ c. omega arith) (λ c. omega arith)
+    loop-again cast-weight (λ c. omega arith) (λ c. omega arith) (λ c. omega arith) (λ c. omega arith) returns)

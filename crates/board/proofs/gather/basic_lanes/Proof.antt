@@ -14,24 +14,19 @@ loop-holds : tie.Need-loop-holds Inv-loop μ-loop
 loop-holds c = (omega arith, record { long = c .pre .1; many = rw lanesOf-zero; listed = sym (lanesOf-zero _) })
 
 row-lanes-requires : tie.Need-row-lanes-requires Inv-loop μ-loop
-row-lanes-requires c κs =
-    let i = c .before .before .before .loop in
+row-lanes-requires c κs = let i = c .before .before .before .loop in
     (i .inv .1 .long, omega (arith, lanes-room (c .before .before .before .before .pre .0) (omega arith) (i .inv .1)), omega arith)
 
 loop-again : tie.Need-loop-again Inv-loop μ-loop
-loop-again c =
-    let r = c .row-lanes in (
-      omega arith,
-      lanes-more (c .before .before .before .before .before .pre .0) (omega arith) (c .before .before .before .before .loop .inv .1) (r .result)
-          (r .last .1 .1 .0) (r .ensures .0) (r .ensures .1) (r .ensures .2),
-    )
+loop-again c = let r = c .row-lanes in (
+  omega arith,
+  lanes-more (c .before .before .before .before .before .pre .0) (omega arith) (c .before .before .before .before .loop .inv .1) (r .result)
+      (r .last .1 .1 .0) (r .ensures .0) (r .ensures .1) (r .ensures .2),
+)
 
 returns : tie.Need-returns Inv-loop μ-loop
-returns c =
-    let e : c .before .loop .i ≡ c .before .before .args .m = omega arith in
-    rw e at (c .before .loop .inv .1)
+returns c = let e : c .before .loop .i ≡ c .before .before .args .m = omega arith in rw e at (c .before .loop .inv .1)
 
 pub basic-lanes-spec : {M : Type 1} → statement M
-basic-lanes-spec =
-    tie.close (tie.spec Inv-loop μ-loop loop-holds (λ c. omega arith) (λ c. omega arith) (λ c. omega arith) row-lanes-requires
+basic-lanes-spec = tie.close (tie.spec Inv-loop μ-loop loop-holds (λ c. omega arith) (λ c. omega arith) (λ c. omega arith) row-lanes-requires
     (λ c. omega arith) (λ c. omega arith) loop-again returns)

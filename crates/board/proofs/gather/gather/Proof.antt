@@ -8,24 +8,12 @@ use Rattle.board.proofs.gather.gather.Statement.{statement}
 use Rattle.board.proofs.gather.gather.Tie as tie
 
 high : (c : tie.Start) → (c .args .m ≤ stride) × (c .args .n ≤ stride)
-high c =
-    let b = c .pre .4 in
-    let s = sound-sides (b .sound) (b .rows) (b .columns) in (s .rowsHigh, s .colsHigh)
-
-add-draw : tie.Need-add-draw
-add-draw c = omega (arith, high c)
-
-sub-draw : tie.Need-sub-draw
-sub-draw c = let b = c .pre .4 in omega (arith, b .rows, b .sound .sourcesLow)
-
-draw-requires : tie.Need-draw-requires
-draw-requires c κs = let s = c .before in (high s .0, omega (arith, high s), lane-rows (s .pre .4))
-
-gather-cells-requires : tie.Need-gather-cells-requires
-gather-cells-requires c κs = board-masks (c .before .before .before .pre .4) (c .before .draw .ensures)
+high c = let b = c .pre .4 in let s = sound-sides (b .sound) (b .rows) (b .columns) in (s .rowsHigh, s .colsHigh)
 
 returns : tie.Need-returns
 returns c P T sub path b = c .gather-cells .ensures ∙ ap tableauOf (board-gathered b (c .before .before .draw .ensures))
 
 pub gather-spec : {M : Type 1} → statement M
-gather-spec = tie.close (tie.spec add-draw sub-draw draw-requires gather-cells-requires returns)
+gather-spec = tie.close (tie.spec (λ c. omega (arith, high c)) (λ c. let b = c .pre .4 in omega (arith, b .rows, b .sound .sourcesLow))
+    (λ c κs. let s = c .before in (high s .0, omega (arith, high s), lane-rows (s .pre .4)))
+    (λ c κs. board-masks (c .before .before .before .pre .4) (c .before .draw .ensures)) returns)

@@ -27,24 +27,19 @@ inside : (c : tie.In-loop Inv-loop μ-loop) → getD (c .before .before .basic-l
 inside c = lane-in (c .before .before .before .before .pre) (c .before .before .basic-lanes .ensures) (c .before .loop .k) (omega arith)
 
 loop-again : tie.Need-loop-again Inv-loop μ-loop
-loop-again c =
-    let i = c .before .before .loop in
-    let a = c .before .before .before .before .before .args in
-    let b = c .before .before .before .basic-lanes in
+loop-again c = let i = c .before .before .loop in
+    let a = c .before .before .before .before .before .args in let b = c .before .before .before .basic-lanes in
     let x = c .pair-at .ensures in
     filledTo-one (b .last .1 .1 .0) (a .q .now) (a .e .now) (b .result) (i .k) (i .t) _ _ (i .inv) (omega arith) (omega (arith, few (c .before)))
     (ap (λ (p : Pair). p .q) x) (ap (λ (p : Pair). p .e) x)
 
 returns : tie.Need-returns Inv-loop μ-loop
-returns c =
-    let a = c .before .before .before .before .args in
-    let b = c .before .before .basic-lanes in
-    let i = c .before .loop in
+returns c = let a = c .before .before .before .before .args in let b = c .before .before .basic-lanes in let i = c .before .loop in
     let e : i .k ≡ b .result = omega arith in
     filledTo-all (b .last .1 .1 .0) (a .q .now) (a .e .now) (b .result) (a .adj .now) (a .m) (i .t) (b .ensures)
     (omega (arith, b .ensures .many, c .before .before .before .before .pre .few)) (rw e at (i .inv))
 
 pub gather-cells-spec : {M : Type 1} → statement M
-gather-cells-spec =
-    tie.close (tie.spec Inv-loop μ-loop (λ c κs. (c .before .pre, refl)) loop-holds (λ c. omega (arith, few c)) (λ c. omega (arith, few c))
-    (λ c κs. inside c) (λ c. search needs) (λ c. search needs) (λ c. search needs) (λ c. omega arith) loop-again returns)
+gather-cells-spec = tie.close (tie.spec Inv-loop μ-loop (λ c κs. (c .before .pre, refl)) loop-holds (λ c. omega (arith, few c))
+    (λ c. omega (arith, few c)) (λ c κs. inside c) (λ c. search needs) (λ c. search needs) (λ c. search needs) (λ c. omega arith) loop-again
+    returns)

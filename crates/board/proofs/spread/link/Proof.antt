@@ -9,6 +9,5 @@ unfolding linked
 returns c = rw (c .set-bit2 .ensures, c .before .before .set-bit .ensures)
 
 pub link-spec : {M : Type 1} → statement M
-link-spec =
-    tie.close (tie.spec (λ c. search needs) (λ c. search needs) (λ c κs. search needs) (λ c. search needs) (λ c. search needs)
+link-spec = tie.close (tie.spec (λ c. search needs) (λ c. search needs) (λ c κs. search needs) (λ c. search needs) (λ c. search needs)
     (λ c. search needs) (λ c. search needs) (λ c. search needs) (λ c κs. search needs) (λ c. search needs) (λ c. search needs) returns)

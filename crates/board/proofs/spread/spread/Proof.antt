@@ -16,35 +16,26 @@ abbrev μ-loop : tie.MeasureT-loop
 μ-loop m adj₀ q₀ e₀ t k₀ adj q e k = k
 
 loop-holds : tie.Need-loop-holds Inv-loop μ-loop
-loop-holds c =
-    let t = c .before .before .before .before .args .t1 in
+loop-holds c = let t = c .before .before .before .before .args .t1 in
     let l : length (t .cells) ≡ cellRoom = search (needs, length-mapped) in
     (omega arith, rw (drop-of-length-le (cellsOf t) {i = t .count} (omega (arith, length-cells t (omega arith)))) (held-none (c .clear .ensures)))
 
 -- The cell is on the sheet.
-inside : (c : tie.In-loop Inv-loop μ-loop)
-    → let a = c .before .before .before .before .before .before .args in
-    let d = getD (a .t1 .cells) (c .before .loop .k - 1) noCell in
-    (d .row < a .m) × (d .col < stride)
-inside c =
-    let s = c .before .before .before .before .before .before in
+inside : (c : tie.In-loop Inv-loop μ-loop) → let a = c .before .before .before .before .before .before .args in
+    let d = getD (a .t1 .cells) (c .before .loop .k - 1) noCell in (d .row < a .m) × (d .col < stride)
+inside c = let s = c .before .before .before .before .before .before in
     let l : length (s .args .t1 .cells) ≡ cellRoom = search (needs, length-mapped) in
     cell-inside (s .args .t1) (s .pre .2) (c .before .loop .k - 1) (omega arith) (omega arith)
 
 put-cell-requires : tie.Need-put-cell-requires Inv-loop μ-loop
 unfolding noCell nothing
-put-cell-requires c κs =
-    let h = inside (c .before .before .before .before) in
-    (h .0, omega arith, h .1)
+put-cell-requires c κs = let h = inside (c .before .before .before .before) in (h .0, omega arith, h .1)
 
 loop-again : tie.Need-loop-again Inv-loop μ-loop
 unfolding noCell nothing
-loop-again c =
-    let s = c .before .before .before .before .before .before .before .before .before .before .before in
-    let i = c .before .before .before .before .before .before .loop in
-    let t = s .args .t1 in
-    let l : length (t .cells) ≡ cellRoom = search (needs, length-mapped) in
-    let h = inside (c .before .before .before .before .before) in
+loop-again c = let s = c .before .before .before .before .before .before .before .before .before .before .before in
+    let i = c .before .before .before .before .before .before .loop in let t = s .args .t1 in
+    let l : length (t .cells) ≡ cellRoom = search (needs, length-mapped) in let h = inside (c .before .before .before .before .before) in
     let r : suc (i .k - 1) ≡ i .k = omega arith in
     let held : Held (s .args .m) stride (drop (suc (i .k - 1)) (cellsOf t)) (i .adj) (i .q) (i .e) = rw r (i .inv .1) in (
       omega arith,
@@ -53,11 +44,8 @@ loop-again c =
     )
 
 returns : tie.Need-returns Inv-loop μ-loop
-returns c =
-    let e : c .before .loop .k ≡ 0 = omega arith in
-    λ n p. held-fewer p (rw e at (c .before .loop .inv .1))
+returns c = let e : c .before .loop .k ≡ 0 = omega arith in λ n p. held-fewer p (rw e at (c .before .loop .inv .1))
 
 pub spread-spec : {M : Type 1} → statement M
-spread-spec =
-    tie.close (tie.spec Inv-loop μ-loop (λ c κs. tt) loop-holds (λ c. omega arith) (λ c. omega arith) (λ c. omega arith) put-cell-requires
+spread-spec = tie.close (tie.spec Inv-loop μ-loop (λ c κs. tt) loop-holds (λ c. omega arith) (λ c. omega arith) (λ c. omega arith) put-cell-requires
     (λ c. omega arith) loop-again returns)

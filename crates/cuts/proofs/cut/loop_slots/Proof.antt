@@ -12,9 +12,6 @@ Inv-loop path lane row sink own cycle far₀ bits₀ far bits = FarRows path lan
 abbrev μ-loop : tie.MeasureT-loop
 μ-loop path lane row sink own cycle far₀ bits₀ far bits = bits
 
-loop-holds : tie.Need-loop-holds Inv-loop μ-loop
-loop-holds c = far-start _ _ _
-
 -- The slot that comes is the least bit that is left.
 slot : (c : tie.After-l Inv-loop μ-loop) → Least (c .before .before .before .loop .bits) (c .before .first-bit .result)
 slot c = let f = c .before .first-bit .ensures in record { on = f .1; off = f .2 }
@@ -22,9 +19,6 @@ slot c = let f = c .before .first-bit .ensures in record { on = f .1; off = f .2
 row-room : (c : tie.After-l Inv-loop μ-loop)
     → getD (c .before .before .before .before .before .before .args .lane .now) (c .before .first-bit .result) 0 / stride < nodeRoom
 row-room c = c .before .before .before .before .before .before .pre .1 _ (c .before .before .before .loop .inv .part _ (has-least (slot c)))
-
-loop-less : tie.Need-loop-less Inv-loop μ-loop
-loop-less c = rw (c .rest .ensures) (rest-less _ (omega arith))
 
 loop-again : tie.Need-loop-again Inv-loop μ-loop
 loop-again c = rw (c .rest .ensures, c .before .set-bit .ensures)
@@ -34,7 +28,7 @@ returns : tie.Need-returns Inv-loop μ-loop
 returns c = let e : c .before .loop .bits ≡ 0 = omega arith in loop-slots _ _ _ _ _ (rw e at (c .before .loop .inv))
 
 pub loop-slots-spec : {M : Type 1} → statement M
-loop-slots-spec =
-    tie.close (tie.spec Inv-loop μ-loop (λ c. search needs) (λ c. search needs) (λ c. search needs) (λ c. search needs) loop-holds
-    (λ c κs. search needs) (λ c. search needs) (λ c. search needs) (λ c. omega (arith, row-room c)) (λ c. omega (arith, row-room c))
-    (λ c κs. search needs) (λ c κs. search needs) loop-less loop-again returns)
+loop-slots-spec = tie.close (tie.spec Inv-loop μ-loop (λ c. search needs) (λ c. search needs) (λ c. search needs) (λ c. search needs)
+    (λ c. far-start _ _ _) (λ c κs. search needs) (λ c. search needs) (λ c. search needs) (λ c. omega (arith, row-room c))
+    (λ c. omega (arith, row-room c)) (λ c κs. search needs) (λ c κs. search needs) (λ c. rw (c .rest .ensures) (rest-less _ (omega arith)))
+    loop-again returns)

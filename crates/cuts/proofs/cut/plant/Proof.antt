@@ -4,14 +4,12 @@ use Rattle.cuts.specs.Planting.{struck-order, planted}
 use Rattle.cuts.proofs.cut.plant.Statement.{statement}
 use Rattle.cuts.proofs.cut.plant.Tie as tie
 
-hang-requires : tie.Need-hang-requires
-hang-requires c κs = let s = c .before in struck-order _ _ _ _ (s .pre .0 .1) (s .pre .1 .1) (s .pre .1 .2)
-
 returns : tie.Need-returns
-returns c =
-    λ B st. let s = c .before .before .before .before .before in
+returns c = λ B st. let s = c .before .before .before .before .before in
     planted _ _ _ _ _ _ refl (s .pre .1 .3) st (struck-order _ _ _ _ st (s .pre .1 .1) (s .pre .1 .2)) (c .before .before .before .hang .ensures)
     (c .turn-over .ensures)
 
 pub plant-spec : {M : Type 1} → statement M
-plant-spec = tie.close (tie.spec (λ c. search needs) (λ c. search needs) hang-requires (λ c. search needs) (λ c κs. search needs) returns)
+plant-spec = tie.close (tie.spec (λ c. search needs) (λ c. search needs)
+    (λ c κs. let s = c .before in struck-order _ _ _ _ (s .pre .0 .1) (s .pre .1 .1) (s .pre .1 .2)) (λ c. search needs) (λ c κs. search needs)
+    returns)

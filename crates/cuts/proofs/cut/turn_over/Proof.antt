@@ -14,9 +14,6 @@ abbrev μ-loop : tie.MeasureT-loop
 loop-holds : tie.Need-loop-holds Inv-loop μ-loop
 loop-holds c = (omega arith, turning-start _ _ refl (λ j. getD-all nodeRoom j 0))
 
-graft-requires : tie.Need-graft-requires Inv-loop μ-loop
-graft-requires c κs = c .before .before .before .before .loop .inv .1 .long
-
 loop-again : tie.Need-loop-again Inv-loop μ-loop
 loop-again c = (omega arith, turning-step (c .before .before .before .before .before .loop .inv .1) (rw (c .before .set-bit .ensures) at (c .graft .ensures)))
 
@@ -24,6 +21,5 @@ returns : tie.Need-returns Inv-loop μ-loop
 returns c = let e : c .before .loop .p ≡ c .before .before .before .args .nodes = omega arith in rw e at (c .before .loop .inv .1)
 
 pub turn-over-spec : {M : Type 1} → statement M
-turn-over-spec =
-    tie.close (tie.spec Inv-loop μ-loop loop-holds (λ c. search needs) (λ c. search needs) (λ c κs. search needs) graft-requires
-    (λ c. search needs) (λ c. search needs) loop-again returns)
+turn-over-spec = tie.close (tie.spec Inv-loop μ-loop loop-holds (λ c. search needs) (λ c. search needs) (λ c κs. search needs)
+    (λ c κs. c .before .before .before .before .loop .inv .1 .long) (λ c. search needs) (λ c. search needs) loop-again returns)

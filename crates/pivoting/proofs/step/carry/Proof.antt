@@ -14,9 +14,6 @@ Inv-loop q₀ e₀ lane slots x bits₀ q e bits = Added (x .q) lane slots bits 
 abbrev μ-loop : tie.MeasureT-loop
 μ-loop q₀ e₀ lane slots x bits₀ q e bits = bits
 
-loop-holds : tie.Need-loop-holds Inv-loop μ-loop
-loop-holds c = (add-start _ _ _ _, add-start _ _ _ _)
-
 -- The slot that comes is the least bit that is left.
 slot : (c : tie.After-first-bit Inv-loop μ-loop) → Least (c .before .before .loop .bits) (c .first-bit .result)
 slot c = let f = c .first-bit .ensures in record { on = f .1; off = f .2 }
@@ -28,9 +25,7 @@ pair-at-requires : tie.Need-pair-at-requires Inv-loop μ-loop
 pair-at-requires c κs = c .before .before .before .before .before .before .pre .0 .2 .inside _ (here (c .before .before .before))
 
 add-requires : tie.Need-add-requires Inv-loop μ-loop
-add-requires c κs =
-    let f = c .before .before .before .before in
-    let i = c .before .before .before .before .before .before .loop .inv in
+add-requires c κs = let f = c .before .before .before .before in let i = c .before .before .before .before .before .before .loop .inv in
     rw (c .pair-at .ensures, i .0 .still _ (has-least (slot f)), i .1 .still _ (has-least (slot f)))
     (c .before .before .before .before .before .before .before .pre .1 _ (here f))
 
@@ -38,17 +33,12 @@ put-pair-requires : tie.Need-put-pair-requires Inv-loop μ-loop
 put-pair-requires c κs = c .before .before .before .before .before .before .before .before .before .before .pre .0 .2 .inside _
     (here (c .before .before .before .before .before .before .before))
 
-loop-less : tie.Need-loop-less Inv-loop μ-loop
-loop-less c = rw (c .rest .ensures) (rest-less _ (omega arith))
-
 loop-again : tie.Need-loop-again Inv-loop μ-loop
 unfolding add
-loop-again c =
-    let s = c .before .before .before .before .before .before .before .before .before .before .before .before in
+loop-again c = let s = c .before .before .before .before .before .before .before .before .before .before .before .before in
     let i = c .before .before .before .before .before .before .before .before .before .before .before .loop .inv in
     let f = slot (c .before .before .before .before .before .before .before .before .before) in
-    let p = c .before .put-pair .ensures in
-    let a = c .before .before .before .before .add .ensures in
+    let p = c .before .put-pair .ensures in let a = c .before .before .before .before .add .ensures in
     rw (c .rest .ensures, p .0, p .1, a, c .before .before .before .before .before .pair-at .ensures)
     (add-step (i .0) (s .pre .0 .2) (s .pre .0 .0) f, add-step (i .1) (s .pre .0 .2) (s .pre .0 .1) f)
 
@@ -56,6 +46,6 @@ returns : tie.Need-returns Inv-loop μ-loop
 returns c = let e : c .before .loop .bits ≡ 0 = omega arith in rw e at (c .before .loop .inv)
 
 pub carry-spec : {M : Type 1} → statement M
-carry-spec =
-    tie.close (tie.spec Inv-loop μ-loop loop-holds (λ c κs. search needs) (λ c. search needs) (λ c. search needs) pair-at-requires
-    add-requires put-pair-requires (λ c κs. search needs) loop-less loop-again returns)
+carry-spec = tie.close (tie.spec Inv-loop μ-loop (λ c. (add-start _ _ _ _, add-start _ _ _ _)) (λ c κs. search needs) (λ c. search needs)
+    (λ c. search needs) pair-at-requires add-requires put-pair-requires (λ c κs. search needs)
+    (λ c. rw (c .rest .ensures) (rest-less _ (omega arith))) loop-again returns)

@@ -7,14 +7,10 @@ use Rattle.plan_lines.proofs.lanes.lane_len.Statement.{statement}
 use Rattle.plan_lines.proofs.lanes.lane_len.Tie as tie
 
 returns : tie.Need-returns
-returns c =
-    let a = c .before .args in
-    rw (c .if1 .taken, line-none (a .n) (a .place)) (refl, omega arith)
+returns c = let a = c .before .args in rw (c .if1 .taken, line-none (a .n) (a .place)) (refl, omega arith)
 
 returns-2 : tie.Need-returns-2
-returns-2 c =
-    let n = c .before .before in
-    let a = n .before .before .args in
+returns-2 c = let n = c .before .before in let a = n .before .before .args in
     let line = line-one (a .n) (a .place) (a .bags) _ (n .lane-numbers .ensures) (n .before .if1 .left) in
     omega (arith, c .numbers-len .ensures, ap length line, length-lines digits 3 3 (n .lane-numbers .result), ap length (n .lane-numbers .ensures))
 

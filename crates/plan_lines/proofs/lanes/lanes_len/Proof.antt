@@ -25,20 +25,13 @@ add-len c = omega (arith, turn c .before .before .pre, c .lane-len .ensures .1)
 
 loop-again : tie.Need-loop-again Inv-loop μ-loop
 unfolding at
-loop-again c =
-    let a = turn c .before .before .args in
-    let l = turn c .loop in
-    let text = usedText (a .n) (a .plan .now) (l .l) in
+loop-again c = let a = turn c .before .before .args in let l = turn c .loop in let text = usedText (a .n) (a .plan .now) (l .l) in
     rw (text-next (a .n) (a .plan .now) (l .l))
     (omega (arith, length-append text (laneText (a .n) (l .l) (at (a .plan .now) (l .l))), c .lane-len .ensures, l .inv))
 
 returns : tie.Need-returns Inv-loop μ-loop
-returns c =
-    let l = c .before .loop in
-    let e : l .l ≡ length (c .before .before .before .args .plan .now) = omega arith in
-    rw (← e) (l .inv .1, l .inv .2)
+returns c = let l = c .before .loop in let e : l .l ≡ length (c .before .before .before .args .plan .now) = omega arith in rw (← e) (l .inv .1, l .inv .2)
 
 pub lanes-len-spec : {M : Type 1} → statement M
-lanes-len-spec =
-    tie.close (tie.spec Inv-loop μ-loop loop-holds (λ c. search needs) (λ c. search needs) (λ c κs. search needs) add-len
+lanes-len-spec = tie.close (tie.spec Inv-loop μ-loop loop-holds (λ c. search needs) (λ c. search needs) (λ c κs. search needs) add-len
     (λ c. search needs) (λ c. search needs) loop-again returns)

@@ -17,21 +17,14 @@ loop-holds c = (omega arith, omega arith, sym (count-zero (c .args .plan .now)))
 -- The lane carries a bag, or it carries none.
 loop-again : tie.Need-loop-again Inv-loop μ-loop
 unfolding at
-loop-again c =
-    let l = c .before .before .before .loop in
-    let plan = c .before .before .before .before .args .plan .now in
+loop-again c = let l = c .before .before .before .loop in let plan = c .before .before .before .before .args .plan .now in
     ⊎-elim
     (λ (d, e). omega (arith, e, l .inv, count-one plan (l .l) (λ z. omega (arith, d .taken))))
-    (λ (d, e). omega (arith, e, l .inv, count-none plan (l .l) (omega (arith, d .left))))
-    (c .if1 .came)
+    (λ (d, e). omega (arith, e, l .inv, count-none plan (l .l) (omega (arith, d .left)))) (c .if1 .came)
 
 returns : tie.Need-returns Inv-loop μ-loop
-returns c =
-    let l = c .before .loop in
-    let e : l .l ≡ length (c .before .before .args .plan .now) = omega arith in
-    rw (← e) (l .inv .2)
+returns c = let l = c .before .loop in let e : l .l ≡ length (c .before .before .args .plan .now) = omega arith in rw (← e) (l .inv .2)
 
 pub used-count-spec : {M : Type 1} → statement M
-used-count-spec =
-    tie.close (tie.spec Inv-loop μ-loop loop-holds (λ c. search needs) (λ c. search needs) (λ c. search needs) (λ c. search needs)
+used-count-spec = tie.close (tie.spec Inv-loop μ-loop loop-holds (λ c. search needs) (λ c. search needs) (λ c. search needs) (λ c. search needs)
     (λ c. search needs) loop-again returns)

@@ -8,9 +8,7 @@ use Rattle.plan_lines.proofs.lanes.write_lane.Statement.{statement}
 use Rattle.plan_lines.proofs.lanes.write_lane.Tie as tie
 
 returns : tie.Need-returns
-returns c =
-    let a = c .before .before .args in
-    rw (c .if1 .taken, line-none (a .n) (a .place)) (refl, sym (front-nil (a .out .now)))
+returns c = let a = c .before .before .args in rw (c .if1 .taken, line-none (a .n) (a .place)) (refl, sym (front-nil (a .out .now)))
 
 -- The line is that of the numbers.
 line : (c : tie.After-lane-numbers) → let a = c .before .before .before .args in
@@ -18,9 +16,7 @@ line : (c : tie.After-lane-numbers) → let a = c .before .before .before .args 
 line c = let a = c .before .before .before .args in line-one (a .n) (a .place) (a .bags) _ (c .lane-numbers .ensures) (c .before .if1 .left)
 
 write-lines-requires : tie.Need-write-lines-requires
-write-lines-requires c κs =
-    let n = c .before .before in
-    omega (arith, ap length (line n), n .before .before .before .pre)
+write-lines-requires c κs = let n = c .before .before in omega (arith, ap length (line n), n .before .before .before .pre)
 
 returns-2 : tie.Need-returns-2
 returns-2 c = let w = c .before .before in rw (line (w .before .before .before)) (w .write-lines .ensures)

@@ -14,9 +14,7 @@ abbrev μ-loop : tie.MeasureT-loop
 μ-loop plan n out₀ at₀ l₀ out at l = length plan - l
 
 loop-holds : tie.Need-loop-holds Inv-loop μ-loop
-loop-holds c =
-    let a = c .before .before .args in
-    rw (text-zero (a .n) (a .plan .now)) (omega arith, refl, refl, sym (front-nil (a .out .now)))
+loop-holds c = let a = c .before .before .args in rw (text-zero (a .n) (a .plan .now)) (omega arith, refl, refl, sym (front-nil (a .out .now)))
 
 -- From a turn of the loop to the start, and to the turn from the lane that it wrote.
 abbrev start : tie.In-loop Inv-loop μ-loop → tie.Start Inv-loop μ-loop
@@ -28,9 +26,7 @@ turn c = c .before .before .before
 -- The lines so far, and that of the next lane.
 begun : (c : tie.In-loop Inv-loop μ-loop) → let a = start c .args in let l = c .before .loop in
     FirstWritten (usedText (a .n) (a .plan .now) (l .l)) (laneText (a .n) (l .l) (at (a .plan .now) (l .l))) (a .out .now) (l .out) (l .at)
-begun c =
-    let a = start c .args in
-    let l = c .before .loop in
+begun c = let a = start c .args in let l = c .before .loop in
     record {
       room = rw (← text-next (a .n) (a .plan .now) (l .l))
           (omega (arith, start c .pre, text-grows (a .n) (a .plan .now) (l .l + 1) (length (a .plan .now)) (omega arith)));
@@ -40,35 +36,24 @@ begun c =
 
 write-lane-requires : tie.Need-write-lane-requires Inv-loop μ-loop
 unfolding at
-write-lane-requires c κs =
-    let t = c .before .before in
-    (omega (arith, start t .pre), omega (arith, start t .pre), second-room (begun t))
+write-lane-requires c κs = let t = c .before .before in (omega (arith, start t .pre), omega (arith, start t .pre), second-room (begun t))
 
 add-at : tie.Need-add-at Inv-loop μ-loop
 unfolding at
-add-at c =
-    let w = c .before .before in
-    let b = begun (turn w) in
-    omega (arith, b .room, both-length b _ (w .write-lane .ensures .0))
+add-at c = let w = c .before .before in let b = begun (turn w) in omega (arith, b .room, both-length b _ (w .write-lane .ensures .0))
 
 loop-again : tie.Need-loop-again Inv-loop μ-loop
 unfolding at
-loop-again c =
-    let w = c .before .before in
-    let a = start (turn w) .args in
-    let b = begun (turn w) in
-    let out = both-written b _ (w .write-lane .ensures .1) in
+loop-again c = let w = c .before .before in
+    let a = start (turn w) .args in let b = begun (turn w) in let out = both-written b _ (w .write-lane .ensures .1) in
     rw (text-next (a .n) (a .plan .now) (turn w .before .loop .l))
     (omega arith, ap length out ∙ length-front _ _ (b .room), both-length b _ (w .write-lane .ensures .0), out)
 
 returns : tie.Need-returns Inv-loop μ-loop
-returns c =
-    let l = c .before .loop in
-    let e : l .l ≡ length (c .before .before .before .before .args .plan .now) = omega arith in
+returns c = let l = c .before .loop in let e : l .l ≡ length (c .before .before .before .before .args .plan .now) = omega arith in
     rw (← e) (l .inv .2, l .inv .3)
 
 pub write-lanes-spec : {M : Type 1} → statement M
-write-lanes-spec =
-    tie.close (tie.spec Inv-loop μ-loop loop-holds (λ c. search needs) (λ c. search needs) (λ c. second-start (begun (c .before)))
-    (λ c. second-start (begun (c .before))) (λ c. search needs) write-lane-requires add-at (λ c. search needs) (λ c. search needs)
-    loop-again (λ c. c .before .loop .inv .1) returns)
+write-lanes-spec = tie.close (tie.spec Inv-loop μ-loop loop-holds (λ c. search needs) (λ c. search needs) (λ c. second-start (begun (c .before)))
+    (λ c. second-start (begun (c .before))) (λ c. search needs) write-lane-requires add-at (λ c. search needs) (λ c. search needs) loop-again
+    (λ c. c .before .loop .inv .1) returns)

@@ -56,14 +56,8 @@ as-it-is c = back w64 (c .before .before .args .figures .total) (search needs)
 
 returns : tie.Need-returns
 unfolding bytes
-returns c =
-    let h = c .before in
-    let v = cafes h in
-    let u = roasteries v in
-    let r = rounds u in
-    let t = total r in
-    let a = start r .args in
-    let f = a .figures in
+returns c = let h = c .before in let v = cafes h in let u = roasteries v in let r = rounds u in
+    let t = total r in let a = start r .args in let f = a .figures in
     omega (
       arith,
       sections-length f (a .u .now) (a .v .now) (a .plan .now),
@@ -80,8 +74,7 @@ returns c =
     )
 
 pub plan-sections-len-spec : {M : Type 1} → statement M
-plan-sections-len-spec =
-    tie.close (tie.spec (λ c. search needs) (λ c. search needs) (λ c κs. search needs) (λ c. search needs) (λ c. search needs)
+plan-sections-len-spec = tie.close (tie.spec (λ c. search needs) (λ c. search needs) (λ c κs. search needs) (λ c. search needs) (λ c. search needs)
     (λ c κs. search needs) (λ c. search needs) (λ c. search needs) whole-section-len-requires-2 add-result-2 (λ c. search needs)
     whole-section-len-requires-3 add-result-3 (λ c. search needs) (λ c κs. search needs) add-result-4
     (λ c κs. omega (arith, start (rounds (roasteries (cafes c))) .pre)) add-result-5 returns)

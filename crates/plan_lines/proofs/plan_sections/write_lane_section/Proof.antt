@@ -17,8 +17,7 @@ head c = c .before .before .before .before
 
 write-head-requires : tie.Need-write-head-requires
 unfolding lanesText bytes
-write-head-requires c κs =
-    let a = start c .args in
+write-head-requires c κs = let a = start c .args in
     first-room (bytes "lanes " ++ ended digits (a .count) 10) (usedText (a .n) (a .plan .now) (length (a .plan .now))) (a .out .now) (start c .pre .2)
 
 begun : (c : tie.After-write-head) → let a = start (c .before) .args in
@@ -27,32 +26,17 @@ begun : (c : tie.After-write-head) → let a = start (c .before) .args in
 unfolding lanesText bytes
 begun c = record { room = start (c .before) .pre .2; ends = c .write-head .ensures .0; holds = c .write-head .ensures .1 }
 
-sub-write-lanes : tie.Need-sub-write-lanes
-sub-write-lanes c = second-start (begun (c .before .before))
-
-part-write-lanes-start : tie.Need-part-write-lanes-start
-part-write-lanes-start c = second-start (begun (c .before .before))
-
 write-lanes-requires : tie.Need-write-lanes-requires
-write-lanes-requires c κs =
-    let h = c .before .before .before in
-    let p = start (h .before) .pre in
-    (p .0, p .1, second-room (begun h))
+write-lanes-requires c κs = let h = c .before .before .before in let p = start (h .before) .pre in (p .0, p .1, second-room (begun h))
 
 add-result : tie.Need-add-result
-add-result c =
-    let w = c .before .before in
-    let b = begun (head w) in
-    omega (arith, b .room, both-length b _ (w .write-lanes .ensures .0))
+add-result c = let w = c .before .before in let b = begun (head w) in omega (arith, b .room, both-length b _ (w .write-lanes .ensures .0))
 
 returns : tie.Need-returns
 unfolding lanesText bytes
-returns c =
-    let w = c .before .before in
-    let b = begun (head w) in
+returns c = let w = c .before .before in let b = begun (head w) in
     (both-length b _ (w .write-lanes .ensures .0), both-written b _ (w .write-lanes .ensures .1))
 
 pub write-lane-section-spec : {M : Type 1} → statement M
-write-lane-section-spec =
-    tie.close (tie.spec (λ c. search needs) write-head-requires sub-write-lanes part-write-lanes-start (λ c. search needs)
-    write-lanes-requires add-result (λ c. search needs) returns)
+write-lane-section-spec = tie.close (tie.spec (λ c. search needs) write-head-requires (λ c. second-start (begun (c .before .before)))
+    (λ c. second-start (begun (c .before .before))) (λ c. search needs) write-lanes-requires add-result (λ c. search needs) returns)

@@ -25,32 +25,18 @@ begun : (c : tie.After-write-figures) → let t = start (c .before) in
 unfolding planSections
 begun c = record { room = start (c .before) .pre .2; ends = c .write-figures .ensures .0; holds = c .write-figures .ensures .1 }
 
-sub-write-after-figures : tie.Need-sub-write-after-figures
-sub-write-after-figures c = second-start (begun (c .before .before))
-
-part-write-after-figures-start : tie.Need-part-write-after-figures-start
-part-write-after-figures-start c = second-start (begun (c .before .before))
-
 write-after-figures-requires : tie.Need-write-after-figures-requires
-write-after-figures-requires c κs =
-    let f = c .before .before .before in
-    let p = start (f .before) .pre in
-    (p .0, p .1, second-room (begun f))
+write-after-figures-requires c κs = let f = c .before .before .before in let p = start (f .before) .pre in (p .0, p .1, second-room (begun f))
 
 add-result : tie.Need-add-result
-add-result c =
-    let w = c .before .before in
-    let b = begun (figures w) in
+add-result c = let w = c .before .before in let b = begun (figures w) in
     omega (arith, b .room, both-length b _ (w .write-after-figures .ensures .0), start (figures w .before) .good)
 
 returns : tie.Need-returns
 unfolding planSections
-returns c =
-    let w = c .before .before in
-    let b = begun (figures w) in
+returns c = let w = c .before .before in let b = begun (figures w) in
     (both-length b _ (w .write-after-figures .ensures .0), both-written b _ (w .write-after-figures .ensures .1))
 
 pub write-plan-sections-spec : {M : Type 1} → statement M
-write-plan-sections-spec =
-    tie.close (tie.spec write-figures-requires sub-write-after-figures part-write-after-figures-start (λ c. search needs)
-    write-after-figures-requires add-result (λ c. search needs) returns)
+write-plan-sections-spec = tie.close (tie.spec write-figures-requires (λ c. second-start (begun (c .before .before)))
+    (λ c. second-start (begun (c .before .before))) (λ c. search needs) write-after-figures-requires add-result (λ c. search needs) returns)

@@ -18,52 +18,38 @@ abbrev μ-loop : tie.MeasureT-loop
 μ-loop cost price m n row slack col₀ col = n - col
 
 loop-holds : tie.Need-loop-holds Inv-loop μ-loop
-loop-holds c =
-    let a = c .args in
-    above-start (slackAt (a .cost .now) (a .price .now) (a .m) (a .row)) (toZ w32 (ofZ w32 (a .slack))) (a .n) _
+loop-holds c = let a = c .args in above-start (slackAt (a .cost .now) (a .price .now) (a .m) (a .row)) (toZ w32 (ofZ w32 (a .slack))) (a .n) _
 
 -- The turn of the loop in which a column is looked at.
 abbrev turn : tie.After-if13 Inv-loop μ-loop → tie.At-loop Inv-loop μ-loop
 turn c = c .before .before .before
 
-room : (c : tie.After-if13 Inv-loop μ-loop)
-    → let a = turn c .before .args in
-    let j = turn c .loop .col in
+room : (c : tie.After-if13 Inv-loop μ-loop) → let a = turn c .before .args in let j = turn c .loop .col in
     natAbs (getD (a .cost .now) (j * stride + a .row) (pos 0)) + natAbs (getD (a .price .now) (a .m + j) (pos 0)) < 2 ^ 31
 unfolding costAbove maxCost
-room c =
-    let s = turn c .before in
-    omega (arith, slack-room (s .pre .0) (s .args .row) (turn c .loop .col) (omega arith))
+room c = let s = turn c .before in omega (arith, slack-room (s .pre .0) (s .args .row) (turn c .loop .col) (omega arith))
 
 -- The slack in the column, as the code has it.
-slack-is : (c : tie.After-if13 Inv-loop μ-loop)
-    → let a = turn c .before .args in
-    let j = turn c .loop .col in
-    let x = getD (a .cost .now) (j * stride + a .row) (pos 0) in
-    let y = getD (a .price .now) (a .m + j) (pos 0) in
+slack-is : (c : tie.After-if13 Inv-loop μ-loop) → let a = turn c .before .args in let j = turn c .loop .col in
+    let x = getD (a .cost .now) (j * stride + a .row) (pos 0) in let y = getD (a .price .now) (a .m + j) (pos 0) in
     toZ w32 (ofZ w32 (toZ w32 (ofZ w32 x) -ℤ toZ w32 (ofZ w32 y))) ≡ slackAt (a .cost .now) (a .price .now) (a .m) (a .row) j
-slack-is c =
-    let a = turn c .before .args in
-    let j = turn c .loop .col in
+slack-is c = let a = turn c .before .args in let j = turn c .loop .col in
     diff-back w32 (getD (a .cost .now) (j * stride + a .row) (pos 0)) (getD (a .price .now) (a .m + j) (pos 0)) (room c)
 
 loop-again : tie.Need-loop-again Inv-loop μ-loop
 loop-again c = above-step (turn (c .before) .loop .inv) (omega arith) (rw (slack-is (c .before)) at (c .if1 .taken))
 
+-- The number that is sought, as the code has it.
+sought : (c : tie.Start Inv-loop μ-loop) → toZ w32 (ofZ w32 (c .args .slack)) ≡ c .args .slack
+sought c = search needs
+
 returns : tie.Need-returns Inv-loop μ-loop
-returns c =
-    let a = turn (c .before) .before .args in
-    let back-z : toZ w32 (ofZ w32 (a .slack)) ≡ a .slack = search needs in
-    rw back-z at (above-stop (turn (c .before) .loop .inv) (omega arith) (rw (slack-is (c .before)) at (c .if1 .left)))
+returns c = let t = turn (c .before) in rw (sought (t .before)) at (above-stop (t .loop .inv) (omega arith) (rw (slack-is (c .before)) at (c .if1 .left)))
 
 returns-2 : tie.Need-returns-2 Inv-loop μ-loop
-returns-2 c =
-    let a = c .before .before .args in
-    let back-z : toZ w32 (ofZ w32 (a .slack)) ≡ a .slack = search needs in
-    rw back-z at (above-end (c .before .loop .inv) (omega arith))
+returns-2 c = rw (sought (c .before .before)) at (above-end (c .before .loop .inv) (omega arith))
 
 pub first-column-spec : {M : Type 1} → statement M
-first-column-spec =
-    tie.close (tie.spec Inv-loop μ-loop loop-holds (λ c. search needs) (λ c. search needs) (λ c. search needs) (λ c. search needs)
-    (λ c. search needs) (λ c. search needs) (λ c. search needs) (λ c. search (needs, diff-in, room c)) (λ c. search needs)
-    (λ c. search needs) loop-again returns returns-2)
+first-column-spec = tie.close (tie.spec Inv-loop μ-loop loop-holds (λ c. search needs) (λ c. search needs) (λ c. search needs) (λ c. search needs)
+    (λ c. search needs) (λ c. search needs) (λ c. search needs) (λ c. search (needs, diff-in, room c)) (λ c. search needs) (λ c. search needs)
+    loop-again returns returns-2)

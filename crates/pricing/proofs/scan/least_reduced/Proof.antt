@@ -23,18 +23,14 @@ loop-holds c = (omega arith, sym (lowest-zero (pos 0) (rowReduced (c .args .slac
 abbrev turn : tie.After-lesser-arg2 Inv-loop μ-loop → tie.At-loop Inv-loop μ-loop
 turn c = c .before .before .before
 
-room : (c : tie.After-lesser-arg2 Inv-loop μ-loop)
-    → let a = turn c .before .args in
-    let i = turn c .loop .i in
+room : (c : tie.After-lesser-arg2 Inv-loop μ-loop) → let a = turn c .before .args in let i = turn c .loop .i in
     natAbs (getD (a .slack .now) i (pos 0)) + natAbs (getD (a .price .now) i (pos 0)) < 2 ^ 31
 unfolding costAbove maxCost
 room c = omega (arith, turn c .before .pre .room (turn c .loop .i) (omega arith))
 
 loop-again : tie.Need-loop-again Inv-loop μ-loop
-loop-again c =
-    let a = turn (c .before) .before .args in
-    let l = turn (c .before) .loop in
-    let f = rowReduced (a .slack .now) (a .price .now) in
+loop-again c = let a = turn (c .before) .before .args in
+    let l = turn (c .before) .loop in let f = rowReduced (a .slack .now) (a .price .now) in
     let own = diff-back w32 (getD (a .slack .now) (l .i) (pos 0)) (getD (a .price .now) (l .i) (pos 0)) (room (c .before)) in
     let less : c .lesser .result ≡ lesser (f (l .i)) (lowest (pos 0) f (l .i)) = c .lesser .ensures ∙ rw (own, l .inv .1) in
     (omega arith, toZ-ofZ (search needs) ∙ less ∙ sym (lowest-one (pos 0) f (l .i)))
@@ -43,6 +39,5 @@ returns : tie.Need-returns Inv-loop μ-loop
 returns c = let e : c .before .loop .i ≡ c .before .before .args .m = omega arith in rw e at (c .before .loop .inv .1)
 
 pub least-reduced-spec : {M : Type 1} → statement M
-least-reduced-spec =
-    tie.close (tie.spec Inv-loop μ-loop loop-holds (λ c. search needs) (λ c. search needs) (λ c. search needs) (λ c. search needs)
+least-reduced-spec = tie.close (tie.spec Inv-loop μ-loop loop-holds (λ c. search needs) (λ c. search needs) (λ c. search needs) (λ c. search needs)
     (λ c. search (needs, diff-in, room c)) (λ c κs. search needs) (λ c. search needs) (λ c. search needs) loop-again returns)

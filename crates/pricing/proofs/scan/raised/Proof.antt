@@ -23,28 +23,19 @@ turn c = c .before .before
 
 -- What is raised was not raised before, so that there is room.
 room : (c : tie.After-higher Inv-loop μ-loop) → natAbs (getD (turn c .loop .higher) (turn c .loop .i) (pos 0)) + natAbs (turn c .before .args .x) < 2 ^ 31
-room c =
-    let l = turn c .loop in
-    rw (l .inv .1 .still (l .i) (omega arith)) (turn c .before .pre (l .i) (omega arith))
+room c = let l = turn c .loop in rw (l .inv .1 .still (l .i) (omega arith)) (turn c .before .pre (l .i) (omega arith))
 
 loop-again : tie.Need-loop-again Inv-loop μ-loop
-loop-again c =
-    let l = turn c .loop in
-    let a = turn c .before .args in
-    let back-x : toZ w32 (ofZ w32 (a .x)) ≡ a .x = search needs in
+loop-again c = let l = turn c .loop in let a = turn c .before .args in let back-x : toZ w32 (ofZ w32 (a .x)) ≡ a .x = search needs in
     let z = getD (l .higher) (l .i) (pos 0) in
     let sum : toZ w32 (ofZ w32 (toZ w32 (ofZ w32 z) +ℤ toZ w32 (ofZ w32 (a .x)))) ≡ z +ℤ toZ w32 (ofZ w32 (a .x)) =
-    sum-back w32 z (a .x) (room c) ∙ ap (λ y. z +ℤ y) (sym back-x)
-    in
+    sum-back w32 z (a .x) (room c) ∙ ap (λ y. z +ℤ y) (sym back-x) in
     (omega arith, rw sum (changing-step (raising (toZ w32 (ofZ w32 (a .x)))) (a .slack) (l .inv .1) (omega arith)))
 
 returns : tie.Need-returns Inv-loop μ-loop
-returns c =
-    let a = c .before .before .args in
-    let back-x : toZ w32 (ofZ w32 (a .x)) ≡ a .x = search needs in
+returns c = let a = c .before .before .args in let back-x : toZ w32 (ofZ w32 (a .x)) ≡ a .x = search needs in
     rw back-x at (changing-end (raising (toZ w32 (ofZ w32 (a .x)))) (a .slack) (c .before .loop .inv .1) (omega arith))
 
 pub raised-spec : {M : Type 1} → statement M
-raised-spec =
-    tie.close (tie.spec Inv-loop μ-loop loop-holds (λ c. search needs) (λ c. search needs) (λ c. search (needs, sum-in, room c))
+raised-spec = tie.close (tie.spec Inv-loop μ-loop loop-holds (λ c. search needs) (λ c. search needs) (λ c. search (needs, sum-in, room c))
     (λ c. search needs) (λ c. search needs) (λ c. search needs) (λ c. search needs) loop-again returns)

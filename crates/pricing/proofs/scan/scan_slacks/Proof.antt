@@ -5,12 +5,10 @@ use Rattle.pricing.specs.Slacks.{all-inside, slacks-anew}
 use Rattle.pricing.proofs.scan.scan_slacks.Statement.{statement}
 use Rattle.pricing.proofs.scan.scan_slacks.Tie as tie
 
-relax-slacks-requires : tie.Need-relax-slacks-requires
-relax-slacks-requires c κs = let s = c .before in (s .args .n, s .pre, all-inside (s .args .n) (c .first-bits .ensures))
-
 returns : tie.Need-returns
 unfolding costAbove maxCost
 returns c = let f = c .before in slacks-anew (f .before .args .n) (f .first-bits .ensures) (f .before .pre) (c .relax-slacks .ensures)
 
 pub scan-slacks-spec : {M : Type 1} → statement M
-scan-slacks-spec = tie.close (tie.spec (λ c κs. search needs) relax-slacks-requires returns)
+scan-slacks-spec = tie.close (tie.spec (λ c κs. search needs)
+    (λ c κs. let s = c .before in (s .args .n, s .pre, all-inside (s .args .n) (c .first-bits .ensures))) returns)

@@ -10,33 +10,19 @@ priced c = c .before .before .before
 abbrev start : tie.After-plant → tie.Start
 start c = priced c .before .before
 
-add-potentials : tie.Need-add-potentials
-add-potentials c = let s = begun-sides (c .pre .4) in omega (arith, s .rowsHigh, s .colsHigh)
-
-sub-potentials : tie.Need-sub-potentials
-sub-potentials c = omega (arith, begun-sides (c .pre .4) .rowsLow)
-
-potentials-requires : tie.Need-potentials-requires
-potentials-requires c κs = let d = c .before .pre .4 in (begun-room d, d .costs .small)
-
 plant-requires : tie.Need-plant-requires
-plant-requires c κs =
-    let d = c .before .before .before .before .pre .4 in
-    let s = begun-sides d in
+plant-requires c κs = let d = c .before .before .before .before .pre .4 in let s = begun-sides d in
     ((_, d .loaded .struck), (s .rowsLow, s .rowsHigh, s .colsHigh, d .loaded .long))
 
 scan-slacks-requires : tie.Need-scan-slacks-requires
-scan-slacks-requires c κs =
-    let p = c .before in
-    let d = start p .pre .4 in
-    let v = priced p .potentials .ensures in
+scan-slacks-requires c κs = let p = c .before in let d = start p .pre .4 in let v = priced p .potentials .ensures in
     begun-range d (v .0) (v .1) (p .plant .ensures _ (d .loaded .struck))
 
 returns : tie.Need-returns
-returns c P T q e d =
-    let p = c .before .before in
-    let v = priced p .potentials .ensures in
+returns c P T q e d = let p = c .before .before in let v = priced p .potentials .ensures in
     begun-kept d (v .0) (v .1) (p .plant .ensures _ (d .loaded .struck)) (c .scan-slacks .ensures)
 
 pub begin-spec : {M : Type 1} → statement M
-begin-spec = tie.close (tie.spec add-potentials sub-potentials potentials-requires plant-requires scan-slacks-requires returns)
+begin-spec = tie.close (tie.spec (λ c. let s = begun-sides (c .pre .4) in omega (arith, s .rowsHigh, s .colsHigh))
+    (λ c. omega (arith, begun-sides (c .pre .4) .rowsLow)) (λ c κs. let d = c .before .pre .4 in (begun-room d, d .costs .small)) plant-requires
+    scan-slacks-requires returns)

@@ -2,11 +2,5 @@
 use Rattle.runs.proofs.run.make_run.Statement.{statement}
 use Rattle.runs.proofs.run.make_run.Tie as tie
 
-rounds-requires : tie.Need-rounds-requires
-rounds-requires c κs = c .before .before .before .before .pre
-
-returns : tie.Need-returns
-returns c P T d = c .rounds .ensures P T d .ended
-
 pub make-run-spec : {M : Type 1} → statement M
-make-run-spec = tie.close (tie.spec rounds-requires returns)
+make-run-spec = tie.close (tie.spec (λ c κs. c .before .before .before .before .pre) (λ c P T d. c .rounds .ensures P T d .ended))

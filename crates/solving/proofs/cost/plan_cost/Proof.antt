@@ -21,18 +21,14 @@ loop-holds : tie.Need-loop-holds Inv-loop μ-loop
 unfolding sumZ
 loop-holds c = (omega arith, refl)
 
-mul-sum : tie.Need-mul-sum Inv-loop μ-loop
+-- There are few lanes, and a quantity in the loop is small.
+few-lanes : (s : tie.Start Inv-loop μ-loop) → length (s .args .cost .now) ≤ 1024
 unfolding maxSources maxSinks
-mul-sum c = omega (arith, c .before .before .pre .few)
+few-lanes s = s .pre .few
 
--- A quantity in the loop is small.
 few : (t : tie.In-loop Inv-loop μ-loop) → getD (t .before .before .args .plan .now) (t .before .loop .l) 0 < 2 ^ 63
 unfolding at maxAmount
 few t = omega (arith, t .before .before .pre .quantities (t .before .loop .l) (omega arith))
-
-mul-sum-2 : tie.Need-mul-sum-2 Inv-loop μ-loop
-unfolding maxSources maxSinks
-mul-sum-2 c = omega (arith, c .before .before .before .pre .few)
 
 -- What a turn adds is what its lane does, and then the sum is over one lane more.
 module _ (t : tie.In-loop Inv-loop μ-loop) where
@@ -50,8 +46,7 @@ module _ (t : tie.In-loop Inv-loop μ-loop) where
 
   product-is : product ≡ laneTotal plan cost l
   unfolding at atZ maxCost
-  product-is =
-      let cheap : natAbs (getD cost l (pos 0)) < 2 ^ 63 = omega (arith, t .before .before .pre .costs l) in
+  product-is = let cheap : natAbs (getD cost l (pos 0)) < 2 ^ 63 = omega (arith, t .before .before .pre .costs l) in
       rw (toZ-pos w64 (few t), toZ-ofZ {w = w64} (abs-fits w64 (getD cost l (pos 0)) cheap))
 
   product-fits : SFits w64 product
@@ -63,22 +58,14 @@ module _ (t : tie.In-loop Inv-loop μ-loop) where
   sum-fits : SFits w64 (toZ w64 (t .before .loop .sum) +ℤ toZ w64 (ofZ w64 product))
   sum-fits = rw sum-is (abs-fits w64 (sumZ (l + 1) (laneTotal plan cost)) (part-fits (t .before .before .pre) (l + 1) (omega arith)))
 
-mul-sum-3 : tie.Need-mul-sum-3 Inv-loop μ-loop
-mul-sum-3 c = product-fits (c .before .before)
-
-add-sum : tie.Need-add-sum Inv-loop μ-loop
-add-sum c = sum-fits (c .before .before)
-
 loop-again : tie.Need-loop-again Inv-loop μ-loop
 loop-again c = let t = c .before .before in (omega arith, toZ-ofZ {w = w64} (sum-fits t) ∙ sum-is t)
 
 returns : tie.Need-returns Inv-loop μ-loop
-returns c =
-    let a = c .before .before .args in
-    let whole : c .before .loop .l ≡ length (a .cost .now) = omega arith in
+returns c = let a = c .before .before .args in let whole : c .before .loop .l ≡ length (a .cost .now) = omega arith in
     c .before .loop .inv .1 ∙ ap (λ (n : ℕ). sumZ n (laneTotal (a .plan .now) (a .cost .now))) whole
 
 pub plan-cost-spec : {M : Type 1} → statement M
-plan-cost-spec =
-    tie.close (tie.spec Inv-loop μ-loop loop-holds mul-sum (λ c. omega arith) (λ c. abs-fits w64 (pos _) (few (c .before))) mul-sum-2
-    (λ c. omega arith) mul-sum-3 add-sum (λ c. search needs) (λ c. omega arith) loop-again returns)
+plan-cost-spec = tie.close (tie.spec Inv-loop μ-loop loop-holds (λ c. omega (arith, few-lanes (c .before .before))) (λ c. omega arith)
+    (λ c. abs-fits w64 (pos _) (few (c .before))) (λ c. omega (arith, few-lanes (c .before .before .before))) (λ c. omega arith)
+    (λ c. product-fits (c .before .before)) (λ c. sum-fits (c .before .before)) (λ c. search needs) (λ c. omega arith) loop-again returns)

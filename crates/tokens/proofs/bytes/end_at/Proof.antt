@@ -4,22 +4,10 @@ use Rattle.tokens.specs.Reading.{end-told}
 use Rattle.tokens.proofs.bytes.end_at.Statement.{statement}
 use Rattle.tokens.proofs.bytes.end_at.Tie as tie
 
-returns : tie.Need-returns
-returns c = sym (end-told (c .before .before .before .before .args .left) _ _ (sym (c .before .before .kind-at .ensures) ∙ c .enum-told .given .1))
-
-returns-2 : tie.Need-returns-2
-returns-2 c = sym (end-told (c .before .before .before .before .args .left) _ _ (sym (c .before .before .kind-at .ensures) ∙ c .enum-told2 .given .1))
-
-returns-3 : tie.Need-returns-3
-returns-3 c = sym (end-told (c .before .before .before .before .args .left) _ _ (sym (c .before .before .kind-at .ensures) ∙ c .enum-told3 .given .1))
-
-returns-4 : tie.Need-returns-4
-returns-4 c = sym (end-told (c .before .before .before .before .args .left) _ _ (sym (c .before .before .kind-at .ensures) ∙ c .enum-told4 .given .1))
-
-returns-5 : tie.Need-returns-5
-returns-5 c = sym (end-told (c .before .before .before .before .args .left) _ _ (sym (c .before .before .kind-at .ensures) ∙ c .enum-told5 .given .1))
-
 pub end-at-spec : {M : Type 1} → statement M
-end-at-spec =
-    tie.close (tie.spec (λ c κs. search needs) (λ c. search needs) (λ c. search needs) (λ c. search needs) (λ c. search needs)
-    (λ c. search needs) returns returns-2 returns-3 returns-4 returns-5)
+end-at-spec = tie.close (tie.spec (λ c κs. search needs) (λ c. search needs) (λ c. search needs) (λ c. search needs) (λ c. search needs)
+    (λ c. search needs) (λ c. sym (end-told _ _ _ (sym (c .before .before .kind-at .ensures) ∙ c .enum-told .given .1)))
+    (λ c. sym (end-told _ _ _ (sym (c .before .before .kind-at .ensures) ∙ c .enum-told2 .given .1)))
+    (λ c. sym (end-told _ _ _ (sym (c .before .before .kind-at .ensures) ∙ c .enum-told3 .given .1)))
+    (λ c. sym (end-told _ _ _ (sym (c .before .before .kind-at .ensures) ∙ c .enum-told4 .given .1)))
+    (λ c. sym (end-told _ _ _ (sym (c .before .before .kind-at .ensures) ∙ c .enum-told5 .given .1))))

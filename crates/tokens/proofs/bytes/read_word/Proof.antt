@@ -17,9 +17,7 @@ loop-holds : tie.Need-loop-holds Inv-loop μ-loop
 loop-holds c = (omega arith, c .before .before .pre, refl)
 
 returns : tie.Need-returns Inv-loop μ-loop
-returns c =
-    let l = c .before .before .before .before .loop in
-    let a = c .before .before .before .before .before .before .before .args in
+returns c = let l = c .before .before .before .before .loop in let a = c .before .before .before .before .before .before .before .args in
     let cut : drop (l .i) (a .expected .now) ≡ getD (a .expected .now) (l .i) 0 ∷ drop (suc (l .i)) (a .expected .now) =
     drop-cons (a .expected .now) (l .i) 0 (omega arith) in
     (l .inv .2 ∙ (rw cut (word-no _ _ _ (sym (c .before .byte-at .ensures) ∙ not-true _ (c .if1 .taken)))), l .inv .1)
@@ -32,14 +30,11 @@ next-byte c = sym (c .before .byte-at .ensures) ∙ not-false _ (c .if1 .left)
 add-next : tie.Need-add-next Inv-loop μ-loop
 add-next c = omega (
   arith,
-  byte-inside (c .before .before .before .before .before .before .before .args .text .now)
-      (c .before .before .before .before .loop .next) _ (next-byte c),
+  byte-inside (c .before .before .before .before .before .before .before .args .text .now) (c .before .before .before .before .loop .next) _ (next-byte c),
 )
 
 loop-again : tie.Need-loop-again Inv-loop μ-loop
-loop-again c =
-    let l = c .before .before .before .before .loop in
-    let a = c .before .before .before .before .before .before .before .args in
+loop-again c = let l = c .before .before .before .before .loop in let a = c .before .before .before .before .before .before .before .args in
     let cut : drop (l .i) (a .expected .now) ≡ getD (a .expected .now) (l .i) 0 ∷ drop (suc (l .i)) (a .expected .now) =
     drop-cons (a .expected .now) (l .i) 0 (omega arith) in (
       omega arith,
@@ -48,12 +43,9 @@ loop-again c =
     )
 
 returns-2 : tie.Need-returns-2 Inv-loop μ-loop
-returns-2 c =
-    let l = c .before .loop in
-    let a = c .before .before .before .before .args in
+returns-2 c = let l = c .before .loop in let a = c .before .before .before .before .args in
     (l .inv .2 ∙ (rw (drop-of-length-le (a .expected .now) {i = l .i} (omega arith), word-nil)), l .inv .1)
 
 pub read-word-spec : {M : Type 1} → statement M
-read-word-spec =
-    tie.close (tie.spec Inv-loop μ-loop loop-holds (λ c. search needs) (λ c κs. search needs) returns add-next (λ c. search needs)
+read-word-spec = tie.close (tie.spec Inv-loop μ-loop loop-holds (λ c. search needs) (λ c κs. search needs) returns add-next (λ c. search needs)
     (λ c. search needs) loop-again returns-2)

@@ -16,12 +16,11 @@ loop-holds : tie.Need-loop-holds Inv-loop μ-loop
 loop-holds c = (omega arith, omega arith, c .before .pre .0, refl)
 
 returns : tie.Need-returns Inv-loop μ-loop
-returns c =
-    let l = c .before .before .before .loop in (
-      l .inv .3 ∙ more-stop always (l .value) (c .before .before .before .before .before .args .most - l .count) _ (sym (c .before .digit-at .ensures)
-          ∙ not-true _ (c .if1 .taken)),
-      l .inv .2,
-    )
+returns c = let l = c .before .before .before .loop in (
+  l .inv .3 ∙ more-stop always (l .value) (c .before .before .before .before .before .args .most - l .count) _ (sym (c .before .digit-at .ensures)
+      ∙ not-true _ (c .if1 .taken)),
+  l .inv .2,
+)
 
 digit : (c : tie.Else1 Inv-loop μ-loop) → DigitAt (c .before .before .before .before .before .args .text .now) (c .before .before .before .loop .next)
 digit c = digit-at _ _ (sym (c .before .digit-at .ensures) ∙ not-false _ (c .if1 .left))
@@ -36,8 +35,7 @@ small : (c : tie.Else1 Inv-loop μ-loop) → c .before .before .before .loop .va
 small c = value-fits _ (c .before .before .before .loop .count + 1) (value-after c) (omega arith)
 
 loop-again : tie.Need-loop-again Inv-loop μ-loop
-loop-again c =
-    let l = c .before .before .before .before .loop in
+loop-again c = let l = c .before .before .before .before .loop in
     let most = c .before .before .before .before .before .before .args .most in
     let e : most - l .count ≡ suc (most - (l .count + 1)) = omega arith in (
       omega arith,
@@ -47,14 +45,10 @@ loop-again c =
     )
 
 returns-2 : tie.Need-returns-2 Inv-loop μ-loop
-returns-2 c =
-    let l = c .before .loop in
-    let e : c .before .before .before .args .most - l .count ≡ 0 = omega arith in
+returns-2 c = let l = c .before .loop in let e : c .before .before .before .args .most - l .count ≡ 0 = omega arith in
     (l .inv .3 ∙ (rw e (more-none always (l .value) _)), l .inv .2)
 
 pub more-digits-spec : {M : Type 1} → statement M
-more-digits-spec =
-    tie.close (tie.spec Inv-loop μ-loop loop-holds (λ c κs. search needs) returns (λ c. omega (arith, small c))
-    (λ c. digit (c .before) .inside) (λ c. digit (c .before) .low) (λ c. omega (arith, small (c .before)))
-    (λ c. omega (arith, small (c .before))) (λ c. omega (arith, digit (c .before) .inside)) (λ c. search needs) (λ c. search needs)
-    loop-again returns-2)
+more-digits-spec = tie.close (tie.spec Inv-loop μ-loop loop-holds (λ c κs. search needs) returns (λ c. omega (arith, small c))
+    (λ c. digit (c .before) .inside) (λ c. digit (c .before) .low) (λ c. omega (arith, small (c .before))) (λ c. omega (arith, small (c .before)))
+    (λ c. omega (arith, digit (c .before) .inside)) (λ c. search needs) (λ c. search needs) loop-again returns-2)

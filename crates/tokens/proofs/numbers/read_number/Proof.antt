@@ -17,9 +17,6 @@ returns-2 c = (number-low _ (digit (c .before .before)) (c .if2 .taken), c .befo
 returns-3 : tie.Need-returns-3
 returns-3 c = let d = digit (c .before .before .before) in (number-zero _ d (c .before .if2 .left) (c .if3 .taken), omega arith)
 
-more-digits-requires : tie.Need-more-digits-requires
-more-digits-requires c κs = let d = digit (c .before .before .before) in (omega arith, omega arith, omega arith, omega arith)
-
 returns-4 : tie.Need-returns-4
 unfolding maxDigits
 returns-4 c = (
@@ -28,7 +25,6 @@ returns-4 c = (
 )
 
 pub read-number-spec : {M : Type 1} → statement M
-read-number-spec =
-    tie.close (tie.spec (λ c κs. search needs) returns (λ c. digit (c .before) .inside) (λ c. digit (c .before) .low)
+read-number-spec = tie.close (tie.spec (λ c κs. search needs) returns (λ c. digit (c .before) .inside) (λ c. digit (c .before) .low)
     (λ c. omega (arith, digit (c .before) .high)) returns-2 (λ c. omega (arith, digit (c .before .before) .inside)) returns-3
-    more-digits-requires returns-4)
+    (λ c κs. let d = digit (c .before .before .before) in omega arith) returns-4)

@@ -13,10 +13,6 @@ returns c = rw (c .before .before .number .given .1, c .if1 .taken, opposite-bac
 returns-2 : tie.Need-returns-2
 returns-2 c = rw (c .before .before .number .given .1, c .if1 .left, number-back (small (c .before)))
 
-returns-3 : tie.Need-returns-3
-returns-3 c = rw (c .before .number2 .given .1)
-
 pub signed-spec : {M : Type 1} → statement M
-signed-spec =
-    tie.close (tie.spec (λ c. search needs) (λ c. number-fits (small c)) (λ c. opposite-fits (small (c .before))) (λ c. search needs)
-    returns returns-2 returns-3)
+signed-spec = tie.close (tie.spec (λ c. search needs) (λ c. number-fits (small c)) (λ c. opposite-fits (small (c .before))) (λ c. search needs)
+    returns returns-2 (λ c. rw (c .before .number2 .given .1)))

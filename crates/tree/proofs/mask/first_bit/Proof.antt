@@ -5,13 +5,8 @@ use Rattle.tree.specs.Mask.{first-lt, first-in, first-least}
 use Rattle.tree.proofs.mask.first_bit.Statement.{statement}
 use Rattle.tree.proofs.mask.first_bit.Tie as tie
 
-cast-result : tie.Need-cast-result
-cast-result c = omega (arith, trailing-le 64 (c .args .mask))
-
 returns : tie.Need-returns
-returns c =
-    let x = c .args .mask in
-    (first-lt 64 x (c .pre) (c .fits .mask .fits), first-in 64 x (c .pre) (c .fits .mask .fits), first-least 64 x)
+returns c = let x = c .args .mask in (first-lt 64 x (c .pre) (c .fits .mask .fits), first-in 64 x (c .pre) (c .fits .mask .fits), first-least 64 x)
 
 pub first-bit-spec : {M : Type 1} → statement M
-first-bit-spec = tie.close (tie.spec cast-result returns)
+first-bit-spec = tie.close (tie.spec (λ c. omega (arith, trailing-le 64 (c .args .mask))) returns)

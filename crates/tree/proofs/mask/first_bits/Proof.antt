@@ -5,14 +5,7 @@ use Rattle.tree.specs.MaskLaws.{first-shl}
 use Rattle.tree.proofs.mask.first_bits.Statement.{statement}
 use Rattle.tree.proofs.mask.first_bits.Tie as tie
 
-shl-result : tie.Need-shl-result
-shl-result c = search needs
-
-sub-result : tie.Need-sub-result
-sub-result c = omega (arith, shl-exact {a = 1} 1 (c .args .n) 64 (omega arith) (omega arith), pow-pos (c .args .n))
-
-returns : tie.Need-returns
-returns c = first-shl (c .args .n) (c .pre)
-
 pub first-bits-spec : {M : Type 1} → statement M
-first-bits-spec = tie.close (tie.spec shl-result sub-result returns)
+first-bits-spec = tie.close (tie.spec (λ c. search needs)
+    (λ c. omega (arith, shl-exact {a = 1} 1 (c .args .n) 64 (omega arith) (omega arith), pow-pos (c .args .n)))
+    (λ c. first-shl (c .args .n) (c .pre)))

@@ -4,11 +4,8 @@ use Rattle.tree.specs.Mask.{put-shl}
 use Rattle.tree.proofs.mask.set_bit.Statement.{statement}
 use Rattle.tree.proofs.mask.set_bit.Tie as tie
 
-shl-result : tie.Need-shl-result
-shl-result c = search needs
-
 returns : tie.Need-returns
 returns c = put-shl (c .args .mask) (c .args .k) (c .pre)
 
 pub set-bit-spec : {M : Type 1} → statement M
-set-bit-spec = tie.close (tie.spec shl-result returns)
+set-bit-spec = tie.close (tie.spec (λ c. search needs) returns)

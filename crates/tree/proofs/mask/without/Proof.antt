@@ -3,8 +3,5 @@ use Rattle.tree.specs.MaskLaws.{minus-is}
 use Rattle.tree.proofs.mask.without.Statement.{statement}
 use Rattle.tree.proofs.mask.without.Tie as tie
 
-returns : tie.Need-returns
-returns c = minus-is (c .args .a) (c .args .b)
-
 pub without-spec : {M : Type 1} → statement M
-without-spec = tie.close (tie.spec returns)
+without-spec = tie.close (tie.spec (λ c. minus-is (c .args .a) (c .args .b)))

@@ -16,53 +16,38 @@ abbrev μ-loop : tie.MeasureT-loop
 
 loop-holds : tie.Need-loop-holds Inv-loop μ-loop
 unfolding Priced
-loop-holds c =
-    let a = c .before .args in (
-      omega arith,
-      refl,
-      λ j p. getD-replicate nodeRoom j (pos 0) (pos 0) p
-          ∙ rw (strikesFrom-nil (a .leaf .now) (a .other .now) (a .lane .now) (a .count), potentialBy-nil),
-    )
+loop-holds c = let a = c .before .args in (
+  omega arith,
+  refl,
+  λ j p. getD-replicate nodeRoom j (pos 0) (pos 0) p ∙ rw (strikesFrom-nil (a .leaf .now) (a .other .now) (a .lane .now) (a .count), potentialBy-nil),
+)
+
+-- From the strike's lane to where the loop's turn began.
+abbrev turn : tie.After-l Inv-loop μ-loop → tie.At-loop Inv-loop μ-loop
+turn c = c .before .before .before .before
 
 -- The lane, the other end and the leaf of the strike are within the arrays.
-lane-in : (c : tie.After-l Inv-loop μ-loop) → getD (c .before .before .before .before .before .before .args .lane .now)
-    (c .before .before .before .before .loop .k - 1) 0 < laneRoom
-lane-in c = c .before .before .before .before .before .before .pre .0 .laneIn (c .before .before .before .before .loop .k - 1) (omega arith)
+lane-in : (c : tie.After-l Inv-loop μ-loop) → getD (turn c .before .before .args .lane .now) (turn c .loop .k - 1) 0 < laneRoom
+lane-in c = turn c .before .before .pre .0 .laneIn (turn c .loop .k - 1) (omega arith)
 
-mul-price-3 : tie.Need-mul-price-3 Inv-loop μ-loop
-mul-price-3 c = let l = c .before .before .before .before .before .before .before .pre .0 .otherIn (c .before .before .before .before .before .loop .k - 1)
-    (omega arith) in omega arith
+other-in : (c : tie.After-l Inv-loop μ-loop) → getD (turn c .before .before .args .other .now) (turn c .loop .k - 1) 0 < nodeRoom
+other-in c = turn c .before .before .pre .0 .otherIn (turn c .loop .k - 1) (omega arith)
 
-element-copy-out-price-2 : tie.Need-element-copy-out-price-2 Inv-loop μ-loop
-element-copy-out-price-2 c = c .before .before .before .before .before .before .before .pre .0 .otherIn
-    (c .before .before .before .before .before .loop .k - 1) (omega arith)
+leaf-in : (c : tie.After-l Inv-loop μ-loop) → getD (turn c .before .before .args .leaf .now) (turn c .loop .k - 1) 0 < nodeRoom
+leaf-in c = turn c .before .before .pre .0 .leafIn (turn c .loop .k - 1) (omega arith)
 
 -- The difference is in range.
-room : (c : tie.After-price3 Inv-loop μ-loop)
-    → let a = c .before .before .before .before .before .before .before .before .args in
+room : (c : tie.After-price3 Inv-loop μ-loop) → let a = c .before .before .before .before .before .before .before .before .args in
     let i = c .before .before .before .before .before .before .loop in
     natAbs (costOf (a .cost .now) (laneAt (getD (a .lane .now) (i .k - 1) 0))) + natAbs (getD (i .price) (getD (a .other .now) (i .k - 1) 0) (pos 0)) < 2 ^ 31
 unfolding costAbove maxCost
-room c =
-    let s = c .before .before .before .before .before .before .before .before in
-    let i = c .before .before .before .before .before .before .loop in
-    let e : i .k ≡ suc (i .k - 1) = omega arith in
+room c = let s = c .before .before .before .before .before .before .before .before in
+    let i = c .before .before .before .before .before .before .loop in let e : i .k ≡ suc (i .k - 1) = omega arith in
     omega (arith, priced-room _ _ _ _ _ (i .price) (i .k - 1) costAbove (s .pre .0) (s .pre .1) (omega arith) (rw e at (i .inv .2)))
 
-mul-t31 : tie.Need-mul-t31 Inv-loop μ-loop
-mul-t31 c = let l = c .before .before .before .before .before .before .before .before .pre .0 .leafIn
-    (c .before .before .before .before .before .before .loop .k - 1) (omega arith) in omega arith
-
-element-set-from-price : tie.Need-element-set-from-price Inv-loop μ-loop
-element-set-from-price c = c .before .before .before .before .before .before .before .before .pre .0 .leafIn
-    (c .before .before .before .before .before .before .loop .k - 1) (omega arith)
-
 loop-again : tie.Need-loop-again Inv-loop μ-loop
-loop-again c =
-    let s = c .before .before .before .before .before .before .before .before in
-    let a = s .args in
-    let i = c .before .before .before .before .before .before .loop in
-    let e : i .k ≡ suc (i .k - 1) = omega arith in
+loop-again c = let s = c .before .before .before .before .before .before .before .before in let a = s .args in
+    let i = c .before .before .before .before .before .before .loop in let e : i .k ≡ suc (i .k - 1) = omega arith in
     let v = diff-back w32 (costOf (a .cost .now) (laneAt (getD (a .lane .now) (i .k - 1) 0))) (getD (i .price) (getD (a .other .now) (i .k - 1) 0) (pos 0))
     (room c) in (
       omega arith,
@@ -76,8 +61,8 @@ unfolding Priced
 returns c = let e : c .before .loop .k ≡ 0 = omega arith in (c .before .loop .inv .1, rw e at (c .before .loop .inv .2))
 
 pub potentials-spec : {M : Type 1} → statement M
-potentials-spec =
-    tie.close (tie.spec Inv-loop μ-loop loop-holds (λ c. omega arith) (λ c. omega arith) (λ c. omega arith) (λ c. omega arith)
+potentials-spec = tie.close (tie.spec Inv-loop μ-loop loop-holds (λ c. omega arith) (λ c. omega arith) (λ c. omega arith) (λ c. omega arith)
     (λ c. omega arith) (λ c. omega arith) (λ c. omega arith) (λ c. omega (arith, lane-in c)) (λ c. omega (arith, lane-in c))
-    (λ c. omega (arith, lane-in c)) (λ c. omega (arith, lane-in c)) mul-price-3 element-copy-out-price-2
-    (λ c. search (needs, diff-in, room c)) mul-t31 element-set-from-price (λ c. omega arith) loop-again returns)
+    (λ c. omega (arith, lane-in c)) (λ c. omega (arith, lane-in c)) (λ c. omega (arith, other-in (c .before))) (λ c. other-in (c .before))
+    (λ c. search (needs, diff-in, room c)) (λ c. omega (arith, leaf-in (c .before .before))) (λ c. leaf-in (c .before .before)) (λ c. omega arith)
+    loop-again returns)

@@ -22,31 +22,22 @@ slot c = let f = c .before .first-bit .ensures in record { on = f .1; off = f .2
 
 room : (c : tie.After-price Inv-loop μ-loop) → natAbs (getD (c .before .before .before .loop .price) (c .before .first-bit .result) (pos 0))
     + natAbs (c .before .before .before .before .args .x) < 2 ^ 31
-room c =
-    let i = c .before .before .before .loop .inv in
+room c = let i = c .before .before .before .loop .inv in
     rw (touch-still i (slot c)) (c .before .before .before .before .pre .1 _ (c .before .first-bit .ensures .0) (i .part _ (has-least (slot c))))
 
-loop-less : tie.Need-loop-less Inv-loop μ-loop
-loop-less c = rw (c .rest .ensures) (rest-less _ (omega arith))
-
 loop-again : tie.Need-loop-again Inv-loop μ-loop
-loop-again c =
-    let i = c .before .before .before .before .loop in
-    let a = c .before .before .before .before .before .args in
-    let r = slot (c .before) in
-    let f = c .before .before .first-bit in
-    let v : toZ w32 (ofZ w32 (a .x)) ≡ a .x = search needs in
+loop-again c = let i = c .before .before .before .before .loop in
+    let a = c .before .before .before .before .before .args in let r = slot (c .before) in
+    let f = c .before .before .first-bit in let v : toZ w32 (ofZ w32 (a .x)) ≡ a .x = search needs in
     let u = sum-back w32 (getD (i .price) (f .result) (pos 0)) (a .x) (room (c .before)) in
     let g : Touching (λ z. z +ℤ a .x) (pos 0) (a .price .now) (a .at) (i .bits) (i .price) = rw v at (i .inv) in
     rw (c .rest .ensures, u, v, touch-still g r) (touch-step g r (omega (arith, f .ensures .0, c .before .before .before .before .before .pre .0)))
 
 returns : tie.Need-returns Inv-loop μ-loop
-returns c =
-    let a = c .before .before .args in
-    let v : toZ w32 (ofZ w32 (a .x)) ≡ a .x = search needs in
+returns c = let a = c .before .before .args in let v : toZ w32 (ofZ w32 (a .x)) ≡ a .x = search needs in
     rw v at (touch-end (c .before .loop .inv) (omega arith))
 
 pub raise-spec : {M : Type 1} → statement M
-raise-spec =
-    tie.close (tie.spec Inv-loop μ-loop loop-holds (λ c κs. search needs) (λ c. search needs) (λ c. search needs)
-    (λ c. search (needs, sum-in, room c)) (λ c. search needs) (λ c. search needs) (λ c κs. search needs) loop-less loop-again returns)
+raise-spec = tie.close (tie.spec Inv-loop μ-loop loop-holds (λ c κs. search needs) (λ c. search needs) (λ c. search needs)
+    (λ c. search (needs, sum-in, room c)) (λ c. search needs) (λ c. search needs) (λ c κs. search needs)
+    (λ c. rw (c .rest .ensures) (rest-less _ (omega arith))) loop-again returns)

@@ -32,32 +32,25 @@ first c = rw (same (c .before .before .before), c .before .before .first-bits .e
 raise-requires : tie.Need-raise-requires
 raise-requires c κs = let s = c .before .before .before in (
   s .pre .1 .0,
-  λ k l e. rw (same (c .before .before))
-      (omega (arith, small (c .before .before), s .pre .1 .1 k l)),
+  λ k l e. rw (same (c .before .before)) (omega (arith, small (c .before .before), s .pre .1 .1 k l)),
 )
 
 sub-raise : tie.Need-sub-raise
 sub-raise c = diff-in w32 (pos 0) (c .before .before .before .before .toward .result) (omega (arith, small (c .before .before .before .before)))
 
 raise-requires-2 : tie.Need-raise-requires-2
-raise-requires-2 c κs =
-    let s = c .before .before .before .before .before in
-    let y = c .before .before .before .before .toward .result in (
-      c .before .raise .ensures .long ∙ s .pre .1 .0,
-      λ k l e. rw (
-        minus (c .before .before .before .before),
-        rows-only (s .args .m) (s .args .far) (first (c .before)) k (rw (c .before .before .before .first-bits .ensures) at e),
-      )
-          (omega (arith, small (c .before .before .before .before), abs-neg y, s .pre .1 .1 k l)),
-    )
+raise-requires-2 c κs = let s = c .before .before .before .before .before in let y = c .before .before .before .before .toward .result in (
+  c .before .raise .ensures .long ∙ s .pre .1 .0,
+  λ k l e. rw (
+    minus (c .before .before .before .before),
+    rows-only (s .args .m) (s .args .far) (first (c .before)) k (rw (c .before .before .before .first-bits .ensures) at e),
+  ) (omega (arith, small (c .before .before .before .before), abs-neg y, s .pre .1 .1 k l)),
+)
 
 returns : tie.Need-returns
-returns c =
-    let s = c .before .before .before .before .before .before in
+returns c = let s = c .before .before .before .before .before .before in
     rw (← is (c .before .before .before .before .before)) (repriced-by (s .args .m) (s .args .far) (first (c .before .before))
     (rw (minus (c .before .before .before .before .before), c .before .before .before .before .first-bits .ensures) at (c .raise2 .ensures)))
 
 pub reprice-spec : {M : Type 1} → statement M
-reprice-spec =
-    tie.close
-    (tie.spec (λ c κs. search needs) (λ c κs. search needs) raise-requires sub-raise raise-requires-2 returns)
+reprice-spec = tie.close (tie.spec (λ c κs. search needs) (λ c κs. search needs) raise-requires sub-raise raise-requires-2 returns)

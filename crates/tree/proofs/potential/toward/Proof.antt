@@ -5,9 +5,6 @@ use Rattle.transport.specs.Laws.RangeLaws.{mag-abs, back, diff-in, diff-back}
 use Rattle.tree.proofs.potential.toward.Statement.{statement}
 use Rattle.tree.proofs.potential.toward.Tie as tie
 
-sub-result : tie.Need-sub-result
-sub-result c = diff-in w32 (pos 0) (c .before .before .args .reduced) (omega arith)
-
 returns : tie.Need-returns
 returns c = let a = c .before .before .args in rw (sym (c .before .has-bit .ensures) ∙ c .if1 .taken)
     (back w32 (a .reduced) (omega (arith, mag-abs (a .reduced))))
@@ -17,4 +14,5 @@ returns-2 c = let a = c .before .before .args in rw (sym (c .before .has-bit .en
     (diff-back w32 (pos 0) (a .reduced) (omega arith) ∙ +ℤ-idl (negℤ (a .reduced)))
 
 pub toward-spec : {M : Type 1} → statement M
-toward-spec = tie.close (tie.spec (λ c κs. search needs) sub-result returns returns-2)
+toward-spec = tie.close (tie.spec (λ c κs. search needs) (λ c. diff-in w32 (pos 0) (c .before .before .args .reduced) (omega arith)) returns
+    returns-2)

@@ -25,13 +25,10 @@ loop-holds c = (
 tail-room : (c : tie.In-loop Inv-loop μ-loop) → c .before .loop .tail < nodeRoom
 tail-room c = omega (arith, room (c .before .loop .inv .0) (c .before .loop .inv .4))
 
-again : (c : tie.After-joins-queue Inv-loop μ-loop)
-    → let a = c .before .before .before .before .args in
+again : (c : tie.After-joins-queue Inv-loop μ-loop) → let a = c .before .before .before .before .args in
     let i = c .before .before .before .loop in
     Queue (i .node + 1) (a .live .now) (set (i .leaf) (i .tail) (i .node)) 0 (i .tail + c .joins-queue .result)
-again c =
-    let i = c .before .before .before .loop in
-    rw (c .joins-queue .ensures) (queue-next (i .node) (i .inv .0) (omega arith) (i .inv .3) (i .inv .4))
+again c = let i = c .before .before .before .loop in rw (c .joins-queue .ensures) (queue-next (i .node) (i .inv .0) (omega arith) (i .inv .3) (i .inv .4))
 
 loop-again : tie.Need-loop-again Inv-loop μ-loop
 loop-again c = (omega arith, omega arith, omega arith, simp length-set (c .before .before .before .loop .inv .3), again c)
@@ -41,7 +38,6 @@ returns c = let e : c .before .loop .node ≡ c .before .before .args .m + c .be
     (c .before .loop .inv .3, rw e at (c .before .loop .inv .4))
 
 pub first-leaves-spec : {M : Type 1} → statement M
-first-leaves-spec =
-    tie.close (tie.spec Inv-loop μ-loop loop-holds (λ c. omega arith) (λ c. omega (arith, tail-room c)) (λ c. tail-room c)
+first-leaves-spec = tie.close (tie.spec Inv-loop μ-loop loop-holds (λ c. omega arith) (λ c. omega (arith, tail-room c)) (λ c. tail-room c)
     (λ c. omega arith) (λ c. omega arith) (λ c κs. search needs) (λ c. omega (arith, room (omega arith) (again c))) (λ c. omega arith)
     (λ c. omega arith) loop-again returns)

@@ -4,18 +4,13 @@ use lib.Count.{ones}
 use Rattle.tree.proofs.strike.joins_queue.Statement.{statement}
 use Rattle.tree.proofs.strike.joins_queue.Tie as tie
 
-is-single-requires : tie.Need-is-single-requires
-is-single-requires c κs = search needs
-
 returns : tie.Need-returns
-returns c =
-    let a = c .before .before .before .args in
+returns c = let a = c .before .before .before .args in
     let e : eqb (ones (a .lanes)) 1 ≡ true = sym (c .before .is-single .ensures) ∙ c .if2 .taken in
     rw (ne-eqb (a .node) 0 (c .before .before .if1 .taken), e)
 
 returns-2 : tie.Need-returns-2
-returns-2 c =
-    let a = c .before .before .before .args in
+returns-2 c = let a = c .before .before .before .args in
     let e : eqb (ones (a .lanes)) 1 ≡ false = sym (c .before .is-single .ensures) ∙ c .if2 .left in
     rw (ne-eqb (a .node) 0 (c .before .before .if1 .taken), e)
 
@@ -23,4 +18,4 @@ returns-3 : tie.Need-returns-3
 returns-3 c = rw (eq-eqb (c .before .args .node) 0 (c .if1 .left))
 
 pub joins-queue-spec : {M : Type 1} → statement M
-joins-queue-spec = tie.close (tie.spec is-single-requires returns returns-2 returns-3)
+joins-queue-spec = tie.close (tie.spec (λ c κs. search needs) returns returns-2 returns-3)

@@ -3,11 +3,5 @@ use Rattle.prelude.specs.Words.{lt-ltb, le-ltb}
 use Rattle.tree.proofs.strike.own_bit.Statement.{statement}
 use Rattle.tree.proofs.strike.own_bit.Tie as tie
 
-returns : tie.Need-returns
-returns c = rw (lt-ltb _ _ (c .if1 .taken))
-
-returns-2 : tie.Need-returns-2
-returns-2 c = rw (le-ltb _ _ (c .if1 .left))
-
 pub own-bit-spec : {M : Type 1} → statement M
-own-bit-spec = tie.close (tie.spec returns returns-2)
+own-bit-spec = tie.close (tie.spec (λ c. rw (lt-ltb _ _ (c .if1 .taken))) (λ c. rw (le-ltb _ _ (c .if1 .left))))
