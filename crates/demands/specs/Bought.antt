@@ -1,6 +1,6 @@
 -- What is bought, from the contract of solve.
 use Rattle.prelude.specs.Words.{_≡_, refl, sym, ap, _∙_, _↔_, _⊎_, inl, inr, by-cases, List, ℕ, _*_, arith, decLt, ℕ-discrete, ℤ, length, take, drop, take-at}
-use Rattle.prelude.specs.Words.{drop-at}
+use Rattle.prelude.specs.Words.{drop-at, Dec·and, ⊎-elim}
 use Rattle.transport.specs.declared.SolveAnswer.{SolveAnswer}
 use Rattle.transport.specs.declared.SolveAnswer.the-variants as SolveAnswer
 use Rattle.transport.specs.Lists.{total}
@@ -38,31 +38,20 @@ gives-best S a plan h =
     (s .cost, s .rounds, rw (h .answered), rw (h .answered, front) (h .best))
 
 -- The sheets that are refused are lacking, crowded or idle, since all others are solved; and each of the three has its number.
-refuses-exactly : (S : Sheet) (a : Answer Solution)
-    → (¬ Lacking S → ¬ Crowded S → ¬ Idle S → Solved S a)
-    × (Lacking S → a ≡ refusedBy 5)
-    × (Crowded S → a ≡ refusedBy 10)
-    × (Idle S → ¬ Crowded S → a ≡ refusedBy 11)
+refuses-exactly : (S : Sheet) (a : Answer Solution) → (¬ Lacking S → ¬ Crowded S → ¬ Idle S → Solved S a) × (Lacking S → a ≡ refusedBy 5)
+    × (Crowded S → a ≡ refusedBy 10) × (Idle S → ¬ Crowded S → a ≡ refusedBy 11)
     → (k : ℕ) → (solveAnswer a ≡ SolveAnswer.Refused k) ↔ ((k ≡ 5) × Lacking S) ⊎ ((k ≡ 10) × Crowded S) ⊎ ((k ≡ 11) × Idle S × ¬ Crowded S)
 unfolding solveAnswer refusedBy
-refuses-exactly S a h k = (λ e. there e (decLt (total (S .supply)) (total (S .demand))) crowded-dec (ℕ-discrete (total (S .demand)) 0), back)
-  where
-    crowded-dec : Dec (Crowded S)
-    crowded-dec = by-cases (decLt (total (S .demand)) (total (S .supply)))
-        (λ l. by-cases (ℕ-discrete (cafes S) maxSide) (λ e. yes (l, e)) (λ e. no (λ c. e (c .1))))
-        (λ l. no (λ c. l (c .0)))
-
-    there : solveAnswer a ≡ SolveAnswer.Refused k → Dec (Lacking S) → Dec (Crowded S) → Dec (Idle S)
-        → ((k ≡ 5) × Lacking S) ⊎ ((k ≡ 10) × Crowded S) ⊎ ((k ≡ 11) × Idle S × ¬ Crowded S)
-    there e (yes l) d i = let five : k ≡ 5 = cc (e, ap solveAnswer (h .1 l)) in inl (five, l)
-    there e (no l) (yes c) i = let ten : k ≡ 10 = cc (e, ap solveAnswer (h .2 c)) in inr (inl (ten, c))
-    there e (no l) (no c) (yes i) = let eleven : k ≡ 11 = cc (e, ap solveAnswer (h .3 i c)) in inr (inr (eleven, i, c))
-    there e (no l) (no c) (no i) = absurd (solved≢refused (sym (ap solveAnswer (h .0 l c i .answered)) ∙ e))
-
-    back : ((k ≡ 5) × Lacking S) ⊎ ((k ≡ 10) × Crowded S) ⊎ ((k ≡ 11) × Idle S × ¬ Crowded S) → solveAnswer a ≡ SolveAnswer.Refused k
-    back (inl (five, l)) = rw (h .1 l, five)
-    back (inr (inl (ten, c))) = rw (h .2 c, ten)
-    back (inr (inr (eleven, i, c))) = rw (h .3 i c, eleven)
+refuses-exactly S a h k = (
+  (λ e. by-cases (decLt (total (S .supply)) (total (S .demand)))
+      (λ l. let five : k ≡ 5 = cc (ap solveAnswer (h .1 l)) in inl (five, l))
+      (λ l. by-cases (Dec·and (decLt (total (S .demand)) (total (S .supply))) (ℕ-discrete (cafes S) maxSide))
+      (λ c. let ten : k ≡ 10 = cc (ap solveAnswer (h .2 c)) in inr (inl (ten, c)))
+      (λ c. by-cases (ℕ-discrete (total (S .demand)) 0)
+      (λ i. let eleven : k ≡ 11 = cc (ap solveAnswer (h .3 i c)) in inr (inr (eleven, i, c)))
+      (λ i. absurd (solved≢refused (sym (ap solveAnswer (h .0 l c i .answered)) ∙ e)))))),
+  ⊎-elim (λ (five, l). rw (h .1 l, five)) (⊎-elim (λ (ten, c). rw (h .2 c, ten)) (λ (eleven, i, c). rw (h .3 i c, eleven))),
+)
 
 leaves-all : (a : Answer Solution) (u v : List ℤ) (plan : List ℕ) (k : ℕ) → solveAnswer a ≡ SolveAnswer.Refused k
     → (lentAfter (λ s. s .u) a u ≡ u) × (lentAfter (λ s. s .v) a v ≡ v) × (lentAfter (λ s. s .plan) a plan ≡ plan)
@@ -72,8 +61,7 @@ leaves-all (given s) u v plan k e = absurd (solved≢refused e)
 
 leaves-rest : (S : Sheet) (a : Answer Solution) (u v : List ℤ) (plan : List ℕ) → ((s : Solution) → a ≡ given s → Fills S s)
     → (cost : ℤ) (rounds : ℕ) → solveAnswer a ≡ SolveAnswer.Solved cost rounds
-    → (drop (roasteries S) (lentAfter (λ s. s .u) a u) ≡ drop (roasteries S) u)
-    × (drop (cafes S) (lentAfter (λ s. s .v) a v) ≡ drop (cafes S) v)
+    → (drop (roasteries S) (lentAfter (λ s. s .u) a u) ≡ drop (roasteries S) u) × (drop (cafes S) (lentAfter (λ s. s .v) a v) ≡ drop (cafes S) v)
     × (drop (roasteries S * cafes S) (lentAfter (λ s. s .plan) a plan) ≡ drop (roasteries S * cafes S) plan)
 unfolding solveAnswer
 leaves-rest S (refused r) u v plan h cost rounds e = absurd (solved≢refused (sym e))
@@ -91,8 +79,7 @@ pub bought : (S : Sheet) (r : SolveAnswer) (u v : List ℤ) (plan : List ℕ) (u
     → r ≡ solveAnswer (solveCall S (length u) (length v) (length plan))
     → uAfter ≡ lentAfter (λ s. s .u) (solveCall S (length u) (length v) (length plan)) u
     → vAfter ≡ lentAfter (λ s. s .v) (solveCall S (length u) (length v) (length plan)) v
-    → planAfter ≡ lentAfter (λ s. s .plan) (solveCall S (length u) (length v) (length plan)) plan
-    → Bought S r u v plan uAfter vAfter planAfter
+    → planAfter ≡ lentAfter (λ s. s .plan) (solveCall S (length u) (length v) (length plan)) plan → Bought S r u v plan uAfter vAfter planAfter
 bought S r u v plan uAfter vAfter planAfter answered uHeld vHeld planHeld =
     let a = solveCall S (length u) (length v) (length plan) in
     let d = demand3 S (length u) (length v) (length plan) in

@@ -56,16 +56,12 @@ module _ (S : Sheet) (ok : Sound (problemOf S)) where
   module _ (x : List ℕ) (b : Optimal P x (flowCost P x)) where
     -- An optimal plan costs what the tableau's own bags do, so it lies on lanes of reduced cost 0.
     on-tight : OnTight P last x
-    on-tight = finished-least-exactly P ok last (start-last ok) (start-finished ok) 1 x (b .fulfils) .0 same
-      where
-        same : flowCost P x ≡ (pos 1 *ℤ flowCost P (bagsOf P last))
-        same = eq-z (flowCost P x) (pos 1 *ℤ flowCost P (bagsOf P last)) (omega (
-          arith,
-          z-mul (pos 1) (flowCost P (bagsOf P last)),
-          z-mul (pos 1) (flowCost P x),
-          z-le (b .least 1 (bagsOf P last) (omega arith) (finished-fulfils P ok last (start-last ok))),
-          z-le (finished-least P ok last (start-last ok) (start-finished ok) 1 x (b .fulfils)),
-        ))
+    on-tight =
+        let ours = z-le (b .least 1 (bagsOf P last) (omega arith) (finished-fulfils P ok last (start-last ok))) in
+        let theirs = z-le (finished-least P ok last (start-last ok) (start-finished ok) 1 x (b .fulfils)) in
+        let same : flowCost P x ≡ (pos 1 *ℤ flowCost P (bagsOf P last)) = eq-z (flowCost P x) (pos 1 *ℤ flowCost P (bagsOf P last))
+        (omega (arith, z-mul (pos 1) (flowCost P (bagsOf P last)), z-mul (pos 1) (flowCost P x))) in
+        finished-least-exactly P ok last (start-last ok) (start-finished ok) 1 x (b .fulfils) .0 same
 
     left-tight : (i j : ℕ) → i < sources P → j < sinks P → 1 ≤ at x (place (sinks P) i j) → Tight (costs P) (rowPotential P last) (columnPotential P last) i j
     left-tight i j l h some = by-cases (≈-dec (toZ (reducedCost P last (lane i j))) (nat 0))
@@ -92,13 +88,9 @@ module _ (S : Sheet) (ok : Sound (problemOf S)) where
         let col : among (E .demand) j < sinks P = omega (arith, among-left (E .demand) j demand .inside, struck-sinks E) in
         let carried : 1 ≤ at x (place (sinks P) (among (E .supply) i) (among (E .demand) j)) =
         rw (struck-sinks E) (omega (arith, same-at E (ownPlan-same E x) i j supply demand)) in
-        omega (
-          arith,
-          z-eq (roastery-left E last i (left-yes (E .supply) i supply)),
-          z-eq (cafe-left E last j (left-yes (E .demand) j demand)),
-          left-tight (among (E .supply) i) (among (E .demand) j) row col carried,
-          costs-left E i j supply demand,
-        )
+        let price = z-eq (roastery-left E last i (left-yes (E .supply) i supply)) in
+        let left = left-tight (among (E .supply) i) (among (E .demand) j) row col carried in
+        omega (arith, z-eq (cafe-left E last j (left-yes (E .demand) j demand)), costs-left E i j supply demand)
 
     -- What lanes of the sheet, and the extra café's, cost in the tableau.
     on-sheet : (i j : ℕ) → i < roasteries S → j < cafes S → costs E i j ≈ toZ (atZ (S .cost) (place (cafes S) i j))
@@ -112,38 +104,25 @@ module _ (S : Sheet) (ok : Sound (problemOf S)) where
     -- there are bags.
     plan-certified : Certified S u v (ownSheetPlan S x)
     unfolding problemOf extended sources sinks roasteries ownSheetPlan
-    plan-certified = record {
-      lanes = λ i j l h.
-          le-z (u i +ℤ v j) (atZ (S .cost) (place (cafes S) i j))
-          (omega (arith, z-add (u i) (v j), feasible i j (omega (arith, width-low S)), on-sheet i j l h));
-      used = λ i j l h some.
-          eq-z (u i +ℤ v j) (atZ (S .cost) (place (cafes S) i j))
-          (omega (
-            arith,
-            z-add (u i) (v j),
-            tight i j l (omega (arith, width-low S)) (omega (arith, sheetPlan-same S (ownPlan E x) i j l h)),
-            on-sheet i j l h,
-          ));
-      kept = λ i l less h g.
-          let wide : widthOf S ≡ cafes S + 1 = ⊎-elim (λ (z, e). absurd (omega (arith, sent i l, ap (λ (t : ℕ). sumTo t (bags i)) e))) (λ e. e) (width-is S) in
-          let some : 1 ≤ bags i (cafes S) = omega (arith, sent i l, ap (λ (t : ℕ). sumTo t (bags i)) wide, sumTo-one (cafes S) (bags i)) in
-          le-z (u h) (u i)
-          (omega (
-            arith,
-            tight i (cafes S) l (omega arith) some,
-            feasible h (cafes S) (omega arith),
-            at-extra wide i l,
-            at-extra wide h g,
-          ));
-    }
-      where
+    plan-certified =
         -- In x a roastery sends all that it has, and to the cafés what the settled plan has.
-        sent : (i : ℕ) → i < roasteries S
-            → (sumTo (widthOf S) (bags i) ≡ at (S .supply) i) × (sumTo (cafes S) (bags i) ≡ sumTo (cafes S) (λ j. at (ownSheetPlan S x) (place (cafes S) i j)))
-        sent i l = (
-          struck-optimal E x (flowCost P x) b .fulfils .rows i l ∙ one-mul (at (S .supply) i),
-          sumTo-cong (cafes S) (bags i) (λ j. at (ownSheetPlan S x) (place (cafes S) i j)) (λ j h. sym (sheetPlan-same S (ownPlan E x) i j l h)),
-        )
+        let all : (i : ℕ) → i < roasteries S → sumTo (widthOf S) (bags i) ≡ at (S .supply) i = λ i l.
+        struck-optimal E x (flowCost P x) b .fulfils .rows i l ∙ one-mul (at (S .supply) i) in
+        let sent : (i : ℕ) → i < roasteries S → sumTo (cafes S) (bags i) ≡ sumTo (cafes S) (λ j. at (ownSheetPlan S x) (place (cafes S) i j)) = λ i l.
+        sumTo-cong (cafes S) (bags i) (λ j. at (ownSheetPlan S x) (place (cafes S) i j)) (λ j h. sym (sheetPlan-same S (ownPlan E x) i j l h)) in
+        record {
+          lanes = λ i j l h. le-z (u i +ℤ v j) (atZ (S .cost) (place (cafes S) i j))
+              (omega (arith, z-add (u i) (v j), feasible i j (omega (arith, width-low S)), on-sheet i j l h));
+          used = λ i j l h some.
+              let full = tight i j l (omega (arith, width-low S)) (omega (arith, sheetPlan-same S (ownPlan E x) i j l h)) in
+              eq-z (u i +ℤ v j) (atZ (S .cost) (place (cafes S) i j)) (omega (arith, z-add (u i) (v j), on-sheet i j l h));
+          kept = λ i l less h g.
+              let whole : (t : ℕ) → widthOf S ≡ t → sumTo t (bags i) ≡ at (S .supply) i = λ t e. ap (λ (t : ℕ). sumTo t (bags i)) (sym e) ∙ all i l in
+              let wide : widthOf S ≡ cafes S + 1 = ⊎-elim (λ (z, e). absurd (omega (arith, sent i l, whole (cafes S) e))) (λ e. e) (width-is S) in
+              let some : 1 ≤ bags i (cafes S) = omega (arith, sent i l, whole (cafes S + 1) wide, sumTo-one (cafes S) (bags i)) in
+              le-z (u h) (u i)
+              (omega (arith, tight i (cafes S) l (omega arith) some, feasible h (cafes S) (omega arith), at-extra wide i l, at-extra wide h g));
+        }
 
   -- ---- as solve shows them
 

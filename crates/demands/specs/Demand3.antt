@@ -47,10 +47,6 @@ module _ (S : Sheet) (ok : Sound (problemOf S)) where
   unfolding solution solutionFrom
   settled-length = solution-best .meets .quantities
 
-  solution-fills : Fills S (solution S)
-  unfolding solution solutionFrom roasteryPrices cafePrices
-  solution-fills = record { u = length-table _ (roasteries S); v = length-table _ (cafes S); plan = settled-length }
-
 -- ---- solve
 
 -- The answer gives a best plan with its cost, from the first finished tableau.
@@ -61,27 +57,24 @@ pub record Solved (S : Sheet) (answer : Answer Solution) : Type 1 where
   pub fromFirstFinished : FromFirstFinished S found
 
 module _ (S : Sheet) (a b c : ℕ) (w : WithinLimits S) (r : LongEnough S a b c) where
-  -- neither lacking nor crowded nor idle: solved
-  solve-solves : ¬ Lacking S → ¬ Crowded S → ¬ Idle S → Solved S (solveCall S a b c)
-  solve-solves enough room wanting =
-      let ok = sound (record { limits = w; enough = enough; room = room; wanting = wanting }) in
-      record {
-        found = solution S;
-        answered = solve-gives S a b c w r enough room wanting;
-        best = solution-best S ok;
-        fromFirstFinished = solution-finished S ok;
-      }
-
   -- Demand 3 as a whole, for a sheet within the limits and lent lists that are long enough.
-  pub demand3 : (¬ Lacking S → ¬ Crowded S → ¬ Idle S → Solved S (solveCall S a b c))
-      × (Lacking S → solveCall S a b c ≡ refusedBy 5)
-      × (Crowded S → solveCall S a b c ≡ refusedBy 10)
-      × (Idle S → ¬ Crowded S → solveCall S a b c ≡ refusedBy 11)
-  demand3 = (solve-solves, solve-lacking S a b c w r, solve-crowded S a b c w r, solve-idle S a b c w r)
+  pub demand3 : (¬ Lacking S → ¬ Crowded S → ¬ Idle S → Solved S (solveCall S a b c)) × (Lacking S → solveCall S a b c ≡ refusedBy 5)
+      × (Crowded S → solveCall S a b c ≡ refusedBy 10) × (Idle S → ¬ Crowded S → solveCall S a b c ≡ refusedBy 11)
+  demand3 = (
+    -- neither lacking nor crowded nor idle: solved
+    (λ enough room wanting.
+        let ok = sound (record { limits = w; enough = enough; room = room; wanting = wanting }) in
+        let gives = solve-gives S a b c w r enough room wanting in
+        record { found = solution S; answered = gives; best = solution-best S ok; fromFirstFinished = solution-finished S ok }),
+    solve-lacking S a b c w r,
+    solve-crowded S a b c w r,
+    solve-idle S a b c w r,
+  )
 
 -- On whatever sheet: what solve gives fills its places.
 pub solve-fills : (S : Sheet) (a b c : ℕ) (s : Solution) → solveCall S a b c ≡ given s → Fills S s
-unfolding solveCall
+unfolding solveCall solution solutionFrom roasteryPrices cafePrices
 solve-fills S a b c s e =
     let (clear, same) = unless-given-iff (sheetTests S ++ (_ ∷ [])) (solution S) s .0 e in
-    rw same (solution-fills S (accepted-sound S (refusal-last (sheetTests S) _ .0 clear .0)))
+    let ok = accepted-sound S (refusal-last (sheetTests S) _ .0 clear .0) in
+    rw same (record { u = length-table _ (roasteries S); v = length-table _ (cafes S); plan = settled-length S ok })

@@ -1,6 +1,6 @@
 -- A best plan uses at most m + n − 1 lanes.
-use Rattle.prelude.specs.Words.{_≡_, refl, sym, ap, _∙_, by-cases, Bool, true, false, not, cond, List, [], _∷_, ℕ, zero, suc, _+_, _*_, _-_, _≤_, _<_, arith}
-use Rattle.prelude.specs.Words.{mul-le-mul-left, ℕ-discrete, decLt, eqb, ℤ, pos, _*ℤ_, length, getD, length-map}
+use Rattle.prelude.specs.Words.{_≡_, refl, sym, ap, _∙_, by-cases, Bool, false, not, cond, List, [], _∷_, ℕ, zero, suc, _+_, _*_, _-_, _≤_, _<_, arith}
+use Rattle.prelude.specs.Words.{mul-le-mul-left, ℕ-discrete, decLt, eqb, ℤ, pos, _*ℤ_, length, getD, length-map, by-test}
 use Rattle.integers.specs.Integer.{Z, _≈_, _≼_, ≈-dec, _⊕_, _⊗_, neg, nat}
 use Rattle.integers.specs.IntegerLaws.{⊗-cong}
 use Rattle.integers.specs.Bridge.{toZ, z-mul, z-eq, z-le, eq-z}
@@ -28,12 +28,10 @@ cnt-first (suc n) P = omega (arith, cnt-first n P)
 keep-count : {A : Type 0} (p : A → Bool) (xs : List A) (d : A) → length (keep p xs) ≡ cnt (length xs) (λ k. p (getD xs k d))
 unfolding keep
 keep-count p [] d = refl
-keep-count {A} p (x ∷ xs) d =
-    omega (arith, one (p x) (keep p xs), keep-count p xs d, cnt-first (length xs) (λ k. p (getD (x ∷ xs) k d)))
-  where
-    one : (b : Bool) (ys : List A) → length (cond b (x ∷ ys) ys) ≡ cond b 1 0 + length ys
-    one true ys = omega arith
-    one false ys = omega arith
+keep-count p (x ∷ xs) d =
+    let first = cnt-first (length xs) (λ k. p (getD (x ∷ xs) k d)) in
+    let rest = keep-count p xs d in
+    by-test (p x) (λ e. rw e (omega (arith, rw e at first))) (λ e. rw e (omega (arith, rw e at first)))
 
 module _ (m n : ℕ) (plan : List ℕ) where
   abbrev hasBag : Lane → Bool
@@ -42,10 +40,6 @@ module _ (m n : ℕ) (plan : List ℕ) where
   -- Whether the lane at a place carries a bag.
   abbrev carries : ℕ → Bool
   carries l = hasBag (getD (lanes m n) l (lane 0 0))
-
-  used-count : length (used m n plan) ≡ cnt (m * n) carries
-  unfolding used
-  used-count = keep-count hasBag (lanes m n) (lane 0 0) ∙ ap (λ (t : ℕ). cnt t carries) (length-lanes m n)
 
   carries-none : (l : ℕ) → l < m * n → at plan l ≡ 0 → carries l ≡ false
   unfolding carried
@@ -86,48 +80,35 @@ module _ {S : Sheet} {plan : List ℕ} {cost : ℤ} (best : Best S plan cost) (k
     -- Over places where the amounts add up to 0, it has as many bags as the plan taken k times.
     same-sum : (count : ℕ) (p : ℕ → ℕ) → ((h : ℕ) → h < count → p h < m * n) → sum count (λ h. z (p h)) ≈ nat 0
         → sumTo count (λ h. at shifted (p h)) ≡ k * sumTo count (λ h. at plan (p h))
-    same-sum count p inside none = omega (
-      arith,
-      sum-sumTo count (λ h. at shifted (p h)),
-      sum-cong count (λ h. nat (at shifted (p h))) (λ h. nat k ⊗ nat (at plan (p h)) ⊕ z (p h)) (λ h q. shifted-at (p h) (inside h q)),
-      sum-add count (λ h. nat k ⊗ nat (at plan (p h))) (λ h. z (p h)),
-      sum-scale count (nat k) (λ h. nat (at plan (p h))),
-      ⊗-cong (nat k) (sum count (λ h. nat (at plan (p h)))) (nat (sumTo count (λ h. at plan (p h)))) (sum-sumTo count (λ h. at plan (p h))),
-    )
+    same-sum count p inside none =
+        let ours : ℕ → Z = λ h. nat (at plan (p h)) in
+        let each = sum-cong count (λ h. nat (at shifted (p h))) (λ h. nat k ⊗ ours h ⊕ z (p h)) (λ h q. shifted-at (p h) (inside h q)) in
+        let split = sum-add count (λ h. nat k ⊗ ours h) (λ h. z (p h)) in
+        let times = ⊗-cong (nat k) (sum count ours) (nat (sumTo count (λ h. at plan (p h)))) (sum-sumTo count (λ h. at plan (p h))) in
+        omega (arith, sum-sumTo count (λ h. at shifted (p h)), sum-scale count (nat k) ours)
 
     shifted-meets : Meets S k shifted
     unfolding shifted
     shifted-meets = record {
       quantities = length-table (λ l. k * at plan l + z l .up - z l .dn) (m * n);
-      rows = λ i p. omega (
-        arith,
-        same-sum n (λ j. place n i j) (λ j q. place-below m n i j p q) (w .rows i p),
-        mul-le-mul-left k (best .meets .rows i p),
-      );
-      columns = λ j q. omega (
-        arith,
-        same-sum m (λ i. place n i j) (λ i p. place-below m n i j p q) (w .cols j q),
-        ap (λ (t : ℕ). k * t) (best .meets .columns j q),
-      );
+      rows = λ i p.
+          omega (arith, same-sum n (λ j. place n i j) (λ j q. place-below m n i j p q) (w .rows i p), mul-le-mul-left k (best .meets .rows i p));
+      columns = λ j q.
+          let same = same-sum m (λ i. place n i j) (λ i p. place-below m n i j p q) (w .cols j q) in
+          omega (arith, ap (λ (t : ℕ). k * t) (best .meets .columns j q));
     }
 
     shifted-cost : toZ (planCost S shifted) ≈ nat k ⊗ toZ cost ⊕ shiftCost z
     unfolding planCost
-    shifted-cost = omega (
-      arith,
-      places-cost (m * n) shifted (S .cost),
-      sum-cong (m * n) (λ l. nat (at shifted l) ⊗ c l) (λ l. nat k ⊗ (nat (at plan l) ⊗ c l) ⊕ z l ⊗ c l)
-          (λ l p. spread (nat (at shifted l)) (nat (at plan l)) (z l) (c l) (shifted-at l p)),
-      sum-add (m * n) (λ l. nat k ⊗ (nat (at plan l) ⊗ c l)) (λ l. z l ⊗ c l),
-      sum-scale (m * n) (nat k) (λ l. nat (at plan l) ⊗ c l),
-      ⊗-cong (nat k) (toZ cost) (sum (m * n) (λ l. nat (at plan l) ⊗ c l)) (omega (arith, z-eq (best .shown), places-cost (m * n) plan (S .cost))),
-    )
-      where
-        c : ℕ → Z
-        c l = toZ (atZ (S .cost) l)
-
-        spread : (t x y c : Z) → t ≈ nat k ⊗ x ⊕ y → t ⊗ c ≈ nat k ⊗ (x ⊗ c) ⊕ y ⊗ c
-        spread t x y c e = omega (arith, ⊗-cong c t (nat k ⊗ x ⊕ y) e)
+    shifted-cost =
+        let c : ℕ → Z = λ l. toZ (atZ (S .cost) l) in
+        let spread : (t x y c : Z) → t ≈ nat k ⊗ x ⊕ y → t ⊗ c ≈ nat k ⊗ (x ⊗ c) ⊕ y ⊗ c = λ t x y c e. omega (arith, ⊗-cong c t (nat k ⊗ x ⊕ y) e) in
+        let each = sum-cong (m * n) (λ l. nat (at shifted l) ⊗ c l) (λ l. nat k ⊗ (nat (at plan l) ⊗ c l) ⊕ z l ⊗ c l)
+        (λ l p. spread (nat (at shifted l)) (nat (at plan l)) (z l) (c l) (shifted-at l p)) in
+        let split = sum-add (m * n) (λ l. nat k ⊗ (nat (at plan l) ⊗ c l)) (λ l. z l ⊗ c l) in
+        let ours : toZ cost ≈ sum (m * n) (λ l. nat (at plan l) ⊗ c l) = omega (arith, z-eq (best .shown), places-cost (m * n) plan (S .cost)) in
+        let times = ⊗-cong (nat k) (toZ cost) (sum (m * n) (λ l. nat (at plan l) ⊗ c l)) ours in
+        omega (arith, places-cost (m * n) shifted (S .cost), sum-scale (m * n) (nat k) (λ l. nat (at plan l) ⊗ c l))
 
     -- No plan in k-ths costs less than the best, so they cost nothing or more.
     shift-least : nat 0 ≼ shiftCost z
@@ -148,20 +129,14 @@ module _ {S : Sheet} {plan : List ℕ} {cost : ℤ} (best : Best S plan cost) (k
   -- Where they can be added, and taken away as well, they cost nothing, and the first that is not 0 would be below 0 and above. So all are 0.
   all-zero : (z : ℕ → Z) → Shift m n k plan z → Shift m n k plan (λ l. neg (z l)) → (l h : ℕ) → h < l → h < m * n → z h ≈ nat 0
   all-zero z w v zero h p q = absurd (omega arith)
-  all-zero z w v (suc l) h p q = by-cases (ℕ-discrete h l)
+  all-zero z w v (suc l) h p q =
+      let same = sum-cong (m * n) (λ l. neg (z l) ⊗ toZ (atZ (S .cost) l)) (λ l. neg (z l ⊗ toZ (atZ (S .cost) l))) (λ l r. omega arith) in
+      let back : shiftCost (λ l. neg (z l)) ≈ neg (shiftCost z) = omega (arith, sum-neg (m * n) (λ l. z l ⊗ toZ (atZ (S .cost) l))) in
+      let free : shiftCost z ≈ nat 0 = omega (arith, back, shift-least z w, shift-least (λ l. neg (z l)) v) in
+      by-cases (ℕ-discrete h l)
       (λ e. let before : (g : ℕ) → g < h → z g ≈ nat 0 = λ g r. all-zero z w v l g (omega arith) (omega arith) in
       omega (arith, shift-first z w free h q before, shift-first (λ l. neg (z l)) v (omega (arith, back, free)) h q (λ g r. omega (arith, before g r))))
       (λ e. all-zero z w v l h (omega arith) q)
-    where
-      back : shiftCost (λ l. neg (z l)) ≈ neg (shiftCost z)
-      back = omega (
-        arith,
-        sum-neg (m * n) (λ l. z l ⊗ toZ (atZ (S .cost) l)),
-        sum-cong (m * n) (λ l. neg (z l) ⊗ toZ (atZ (S .cost) l)) (λ l. neg (z l ⊗ toZ (atZ (S .cost) l))) (λ l r. omega arith),
-      )
-
-      free : shiftCost z ≈ nat 0
-      free = omega (arith, back, shift-least z w, shift-least (λ l. neg (z l)) v)
 
 -- ---- the theorem
 
@@ -171,35 +146,24 @@ module _ {S : Sheet} {plan : List ℕ} {cost : ℤ} (best : Best S plan cost) (k
 -- two carries more on the first lane that they change. A best plan allows neither.
 pub few-lanes : {S : Sheet} {plan : List ℕ} {cost : ℤ} → 1 ≤ cafes S → Best S plan cost
     → length (used (roasteries S) (cafes S) plan) < roasteries S + cafes S
-few-lanes {S} {plan} p best = by-cases (decLt (length (used m n plan)) (m + n)) (λ l. l)
-    (λ l. absurd (none (circulates m n (carries m n plan) p (omega (arith, used-count m n plan)))))
-  where
-    m : ℕ
-    m = roasteries S
-
-    n : ℕ
-    n = cafes S
-
-    none : Circulates m n (carries m n plan) → ⊥
-    none c = let (l, q, filled) = c .some in filled (all-zero best k (omega arith) z added taken (m * n) l q q)
-      where
-        z : ℕ → Z
-        z = c .amount
-
-        k : ℕ
-        k = suc (sumTo (m * n) (λ l. z l .up + z l .dn))
-
-        room : (l : ℕ) → l < m * n → (nat 0 ≼ nat (k * at plan l) ⊕ z l) × (nat 0 ≼ nat (k * at plan l) ⊕ neg (z l))
-        room l q = by-cases (ℕ-discrete (at plan l) 0)
-            (λ e. omega (arith, c .off l q (carries-none m n plan l q e)))
-            (λ e. let some : 1 ≤ at plan l = omega arith in omega (arith, mul-le-mul-left k some, sumTo-each (m * n) (λ l. z l .up + z l .dn) l q))
-
-        added : Shift m n k plan z
-        added = record { rows = c .rows; cols = c .cols; room = λ l q. room l q .0 }
-
-        taken : Shift m n k plan (λ l. neg (z l))
-        taken = record {
-          rows = λ i q. omega (arith, sum-neg n (λ j. z (place n i j)), c .rows i q);
-          cols = λ j q. omega (arith, sum-neg m (λ i. z (place n i j)), c .cols j q);
-          room = λ l q. room l q .1;
-        }
+unfolding used
+few-lanes {S} {plan} p best =
+    let m : ℕ = roasteries S in
+    let n : ℕ = cafes S in
+    by-cases (decLt (length (used m n plan)) (m + n)) (λ l. l) (λ l.
+    let count = keep-count (hasBag m n plan) (lanes m n) (lane 0 0) ∙ ap (λ (t : ℕ). cnt t (carries m n plan)) (length-lanes m n) in
+    let c : Circulates m n (carries m n plan) = circulates m n (carries m n plan) p (omega arith) in
+    let z : ℕ → Z = c .amount in
+    let k : ℕ = suc (sumTo (m * n) (λ l. z l .up + z l .dn)) in
+    let room : (l : ℕ) → l < m * n → (nat 0 ≼ nat (k * at plan l) ⊕ z l) × (nat 0 ≼ nat (k * at plan l) ⊕ neg (z l)) = λ l q.
+    by-cases (ℕ-discrete (at plan l) 0)
+    (λ e. omega (arith, c .off l q (carries-none m n plan l q e)))
+    (λ e. let some : 1 ≤ at plan l = omega arith in omega (arith, mul-le-mul-left k some, sumTo-each (m * n) (λ l. z l .up + z l .dn) l q)) in
+    let added : Shift m n k plan z = record { rows = c .rows; cols = c .cols; room = λ l q. room l q .0 } in
+    let taken : Shift m n k plan (λ l. neg (z l)) = record {
+      rows = λ i q. omega (arith, sum-neg n (λ j. z (place n i j)), c .rows i q);
+      cols = λ j q. omega (arith, sum-neg m (λ i. z (place n i j)), c .cols j q);
+      room = λ l q. room l q .1;
+    } in
+    let (l, q, filled) = c .some in
+    absurd (filled (all-zero best k (omega arith) z added taken (m * n) l q q)))

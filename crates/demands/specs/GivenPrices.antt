@@ -1,7 +1,7 @@
 -- The prices that are given (02, Four), those of struck parties among them: none passes the bound of prices, and no lane's reduced cost is negative with them
 -- once the tableau is finished.
-use Rattle.prelude.specs.Words.{_≡_, refl, sym, ap, _∙_, Bool, true, false, List, map, List·Memᴰ, Memᴰ·cast, ℕ, suc, _+_, _*_, _≤_, _<_, arith, ℤ, pos, natAbs}
-use Rattle.prelude.specs.Words.{negℤ, _+ℤ_, _-ℤ_, _≤ℤ_, length, length-map, by-test}
+use Rattle.prelude.specs.Words.{_≡_, sym, ap, _∙_, true, false, List, map, List·Memᴰ, Memᴰ·cast, ℕ, suc, _+_, _*_, _≤_, _<_, arith, ℤ, pos, natAbs, negℤ, _+ℤ_}
+use Rattle.prelude.specs.Words.{_-ℤ_, _≤ℤ_, length, length-map, by-test}
 use Rattle.integers.specs.Integer.{_≈_, _≼_, _⊕_}
 use Rattle.integers.specs.Bridge.{toZ, z-neg, z-add, z-eq, z-le, le-z}
 use Rattle.transport.specs.declared.Cell.{Cell}
@@ -72,10 +72,6 @@ module _ {S : Sheet} (ok : Accepted S) {T : List Cell} (w : Belongs (problemOf S
   unfolding rowPrice problemOf
   row-size i = node-size _
 
-  column-size : (j : ℕ) → natAbs (columnPrice E T j) ≤ count * costAbove
-  unfolding columnPrice problemOf
-  column-size j = node-size _
-
   lane-size : (i j : ℕ) → natAbs (laneCost E (lane i j)) ≤ costAbove
   unfolding laneCost costAbove
   lane-size i j = cost-each S (λ c. natAbs c ≤ costAbove) (omega arith) (λ k. abs-between (ok .limits .costLow k) (ok .limits .costHigh k)) _
@@ -85,13 +81,7 @@ module _ {S : Sheet} (ok : Accepted S) {T : List Cell} (w : Belongs (problemOf S
   -- Where one is struck, one place of its side is not used.
   row-struck : (i : ℕ) → i < roasteries S → isLeft (E .supply) i ≡ false → sources (problemOf S) < maxSide
   unfolding problemOf extended roasteries rowsLeft
-  row-struck i l e = omega (
-    arith,
-    struck-sources E,
-    fewer-left (S .supply) i l (not-left (S .supply) i e),
-    ok .limits .roasteriesHigh,
-    sources-room,
-  )
+  row-struck i l e = omega (arith, struck-sources E, fewer-left (S .supply) i l (not-left (S .supply) i e), ok .limits .roasteriesHigh, sources-room)
 
   column-struck : (j : ℕ) → j < sinks E → isLeft (E .demand) j ≡ false → sinks (problemOf S) < maxSide
   unfolding problemOf extended sinks columnsLeft
@@ -100,7 +90,8 @@ module _ {S : Sheet} (ok : Accepted S) {T : List Cell} (w : Belongs (problemOf S
   -- ---- each kind of price
 
   cafe-left-size : (j : ℕ) → isLeft (E .demand) j ≡ true → natAbs (cafePrice E T j) ≤ count * costAbove
-  cafe-left-size j e = rw (cafe-left E T j e) (column-size j)
+  unfolding columnPrice problemOf
+  cafe-left-size j e = rw (cafe-left E T j e) (node-size _)
 
   -- A struck café's price is a cost less a price of a roastery left.
   cafe-struck-size : (j : ℕ) → isLeft (E .demand) j ≡ false → natAbs (cafePrice E T j) ≤ suc count * costAbove
@@ -121,21 +112,16 @@ module _ {S : Sheet} (ok : Accepted S) {T : List Cell} (w : Belongs (problemOf S
   -- and then at most 62.
   pub roastery-size : (i : ℕ) → i < roasteries S → natAbs (roasteryPrice E T i) ≤ maxCells * costAbove
   unfolding basisSize maxCells maxSide costAbove maxCost extended sinks
-  roastery-size i l = go (isLeft (E .supply) i) refl
-    where
-      columns : (j : ℕ) → j < sinks E → isLeft (E .supply) i ≡ false → (b : Bool) → isLeft (E .demand) j ≡ b
-          → costAbove + natAbs (cafePrice E T j) ≤ maxCells * costAbove
-      columns j h e true f = omega (arith, cafe-left-size j f, row-struck i l e, sound ok .sinksHigh)
-      columns j h e false f = omega (arith, cafe-struck-size j f, row-struck i l e, column-struck j h f)
-
-      go : (b : Bool) → isLeft (E .supply) i ≡ b → natAbs (roasteryPrice E T i) ≤ maxCells * costAbove
-      go true e = rw (roastery-left E T i e) (omega (arith, row-size i, sound ok .sourcesHigh, sound ok .sinksHigh))
-      go false e =
-          let long : 1 ≤ length (table (sinks E) (costLessCafe E T i)) =
-          omega (arith, columns-left ok, length-left (wanted S), length-table (costLessCafe E T i) (sinks E)) in
-          let (j, h, s) = table-member (sinks E) (costLessCafe E T i) (leastOf-member (table (sinks E) (costLessCafe E T i)) long) in
-          rw (roastery-struck E T i e, s)
-          (omega (arith, abs-diff (laneCost E (lane i j)) (cafePrice E T j), lane-size i j, columns j h e (isLeft (E .demand) j) refl))
+  roastery-size i l = by-test (isLeft (E .supply) i)
+      (λ e. rw (roastery-left E T i e) (omega (arith, row-size i, sound ok .sourcesHigh, sound ok .sinksHigh)))
+      (λ e.
+      let amounts = table (sinks E) (costLessCafe E T i) in
+      let long : 1 ≤ length amounts = omega (arith, columns-left ok, length-left (wanted S), length-table (costLessCafe E T i) (sinks E)) in
+      let (j, h, s) = table-member (sinks E) (costLessCafe E T i) (leastOf-member amounts long) in
+      let column : costAbove + natAbs (cafePrice E T j) ≤ maxCells * costAbove = by-test (isLeft (E .demand) j)
+      (λ f. omega (arith, cafe-left-size j f, row-struck i l e, sound ok .sinksHigh))
+      (λ f. omega (arith, cafe-struck-size j f, row-struck i l e, column-struck j h f)) in
+      rw (roastery-struck E T i e, s) (omega (arith, abs-diff (laneCost E (lane i j)) (cafePrice E T j), lane-size i j, column)))
 
 -- So it is with the lists that calls give.
 pub given-within : {S : Sheet} → Accepted S → {T : List Cell} → Belongs (problemOf S) T → PricesWithin S (atZ (roasteryPrices S T)) (atZ (cafePrices S T))
@@ -169,28 +155,22 @@ costs-left E i j p q =
 module _ (E : Problem) (T : List Cell) (done : isFinished (struck E) T ≡ true) where
   left-feasible : (i j : ℕ) → 1 ≤ at (E .supply) i → 1 ≤ at (E .demand) j → toZ (rowPrice E T i) ⊕ toZ (columnPrice E T j) ≼ costs E i j
   unfolding rowPrice columnPrice rowsLeft columnsLeft
-  left-feasible i j p q = omega (
-    arith,
-    finished-feasible (struck E) T done (among (E .supply) i) (among (E .demand) j)
-        (omega (arith, among-left (E .supply) i p .inside, struck-sources E)) (omega (arith, among-left (E .demand) j q .inside, struck-sinks E)),
-    costs-left E i j p q,
-  )
+  left-feasible i j p q =
+      let feasible = finished-feasible (struck E) T done (among (E .supply) i) (among (E .demand) j)
+      (omega (arith, among-left (E .supply) i p .inside, struck-sources E)) (omega (arith, among-left (E .demand) j q .inside, struck-sinks E)) in
+      omega (arith, costs-left E i j p q)
 
   -- Once the tableau is finished, no lane costs less than its prices: between parties left that is what finished means, a struck café's price is at most what
   -- the lane leaves of it, whichever roastery is left, and a struck roastery's, whichever café there is.
   pub prices-feasible : (i j : ℕ) → j < sinks E → (roasteryPrice E T i +ℤ cafePrice E T j) ≤ℤ laneCost E (lane i j)
   unfolding rowsLeft
   prices-feasible i j l =
-      le-z _ _ (omega (arith, z-add (roasteryPrice E T i) (cafePrice E T j), go (isLeft (E .supply) i) refl (isLeft (E .demand) j) refl))
-    where
-      go : (b : Bool) → isLeft (E .supply) i ≡ b → (c : Bool) → isLeft (E .demand) j ≡ c
-          → toZ (roasteryPrice E T i) ⊕ toZ (cafePrice E T j) ≼ costs E i j
-      go true e true f =
-          rw (roastery-left E T i e, cafe-left E T j f) (left-feasible i j (is-left (E .supply) i e) (is-left (E .demand) j f))
-      go true e false f =
-          let member = member-map (costLessRow E T j) (member-left (E .supply) i (is-left (E .supply) i e)) in
-          rw (roastery-left E T i e, cafe-struck E T j f)
-          (omega (arith, less-price (laneCost E (lane i j)) _ (rowPrice E T i) (leastOf-least member)))
-      go false e c f =
-          rw (roastery-struck E T i e)
-          (less-price (laneCost E (lane i j)) _ (cafePrice E T j) (leastOf-least (member-table (sinks E) (costLessCafe E T i) j l)))
+      let below : toZ (roasteryPrice E T i) ⊕ toZ (cafePrice E T j) ≼ costs E i j = by-test (isLeft (E .supply) i)
+      (λ e. by-test (isLeft (E .demand) j)
+      (λ f. rw (roastery-left E T i e, cafe-left E T j f) (left-feasible i j (is-left (E .supply) i e) (is-left (E .demand) j f)))
+      (λ f.
+      let member = member-map (costLessRow E T j) (member-left (E .supply) i (is-left (E .supply) i e)) in
+      rw (roastery-left E T i e, cafe-struck E T j f) (omega (arith, less-price (laneCost E (lane i j)) _ (rowPrice E T i) (leastOf-least member)))))
+      (λ e. rw (roastery-struck E T i e)
+      (less-price (laneCost E (lane i j)) _ (cafePrice E T j) (leastOf-least (member-table (sinks E) (costLessCafe E T i) j l)))) in
+      le-z _ _ (omega (arith, z-add (roasteryPrice E T i) (cafePrice E T j)))

@@ -1,8 +1,7 @@
 -- Sheets without a 0 give what they gave before Four: nobody is struck, so the problem behind the sheet is the extended one, all have their own numbers, and
 -- the prices are its potentials.
-use Rattle.prelude.specs.Words.{_≡_, refl, sym, ap, _∙_, by-cases, Bool, true, false, not, _&&_, _||_, and-false, and-true, List, [], _∷_, _++_, Option, none}
-use Rattle.prelude.specs.Words.{some, ℕ, suc, _+_, _*_, _≤_, _<_, arith, decLt, eqb, ltb, ℤ, pos, length, getD, ext-getD, le-leb, lt-ltb, le-ltb, not-false}
-use Rattle.prelude.specs.Words.{by-test}
+use Rattle.prelude.specs.Words.{_≡_, refl, sym, ap, _∙_, by-cases, Bool, true, false, not, _&&_, _||_, and-false, and-true, List, [], _∷_, _++_, none, ℕ, suc}
+use Rattle.prelude.specs.Words.{_+_, _*_, _≤_, _<_, arith, decLt, eqb, ltb, ℤ, pos, length, getD, ext-getD, le-leb, lt-ltb, le-ltb, not-false, by-test}
 use Rattle.transport.specs.declared.Cell.{Cell}
 use Rattle.transport.specs.declared.Tableau.{Tableau}
 use Rattle.transport.specs.Lists.{all, grid, at, atZ, below, table, within, atMost, total}
@@ -24,7 +23,7 @@ use Rattle.transport.specs.PlanText.{planText, writePlanCall, refusedLine, prin
 use Rattle.transport.specs.Statements.{Belongs, SheetTextOf}
 use Rattle.transport.specs.Laws.SheetLaws.{refusal-no, refusal-clear, refusal-pass, refusal-stands, within-true, idle-no}
 use Rattle.transport.specs.Laws.CallLaws.{unless-given, unless-refused, refusal-last}
-use Rattle.transport.specs.Laws.ListLaws.{map-table, table-getD, table-cong, length-table, getD-table, at-past, and-right, sumTo-each}
+use Rattle.transport.specs.Laws.ListLaws.{by-option, map-table, table-getD, table-cong, length-table, getD-table, at-past, and-right, sumTo-each}
 use Rattle.transport.specs.Laws.ProblemLaws.{problem, lane, length-grid, grid-is}
 use Rattle.transport.specs.Laws.ExtendedLaws.{width-low, beyond, wanted-at}
 use Rattle.transport.specs.Laws.PartiesLaws.{left-yes, left-no, among-at, left-all, amountsLeft}
@@ -101,24 +100,11 @@ module _ (E : Problem) (rows : (i : ℕ) → i < sources E → 1 ≤ at (E .supp
   -- So the same tableaux belong: one with a cell off the sheet fails both tests.
   belongs-same : (t : Tableau) → belongsTo E t ≡ belongs E t
   unfolding belongsTo belongs cellsBelong
-  belongs-same t = rw (covers-same, struck-same) (go (all (onSheet E) (cellsOf t)) refl)
-    where
-      count : Bool
-      count = eqb (t .count) (basisSize (sources E) (sinks E))
-
-      go : (b : Bool) → all (onSheet E) (cellsOf t) ≡ b
-          → count && all (onSheet E) (cellsOf t) && cellsBelong E (renumbered E (cellsOf t)) ≡ count && cellsBelong E (cellsOf t)
-      go true e = rw (renumbered-same (cellsOf t) (covered-iff E (cellsOf t) .0 (rw covers-same e)), e, and-true count)
-      go false e = rw (e, and-false count)
-
-  -- The prices that are given are potentials.
-  row-same : (T : List Cell) (i : ℕ) → i < sources E → roasteryPrice E T i ≡ potential E T i
-  unfolding roasteryPrice rowPrice sources
-  row-same T i l = rw (left-yes (E .supply) i (rows i l), struck-same, same-among (E .supply) rows i l)
-
-  column-same : (T : List Cell) (j : ℕ) → j < sinks E → cafePrice E T j ≡ potential E T (sources E + j)
-  unfolding cafePrice columnPrice sinks
-  column-same T j l = rw (left-yes (E .demand) j (columns j l), struck-same, same-among (E .demand) columns j l)
+  belongs-same t =
+      let count : Bool = eqb (t .count) (basisSize (sources E) (sinks E)) in
+      rw (covers-same, struck-same) (by-test (all (onSheet E) (cellsOf t))
+      (λ e. rw (renumbered-same (cellsOf t) (covered-iff E (cellsOf t) .0 (rw covers-same e)), e, and-true count))
+      (λ e. rw (e, and-false count)))
 
 -- ---- what was given before Four, by the definitions as they stood
 
@@ -160,10 +146,7 @@ solutionBefore S =
 
 -- What the program prints of a sheet that was read, or of a refusal.
 unfoldable pub printedOf : Answer Sheet → List ℕ
-printedOf a = elim a [
-  | refused r ↦ refusedLine r
-  | given S ↦ planText S
-]
+printedOf a = elim a [ refused r ↦ refusedLine r | given S ↦ planText S ]
 
 -- 02, Four, on sheets without a 0: every call gives, or refuses, what it did.
 pub record AsBefore (S : Sheet) : Type 0 where
@@ -171,12 +154,9 @@ pub record AsBefore (S : Sheet) : Type 0 where
   pub start : startCall S ≡ unless (checkBefore S) (start (extended S))
   pub round : (t : Tableau) → roundCall S t ≡ unless (tableauBefore S t) (roundBefore S (cellsOf t))
   pub run : (t : Tableau) (allowance : ℕ) → runCall S t allowance ≡ unless (tableauBefore S t) (run (extended S) allowance (cellsOf t))
-  pub settle : (t : Tableau) (room : ℕ) → settleCall S t room
-      ≡ unless
-      (tableauBefore S t ++ ((not (isFinished (extended S) (cellsOf t)), 7) ∷ (tooShort room (roasteries S * cafes S), 8) ∷ []))
-      (settled S)
-  pub solve : (uRoom vRoom planRoom : ℕ) → solveCall S uRoom vRoom planRoom
-      ≡ unless
+  pub settle : (t : Tableau) (room : ℕ) → settleCall S t room ≡ unless
+      (tableauBefore S t ++ ((not (isFinished (extended S) (cellsOf t)), 7) ∷ (tooShort room (roasteries S * cafes S), 8) ∷ [])) (settled S)
+  pub solve : (uRoom vRoom planRoom : ℕ) → solveCall S uRoom vRoom planRoom ≡ unless
       (checkBefore S ++ ((tooShort uRoom (roasteries S) || tooShort vRoom (cafes S) || tooShort planRoom (roasteries S * cafes S), 8) ∷ []))
       (solutionBefore S)
   -- The texts are those of the sheet and of that solution.
@@ -184,10 +164,8 @@ pub record AsBefore (S : Sheet) : Type 0 where
   pub writeSheet : (room : ℕ) → writeSheetCall S room ≡ unless (checkBefore S ++ ((tooShort room (length (sheetText S)), 8) ∷ [])) (sheetText S)
   pub writePlan : (room : ℕ) → writePlanCall S room ≡ unless (checkBefore S ++ ((tooShort room (length (planText S)), 8) ∷ [])) (planText S)
   pub readSheet : (text : List ℕ) → SheetTextOf S text → (supplyRoom demandRoom costRoom : ℕ) → readSheetCall text supplyRoom demandRoom costRoom
-      ≡ unless
-      (numbersBefore S
-      ++ ((tooShort supplyRoom (roasteries S) || tooShort demandRoom (cafes S) || tooShort costRoom (roasteries S * cafes S), 8) ∷ []))
-      S
+      ≡ unless (numbersBefore S
+      ++ ((tooShort supplyRoom (roasteries S) || tooShort demandRoom (cafes S) || tooShort costRoom (roasteries S * cafes S), 8) ∷ [])) S
   pub printed : (input : List ℕ) → SheetTextOf S input → printed input ≡ printedOf (unless (numbersBefore S) S)
 
 -- ---- refusals
@@ -195,19 +173,15 @@ pub record AsBefore (S : Sheet) : Type 0 where
 -- Lists of tests that refuse the same refuse the same with further ones, which need to agree only where the first ones refuse nothing.
 refusal-then : (ts us vs ws : List (Bool × ℕ)) → refusal ts ≡ refusal us → (refusal us ≡ none → refusal vs ≡ refusal ws)
     → refusal (ts ++ vs) ≡ refusal (us ++ ws)
-refusal-then ts us vs ws e f = go (refusal us) refl
-  where
-    go : (o : Option ℕ) → refusal us ≡ o → refusal (ts ++ vs) ≡ refusal (us ++ ws)
-    go none g = refusal-pass ts vs (e ∙ g) ∙ f g ∙ sym (refusal-pass us ws g)
-    go (some k) g = refusal-stands ts vs k (e ∙ g) ∙ sym (refusal-stands us ws k g)
+refusal-then ts us vs ws e f = by-option (refusal us)
+    (λ g. refusal-pass ts vs (e ∙ g) ∙ f g ∙ sym (refusal-pass us ws g))
+    (λ k g. refusal-stands ts vs k (e ∙ g) ∙ sym (refusal-stands us ws k g))
 
 -- .. and so do values.
 unless-then : {A : Type 0} (ts us : List (Bool × ℕ)) (x y : A) → refusal ts ≡ refusal us → (refusal us ≡ none → x ≡ y) → unless ts x ≡ unless us y
-unless-then ts us x y e f = go (refusal us) refl
-  where
-    go : (o : Option ℕ) → refusal us ≡ o → unless ts x ≡ unless us y
-    go none g = unless-given ts x (e ∙ g) ∙ ap given (f g) ∙ sym (unless-given us y g)
-    go (some k) g = unless-refused ts x k (e ∙ g) ∙ sym (unless-refused us y k g)
+unless-then ts us x y e f = by-option (refusal us)
+    (λ g. unless-given ts x (e ∙ g) ∙ ap given (f g) ∙ sym (unless-given us y g))
+    (λ k g. unless-refused ts x k (e ∙ g) ∙ sym (unless-refused us y k g))
 
 -- A list without a 0 is within 1 and the limit where it is within the limit.
 within-same : (high : ℕ) (xs : List ℕ) → ((k : ℕ) → k < length xs → 1 ≤ at xs k) → all (within 1 high) xs ≡ all (atMost high) xs
@@ -239,25 +213,22 @@ module _ {S : Sheet} (each : NoZero S) where
   unfolding problemOf
   problem-same = struck-same E rows columns costs
 
-  -- Where there is a café, something is wanted.
-  wanting : 1 ≤ cafes S → idle S .0 ≡ false
-  unfolding total cafes
-  wanting low = idle-no S (λ z. omega (arith, sumTo-each (length (S .demand)) (at (S .demand)) 0 low, each .demand 0 low))
+  -- Where there is a café, something is wanted, so 11 refuses nothing.
 
   numbers-same : 1 ≤ cafes S → (ts : List (Bool × ℕ)) → refusal (numberTests S ++ ts) ≡ refusal (numbersBefore S ++ ts)
-  unfolding numberTests badAmount roasteries cafes
+  unfolding numberTests badAmount roasteries cafes total
   numbers-same low ts =
+      let wanting = idle-no S (λ z. omega (arith, sumTo-each (length (S .demand)) (at (S .demand)) 0 low, each .demand 0 low)) in
       rw (← within-same maxAmount (S .supply) (each .supply), ← within-same maxAmount (S .demand) (each .demand))
-      (refusal-then (numbersBefore S) (numbersBefore S) (idle S ∷ ts) ts refl (λ e. refusal-no (idle S) ts (wanting low)))
+      (refusal-then (numbersBefore S) (numbersBefore S) (idle S ∷ ts) ts refl (λ e. refusal-no (idle S) ts wanting))
 
   check-same : refusal (sheetTests S) ≡ refusal (checkBefore S)
   unfolding sheetTests numberTests badSides
-  check-same = refusal-then sides sides (numberTests S) (numbersBefore S) refl (λ e.
+  check-same =
+      let sides : List (Bool × ℕ) = badSides S ∷ badLength S ∷ [] in
+      refusal-then sides sides (numberTests S) (numbersBefore S) refl (λ e.
       let fit : within 1 maxSources (roasteries S) && within 1 maxSinks (cafes S) ≡ true = not-false _ (refusal-clear (badSides S) (badLength S ∷ []) e .0) in
       numbers-same (within-true 1 maxSinks (cafes S) (and-right (within 1 maxSources (roasteries S)) _ fit) .0) [])
-    where
-      sides : List (Bool × ℕ)
-      sides = badSides S ∷ badLength S ∷ []
 
   -- What is accepted has a sound problem ..
   problem-sound : refusal (checkBefore S) ≡ none → Sound E
@@ -265,10 +236,6 @@ module _ {S : Sheet} (each : NoZero S) where
 
   own-of : {T : List Cell} → Belongs E T → own E T ≡ T
   own-of {T} w = own-same E rows columns costs T (w .onSheet)
-
-  start-same : startCall S ≡ unless (checkBefore S) (start (extended S))
-  unfolding startCall
-  start-same = unless-then (sheetTests S) (checkBefore S) _ _ check-same (λ e. rw problem-same (own-of (start-belongs E (problem-sound e))))
 
   -- .. and a tableau that is taken belongs to it, under the same numbers.
   tests-same : (t : Tableau) → refusal (tableauTests S t) ≡ refusal (tableauBefore S t)
@@ -283,6 +250,7 @@ module _ {S : Sheet} (each : NoZero S) where
   taken : (t : Tableau) → refusal (tableauBefore S t) ≡ none → HandedOver t
   unfolding belongs inside
   taken t e =
+      let count : Bool = eqb (t .count) (basisSize (sources E) (sinks E)) in
       let (check, passes) = refusal-last (checkBefore S) (not (belongs E t), 6) .0 e in
       let ok = problem-sound check in
       let passed : belongs E t ≡ true = not-false _ passes in
@@ -292,29 +260,24 @@ module _ {S : Sheet} (each : NoZero S) where
         belongs = w;
         numbers = renumbered-same E rows columns costs (cellsOf t) (λ k l. let (row, col) = w .onSheet k l in (rows _ row, columns _ col));
       }
-    where
-      count : Bool
-      count = eqb (t .count) (basisSize (sources E) (sinks E))
 
   -- Its prices are potentials, and its next tableau is the extended problem's.
   source-prices : (T : List Cell) → roasteryPrices S T ≡ sourcePrices E T
-  unfolding roasteryPrices sourcePrices extended sources roasteries
-  source-prices T = table-cong (roasteries S) (roasteryPrice E T) (potential E T) (row-same E rows columns costs T)
+  unfolding roasteryPrices roasteryPrice rowPrice sourcePrices extended sources roasteries
+  source-prices T = table-cong (roasteries S) (roasteryPrice E T) (potential E T) (λ i l.
+      rw (left-yes (E .supply) i (rows i l), struck-same E rows columns costs, same-among (E .supply) rows i l))
 
   cafe-prices : (T : List Cell) → cafePrices S T ≡ pricesBefore S T
-  unfolding cafePrices extended sources sinks roasteries
-  cafe-prices T = table-cong (cafes S) (cafePrice E T) (λ j. potential E T (roasteries S + j))
-      (λ j l. column-same E rows columns costs T j (omega (arith, width-low S)))
+  unfolding cafePrices cafePrice columnPrice extended sources sinks roasteries
+  cafe-prices T = table-cong (cafes S) (cafePrice E T) (λ j. potential E T (roasteries S + j)) (λ j l.
+      let wide : j < sinks E = omega (arith, width-low S) in
+      rw (left-yes (E .demand) j (columns j wide), struck-same E rows columns costs, same-among (E .demand) columns j wide))
 
   round-same : (T : List Cell) → Sound E → Belongs E T → round S T ≡ roundBefore S T
   unfolding round roundBefore
   round-same T ok w = by-test (isFinished E T)
       (λ e. rw (problem-same, e, round, roundBefore) (λ t. finished (source-prices T t) (cafe-prices T t)))
       (λ e. rw (problem-same, e, round, roundBefore) (rw problem-same (ap moved (own-of (next-belongs ok w e)))))
-
-  run-same : (T : List Cell) (allowance : ℕ) → Sound E → Belongs E T → runFrom S allowance T ≡ run E allowance T
-  unfolding runFrom
-  run-same T allowance ok w = rw (problem-same, own-of (run-belongs ok allowance T w))
 
   solution-same : solution S ≡ solutionBefore S
   unfolding solution solutionFrom
@@ -327,25 +290,20 @@ module _ {S : Sheet} (each : NoZero S) where
   -- A text is that of a sheet with a café.
   read-same : {text : List ℕ} → SheetTextOf S text → (ts : List (Bool × ℕ)) → unless (numberTests S ++ ts) S ≡ unless (numbersBefore S ++ ts) S
   unfolding cafes
-  read-same h ts =
-      let low = within-true 1 maxSinks (cafes S) (h .sheet .sides .1) .0 in
-      unless-then _ _ S S (numbers-same low ts) (λ e. refl)
+  read-same h ts = let low = within-true 1 maxSinks (cafes S) (h .sheet .sides .1) .0 in unless-then _ _ S S (numbers-same low ts) (λ e. refl)
 
   -- So it is for every sheet without a 0, accepted or not: 11 does not occur, since a sheet with no café is refused by 1.
   pub as-before : AsBefore S
-  unfolding roundCall runCall settleCall solveCall writeSheetCall writePlanCall readSheetCall readTests printed printedOf numberTests
+  unfolding startCall runFrom roundCall runCall settleCall solveCall writeSheetCall writePlanCall readSheetCall readTests printed printedOf numberTests
   as-before = record {
     check = check-same;
-    start = start-same;
+    start = unless-then (sheetTests S) (checkBefore S) _ _ check-same (λ e. rw problem-same (own-of (start-belongs E (problem-sound e))));
     round = λ t. unless-then (tableauTests S t) (tableauBefore S t) _ _ (tests-same t) (λ e.
-        let h = taken t e in
-        rw (h .numbers) (round-same (cellsOf t) (h .sound) (h .belongs)));
+        let h = taken t e in rw (h .numbers) (round-same (cellsOf t) (h .sound) (h .belongs)));
     run = λ t allowance. unless-then (tableauTests S t) (tableauBefore S t) _ _ (tests-same t) (λ e.
-        let h = taken t e in
-        rw (h .numbers) (run-same (cellsOf t) allowance (h .sound) (h .belongs)));
+        let h = taken t e in rw (h .numbers, problem-same, own-of (run-belongs (h .sound) allowance (cellsOf t) (h .belongs))));
     settle = λ t room. unless-then _ _ (settled S) (settled S)
-        (refusal-then (tableauTests S t) (tableauBefore S t) _ _ (tests-same t) (λ e. rw (problem-same, taken t e .numbers)))
-        (λ e. refl);
+        (refusal-then (tableauTests S t) (tableauBefore S t) _ _ (tests-same t) (λ e. rw (problem-same, taken t e .numbers))) (λ e. refl);
     solve = λ uRoom vRoom planRoom. checked-same _ (solution S) (solutionBefore S) solution-same;
     solution = solution-same;
     writeSheet = λ room. checked-same _ (sheetText S) (sheetText S) refl;

@@ -5,15 +5,11 @@ use Rattle.transport.specs.Sheet.{Sheet, roasteries, cafes, lacking, crowded, i
 use Rattle.transport.specs.Laws.SheetLaws.{refusal-yes, refusal-no, lacking-yes, lacking-no, crowded-yes, crowded-no, idle-yes, limits-left, accepted-left}
 use Rattle.transport.specs.Calls.{given, refusedBy, tooShort, solution, solveCall}
 use Rattle.transport.specs.Laws.CallLaws.{unless-given, unless-refused}
-use Rattle.transport.specs.Statements.{WithinLimits, Lacking, Crowded, Idle, LongEnough}
+use Rattle.transport.specs.Statements.{WithinLimits, Lacking, Crowded, Idle, LongEnough, Accepted}
 
 module _ (S : Sheet) (a b c : ℕ) (w : WithinLimits S) (r : LongEnough S a b c) where
   abbrev last : Bool × ℕ
   last = (tooShort a (roasteries S) || tooShort b (cafes S) || tooShort c (roasteries S * cafes S), 8)
-
-  long : last .0 ≡ false
-  unfolding tooShort
-  long = rw (le-ltb a (roasteries S) (r .u), le-ltb b (cafes S) (r .v), le-ltb c (roasteries S * cafes S) (r .plan))
 
   -- more is wanted than there is: refused by 5
   pub solve-lacking : Lacking S → solveCall S a b c ≡ refusedBy 5
@@ -40,6 +36,8 @@ module _ (S : Sheet) (a b c : ℕ) (w : WithinLimits S) (r : LongEnough S a b c)
 
   -- none of these: solved
   pub solve-gives : ¬ Lacking S → ¬ Crowded S → ¬ Idle S → solveCall S a b c ≡ given (solution S)
-  unfolding solveCall refusal
-  solve-gives enough room wanting = unless-given (sheetTests S ++ (last ∷ [])) (solution S)
-      (accepted-left (record { limits = w; enough = enough; room = room; wanting = wanting }) (last ∷ []) ∙ refusal-no last [] long)
+  unfolding solveCall refusal tooShort
+  solve-gives enough room wanting =
+      let long : last .0 ≡ false = rw (le-ltb a (roasteries S) (r .u), le-ltb b (cafes S) (r .v), le-ltb c (roasteries S * cafes S) (r .plan)) in
+      let ok : Accepted S = record { limits = w; enough = enough; room = room; wanting = wanting } in
+      unless-given (sheetTests S ++ (last ∷ [])) (solution S) (accepted-left ok (last ∷ []) ∙ refusal-no last [] long)

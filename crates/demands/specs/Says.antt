@@ -3,12 +3,12 @@
 -- lost or taken for another thing. The idea: a test refuses by a number alone, and a text that is no sheet text by 9 with its place, which the answer holds;
 -- and what is given stands in front, a tableau's cells in its array, as many as it counts, prices, plan, sheet and text in their lists, as many as m, n, m ×
 -- n or the length in the answer.
-use Rattle.prelude.specs.Words.{_≡_, refl, ap, sym, _∙_, Bool, true, false, Option, none, some, List, _++_, ℕ, _+_, _*_, _≤_, _<_, ℤ, pos, length, take}
-use Rattle.prelude.specs.Words.{take-at, take-append-seam, by-test}
+use Rattle.prelude.specs.Words.{_≡_, refl, ap, sym, _∙_, Bool, true, false, none, List, _++_, ℕ, _+_, _*_, _≤_, _<_, ℤ, pos, length, take, take-at}
+use Rattle.prelude.specs.Words.{take-append-seam, by-test}
 use Rattle.transport.specs.declared.Cell.{Cell}
 use Rattle.transport.specs.declared.Tableau.{Tableau}
 use Rattle.transport.specs.Lists.{at, atZ, padded}
-use Rattle.transport.specs.Laws.ListLaws.{length-table, getD-table}
+use Rattle.transport.specs.Laws.ListLaws.{length-table, getD-table, by-option}
 use Rattle.transport.specs.Sheet.{roasteries, cafes, Sheet, sheetTests, refusal}
 use Rattle.transport.specs.Extended.{wanted, extended}
 use Rattle.transport.specs.Problem.{sources, sinks}
@@ -38,11 +38,7 @@ use Rattle.demands.specs.Bought.{lent-filled}
 -- What gives each refusal by a number back, and x where it is given, gives the call back.
 module _ {A : Type 0} (says : Answer A → Answer A) (tests : List (Bool × ℕ)) (x : A) where
   unless-says : ((k : ℕ) → says (refusedBy k) ≡ refusedBy k) → (unless tests x ≡ given x → says (given x) ≡ given x) → says (unless tests x) ≡ unless tests x
-  unless-says f g = go (refusal tests) refl
-    where
-      go : (o : Option ℕ) → refusal tests ≡ o → says (unless tests x) ≡ unless tests x
-      go none e = let h = unless-given tests x e in rw h (g h)
-      go (some k) e = rw (unless-refused tests x k e) (f k)
+  unless-says f g = by-option (refusal tests) (λ e. let h = unless-given tests x e in rw h (g h)) (λ k e. rw (unless-refused tests x k e) (f k))
 
 -- ---- tableaux and prices
 
@@ -67,8 +63,7 @@ module _ (S : Sheet) (T : List Cell) where
       ∙ (rw (left-yes (S .supply) i has))
       ∙ sym (getD-table (potential (problemOf S) T) (sources (problemOf S)) (among (S .supply) i) (pos 0) number)
 
-  pub shown-v : (j : ℕ) → j < cafes S → 1 ≤ at (S .demand) j
-      → atZ (cafePrices S T) j ≡ atZ (sinkPrices (problemOf S) T) (among (S .demand) j)
+  pub shown-v : (j : ℕ) → j < cafes S → 1 ≤ at (S .demand) j → atZ (cafePrices S T) j ≡ atZ (sinkPrices (problemOf S) T) (among (S .demand) j)
   unfolding atZ cafePrices cafePrice columnPrice sinkPrices problemOf extended columnsLeft
   shown-v j h wants =
       let wants : 1 ≤ at (wanted S) j = rw (wanted-at S j h) wants in
@@ -86,14 +81,10 @@ start-says S =
 
 round-back : (S : Sheet) (T : List Cell) → roundSays (roasteries S) (cafes S) (roundAnswer (given (round S T))) ≡ given (round S T)
 unfolding round roundAnswer roundSays roasteryPrices cafePrices
-round-back S T = by-test (isFinished (problemOf S) T)
-    (λ e. rw (
-      e,
-      round,
-      prices-front (roasteryPrices S T) (roasteries S) (length-table _ (roasteries S)),
-      prices-front (cafePrices S T) (cafes S) (length-table _ (cafes S)),
-    ))
-    (λ e. rw (e, round, cells-of))
+round-back S T =
+    let u = prices-front (roasteryPrices S T) (roasteries S) (length-table _ (roasteries S)) in
+    let v = prices-front (cafePrices S T) (cafes S) (length-table _ (cafes S)) in
+    by-test (isFinished (problemOf S) T) (λ e. rw (e, round, u, v)) (λ e. rw (e, round, cells-of))
 
 pub round-says : (S : Sheet) (t : Tableau) → roundSays (roasteries S) (cafes S) (roundAnswer (roundCall S t)) ≡ roundCall S t
 unfolding roundCall roundAnswer roundSays refusedBy
@@ -120,11 +111,7 @@ run-says S t allowance =
 
 -- Where nothing is refused, none of the first tests refuses.
 refusal-front : (ts us : List (Bool × ℕ)) → refusal (ts ++ us) ≡ none → refusal ts ≡ none
-refusal-front ts us e = go (refusal ts) refl
-  where
-    go : (o : Option ℕ) → refusal ts ≡ o → refusal ts ≡ none
-    go none f = f
-    go (some k) f = absurd (some≢none (sym (refusal-stands ts us k f) ∙ e))
+refusal-front ts us e = by-option (refusal ts) (λ f. f) (λ k f. absurd (some≢none (sym (refusal-stands ts us k f) ∙ e)))
 
 pub settle-says : (S : Sheet) (t : Tableau) (plan : List ℕ)
     → let a = settleCall S t (length plan) in settleSays (roasteries S * cafes S) (settleAnswer a) (lentAfter (λ x. x) a plan) ≡ a
@@ -135,27 +122,20 @@ settle-says S t plan =
     let ok = accepted-sound S (refusal-front (sheetTests S) _ (refusal-front (tableauTests S t) _ (unless-given-iff _ (settled S) (settled S) .0 e .0))) in
     ap given (lent-filled (λ x. x) (settled S) (roasteries S * cafes S) (settled-length S ok) plan))
 
-pub solve-says : (S : Sheet) (u v : List ℤ) (plan : List ℕ)
-    → let a = solveCall S (length u) (length v) (length plan) in
+pub solve-says : (S : Sheet) (u v : List ℤ) (plan : List ℕ) → let a = solveCall S (length u) (length v) (length plan) in
     solveSays (roasteries S) (cafes S) (solveAnswer a) (lentAfter (λ s. s .u) a u) (lentAfter (λ s. s .v) a v) (lentAfter (λ s. s .plan) a plan) ≡ a
 unfolding solveCall solution solutionFrom solveAnswer solveSays refusedBy
 solve-says S u v plan =
     unless-says (λ a. solveSays (roasteries S) (cafes S) (solveAnswer a) (lentAfter (λ s. s .u) a u) (lentAfter (λ s. s .v) a v)
-    (lentAfter (λ s. s .plan) a plan))
-    (sheetTests S ++ _) (solution S) (λ k. refl)
-    (λ e.
-    let f = solve-fills S (length u) (length v) (length plan) (solution S) e in
+    (lentAfter (λ s. s .plan) a plan)) (sheetTests S ++ _) (solution S) (λ k. refl) (λ e.
     let s = solution S in
-    rw (
-      lent-filled (λ s. s .u) s (roasteries S) (f .u) u,
-      lent-filled (λ s. s .v) s (cafes S) (f .v) v,
-      lent-filled (λ s. s .plan) s (roasteries S * cafes S) (f .plan) plan,
-    ))
+    let f = solve-fills S (length u) (length v) (length plan) s e in
+    let filled = lent-filled (λ s. s .plan) s (roasteries S * cafes S) (f .plan) plan in
+    rw (lent-filled (λ s. s .u) s (roasteries S) (f .u) u, lent-filled (λ s. s .v) s (cafes S) (f .v) v, filled))
 
 -- ---- texts
 
-pub readSheet-says : (text supply demand : List ℕ) (cost : List ℤ)
-    → let a = readSheetCall text (length supply) (length demand) (length cost) in
+pub readSheet-says : (text supply demand : List ℕ) (cost : List ℤ) → let a = readSheetCall text (length supply) (length demand) (length cost) in
     readSays (readAnswer a) (lentAfter (λ S. S .supply) a supply) (lentAfter (λ S. S .demand) a demand) (lentAfter (λ S. S .cost) a cost) ≡ a
 unfolding readSheetCall readAnswer readSays refusedBy roasteries cafes
 readSheet-says text supply demand cost = go (sheetReader text) refl
@@ -168,11 +148,8 @@ readSheet-says text supply demand cost = go (sheetReader text) refl
 
     back : (S : Sheet) → length (S .cost) ≡ roasteries S * cafes S → says (given S) ≡ given S
     back S whole =
-        rw (
-          lent-filled (λ S. S .supply) S (roasteries S) refl supply,
-          lent-filled (λ S. S .demand) S (cafes S) refl demand,
-          lent-filled (λ S. S .cost) S (roasteries S * cafes S) whole cost,
-        )
+        let filled = lent-filled (λ S. S .cost) S (roasteries S * cafes S) whole cost in
+        rw (lent-filled (λ S. S .supply) S (roasteries S) refl supply, lent-filled (λ S. S .demand) S (cafes S) refl demand, filled)
 
     go : (o : Reading Sheet) → sheetReader text ≡ o → says (readWith tests text) ≡ readWith tests text
     go (stuck rest) e = rw (read-stuck tests text rest e)

@@ -59,30 +59,16 @@ module _ {m n K : ℕ} {r c : ℕ → ℕ} (t : Basis m n K r c) where
   -- Without cell ℓ only m + n − 2 cells are left: too few to join everything, so some cut is crossed by none of them.
   -- Cell ℓ crosses it, for all cells together do join everything.
   pub cut-at : (ℓ : ℕ) → ℓ < suc K → Cut K r c ℓ
-  cut-at ℓ hl = go (cut (λ k. r (skip ℓ k)) (λ k. m + c (skip ℓ k)) (m + n) K (omega arith))
-    where
-      go : (A : ℕ → Bool) × (A 0 ≡ true) × ((k : ℕ) → k < K → A (r (skip ℓ k)) ≡ A (m + c (skip ℓ k))) × ((w : ℕ) × (w < m + n) × (A w ≡ false)) → Cut K r c ℓ
-      go g = record { A = A; B = B; first = g .1; others = others; crosses = crosses }
-        where
-          A : ℕ → Bool
-          A = g .0
-
-          B : ℕ → Bool
-          B j = g .0 (m + j)
-
-          others : (k : ℕ) → k < suc K → k ≢ ℓ → A (r k) ≡ B (c k)
-          others = skip-all (λ k. A (r k) ≡ B (c k)) ℓ K hl (g .2)
-
-          crosses : ¬ (A (r ℓ) ≡ B (c ℓ))
-          crosses e = outside (g .3 .0) (g .3 .1) (g .3 .2)
-            where
-              closed : Closed m n (In r c (suc K)) A B
-              closed i j hi hj s = ap A (sym (s .2)) ∙ by-cases (ℕ-discrete (s .0) ℓ) (λ q. rw q e) (others (s .0) (s .1)) ∙ ap B (s .3)
-
-              outside : (x : ℕ) → x < m + n → ¬ (g .0 x ≡ false)
-              outside x l f = by-cases (decLt x m)
-                  (λ q. false≢true (sym f ∙ t .joined .rows A B (g .1) closed x q))
-                  (λ q. false≢true (sym f ∙ ap (g .0) (omega arith) ∙ t .joined .cols A B (g .1) closed (x - m) (omega arith)))
+  cut-at ℓ hl =
+      let (A, first, closed, (x, l, out)) = cut (λ k. r (skip ℓ k)) (λ k. m + c (skip ℓ k)) (m + n) K (omega arith) in
+      let B : ℕ → Bool = λ j. A (m + j) in
+      let others = skip-all (λ k. A (r k) ≡ B (c k)) ℓ K hl closed in
+      let all : A (r ℓ) ≡ B (c ℓ) → Closed m n (In r c (suc K)) A B = λ e i j hi hj (k, l, p, q).
+      ap A (sym p) ∙ by-cases (ℕ-discrete k ℓ) (λ s. rw s e) (others k l) ∙ ap B q in
+      let crosses : ¬ (A (r ℓ) ≡ B (c ℓ)) = λ e. by-cases (decLt x m)
+      (λ q. false≢true (sym out ∙ t .joined .rows A B first (all e) x q))
+      (λ q. false≢true (sym out ∙ ap A (omega arith) ∙ t .joined .cols A B first (all e) (x - m) (omega arith))) in
+      record { A = A; B = B; first = first; others = others; crosses = crosses }
 
   -- the cells are distinct: of two equal ones, neither could cross a cut alone
   pub distinct : (k l : ℕ) → k < suc K → l < suc K → r k ≡ r l → c k ≡ c l → k ≡ l
@@ -92,10 +78,8 @@ module _ {m n K : ℕ} {r c : ℕ → ℕ} (t : Basis m n K r c) where
   module _ {x : ℕ → ℕ → Z} {a b : ℕ → Z} (f : Flow m n (In r c (suc K)) x a b) where
     -- a flow on the basis is, at each cell, the balance of that cell's cut, up to sign
     pub flow-at : {ℓ : ℕ} → ℓ < suc K → (g : Cut K r c ℓ) → x (r ℓ) (c ℓ) ⊗ side (g .A (r ℓ)) (g .B (c ℓ)) ≈ bal m n (g .A) (g .B) a b
-    flow-at {ℓ} hl g = balance (t .rows ℓ hl) (t .cols ℓ hl) (flow-on (λ i j hi hj. cell) f)
-      where
-        cell : {i j : ℕ} → In r c (suc K) i j → ((i ≡ r ℓ) × (j ≡ c ℓ)) ⊎ (g .A i ≡ g .B j)
-        cell (k, l, p, q) = by-cases (ℕ-discrete k ℓ) (λ s. inl (sym p ∙ ap r s, sym q ∙ ap c s)) (λ s. inr (ap (g .A) (sym p) ∙ g .others k l s ∙ ap (g .B) q))
+    flow-at {ℓ} hl g = balance (t .rows ℓ hl) (t .cols ℓ hl) (flow-on (λ i j hi hj (k, l, p, q). by-cases (ℕ-discrete k ℓ)
+        (λ s. inl (sym p ∙ ap r s, sym q ∙ ap c s)) (λ s. inr (ap (g .A) (sym p) ∙ g .others k l s ∙ ap (g .B) q))) f)
 
     -- a bound on the balance of the cut is one on the flow
     pub flow-within : {ℓ : ℕ} → ℓ < suc K → (g : Cut K r c ℓ) (H : ℕ) → Within H (bal m n (g .A) (g .B) a b) → Within H (x (r ℓ) (c ℓ))
@@ -104,19 +88,13 @@ module _ {m n K : ℕ} {r c : ℕ → ℕ} (t : Basis m n K r c) where
   -- Two flows on a basis with the same margins agree at every cell: both are the balance of the same cut there.
   pub flow-unique : {x y : ℕ → ℕ → Z} {a b : ℕ → Z} → Flow m n (In r c (suc K)) x a b → Flow m n (In r c (suc K)) y a b → (i j : ℕ) → i < m → j < n
       → x i j ≈ y i j
-  flow-unique {x} {y} f g i j hi hj = go (≈-dec (x i j) (nat 0)) (≈-dec (y i j) (nat 0))
-    where
-      agree : (k : ℕ) → k < suc K → x (r k) (c k) ≈ y (r k) (c k)
-      agree k l = let w : Cut K r c k = cut-at k l in
-          omega (arith, crossing (w .A (r k)) (w .B (c k)) (x (r k) (c k) ⊖ y (r k) (c k)) (w .crosses) (omega (arith, flow-at f l w, flow-at g l w)))
-
-      cell : In r c (suc K) i j → x i j ≈ y i j
-      cell = in-cells (λ i j. x i j ≈ y i j) agree
-
-      go : Dec (x i j ≈ nat 0) → Dec (y i j ≈ nat 0) → x i j ≈ y i j
-      go (yes e) (yes e′) = omega arith
-      go (yes e) (no e′) = cell (g .on i j hi hj e′)
-      go (no e) e′ = cell (f .on i j hi hj e)
+  flow-unique {x} {y} f g i j hi hj =
+      let cell : In r c (suc K) i j → x i j ≈ y i j = in-cells (λ i j. x i j ≈ y i j) (λ k l. let w : Cut K r c k = cut-at k l in
+      let none = crossing (w .A (r k)) (w .B (c k)) (x (r k) (c k) ⊖ y (r k) (c k)) (w .crosses) in
+      omega (arith, none (omega (arith, flow-at f l w, flow-at g l w)))) in
+      by-cases (≈-dec (x i j) (nat 0))
+      (λ e. by-cases (≈-dec (y i j) (nat 0)) (λ e′. omega arith) (λ e′. cell (g .on i j hi hj e′)))
+      (λ e. cell (f .on i j hi hj e))
 
   -- The loop signs of an entering cell (p, q) are the flow of −1 at row p and −1 at column q. A cut's balance of these is −1, 0 or 1, so they are.
   pub unit : {σ : ℕ → ℕ → Z} {p q : ℕ} → p < m → q < n → Flow m n (In r c (suc K)) σ (point p (neg (nat 1))) (point q (neg (nat 1)))
@@ -128,8 +106,7 @@ module _ {m n K : ℕ} {r c : ℕ → ℕ} (t : Basis m n K r c) where
   -- leaving one.
   pub replaced : {r′ c′ : ℕ → ℕ} {ℓ p q : ℕ} {δ : ℕ → ℕ → Z} → ℓ < suc K → ((k : ℕ) → k < suc K → r′ k < m) → ((k : ℕ) → k < suc K → c′ k < n)
       → Replaces m n (In r c (suc K)) (r ℓ) (c ℓ) (In r′ c′ (suc K)) p q
-      → Circulation m n (λ i j. In r c (suc K) i j ⊎ ((i ≡ p) × (j ≡ q))) δ → ¬ (δ (r ℓ) (c ℓ) ≈ nat 0)
-      → Basis m n K r′ c′
+      → Circulation m n (λ i j. In r c (suc K) i j ⊎ ((i ≡ p) × (j ≡ q))) δ → ¬ (δ (r ℓ) (c ℓ) ≈ nat 0) → Basis m n K r′ c′
   replaced {r′} {c′} {ℓ} hl hr hc w f leaves = record {
     size = t .size;
     rows = hr;

@@ -28,21 +28,17 @@ spot-within p q i j = by-cases (Dec·and (ℕ-discrete i p) (ℕ-discrete j q))
 
 -- its rows and columns
 spot-row : (n p q i : ℕ) → q < n → sum n (spot p q i) ≈ point p (nat 1) i
-spot-row n p q i h = by-cases (ℕ-discrete i p)
+spot-row n p q i h =
+    let one : spot p q p q ≈ nat 1 = rw (spot-at p q) (omega arith) in
+    let others : (j : ℕ) → j < n → j ≢ q → spot p q p j ≈ nat 0 = λ j l d. rw (spot-off p q p j (λ s. d (s .1))) (omega arith) in
+    by-cases (ℕ-discrete i p)
     (λ e. rw (e, point-at p (nat 1)) (omega (arith, sum-one n (spot p q p) q h others, one)))
     (λ e. rw (point-off p (nat 1) i e) (sum-zero n (spot p q i) (λ j l. rw (spot-off p q i j (λ s. e (s .0))) (omega arith))))
-  where
-    one : spot p q p q ≈ nat 1
-    one = rw (spot-at p q) (omega arith)
-
-    others : (j : ℕ) → j < n → j ≢ q → spot p q p j ≈ nat 0
-    others j l d = rw (spot-off p q p j (λ s. d (s .1))) (omega arith)
 
 spot-col : (m p q j : ℕ) → p < m → sum m (λ i. spot p q i j) ≈ point q (nat 1) j
-spot-col m p q j h = omega (arith, sum-one m (λ i. spot p q i j) p h (λ i l d. rw (spot-off p q i j (λ s. d (s .0))) (omega arith)), here)
-  where
-    here : spot p q p j ≈ point q (nat 1) j
-    here = rw (point-at p (point q (nat 1) j)) (omega arith)
+spot-col m p q j h =
+    let here : spot p q p j ≈ point q (nat 1) j = rw (point-at p (point q (nat 1) j)) (omega arith) in
+    omega (arith, sum-one m (λ i. spot p q i j) p h (λ i l d. rw (spot-off p q i j (λ s. d (s .0))) (omega arith)), here)
 
 -- ---- a circuit
 pub record Circuit (m n L : ℕ) (r c : ℕ → ℕ) : Type 0 where
@@ -60,25 +56,19 @@ around r c L i j = sum L (λ k. spot (r (suc k)) (c k) i j ⊖ spot (r k) (c k) 
 module _ (r c : ℕ → ℕ) where
   part-row : (n t : ℕ) → ((k : ℕ) → k < t → c k < n) → (i : ℕ) → sum n (around r c t i) ≈ point (r t) (nat 1) i ⊖ point (r 0) (nat 1) i
   part-row n zero h i = omega (arith, sum-zero n (λ j. nat 0) (λ j l. omega arith))
-  part-row n (suc t) h i = omega (
-    arith,
-    sum-add n (around r c t i) (λ j. spot (r (suc t)) (c t) i j ⊖ spot (r t) (c t) i j),
-    sum-sub n (spot (r (suc t)) (c t) i) (spot (r t) (c t) i),
-    spot-row n (r (suc t)) (c t) i (h t (omega arith)),
-    spot-row n (r t) (c t) i (h t (omega arith)),
-    part-row n t (λ k l. h k (omega arith)) i,
-  )
+  part-row n (suc t) h i =
+      let more = sum-add n (around r c t i) (λ j. spot (r (suc t)) (c t) i j ⊖ spot (r t) (c t) i j) in
+      let both = sum-sub n (spot (r (suc t)) (c t) i) (spot (r t) (c t) i) in
+      let to = spot-row n (r (suc t)) (c t) i (h t (omega arith)) in
+      omega (arith, spot-row n (r t) (c t) i (h t (omega arith)), part-row n t (λ k l. h k (omega arith)) i)
 
   part-col : (m t : ℕ) → ((k : ℕ) → k < suc t → r k < m) → (j : ℕ) → sum m (λ i. around r c t i j) ≈ nat 0
   part-col m zero h j = sum-zero m (λ i. nat 0) (λ i l. omega arith)
-  part-col m (suc t) h j = omega (
-    arith,
-    sum-add m (λ i. around r c t i j) (λ i. spot (r (suc t)) (c t) i j ⊖ spot (r t) (c t) i j),
-    sum-sub m (λ i. spot (r (suc t)) (c t) i j) (λ i. spot (r t) (c t) i j),
-    spot-col m (r (suc t)) (c t) j (h (suc t) (omega arith)),
-    spot-col m (r t) (c t) j (h t (omega arith)),
-    part-col m t (λ k l. h k (omega arith)) j,
-  )
+  part-col m (suc t) h j =
+      let more = sum-add m (λ i. around r c t i j) (λ i. spot (r (suc t)) (c t) i j ⊖ spot (r t) (c t) i j) in
+      let both = sum-sub m (λ i. spot (r (suc t)) (c t) i j) (λ i. spot (r t) (c t) i j) in
+      let to = spot-col m (r (suc t)) (c t) j (h (suc t) (omega arith)) in
+      omega (arith, spot-col m (r t) (c t) j (h t (omega arith)), part-col m t (λ k l. h k (omega arith)) j)
 
   -- only lanes of the circuit change
   part-on : (t i j : ℕ) → ¬ (around r c t i j ≈ nat 0) → (k : ℕ) × (k < t) × (((i ≡ r (suc k)) × (j ≡ c k)) ⊎ ((i ≡ r k) × (j ≡ c k)))
@@ -130,11 +120,10 @@ module _ {m n L : ℕ} {r c : ℕ → ℕ} (w : Circuit m n L r c) where
       → Flow m n T (moved r c L θ x) a b
   moved-flow {T} {x} θ h f = step-flow circulation θ f (λ i j hi hj e. by-cases (≈-dec (around r c L i j) (nat 0))
       (λ z. f .on i j hi hj (λ y. e (omega (arith, ⊗-cong θ (around r c L i j) (nat 0) z))))
-      (λ z. here i j (part-on r c L i j z)))
+      (λ z. let (k, l, s) = part-on r c L i j z in here i j k l s))
     where
-      here : (i j : ℕ) → (k : ℕ) × (k < L) × (((i ≡ r (suc k)) × (j ≡ c k)) ⊎ ((i ≡ r k) × (j ≡ c k))) → T i j
-      here i j (k, l, inl d) = rw (d .0, d .1) (h k l .1)
-      here i j (k, l, inr d) = rw (d .0, d .1) (h k l .0)
+      here : (i j k : ℕ) → k < L → ((i ≡ r (suc k)) × (j ≡ c k)) ⊎ ((i ≡ r k) × (j ≡ c k)) → T i j
+      here i j k l = ⊎-elim (λ d. rw (d .0, d .1) (h k l .1)) (λ d. rw (d .0, d .1) (h k l .0))
 
   -- .. with no negative amount, if no lane that is taken from has less than θ.
   pub moved-nonneg : (x : ℕ → ℕ → Z) (θ : Z) → nat 0 ≼ θ → ((k : ℕ) → k < L → θ ≼ x (r k) (c k)) → Nonneg m n x → Nonneg m n (moved r c L θ x)
@@ -147,10 +136,8 @@ module _ {m n L : ℕ} {r c : ℕ → ℕ} (w : Circuit m n L r c) where
   pub off-row : (i j : ℕ) → ((k : ℕ) → k < L → r k ≢ i) → around r c L i j ≈ nat 0
   off-row i j h = by-cases (≈-dec (around r c L i j) (nat 0)) (λ z. z) (λ z.
       let (k, l, s) = part-on r c L i j z in
-      absurd (⊎-elim (λ d. next k l (sym (d .0))) (λ d. h k l (sym (d .0))) s))
-    where
-      next : (k : ℕ) → k < L → r (suc k) ≢ i
-      next k l e = by-cases (ℕ-discrete (suc k) L) (λ s. h 0 (w .some) (sym (w .back) ∙ rw s at e)) (λ s. h (suc k) (omega arith) e)
+      let next : r (suc k) ≢ i = λ e. by-cases (ℕ-discrete (suc k) L) (λ s. h 0 (w .some) (sym (w .back) ∙ rw s at e)) (λ s. h (suc k) (omega arith) e) in
+      absurd (⊎-elim (λ d. next (sym (d .0))) (λ d. h k l (sym (d .0))) s))
 
   pub off-col : (i j : ℕ) → ((k : ℕ) → k < L → c k ≢ j) → around r c L i j ≈ nat 0
   off-col i j h = by-cases (≈-dec (around r c L i j) (nat 0)) (λ z. z) (λ z.
@@ -159,24 +146,14 @@ module _ {m n L : ℕ} {r c : ℕ → ℕ} (w : Circuit m n L r c) where
 
   -- In the first row a bag goes from the first column to the last.
   pub first-row : (K : ℕ) → suc K ≡ L → (j : ℕ) → around r c L (r 0) j ≈ point (c K) (nat 1) j ⊖ point (c 0) (nat 1) j
-  first-row K e j = omega (
-    arith,
-    sum-sub L (λ k. spot (r (suc k)) (c k) (r 0) j) (λ k. spot (r k) (c k) (r 0) j),
-    sum-one L (λ k. spot (r (suc k)) (c k) (r 0) j) K (omega arith) not-last,
-    sum-one L (λ k. spot (r k) (c k) (r 0) j) 0 (w .some) not-first,
-    last,
-    first,
-  )
-    where
-      last : spot (r (suc K)) (c K) (r 0) j ≈ point (c K) (nat 1) j
-      last = rw (e, w .back, point-at (r 0) (point (c K) (nat 1) j)) (omega arith)
-
-      first : spot (r 0) (c 0) (r 0) j ≈ point (c 0) (nat 1) j
-      first = rw (point-at (r 0) (point (c 0) (nat 1) j)) (omega arith)
-
-      not-last : (k : ℕ) → k < L → k ≢ K → spot (r (suc k)) (c k) (r 0) j ≈ nat 0
-      not-last k l d = rw (spot-off (r (suc k)) (c k) (r 0) j (λ s. absurd (omega (arith, w .once (suc k) 0 (omega arith) (w .some) (sym (s .0))))))
-          (omega arith)
-
-      not-first : (k : ℕ) → k < L → k ≢ 0 → spot (r k) (c k) (r 0) j ≈ nat 0
-      not-first k l d = rw (spot-off (r k) (c k) (r 0) j (λ s. d (w .once k 0 l (w .some) (sym (s .0))))) (omega arith)
+  first-row K e j =
+      let last : spot (r (suc K)) (c K) (r 0) j ≈ point (c K) (nat 1) j = rw (e, w .back, point-at (r 0) (point (c K) (nat 1) j)) (omega arith) in
+      let first : spot (r 0) (c 0) (r 0) j ≈ point (c 0) (nat 1) j = rw (point-at (r 0) (point (c 0) (nat 1) j)) (omega arith) in
+      let not-last : (k : ℕ) → k < L → k ≢ K → spot (r (suc k)) (c k) (r 0) j ≈ nat 0 = λ k l d.
+      rw (spot-off (r (suc k)) (c k) (r 0) j (λ s. absurd (omega (arith, w .once (suc k) 0 (omega arith) (w .some) (sym (s .0))))))
+      (omega arith) in
+      let not-first : (k : ℕ) → k < L → k ≢ 0 → spot (r k) (c k) (r 0) j ≈ nat 0 = λ k l d.
+      rw (spot-off (r k) (c k) (r 0) j (λ s. d (w .once k 0 l (w .some) (sym (s .0))))) (omega arith) in
+      let split = sum-sub L (λ k. spot (r (suc k)) (c k) (r 0) j) (λ k. spot (r k) (c k) (r 0) j) in
+      let single = sum-one L (λ k. spot (r (suc k)) (c k) (r 0) j) K (omega arith) not-last in
+      omega (arith, sum-one L (λ k. spot (r k) (c k) (r 0) j) 0 (w .some) not-first, last, first)

@@ -26,12 +26,8 @@ at-root : (up : ℕ → ℕ) (s : ℕ) → s ≡ 0 → Rooted up s 0
 at-root up s e = record { root = e; below = λ k l. absurd (omega arith); falls = λ h k l l′. absurd (omega arith) }
 
 under-root : (up : ℕ → ℕ) (s d : ℕ) → up s < s → Rooted up (up s) d → Rooted up s (suc d)
-under-root up s d less w = record { root = w .root; below = below; falls = falls }
+under-root up s d less w = record { root = w .root; below = λ k. elim k [ zero ↦ λ l. omega arith | suc k ↦ λ l. w .below k (omega arith) ]; falls = falls }
   where
-    below : (k : ℕ) → k < suc d → 0 < above up s k
-    below zero l = omega arith
-    below (suc k) l = w .below k (omega arith)
-
     falls : (h k : ℕ) → h < k → k < suc (suc d) → above up s k < above up s h
     falls h zero l l′ = absurd (omega arith)
     falls (suc h) (suc k) l l′ = w .falls h k (omega arith) (omega arith)
@@ -91,54 +87,42 @@ module _ {m n p q N s j d : ℕ} {P : ℕ → ℕ → Type 0} {x : ℕ → ℕ �
   circuit : Circuit m n (suc d) r c
   circuit = record {
     some = omega arith;
-    rows = λ k l. rows k l;
-    cols = λ k l. cols k l;
+    rows = λ k. elim k [ zero ↦ λ l. rw (t .root) hp | suc k ↦ λ l. t .rows (above up s k) (w .below k (omega arith)) (low k (omega arith)) ];
+    cols = λ k. elim k [ zero ↦ λ l. hj | suc k ↦ λ l. t .cols (above up s k) (w .below k (omega arith)) (low k (omega arith)) ];
     back = ap row (w .root);
     once = once;
   }
     where
-      rows : (k : ℕ) → k < suc d → r k < m
-      rows zero l = rw (t .root) hp
-      rows (suc k) l = t .rows (above up s k) (w .below k (omega arith)) (low k (omega arith))
-
-      cols : (k : ℕ) → k < suc d → c k < n
-      cols zero l = hj
-      cols (suc k) l = t .cols (above up s k) (w .below k (omega arith)) (low k (omega arith))
-
       once : (h k : ℕ) → h < suc d → k < suc d → r h ≡ r k → h ≡ k
       once zero zero l l′ e = refl
       once zero (suc k) l l′ e = absurd (omega (arith, w .below k (omega arith), t .once 0 (above up s k) (omega arith) (low k (omega arith)) e))
       once (suc h) zero l l′ e = absurd (omega (arith, w .below h (omega arith), t .once (above up s h) 0 (low h (omega arith)) (omega arith) e))
       once (suc h) (suc k) l l′ e =
-          let same : above up s h ≡ above up s k = t .once (above up s h) (above up s k) (low h (omega arith)) (low k (omega arith)) e in
+          let same = t .once (above up s h) (above up s k) (low h (omega arith)) (low k (omega arith)) e in
           by-cases (decLt h k) (λ u. absurd (omega (arith, w .falls h k u (omega arith)))) (λ u.
           by-cases (decLt k h) (λ v. absurd (omega (arith, w .falls k h v (omega arith)))) (λ v. omega arith))
 
   -- It brings θ bags, if it takes from no lane that has fewer.
   pub grown-brings : (θ : Z) → nat 0 ≺ θ → ((k : ℕ) → k < suc d → θ ≼ x (wayRow row up s k) (wayCol col up s j k))
       → Brings m n P x p q θ d (wayRow row up s) (wayCol col up s j)
-  grown-brings θ more h = record {
-    circuit = circuit;
-    start = t .root;
-    later = later;
-    goal = goal;
-    ends = ends d refl deep;
-    lanes = lanes;
-    bags = h;
-    some = more;
-  }
-    where
-      later : (k : ℕ) → 0 < k → k < suc d → p < r k
-      later zero l l′ = absurd (omega arith)
-      later (suc k) l l′ = t .later (above up s k) (w .below k (omega arith)) (low k (omega arith))
-
-      ends : (d′ : ℕ) → d′ ≡ d → 0 < d′ → c d′ ≡ q
-      ends zero e l = absurd (omega arith)
-      ends (suc k) e l = t .own (above up s k) (w .below k (omega arith)) (low k (omega arith)) (sym (above-next up s k) ∙ rw (← e) at (w .root))
-
-      lanes : (k : ℕ) → k < suc d → P (r (suc k)) (c k)
-      lanes zero l = lane
-      lanes (suc k) l = rw (above-next up s k) (t .lanes (above up s k) (w .below k (omega arith)) (low k (omega arith)))
+  grown-brings θ more h =
+      let ends : (e : ℕ) → e ≡ d → 0 < e → c e ≡ q = λ e. elim e [
+        | zero ↦ λ z l. absurd (omega arith)
+        | suc k ↦ λ z l. t .own (above up s k) (w .below k (omega arith)) (low k (omega arith)) (sym (above-next up s k) ∙ rw (← z) at (w .root))
+      ] in
+      record {
+        circuit = circuit;
+        start = t .root;
+        later = λ k. elim k [ zero ↦ λ l l′. absurd (omega arith) | suc k ↦ λ l l′. t .later (above up s k) (w .below k (omega arith)) (low k (omega arith)) ];
+        goal = goal;
+        ends = ends d refl deep;
+        lanes = λ k. elim k [
+          | zero ↦ λ l. lane
+          | suc k ↦ λ l. rw (above-next up s k) (t .lanes (above up s k) (w .below k (omega arith)) (low k (omega arith)))
+        ];
+        bags = h;
+        some = more;
+      }
 
   -- and leaves columns alone that the tree does not use
   pub grown-off : (D : ℕ → Bool) → ((k : ℕ) → 0 < k → k < N → ¬ (D (col k) ≡ true)) → ¬ (D j ≡ true)
@@ -151,30 +135,26 @@ module _ {m n p q N s j d : ℕ} {P : ℕ → ℕ → Type 0} {x : ℕ → ℕ �
 pub grown-more : {m n p q N : ℕ} {P : ℕ → ℕ → Type 0} {x : ℕ → ℕ → Z} {row col up row′ col′ up′ : ℕ → ℕ} → 0 < N
     → ((k : ℕ) → k < N → (row′ k ≡ row k) × (col′ k ≡ col k) × (up′ k ≡ up k))
     → row′ N < m → p < row′ N → ((k : ℕ) → k < N → row k ≢ row′ N) → col′ N < n → nat 0 ≺ x (row′ N) (col′ N)
-    → up′ N < N → P (row (up′ N)) (col′ N) → (up′ N ≡ 0 → col′ N ≡ q)
-    → Grown m n P x p q N row col up → Grown m n P x p q (suc N) row′ col′ up′
-grown-more {m} {n} {p} {q} {N} {P} {x} {row} {col} {up} {row′} {col′} {up′} some same hr hl new hc hb hu lane own t = record {
-  root = same 0 some .0 ∙ t .root;
-  rows = λ k l l′. all (λ i. row′ i < m) k l′ (λ u. rw (same k u .0) (t .rows k l u)) hr;
-  later = λ k l l′. all (λ i. p < row′ i) k l′ (λ u. rw (same k u .0) (t .later k l u)) hl;
-  cols = λ k l l′. all (λ i. col′ i < n) k l′ (λ u. rw (same k u .1) (t .cols k l u)) hc;
-  bags = λ k l l′. all (λ i. nat 0 ≺ x (row′ i) (col′ i)) k l′ (λ u. rw (same k u .0, same k u .1) (t .bags k l u)) hb;
-  below = λ k l l′. all (λ i. up′ i < i) k l′ (λ u. rw (same k u .2) (t .below k l u)) hu;
-  lanes = λ k l l′. all (λ i. P (row′ (up′ i)) (col′ i)) k l′
-      (λ u. rw (same k u .1, same k u .2, same (up k) (omega (arith, t .below k l u)) .0) (t .lanes k l u))
-      (rw (same (up′ N) hu .0) lane);
-  own = λ k l l′. all (λ i. up′ i ≡ 0 → col′ i ≡ q) k l′ (λ u e. same k u .1 ∙ t .own k l u (sym (same k u .2) ∙ e)) own;
-  once = λ h k l l′ e. by-cases (ℕ-discrete h N)
-      (λ d. by-cases (ℕ-discrete k N)
-      (λ d′. omega arith)
-      (λ d′. absurd (new k (omega arith) (sym (same k (omega arith) .0) ∙ sym e ∙ ap row′ d))))
-      (λ d. by-cases (ℕ-discrete k N)
-      (λ d′. absurd (new h (omega arith) (sym (same h (omega arith) .0) ∙ e ∙ ap row′ d′)))
-      (λ d′. t .once h k (omega arith) (omega arith) (sym (same h (omega arith) .0) ∙ e ∙ same k (omega arith) .0)));
-}
-  where
-    all : (Q : ℕ → Type 0) (k : ℕ) → k < suc N → (k < N → Q k) → Q N → Q k
-    all Q k l h h′ = by-cases (ℕ-discrete k N) (λ e. rw e h′) (λ e. h (omega arith))
+    → up′ N < N → P (row (up′ N)) (col′ N) → (up′ N ≡ 0 → col′ N ≡ q) → Grown m n P x p q N row col up → Grown m n P x p q (suc N) row′ col′ up′
+grown-more {m} {n} {p} {q} {N} {P} {x} {row} {col} {up} {row′} {col′} {up′} some same hr hl new hc hb hu lane own t =
+    let all : (Q : ℕ → Type 0) (k : ℕ) → k < suc N → (k < N → Q k) → Q N → Q k = λ Q k l h h′.
+    by-cases (ℕ-discrete k N) (λ e. rw e h′) (λ e. h (omega arith)) in
+    record {
+      root = same 0 some .0 ∙ t .root;
+      rows = λ k l l′. all (λ i. row′ i < m) k l′ (λ u. rw (same k u .0) (t .rows k l u)) hr;
+      later = λ k l l′. all (λ i. p < row′ i) k l′ (λ u. rw (same k u .0) (t .later k l u)) hl;
+      cols = λ k l l′. all (λ i. col′ i < n) k l′ (λ u. rw (same k u .1) (t .cols k l u)) hc;
+      bags = λ k l l′. all (λ i. nat 0 ≺ x (row′ i) (col′ i)) k l′ (λ u. rw (same k u .0, same k u .1) (t .bags k l u)) hb;
+      below = λ k l l′. all (λ i. up′ i < i) k l′ (λ u. rw (same k u .2) (t .below k l u)) hu;
+      lanes = λ k l l′. all (λ i. P (row′ (up′ i)) (col′ i)) k l′
+          (λ u. rw (same k u .1, same k u .2, same (up k) (omega (arith, t .below k l u)) .0) (t .lanes k l u)) (rw (same (up′ N) hu .0) lane);
+      own = λ k l l′. all (λ i. up′ i ≡ 0 → col′ i ≡ q) k l′ (λ u e. same k u .1 ∙ t .own k l u (sym (same k u .2) ∙ e)) own;
+      once = λ h k l l′ e. by-cases (ℕ-discrete h N)
+          (λ d. by-cases (ℕ-discrete k N) (λ d′. omega arith) (λ d′. absurd (new k (omega arith) (sym (same k (omega arith) .0) ∙ sym e ∙ ap row′ d))))
+          (λ d. by-cases (ℕ-discrete k N)
+          (λ d′. absurd (new h (omega arith) (sym (same h (omega arith) .0) ∙ e ∙ ap row′ d′)))
+          (λ d′. t .once h k (omega arith) (omega arith) (sym (same h (omega arith) .0) ∙ e ∙ same k (omega arith) .0)));
+    }
 
 -- The columns C are reached, D of them in earlier searches for the row. A fresh one hangs on position `from`. The lanes of the rows reached lead to C, and none
 -- of C has bags of row p after q.
@@ -192,29 +172,28 @@ module _ {m n p q : ℕ} {P : ℕ → ℕ → Type 0} {x : ℕ → ℕ → Z} {D
   -- At first there are the root and column q.
   pub search-start : row 0 ≡ p → P p q → from q ≡ 0 → ((j : ℕ) → q < j → j < n → D j ≡ true → x p j ≈ nat 0)
       → ((j : ℕ) → (C j ≡ true) ↔ ((D j ≡ true) ⊎ (j ≡ q))) → Searched m n P x p q D C 1 row col up from
-  search-start root lane hangs clear cols = record {
-    tree = record {
-      root = root;
-      rows = λ k l l′. absurd (omega arith);
-      later = λ k l l′. absurd (omega arith);
-      cols = λ k l l′. absurd (omega arith);
-      bags = λ k l l′. absurd (omega arith);
-      below = λ k l l′. absurd (omega arith);
-      lanes = λ k l l′. absurd (omega arith);
-      own = λ k l l′. absurd (omega arith);
-      once = λ h k l l′ e. omega arith;
-    };
-    some = omega arith;
-    alive = λ k l l′. absurd (omega arith);
-    wide = λ j d. cols j .1 (inl d);
-    here = cols q .1 (inr refl);
-    fresh = λ j l o d. ⊎-elim (λ d′. absurd (d d′)) (λ e. rw e first) (cols j .0 o);
-    full = λ k l u u′. absurd (omega arith);
-    clear = λ j l l′ o. ⊎-elim (clear j l l′) (λ e. absurd (omega arith)) (cols j .0 o);
-  }
-    where
-      first : (from q < 1) × P (row (from q)) q × (from q ≡ 0 → q ≡ q)
-      first = (omega arith, rw (hangs, root) lane, λ z. refl)
+  search-start root lane hangs clear cols =
+      let first : (from q < 1) × P (row (from q)) q × (from q ≡ 0 → q ≡ q) = (omega arith, rw (hangs, root) lane, λ z. refl) in
+      record {
+        tree = record {
+          root = root;
+          rows = λ k l l′. absurd (omega arith);
+          later = λ k l l′. absurd (omega arith);
+          cols = λ k l l′. absurd (omega arith);
+          bags = λ k l l′. absurd (omega arith);
+          below = λ k l l′. absurd (omega arith);
+          lanes = λ k l l′. absurd (omega arith);
+          own = λ k l l′. absurd (omega arith);
+          once = λ h k l l′ e. omega arith;
+        };
+        some = omega arith;
+        alive = λ k l l′. absurd (omega arith);
+        wide = λ j d. cols j .1 (inl d);
+        here = cols q .1 (inr refl);
+        fresh = λ j l o d. ⊎-elim (λ d′. absurd (d d′)) (λ e. rw e first) (cols j .0 o);
+        full = λ k l u u′. absurd (omega arith);
+        clear = λ j l l′ o. ⊎-elim (clear j l l′) (λ e. absurd (omega arith)) (cols j .0 o);
+      }
 
   module _ {N : ℕ} (s : Searched m n P x p q D C N row col up from) where
     -- A row is added that has no lane to a fresh column where row p has bags after q.

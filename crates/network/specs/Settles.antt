@@ -1,6 +1,6 @@
 -- Settling on bags comes to its end: every plan on P leads to one whose lanes are all decided.
 use Rattle.prelude.specs.Words.{_≡_, refl, ap, sym, _∙_, _≢_, _⊎_, inl, inr, ⊎-elim, by-cases, Dec·and, ite, if-pos, if-neg, Bool, true, false, cond, decide}
-use Rattle.prelude.specs.Words.{decide-iff, Bool-discrete, false≢true, ℕ, zero, suc, _+_, _*_, _≤_, _<_, arith, ℕ-discrete, decLt}
+use Rattle.prelude.specs.Words.{decide-iff, Bool-discrete, false≢true, ℕ, zero, suc, _+_, _*_, _≤_, _<_, arith, ℕ-discrete, decLt, by-test}
 use Rattle.integers.specs.Integer.{Z, _≈_, _≼_, _≺_, ≈-dec, ≼-dec, _⊕_, nat}
 use Rattle.integers.specs.SumLaws.{sum-each}
 use Rattle.transport.specs.Problem.{place}
@@ -46,7 +46,9 @@ abbrev Past : ℕ → ℕ → (ℕ → ℕ → Z) → (ℕ → Bool) → ℕ →
 Past n p x C N row i = p < i → (j : ℕ) → j < n → C j ≡ true → nat 0 ≺ x i j → (k : ℕ) × (0 < k) × (k < N) × (row k ≡ i)
 
 next-or : (n p : ℕ) (x : ℕ → ℕ → Z) (C : ℕ → Bool) (N : ℕ) (row : ℕ → ℕ) → row 0 ≡ p → (i : ℕ) → Reachable n p x C N row i ⊎ Past n p x C N row i
-next-or n p x C N row root i = by-cases (decLt p i)
+next-or n p x C N row root i =
+    let ≺-dec : (a b : Z) → Dec (a ≺ b) = λ a b. decLt (a .up + b .dn) (b .up + a .dn) in
+    by-cases (decLt p i)
     (λ l. ⊎-elim
     (λ (k, u, e). inr (λ l j hj o b. (k, by-cases (ℕ-discrete k 0) (λ z. absurd (omega (arith, sym root ∙ ap row (sym z) ∙ e))) (λ z. omega arith), u, e)))
     (λ new. ⊎-elim
@@ -56,9 +58,6 @@ next-or n p x C N row root i = by-cases (decLt p i)
     (λ j hj. by-cases (Dec·and (Bool-discrete (C j) true) (≺-dec (nat 0) (x i j))) inl inr)))
     (some-or-all N (λ k. row k ≡ i) (λ k. row k ≢ i) (λ k u. by-cases (ℕ-discrete (row k) i) inl inr)))
     (λ l. inr (λ l′. absurd (l l′)))
-  where
-    ≺-dec : (a b : Z) → Dec (a ≺ b)
-    ≺-dec a b = decLt (a .up + b .dn) (b .up + a .dn)
 
 module _ {m n p q : ℕ} {P : ℕ → ℕ → Type 0} (dec : (i j : ℕ) → Dec (P i j)) (x : ℕ → ℕ → Z) (pos : Nonneg m n x) (hp : p < m) (hq : q < n) where
   abbrev Circuits : Type 0
@@ -99,37 +98,32 @@ module _ {m n p q : ℕ} {P : ℕ → ℕ → Type 0} (dec : (i j : ℕ) → Dec
     next-search : ((l : ℕ) → l < n → P i l → q < l → x p l ≈ nat 0)
         → Searched m n P x p q none wider (suc N) (put N i row) (put N (w .by) col) (put N (from (w .by)) up) hung
     unfolding none wider hung
-    next-search clear = search-grow s next-tree (λ k l. (put-off N i row k l, put-off N (w .by) col k l)) false≢true
+    next-search clear =
+        let no-true : (l : ℕ) → ¬ (C l ≡ true) → C l ≡ false = λ l o. by-test (C l) (λ t. absurd (o t)) (λ t. t) in
+        search-grow s next-tree (λ k l. (put-off N i row k l, put-off N (w .by) col k l)) false≢true
         (λ l o. rw o (refl, refl))
-        (λ l hl h. by-cases (Bool-discrete (C l) true) (λ o. rw o refl) (λ o. rw (not-true (C l) o) (decide-iff (dec i l) .1 (rw (put-at N i row) at h))))
-        (λ l hl o o′. let h : P i l = decide-iff (dec i l) .0 (rw (not-true (C l) o′) at o) in
-        (rw (put-at N i row) h, rw (not-true (C l) o′) refl, clear l hl h))
-      where
-        not-true : (s : Bool) → ¬ (s ≡ true) → s ≡ false
-        not-true true h = absurd (h refl)
-        not-true false h = refl
+        (λ l hl h. by-test (C l) (λ o. rw o refl) (λ o. rw o (decide-iff (dec i l) .1 (rw (put-at N i row) at h))))
+        (λ l hl o o′.
+        let h : P i l = decide-iff (dec i l) .0 (rw (no-true l o′) at o) in
+        (rw (put-at N i row) h, rw (no-true l o′) refl, clear l hl h))
 
   grows : (fuel N : ℕ) → N + fuel ≡ suc m → {C : ℕ → Bool} {row col up from : ℕ → ℕ} → Searched m n P x p q none C N row col up from → Circuits ⊎ End
   unfolding none
-  grows zero N e {C} {row} s = absurd (omega (
-    arith,
-    once-few m N row
-        (λ k l. by-cases (ℕ-discrete k 0) (λ z. rw (z, s .tree .root) hp) (λ z. s .tree .rows k (omega arith) l)) (s .tree .once),
-  ))
+  grows zero N e {C} {row} s =
+      let rows : (k : ℕ) → k < N → row k < m = λ k l. by-cases (ℕ-discrete k 0) (λ z. rw (z, s .tree .root) hp) (λ z. s .tree .rows k (omega arith) l) in
+      absurd (omega (arith, once-few m N row rows (s .tree .once)))
   grows (suc fuel) N e {C} {row} {col} {up} {from} s = ⊎-elim
       (λ (i, hi, w). ⊎-elim
       (λ (l, hl, (lane, goal, some)). inl (finds (next-tree s hi w) (omega arith) (s .some) hl goal (rw (put-at N i row) lane) some))
       (λ clear. grows fuel (suc N) (omega arith) (next-search s hi w clear))
       (some-or-all n (λ l. P i l × (q < l) × (nat 0 ≺ x p l)) (λ l. P i l → q < l → x p l ≈ nat 0)
-      (λ l hl. hit i l hl (dec i l) (decLt q l) (≈-dec (x p l) (nat 0)))))
+      (λ l hl. by-cases (dec i l)
+      (λ h. by-cases (decLt q l)
+      (λ g. by-cases (≈-dec (x p l) (nat 0)) (λ z. inr (λ h g. z)) (λ z. inl (h, g, omega (arith, pos p l hp hl))))
+      (λ g. inr (λ h g′. absurd (g g′))))
+      (λ h. inr (λ h′. absurd (h h′))))))
       (λ past. inr (C, search-ends s (λ i j k l hi hj hk o. absurd (false≢true o)) (λ i j l hi hj o d u. past i hi l j hj o u)))
       (some-or-all m (Reachable n p x C N row) (Past n p x C N row) (λ i hi. next-or n p x C N row (s .tree .root) i))
-    where
-      hit : (i l : ℕ) → l < n → Dec (P i l) → Dec (q < l) → Dec (x p l ≈ nat 0) → (P i l × (q < l) × (nat 0 ≺ x p l)) ⊎ (P i l → q < l → x p l ≈ nat 0)
-      hit i l hl (no h) g z = inr (λ h′. absurd (h h′))
-      hit i l hl (yes h) (no g) z = inr (λ h g′. absurd (g g′))
-      hit i l hl (yes h) (yes g) (yes z) = inr (λ h g. z)
-      hit i l hl (yes h) (yes g) (no z) = inl (h, g, omega (arith, pos p l hp hl))
 
   -- Bags can be brought onto the lane, or it is stuck.
   pub brings-or-stuck : P p q → Circuits ⊎ End

@@ -1,7 +1,7 @@
 -- Settling on bags: a lane is decided when no more bags can be brought onto it from later lanes, and where all lanes are decided the plan carries more on the
 -- first lane where it differs from any other. Lane (i, j) has the number i * n + j.
-use Rattle.prelude.specs.Words.{_≡_, refl, ap, _↔_, _≢_, inl, inr, ⊎-elim, by-cases, Bool, true, false, cond, Bool-discrete, ℕ, zero, suc, _+_, _*_, _-_, _≤_}
-use Rattle.prelude.specs.Words.{_<_, arith, ℕ-discrete, decLt, mul-le-mul-right}
+use Rattle.prelude.specs.Words.{_≡_, refl, ap, _↔_, _≢_, inl, inr, ⊎-elim, by-cases, Bool, true, cond, Bool-discrete, ℕ, zero, suc, _+_, _*_, _-_, _≤_, _<_}
+use Rattle.prelude.specs.Words.{arith, ℕ-discrete, decLt, mul-le-mul-right, by-test}
 use Rattle.integers.specs.Integer.{Z, _≈_, _≼_, _≺_, ≈-dec, ≼-dec, _⊕_, _⊖_, _⊗_, nat}
 use Rattle.integers.specs.IntegerLaws.{⊗-cong}
 use Rattle.integers.specs.Sum.{sum, point}
@@ -35,32 +35,29 @@ module _ {m n : ℕ} {a b : ℕ → Z} {P : ℕ → ℕ → Type 0} {x : ℕ →
 
   decided-next : (p q : ℕ) {t : ℕ} → q < n → p * n + q ≡ t → Most m n a b P x p q → DecidedTo m n a b P t x → DecidedTo m n a b P (suc t) x
   unfolding place
-  decided-next p q {t} hq e h d = record {
-    flow = d .flow;
-    nonneg = d .nonneg;
-    most = λ i j hi hj l. by-cases (decLt (i * n + j) t)
-        (λ s. d .most i j hi hj s)
-        (λ s. here i j (place-injective n i j p q hj hq (omega arith)));
-  }
-    where
-      here : (i j : ℕ) → (i ≡ p) × (j ≡ q) → Most m n a b P x i j
-      here i j s = rw (s .0, s .1) h
+  decided-next p q {t} hq e h d =
+      let here : (i j : ℕ) → (i ≡ p) × (j ≡ q) → Most m n a b P x i j = λ i j s. rw (s .0, s .1) h in
+      record {
+        flow = d .flow;
+        nonneg = d .nonneg;
+        most = λ i j hi hj l. by-cases (decLt (i * n + j) t)
+            (λ s. d .most i j hi hj s)
+            (λ s. here i j (place-injective n i j p q hj hq (omega arith)));
+      }
 
   -- another plan that has the same bags on the decided lanes
   pub decided-other : {t : ℕ} {x′ : ℕ → ℕ → Z} → Flow m n P x′ a b → Nonneg m n x′ → ((i j : ℕ) → i < m → j < n → i * n + j < t → x′ i j ≈ x i j)
       → DecidedTo m n a b P t x → DecidedTo m n a b P t x′
-  decided-other {t} {x′} f pos same d = record {
-    flow = f;
-    nonneg = pos;
-    most = λ i j hi hj l k y g e. omega (
-      arith,
-      d .most i j hi hj l k y g (λ i′ j′ hi′ hj′ l′. omega (arith, e i′ j′ hi′ hj′ l′, times k i′ j′ hi′ hj′ (omega arith))),
-      times k i j hi hj l,
-    );
-  }
-    where
-      times : (k i j : ℕ) → i < m → j < n → i * n + j < t → nat k ⊗ x′ i j ≈ nat k ⊗ x i j
-      times k i j hi hj l = ⊗-cong (nat k) (x′ i j) (x i j) (same i j hi hj l)
+  decided-other {t} {x′} f pos same d =
+      let times : (k i j : ℕ) → i < m → j < n → i * n + j < t → nat k ⊗ x′ i j ≈ nat k ⊗ x i j = λ k i j hi hj l.
+      ⊗-cong (nat k) (x′ i j) (x i j) (same i j hi hj l) in
+      record {
+        flow = f;
+        nonneg = pos;
+        most = λ i j hi hj l k y g e.
+            let agree : Agree m n (i * n + j) k x y = λ i′ j′ hi′ hj′ l′. omega (arith, e i′ j′ hi′ hj′ l′, times k i′ j′ hi′ hj′ (omega arith)) in
+            omega (arith, d .most i j hi hj l k y g agree, times k i j hi hj l);
+      }
 
   -- the same lanes, written otherwise
   pub decided-on : {t : ℕ} {P′ : ℕ → ℕ → Type 0} → ((i j : ℕ) → i < m → j < n → P i j ↔ P′ i j) → DecidedTo m n a b P t x → DecidedTo m n a b P′ t x
@@ -120,22 +117,14 @@ module _ {m n p q k : ℕ} {a b : ℕ → Z} {P : ℕ → ℕ → Type 0} {x y :
   part i j = one (C j) ⊗ z i j
 
   row-zero : (i : ℕ) → i < m → sum n (z i) ≈ nat 0
-  row-zero i l = omega (
-    arith,
-    sum-sub n (y i) (λ j. nat k ⊗ x i j),
-    sum-scale n (nat k) (x i),
-    ⊗-cong (nat k) (sum n (x i)) (a i) (f .rows i l),
-    g .flow .rows i l,
-  )
+  row-zero i l =
+      let times = ⊗-cong (nat k) (sum n (x i)) (a i) (f .rows i l) in
+      omega (arith, sum-sub n (y i) (λ j. nat k ⊗ x i j), sum-scale n (nat k) (x i), g .flow .rows i l)
 
   col-zero : (j : ℕ) → j < n → sum m (λ i. z i j) ≈ nat 0
-  col-zero j l = omega (
-    arith,
-    sum-sub m (λ i. y i j) (λ i. nat k ⊗ x i j),
-    sum-scale m (nat k) (λ i. x i j),
-    ⊗-cong (nat k) (sum m (λ i. x i j)) (b j) (f .cols j l),
-    g .flow .cols j l,
-  )
+  col-zero j l =
+      let times = ⊗-cong (nat k) (sum m (λ i. x i j)) (b j) (f .cols j l) in
+      omega (arith, sum-sub m (λ i. y i j) (λ i. nat k ⊗ x i j), sum-scale m (nat k) (λ i. x i j), g .flow .cols j l)
 
   on-lanes : (i j : ℕ) → i < m → j < n → ¬ (z i j ≈ nat 0) → P i j
   on-lanes i j hi hj d = by-cases (≈-dec (y i j) (nat 0))
@@ -152,11 +141,7 @@ module _ {m n p q k : ℕ} {a b : ℕ → Z} {P : ℕ → ℕ → Type 0} {x y :
 
   part-out : (i j : ℕ) → ¬ (C j ≡ true) → part i j ≈ nat 0
   unfolding part
-  part-out i j o = go (C j) o
-    where
-      go : (s : Bool) → ¬ (s ≡ true) → one s ⊗ z i j ≈ nat 0
-      go true h = absurd (h refl)
-      go false h = omega arith
+  part-out i j o = by-test (C j) (λ t. absurd (o t)) (λ t. rw t (omega arith))
 
   before-row : (i : ℕ) → i < p → sum n (part i) ≈ nat 0
   before-row i l = sum-zero n (part i) (λ j hj. by-cases (Bool-discrete (C j) true)
@@ -187,26 +172,24 @@ module _ {m n p q k : ℕ} {a b : ℕ → Z} {P : ℕ → ℕ → Type 0} {x y :
   total = omega (arith, sum₂-cols m n z (λ j. one (C j)) (λ j. nat 0) col-zero, sum-zero n (λ j. one (C j) ⊗ nat 0) (λ j l. omega arith))
 
   own-row : nat 0 ≺ z p q → nat 0 ≺ sum n (part p)
-  own-row l = omega (arith, part-in p q (s .here), sum-each n (part p) each q hq)
-    where
-      each : (j : ℕ) → j < n → nat 0 ≼ part p j
-      each j hj = by-cases (Bool-discrete (C j) true)
-          (λ o. by-cases (decLt j q)
-          (λ u. omega (arith, part-in p j o, e p j hp hj (omega arith)))
-          (λ u. by-cases (ℕ-discrete j q)
-          (λ d. rw d (omega (arith, part-in p q (s .here))))
-          (λ d. omega (arith, part-in p j o, empty p j hp hj (s .clear j (omega arith) hj o)))))
-          (λ o. omega (arith, part-out p j o))
+  own-row l =
+      let each : (j : ℕ) → j < n → nat 0 ≼ part p j = λ j hj. by-cases (Bool-discrete (C j) true)
+      (λ o. by-cases (decLt j q)
+      (λ u. omega (arith, part-in p j o, e p j hp hj (omega arith)))
+      (λ u. by-cases (ℕ-discrete j q)
+      (λ d. rw d (omega (arith, part-in p q (s .here))))
+      (λ d. omega (arith, part-in p j o, empty p j hp hj (s .clear j (omega arith) hj o)))))
+      (λ o. omega (arith, part-out p j o)) in
+      omega (arith, part-in p q (s .here), sum-each n (part p) each q hq)
 
   stuck-most : y p q ≼ nat k ⊗ x p q
-  stuck-most = by-cases (≼-dec (z p q) (nat 0)) (λ l. omega arith) (λ l.
+  stuck-most =
+      let each : nat 0 ≺ sum n (part p) → (i : ℕ) → i < m → nat 0 ≼ sum n (part i) = λ own i hi. by-cases (decLt i p)
+      (λ l. omega (arith, before-row i l))
+      (λ l. by-cases (ℕ-discrete i p) (λ d. rw d (omega arith)) (λ d. later-row i (omega arith) hi)) in
+      by-cases (≼-dec (z p q) (nat 0)) (λ l. omega arith) (λ l.
       let own : nat 0 ≺ sum n (part p) = own-row (omega arith) in
       absurd (omega (arith, total, sum-each m (λ i. sum n (part i)) (each own) p hp)))
-    where
-      each : nat 0 ≺ sum n (part p) → (i : ℕ) → i < m → nat 0 ≼ sum n (part i)
-      each own i hi = by-cases (decLt i p)
-          (λ l. omega (arith, before-row i l))
-          (λ l. by-cases (ℕ-discrete i p) (λ d. rw d (omega arith)) (λ d. later-row i (omega arith) hi))
 
 -- So the lane is decided.
 pub decided-stuck : {m n p q : ℕ} {a b : ℕ → Z} {P : ℕ → ℕ → Type 0} {x : ℕ → ℕ → Z} {C : ℕ → Bool} → p < m → q < n → Stuck m n P x p q C
@@ -232,11 +215,10 @@ module _ {m n p : ℕ} {a b : ℕ → Z} {P : ℕ → ℕ → Type 0} {x : ℕ �
   -- Row p has no bags after column q: nothing can be brought onto a lane from q on, whatever the other rows have.
   pub decided-end : {q : ℕ} → q ≤ n → ((j : ℕ) → q < j → j < n → x p j ≈ nat 0) → DecidedTo m n a b P (p * n + q) x → DecidedTo m n a b P (p * n + n) x
   decided-end {q} l clear d =
+      let stuck : (j : ℕ) → q ≤ j → Stuck m n P x p j (λ k. true) = λ j u.
+      record { closed = λ i k l v hi hk hl o w t. refl; here = refl; clear = λ k v hk o. clear k (omega arith) hk } in
       let e : q + (n - q) ≡ n = omega arith in
       rw e at (decided-along (n - q) q (omega arith) (λ j u v. decided-stuck hp (omega arith) (stuck j u)) d)
-    where
-      stuck : (j : ℕ) → q ≤ j → Stuck m n P x p j (λ k. true)
-      stuck j u = record { closed = λ i k l v hi hk hl o w t. refl; here = refl; clear = λ k v hk o. clear k (omega arith) hk }
 
 -- ---- bringing bags onto a lane
 -- A circuit that takes from lanes with at least θ bags: first from lane (p, c 0) with q < c 0, and last it puts on lane (p, q). Between, it goes over later
@@ -253,56 +235,45 @@ pub record Brings (m n : ℕ) (P : ℕ → ℕ → Type 0) (x : ℕ → ℕ → 
 
 module _ {m n p q K : ℕ} {P : ℕ → ℕ → Type 0} {x : ℕ → ℕ → Z} {θ : Z} {r c : ℕ → ℕ} (w : Brings m n P x p q θ K r c) where
   own : (j : ℕ) → around r c (suc K) p j ≈ point q (nat 1) j ⊖ point (c 0) (nat 1) j
-  own j = rw (← w .start) (omega (arith, first-row (w .circuit) K refl j, last))
-    where
-      last : point (c K) (nat 1) j ≈ point q (nat 1) j
-      last = rw (w .ends) (omega arith)
+  own j =
+      let last : point (c K) (nat 1) j ≈ point q (nat 1) j = rw (w .ends) (omega arith) in
+      rw (← w .start) (omega (arith, first-row (w .circuit) K refl j, last))
 
   -- Lane (p, q) gets θ more, ..
   pub brought-here : moved r c (suc K) θ x p q ≈ x p q ⊕ θ
-  brought-here = omega (arith, ⊗-cong θ (around r c (suc K) p q) (nat 1) all)
-    where
-      all : around r c (suc K) p q ≈ nat 1
-      all = rw (point-at q (nat 1), point-off (c 0) (nat 1) q (omega (arith, w .goal))) at (own q)
+  brought-here =
+      let all : around r c (suc K) p q ≈ nat 1 = rw (point-at q (nat 1), point-off (c 0) (nat 1) q (omega (arith, w .goal))) at (own q) in
+      omega (arith, ⊗-cong θ (around r c (suc K) p q) (nat 1) all)
 
   -- .. another lane of row p no more than it has, ..
   pub brought-beside : (j : ℕ) → j ≢ q → moved r c (suc K) θ x p j ≼ x p j
-  brought-beside j d = by-cases (ℕ-discrete j (c 0))
+  brought-beside j d =
+      let first : j ≡ c 0 → around r c (suc K) p j ≈ nat 0 ⊖ nat 1 = λ e.
+      rw e (omega (arith, rw (point-off q (nat 1) (c 0) (omega (arith, w .goal)), point-at (c 0) (nat 1)) at (own (c 0)))) in
+      let other : j ≢ c 0 → around r c (suc K) p j ≈ nat 0 = λ e. rw (point-off q (nat 1) j d, point-off (c 0) (nat 1) j e) at (own j) in
+      by-cases (ℕ-discrete j (c 0))
       (λ e. omega (arith, w .some, ⊗-cong θ (around r c (suc K) p j) (nat 0 ⊖ nat 1) (first e)))
       (λ e. omega (arith, ⊗-cong θ (around r c (suc K) p j) (nat 0) (other e)))
-    where
-      first : j ≡ c 0 → around r c (suc K) p j ≈ nat 0 ⊖ nat 1
-      first e = rw e (omega (arith, rw (point-off q (nat 1) (c 0) (omega (arith, w .goal)), point-at (c 0) (nat 1)) at (own (c 0))))
-
-      other : j ≢ c 0 → around r c (suc K) p j ≈ nat 0
-      other e = rw (point-off q (nat 1) j d, point-off (c 0) (nat 1) j e) at (own j)
 
   -- .. and the lanes before it keep what they have.
   brought-before : (i j : ℕ) → j < n → i * n + j < p * n + q → q < n → moved r c (suc K) θ x i j ≈ x i j
-  brought-before i j hj l hq = omega (arith, ⊗-cong θ (around r c (suc K) i j) (nat 0) none)
-    where
-      before-row : i < p → (k : ℕ) → k < suc K → r k ≢ i
-      before-row s k u = by-cases (ℕ-discrete k 0) (λ d. rw d (omega (arith, w .start))) (λ d. omega (arith, w .later k (omega arith) u))
-
-      same-row : i ≡ p → around r c (suc K) i j ≈ nat 0
-      same-row d =
-          let u : j < q = omega (arith, ap (λ (t : ℕ). t * n) d) in
-          rw d (rw (point-off q (nat 1) j (omega arith), point-off (c 0) (nat 1) j (omega (arith, w .goal))) at (own j))
-
-      none : around r c (suc K) i j ≈ nat 0
-      none = by-cases (decLt i p) (λ s. off-row (w .circuit) i j (before-row s)) (λ s. by-cases (ℕ-discrete i p) same-row (λ d.
-          let u : p < i = omega arith in absurd (omega (arith, mul-le-mul-right n u))))
+  brought-before i j hj l hq =
+      let before-row : i < p → (k : ℕ) → k < suc K → r k ≢ i = λ s k u.
+      by-cases (ℕ-discrete k 0) (λ d. rw d (omega (arith, w .start))) (λ d. omega (arith, w .later k (omega arith) u)) in
+      let same-row : i ≡ p → around r c (suc K) i j ≈ nat 0 = λ d. let u : j < q = omega (arith, ap (λ (t : ℕ). t * n) d) in
+      rw d (rw (point-off q (nat 1) j (omega arith), point-off (c 0) (nat 1) j (omega (arith, w .goal))) at (own j)) in
+      let none : around r c (suc K) i j ≈ nat 0 =
+      by-cases (decLt i p) (λ s. off-row (w .circuit) i j (before-row s)) (λ s. by-cases (ℕ-discrete i p) same-row (λ d.
+      let u : p < i = omega arith in absurd (omega (arith, mul-le-mul-right n u)))) in
+      omega (arith, ⊗-cong θ (around r c (suc K) i j) (nat 0) none)
 
   -- The plan stays one on P, and its decided lanes stay decided.
   pub brought : {a b : ℕ → Z} → q < n → DecidedTo m n a b P (p * n + q) x → DecidedTo m n a b P (p * n + q) (moved r c (suc K) θ x)
-  brought hq d = decided-other
-      (moved-flow (w .circuit) θ (λ k l. (taken k l, w .lanes k l)) (d .flow))
-      (moved-nonneg (w .circuit) x θ (omega (arith, w .some)) (w .bags) (d .nonneg))
-      (λ i j hi hj l. brought-before i j hj l hq)
-      d
-    where
-      taken : (k : ℕ) → k < suc K → P (r k) (c k)
-      taken k l = d .flow .on (r k) (c k) (w .circuit .rows k l) (w .circuit .cols k l) (λ o. omega (arith, w .bags k l, w .some))
+  brought hq d =
+      let taken : (k : ℕ) → k < suc K → P (r k) (c k) = λ k l.
+      d .flow .on (r k) (c k) (w .circuit .rows k l) (w .circuit .cols k l) (λ o. omega (arith, w .bags k l, w .some)) in
+      decided-other (moved-flow (w .circuit) θ (λ k l. (taken k l, w .lanes k l)) (d .flow))
+      (moved-nonneg (w .circuit) x θ (omega (arith, w .some)) (w .bags) (d .nonneg)) (λ i j hi hj l. brought-before i j hj l hq) d
 
   -- Columns that the circuit does not touch keep their bags, and stay closed.
   pub brought-off : (i j : ℕ) → ((k : ℕ) → k < suc K → c k ≢ j) → moved r c (suc K) θ x i j ≈ x i j

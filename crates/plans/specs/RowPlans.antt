@@ -1,7 +1,7 @@
 -- The ways to send at least `low` and at most `left` from one source: `rowPlans` lists them all, the one that carries more on the first lane where two differ
 -- first.
-use Rattle.prelude.specs.Words.{ℕ, zero, suc, _+_, _-_, _≤_, _<_, min, arith, _≡_, refl, ap, Bool, true, false, cond, List, [], _∷_, map, List·Memᴰ}
-use Rattle.prelude.specs.Words.{List·Memᴰ·head, List·Memᴰ·eq-of-singleton, List·Memᴰ·not-nil, Memᴰ·cast, eqb, length, getD, eqb-true, eq-eqb}
+use Rattle.prelude.specs.Words.{ℕ, zero, suc, _+_, _-_, _≤_, _<_, min, arith, _≡_, refl, ap, List, [], _∷_, map, List·Memᴰ, List·Memᴰ·head}
+use Rattle.prelude.specs.Words.{List·Memᴰ·eq-of-singleton, List·Memᴰ·not-nil, Memᴰ·cast, eqb, length, eqb-true, eq-eqb, by-test}
 use Rattle.transport.specs.Lists.{downTo, at, total}
 use Rattle.transport.specs.Laws.ListLaws.{member-table, table-member, member-map, map-member, member-flatMap, flatMap-member, sumTo-le, total-nil, total-cons}
 use Rattle.transport.specs.Plan.{rowPlans}
@@ -16,9 +16,7 @@ member-downTo low high x p q = Memᴰ·cast (omega arith) (member-table (suc hig
 
 downTo-member : (low high : ℕ) {x : ℕ} → List·Memᴰ x (downTo low high) → (low ≤ x) × (x ≤ high)
 unfolding downTo
-downTo-member low high m =
-    let (k, p, e) = table-member (suc high - low) (λ k. high - k) m in
-    (omega arith, omega arith)
+downTo-member low high m = let (k, p, e) = table-member (suc high - low) (λ k. high - k) m in (omega arith, omega arith)
 
 -- Of two elements the earlier is the greater.
 sorted-downTo : (low high : ℕ) → Sorted (λ (x y : ℕ). y < x) (downTo low high)
@@ -41,37 +39,23 @@ row-cons : (low left d x : ℕ) (ds xs : List ℕ) → x ≤ d → x ≤ left �
 unfolding at
 row-cons low left d x ds xs p q r = record {
   size = ap suc (r .size);
-  wanted = wanted;
+  wanted = λ j. elim j [ zero ↦ p | suc j ↦ r .wanted j ];
   least = omega (arith, total-cons x xs, r .least);
   most = omega (arith, total-cons x xs, r .most);
 }
-  where
-    wanted : (j : ℕ) → getD (x ∷ xs) j 0 ≤ getD (d ∷ ds) j 0
-    wanted zero = p
-    wanted (suc j) = r .wanted j
 
 row-rest : (low left d x : ℕ) (ds xs : List ℕ) → RowPlan low left (d ∷ ds) (x ∷ xs) → RowPlan (low - x) (left - x) ds xs
 unfolding at
 row-rest low left d x ds xs r =
-    record {
-      size = omega (arith, r .size);
-      wanted = λ j. r .wanted (suc j);
-      least = omega (arith, total-cons x xs, r .least);
-      most = omega (arith, total-cons x xs, r .most);
-    }
+    let sum = total-cons x xs in
+    record { size = omega (arith, r .size); wanted = λ j. r .wanted (suc j); least = omega (arith, r .least); most = omega (arith, r .most) }
 
 pub rowPlans-sound : (low left : ℕ) (ds : List ℕ) {xs : List ℕ} → List·Memᴰ xs (rowPlans low left ds) → RowPlan low left ds xs
 unfolding rowPlans
-rowPlans-sound low left [] {xs} m = go (eqb low 0) refl m
-  where
-    go : (b : Bool) → eqb low 0 ≡ b → List·Memᴰ xs (cond b ([] ∷ []) []) → RowPlan low left [] xs
-    go true e m = rw (List·Memᴰ·eq-of-singleton m) (record {
-      size = refl;
-      wanted = λ j. omega arith;
-      least = omega (arith, eqb-true low 0 e);
-      most = omega (arith, total-nil);
-    })
-    go false e m = absurd (List·Memᴰ·not-nil m)
+rowPlans-sound low left [] m = by-test (eqb low 0)
+    (λ e. rw (List·Memᴰ·eq-of-singleton (rw e at m))
+    (record { size = refl; wanted = λ j. omega arith; least = omega (arith, eqb-true low 0 e); most = omega (arith, total-nil) }))
+    (λ e. absurd (List·Memᴰ·not-nil (rw e at m)))
 rowPlans-sound low left (d ∷ ds) m =
     let (x, l, m) = flatMap-member (λ x. map (λ xs. x ∷ xs) (rowPlans (low - x) (left - x) ds)) (downTo (low - total ds) (min left d)) m in
     let (ys, k, e) = map-member (λ xs. x ∷ xs) (rowPlans (low - x) (left - x) ds) m in
@@ -88,9 +72,8 @@ rowPlans-complete low left (d ∷ ds) (x ∷ xs) r =
     let fits : x ≤ d = r .wanted 0 in
     let room : total xs ≤ total ds = total-le xs ds (rest .size) (rest .wanted) in
     let sum : total (x ∷ xs) ≡ x + total xs = total-cons x xs in
-    member-flatMap
-    (λ x. map (λ xs. x ∷ xs) (rowPlans (low - x) (left - x) ds))
-    (member-downTo (low - total ds) (min left d) x (omega (arith, r .least)) (omega (arith, r .most)))
+    let first = member-downTo (low - total ds) (min left d) x (omega (arith, r .least)) (omega (arith, r .most)) in
+    member-flatMap (λ x. map (λ xs. x ∷ xs) (rowPlans (low - x) (left - x) ds)) first
     (member-map (λ xs. x ∷ xs) (rowPlans-complete (low - x) (left - x) ds xs rest))
 
 -- ---- order
@@ -109,36 +92,22 @@ ahead-first x y xs ys l =
 pub ahead-cons : (x : ℕ) (xs ys : List ℕ) → Ahead xs ys → Ahead (x ∷ xs) (x ∷ ys)
 unfolding at
 ahead-cons x xs ys a =
-    record {
-      lane = suc (a .lane);
-      difference = record { lane = omega (arith, a .difference .lane); differ = a .difference .differ; before = before };
-      more = a .more;
-    }
-  where
-    before : (h : ℕ) → h < suc (a .lane) → getD (x ∷ xs) h 0 ≡ getD (x ∷ ys) h 0
-    before zero p = refl
-    before (suc h) p = a .difference .before h (omega arith)
+    let difference : FirstDifference (x ∷ xs) (x ∷ ys) (suc (a .lane)) = record {
+      lane = omega (arith, a .difference .lane);
+      differ = a .difference .differ;
+      before = λ h. elim h [ zero ↦ λ p. refl | suc h ↦ λ p. a .difference .before h (omega arith) ];
+    } in
+    record { lane = suc (a .lane); difference = difference; more = a .more }
 
 pub rowPlans-sorted : (low left : ℕ) (ds : List ℕ) → Sorted Ahead (rowPlans low left ds)
 unfolding rowPlans
-rowPlans-sorted low left [] = go (eqb low 0)
-  where
-    go : (b : Bool) → Sorted Ahead (cond b ([] ∷ []) [])
-    go true = sorted-single []
-    go false = none
+rowPlans-sorted low left [] = by-test (eqb low 0) (λ e. rw e (sorted-single [])) (λ e. rw e none)
 rowPlans-sorted low left (d ∷ ds) =
-    sorted-flatMap
-    rows
-    apart
+    let rows : ℕ → List (List ℕ) = λ x. map (λ xs. x ∷ xs) (rowPlans (low - x) (left - x) ds) in
+    sorted-flatMap rows
+    (λ x y m n l a b k h.
+    let (xs, k, e) = map-member (λ xs. x ∷ xs) (rowPlans (low - x) (left - x) ds) k in
+    let (ys, h, f) = map-member (λ xs. y ∷ xs) (rowPlans (low - y) (left - y) ds) h in
+    rw (e, f) (ahead-first x y xs ys l))
     (λ x m. sorted-map (λ xs. x ∷ xs) (ahead-cons x) (rowPlans-sorted (low - x) (left - x) ds))
     (sorted-downTo (low - total ds) (min left d))
-  where
-    rows : ℕ → List (List ℕ)
-    rows x = map (λ xs. x ∷ xs) (rowPlans (low - x) (left - x) ds)
-
-    apart : (x y : ℕ) → List·Memᴰ x (downTo (low - total ds) (min left d)) → List·Memᴰ y (downTo (low - total ds) (min left d)) → y < x
-        → (a b : List ℕ) → List·Memᴰ a (rows x) → List·Memᴰ b (rows y) → Ahead a b
-    apart x y m n l a b k h =
-        let (xs, k, e) = map-member (λ xs. x ∷ xs) (rowPlans (low - x) (left - x) ds) k in
-        let (ys, h, f) = map-member (λ xs. y ∷ xs) (rowPlans (low - y) (left - y) ds) h in
-        rw (e, f) (ahead-first x y xs ys l)

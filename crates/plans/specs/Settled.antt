@@ -1,9 +1,9 @@
 -- The settled plan is the one of least cost that carries more, on the first lane where they differ, than any other of that cost.
-use Rattle.prelude.specs.Words.{ℕ, _<_, arith, one-mul, _≡_, refl, sym, _∙_, Bool, true, false, List, [], _∷_, ℤ, pos, _*ℤ_, ltZ, _≤ℤ_, length, getD}
+use Rattle.prelude.specs.Words.{ℕ, _<_, arith, one-mul, _≡_, refl, sym, _∙_, Bool, List, [], _∷_, ℤ, pos, _*ℤ_, ltZ, _≤ℤ_, length, getD, by-test}
 use Rattle.integers.specs.Bridge.{z-eq, eq-z, z-le, z-mul}
 use Rattle.integers.specs.Tests.{lt-no, no-lt}
 use Rattle.transport.specs.Lists.{at}
-use Rattle.transport.specs.Laws.ListLaws.{StrictWeak, FirstLeast, by-key, firstLeast-unique}
+use Rattle.transport.specs.Laws.ListLaws.{FirstLeast, by-key, firstLeast-unique}
 use Rattle.transport.specs.Laws.AmountLaws.{ltZ-weak}
 use Rattle.transport.specs.Sheet.{Sheet}
 use Rattle.transport.specs.Plan.{planCost, plans, settled}
@@ -27,10 +27,6 @@ difference-sym x y l e d = record { lane = omega (arith, d .lane); differ = λ f
 cheaper : Sheet → List ℕ → List ℕ → Bool
 cheaper S x y = ltZ (planCost S x) (planCost S y)
 
-cheaper-weak : (S : Sheet) → StrictWeak (cheaper S)
-unfolding cheaper
-cheaper-weak S = by-key (planCost S) ltZ-weak
-
 -- The list holds all plans that meet the sheet, so x stands in it. None costs less; and one before x carries more than x on the first lane where they differ,
 -- so it costs more. Hence x is the first of least cost.
 settled-first : (S : Sheet) (x : List ℕ) → Settled S x → (k : ℕ) × FirstLeast (cheaper S) [] (plans S) x k
@@ -41,32 +37,22 @@ settled-first S x b =
       record {
         inside = inside;
         stands = stands;
-        least = least;
-        first = λ h l. first k inside stands h l (ltZ (planCost S x) (planCost S (getD (plans S) h []))) refl;
+        least = λ h l. no-lt (planCost S (getD (plans S) h [])) (planCost S x) (z-le (b .least _ (plans-sound S h l)));
+        first = λ h l.
+            let y = getD (plans S) h [] in
+            by-test (ltZ (planCost S x) (planCost S y)) (λ p. p) (λ p.
+            let g : Meets S 1 y = plans-sound S h (omega arith) in
+            let a : Ahead y x = rw stands at (plans-descending S h k l inside) in
+            let same = eq-z (planCost S y) (planCost S x) (omega (arith, lt-no (planCost S x) (planCost S y) p, z-le (b .least y g))) in
+            let d : FirstDifference x y (a .lane) = difference-sym y x (a .lane) (g .quantities ∙ sym (b .meets .quantities)) (a .difference) in
+            absurd (omega (arith, a .more, b .first y g same (a .lane) d)));
       },
     )
-  where
-    least : (h : ℕ) → h < length (plans S) → ltZ (planCost S (getD (plans S) h [])) (planCost S x) ≡ false
-    least h l = no-lt (planCost S (getD (plans S) h [])) (planCost S x) (z-le (b .least _ (plans-sound S h l)))
-
-    first : (k : ℕ) → k < length (plans S) → getD (plans S) k [] ≡ x → (h : ℕ) → h < k → (t : Bool) → ltZ (planCost S x) (planCost S (getD (plans S) h [])) ≡ t
-        → ltZ (planCost S x) (planCost S (getD (plans S) h [])) ≡ true
-    first k inside stands h l true p = p
-    first k inside stands h l false p =
-        let y = getD (plans S) h [] in
-        let g : Meets S 1 y = plans-sound S h (omega arith) in
-        let a : Ahead y x = rw stands at (plans-descending S h k l inside) in
-        let same : planCost S y ≡ planCost S x =
-        eq-z (planCost S y) (planCost S x) (omega (arith, lt-no (planCost S x) (planCost S y) p, z-le (b .least y g))) in
-        let d : FirstDifference x y (a .lane) = difference-sym y x (a .lane) (g .quantities ∙ sym (b .meets .quantities)) (a .difference) in
-        absurd (omega (arith, a .more, b .first y g same (a .lane) d))
 
 -- No other plan is the settled one.
 pub settled-best : (S : Sheet) (x : List ℕ) → Settled S x → settled S ≡ x
 unfolding settled cheaper
-settled-best S x b =
-    let (k, f) = settled-first S x b in
-    firstLeast-unique (cheaper S) (cheaper-weak S) [] (plans S) x k f
+settled-best S x b = let (k, f) = settled-first S x b in firstLeast-unique (cheaper S) (by-key (planCost S) ltZ-weak) [] (plans S) x k f
 
 -- ---- demand 3
 
@@ -77,13 +63,9 @@ scaled-once (q ∷ x) = rw (one-mul q, scaled-once x)
 
 -- Demand 3 speaks of plans in k-ths; for k = 1 it says that its plan is the settled one.
 pub best-settled : (S : Sheet) (x : List ℕ) (cost : ℤ) → Best S x cost → settled S ≡ x
-best-settled S x cost b = settled-best S x (record { meets = b .meets; least = least; first = first })
-  where
-    once : (pos 1 *ℤ cost) ≡ planCost S x
-    once = eq-z (pos 1 *ℤ cost) (planCost S x) (omega (arith, z-mul (pos 1) cost, z-eq (b .shown)))
-
-    least : (y : List ℕ) → Meets S 1 y → planCost S x ≤ℤ planCost S y
-    least y g = rw once at (b .least 1 y (omega arith) g)
-
-    first : (y : List ℕ) → Meets S 1 y → planCost S y ≡ planCost S x → (l : ℕ) → FirstDifference x y l → at y l < at x l
-    first y g c l d = rw scaled-once at (b .first 1 y (omega arith) g (c ∙ sym once) l (rw scaled-once d))
+best-settled S x cost b =
+    let once : (pos 1 *ℤ cost) ≡ planCost S x = eq-z (pos 1 *ℤ cost) (planCost S x) (omega (arith, z-mul (pos 1) cost, z-eq (b .shown))) in
+    let least : (y : List ℕ) → Meets S 1 y → planCost S x ≤ℤ planCost S y = λ y g. rw once at (b .least 1 y (omega arith) g) in
+    let first : (y : List ℕ) → Meets S 1 y → planCost S y ≡ planCost S x → (l : ℕ) → FirstDifference x y l → at y l < at x l = λ y g c l d.
+    rw scaled-once at (b .first 1 y (omega arith) g (c ∙ sym once) l (rw scaled-once d)) in
+    settled-best S x (record { meets = b .meets; least = least; first = first })

@@ -5,7 +5,7 @@ use Rattle.transport.specs.Sheet.{Sheet, roasteries, cafes}
 use Rattle.transport.specs.Extended.{surplus, costAt, extended}
 use Rattle.transport.specs.Statements.{Balanced, Meets, MeetsExactly, Best, BestExactly}
 use Rattle.transport.specs.Laws.ProblemLaws.{problem, grid-is}
-use Rattle.transport.specs.Laws.ExtendedLaws.{Extra, without, with, extra, cost-cafe}
+use Rattle.transport.specs.Laws.ExtendedLaws.{without, with, extra, cost-cafe}
 use Rattle.reduction.specs.Extending.{sends-all}
 
 no-surplus : (S : Sheet) → Balanced S → surplus S ≡ 0
@@ -47,8 +47,4 @@ module _ (S : Sheet) (long : length (S .cost) ≡ roasteries S * cafes S) where
   -- A balanced sheet has the problem of its own lists, with no extra café.
   pub extended-balanced : Balanced S → extended S ≡ problem (S .supply) (S .demand) (S .cost)
   unfolding extended cafes
-  extended-balanced e = go (extra S)
-    where
-      go : Extra S → extended S ≡ problem (S .supply) (S .demand) (S .cost)
-      go (without z w) = rw (w, costs-same)
-      go (with z w) = absurd (omega (arith, no-surplus S e))
+  extended-balanced e = elim (extra S) [ without z w ↦ rw (w, costs-same) | with z w ↦ absurd (omega (arith, no-surplus S e)) ]

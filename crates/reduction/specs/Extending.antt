@@ -58,31 +58,23 @@ module _ (S : Sheet) (k : ℕ) (Q : List ℕ) where
     -- .. so all that is kept is the surplus.
     all-kept : sumTo (roasteries S) keepsBack ≡ k * surplus S
     unfolding total roasteries surplus
-    all-kept = omega (
-      arith,
-      sumTo-add (roasteries S) sends keepsBack,
-      sumTo-cong (roasteries S) (λ i. sends i + keepsBack i) (λ i. k * at (S .supply) i) sends-keeps,
-      sumTo-scale (roasteries S) k (at (S .supply)),
-      all-sent,
-      mul-add k (total (S .demand)) (total (S .supply) - total (S .demand)),
-      ap (λ (t : ℕ). k * t) parts,
-    )
-      where
-        parts : total (S .demand) + (total (S .supply) - total (S .demand)) ≡ total (S .supply)
-        parts = omega (arith, enough)
+    all-kept =
+        let parts : total (S .demand) + (total (S .supply) - total (S .demand)) ≡ total (S .supply) = omega (arith, enough) in
+        let same = sumTo-cong (roasteries S) (λ i. sends i + keepsBack i) (λ i. k * at (S .supply) i) sends-keeps in
+        let add = mul-add k (total (S .demand)) (total (S .supply) - total (S .demand)) in
+        omega (arith, sumTo-add (roasteries S) sends keepsBack, sumTo-scale (roasteries S) k (at (S .supply)), all-sent, ap (λ (t : ℕ). k * t) parts)
 
     -- Without a surplus every roastery sends all that it has.
     pub sends-all : surplus S ≡ 0 → (i : ℕ) → i < roasteries S → sends i ≡ k * at (S .supply) i
     sends-all z i l = omega (arith, sends-keeps i l, sumTo-each (roasteries S) keepsBack i l, all-kept, ap (λ (t : ℕ). k * t) z, mul-zero k)
 
     sent-row : (i : ℕ) → i < roasteries S → sumTo (widthOf S) (sentTo i) ≡ k * at (S .supply) i
-    sent-row i l = ⊎-elim
+    sent-row i l =
+        let to-cafes : sumTo (cafes S) (sentTo i) ≡ sends i = sumTo-cong (cafes S) (sentTo i) (λ j. at Q (place (cafes S) i j)) (to-cafe i) in
+        ⊎-elim
         (λ (z, e). rw e (to-cafes ∙ sends-all z i l))
         (λ e. rw e (omega (arith, sumTo-one (cafes S) (sentTo i), to-cafes, to-extra i, sends-keeps i l)))
         (width-is S)
-      where
-        to-cafes : sumTo (cafes S) (sentTo i) ≡ sends i
-        to-cafes = sumTo-cong (cafes S) (sentTo i) (λ j. at Q (place (cafes S) i j)) (to-cafe i)
 
     sent-column : (j : ℕ) → j < widthOf S → sumTo (roasteries S) (λ i. sentTo i j) ≡ k * at (wanted S) j
     sent-column j h = by-cases (decLt j (cafes S))

@@ -11,7 +11,7 @@ use Rattle.transport.specs.Statements.{Meets, FirstDifference, scaled, Best}
 use Rattle.transport.specs.Laws.ListLaws.{sumTo-cong, sumTo-scale, sumTo-part, total-append}
 use Rattle.transport.specs.Laws.ProblemLaws.{place-of, length-grid, getD-grid}
 use Rattle.transport.specs.Laws.PlanLaws.{scaled-at}
-use Rattle.transport.specs.Laws.ExtendedLaws.{Extra, without, with, extra, width-low, wanted-at}
+use Rattle.transport.specs.Laws.ExtendedLaws.{without, with, extra, width-low, wanted-at}
 use Rattle.transport.specs.Laws.PartiesLaws.{struck-sinks, among-more, total-left}
 use Rattle.transport.specs.Laws.Sound.{Sound}
 use Rattle.plans.specs.Settled.{best-settled}
@@ -37,12 +37,9 @@ module _ (S : Sheet) (x : List ℕ) where
   unfolding extended sources sinks roasteries sheetPlan
   fulfils-meets {k} f = record {
     quantities = length-grid (cafes S) (λ i j. at x (place (widthOf S) i j)) (roasteries S);
-    rows = λ i l. omega (
-      arith,
-      sumTo-cong (cafes S) (λ j. at (sheetPlan S x) (place (cafes S) i j)) (λ j. at x (place (widthOf S) i j)) (λ j h. sheetPlan-same i j l h),
-      sumTo-part (cafes S) (widthOf S) (λ j. at x (place (widthOf S) i j)) (width-low S),
-      f .rows i l,
-    );
+    rows = λ i l.
+        let same = sumTo-cong (cafes S) (λ j. at (sheetPlan S x) (place (cafes S) i j)) (λ j. at x (place (widthOf S) i j)) (λ j h. sheetPlan-same i j l h) in
+        omega (arith, sumTo-part (cafes S) (widthOf S) (λ j. at x (place (widthOf S) i j)) (width-low S), f .rows i l);
     columns = λ j h.
         sumTo-cong (roasteries S) (λ i. at (sheetPlan S x) (place (cafes S) i j)) (λ i. at x (place (widthOf S) i j)) (λ i l. sheetPlan-same i j l h)
         ∙ f .columns j (omega (arith, width-low S))
@@ -83,15 +80,10 @@ module _ (S : Sheet) (x : List ℕ) (c : ℤ) (enough : total (S .demand) ≤ to
         → at Q (place (cafes S) i j) < at (scaled k (sheetPlan S x)) (place (cafes S) i j)
     unfolding scaled
     carries-more l e i j hi hj d =
-        let long : length (scaled k x) ≡ roasteries S * widthOf S = length-map x (λ t. k * t) ∙ extended-length in
-        let first : FirstDifference (scaled k x) theirs (place (widthOf S) i j) =
-        first-same S (scaled k x) theirs same-rows (scaled k (sheetPlan S x)) Q ours-same (extended-same S k Q) long i j hi hj d in
-        omega (
-          arith,
-          b .first k theirs l fulfilled (sym (cost-same S Q theirs (extended-same S k Q)) ∙ e) (place (widthOf S) i j) first,
-          extended-same S k Q i j hi hj,
-          ours-same i j hi hj,
-        )
+        let long = length-map x (λ t. k * t) ∙ extended-length in
+        let first = first-same S (scaled k x) theirs same-rows (scaled k (sheetPlan S x)) Q ours-same (extended-same S k Q) long i j hi hj d in
+        let more = b .first k theirs l fulfilled (sym (cost-same S Q theirs (extended-same S k Q)) ∙ e) (place (widthOf S) i j) first in
+        omega (arith, extended-same S k Q i j hi hj, ours-same i j hi hj)
 
   -- A plan that is optimal for the extended problem is best for the sheet. Any plan Q of the sheet, with what stays at home sent to the extra café, is a plan
   -- of the extended problem at Q's cost, so ours costs no more. Where it costs the same, ours carries more on the first lane where the two extended plans
@@ -118,11 +110,7 @@ ownSheetPlan S x = sheetPlan S (ownPlan (extended S) x)
 -- The extra café, after all others, changes no number among the cafés left.
 pub among-wanted : (S : Sheet) (j : ℕ) → j < cafes S → among (wanted S) j ≡ among (S .demand) j
 unfolding cafes
-among-wanted S j h = go (extra S)
-  where
-    go : Extra S → among (wanted S) j ≡ among (S .demand) j
-    go (without z e) = rw e
-    go (with z e) = rw e (among-more (S .demand) _ z j (omega arith))
+among-wanted S j h = elim (extra S) [ without z e ↦ rw e | with z e ↦ rw e (among-more (S .demand) _ z j (omega arith)) ]
 
 -- What it carries from roastery i to café j: what x does, if both are left, and else nothing.
 module _ (S : Sheet) (x : List ℕ) (i j : ℕ) (l : i < roasteries S) (h : j < cafes S) where
@@ -161,13 +149,9 @@ module _ (S : Sheet) (x : List ℕ) (c : ℤ) (ok : Sound (problemOf S)) (b : Op
   -- The columns want as much as there is, and the cafés are among them.
   enough : total (S .demand) ≤ total (S .supply)
   unfolding problemOf struck extended wanted rowsLeft columnsLeft
-  enough = omega (
-    arith,
-    ok .balance,
-    total-left (S .supply),
-    total-left (wanted S),
-    total-append (S .demand) (cond (eqb (surplus S) 0) [] (surplus S ∷ [])),
-  )
+  enough =
+      let append = total-append (S .demand) (cond (eqb (surplus S) 0) [] (surplus S ∷ [])) in
+      omega (arith, ok .balance, total-left (S .supply), total-left (wanted S))
 
   own-optimal : Optimal (extended S) (ownPlan (extended S) x) c
   unfolding problemOf

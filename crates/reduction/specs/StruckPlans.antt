@@ -11,13 +11,13 @@ use Rattle.transport.specs.Problem.{Problem, sources, sinks, place}
 use Rattle.transport.specs.Parties.{isLeft, left, among, rowsLeft, columnsLeft, struck}
 use Rattle.transport.specs.Statements.{FirstDifference, scaled}
 use Rattle.transport.specs.Laws.ListLaws.{sumTo-cong, sumTo-none, sumTo-each}
-use Rattle.transport.specs.Laws.ProblemLaws.{place-of, place-below, length-grid, getD-grid}
+use Rattle.transport.specs.Laws.ProblemLaws.{place-of, length-grid, getD-grid}
 use Rattle.transport.specs.Laws.PlanLaws.{scaled-at}
 use Rattle.transport.specs.Laws.PartiesLaws.{left-yes, left-no, left-at, among-at, left-grows, sum-left, among-left, struck-sources, struck-sinks}
 use Rattle.transport.specs.Laws.PartiesLaws.{struck-supply, struck-demand, struck-lane}
 use Rattle.tableaux.specs.ProblemPlans.{flowCost, Fulfils, Optimal}
 use Rattle.tableaux.specs.PlanView.{carried, costs, cost-flowCost}
-use Rattle.reduction.specs.SheetLanes.{Earlier, place-earlier, earlier-place}
+use Rattle.reduction.specs.SheetLanes.{Earlier, earlier-place, first-at}
 
 -- ---- sums of integers over those left
 
@@ -30,13 +30,10 @@ sum-parts (suc n) f = omega (arith, sum-parts n f)
 -- A sum over all is one over those left, as for naturals (sum-left).
 sum-leftZ : (xs : List ℕ) (f : ℕ → Z) → ((k : ℕ) → k < length xs → at xs k ≡ 0 → f k ≈ nat 0)
     → sum (length xs) f ≈ sum (length (left xs)) (λ k. f (at (left xs) k))
-sum-leftZ xs f nothing = omega (
-  arith,
-  sum-parts (length xs) f,
-  sum-parts (length (left xs)) (λ k. f (at (left xs) k)),
-  sum-left xs (λ k. f k .up - f k .dn) (λ k l e. omega (arith, nothing k l e)),
-  sum-left xs (λ k. f k .dn - f k .up) (λ k l e. omega (arith, nothing k l e)),
-)
+sum-leftZ xs f nothing =
+    let above = sum-left xs (λ k. f k .up - f k .dn) (λ k l e. omega (arith, nothing k l e)) in
+    let below = sum-left xs (λ k. f k .dn - f k .up) (λ k l e. omega (arith, nothing k l e)) in
+    omega (arith, sum-parts (length xs) f, sum-parts (length (left xs)) (λ k. f (at (left xs) k)))
 
 -- ---- two plans that carry the same
 
@@ -121,21 +118,20 @@ module _ (E : Problem) where
     }
 
     struck-fulfils : {k : ℕ} → length p ≡ sources E * sinks E → Fulfils (struck E) k x → Fulfils E k p
-    struck-fulfils {k} long f = record {
-      quantities = long;
-      rows = λ i l. by-cases (ℕ-discrete (at (E .supply) i) 0)
-          (λ e. rw (e, mul-zero k) (sumTo-cong (sinks E) (bags i) (λ j. 0) (λ j h. same .row i j l h e) ∙ sumTo-none (sinks E)))
-          (λ e. let (a, r) = row-among i (omega arith) in rw r at (full-row (among (E .supply) i) a));
-      columns = λ j h. by-cases (ℕ-discrete (at (E .demand) j) 0)
-          (λ e. rw (e, mul-zero k) (sumTo-cong (sources E) (λ i. bags i j) (λ i. 0) (λ i l. same .column i j l h e) ∙ sumTo-none (sources E)))
-          (λ e. let (a, c) = column-among j (omega arith) in rw c at (full-column (among (E .demand) j) a));
-    }
-      where
-        full-row : (i : ℕ) → i < rows → sumTo (sinks E) (bags (ownRow i)) ≡ k * at (E .supply) (ownRow i)
-        full-row i l = row-sum i l ∙ (rw (struck-sinks E, struck-supply E i l) at (f .rows i (rw (struck-sources E) l)))
-
-        full-column : (j : ℕ) → j < columns → sumTo (sources E) (λ i. bags i (ownColumn j)) ≡ k * at (E .demand) (ownColumn j)
-        full-column j h = column-sum j h ∙ (rw (struck-sources E, struck-sinks E, struck-demand E j h) at (f .columns j (rw (struck-sinks E) h)))
+    struck-fulfils {k} long f =
+        let full-row : (i : ℕ) → i < rows → sumTo (sinks E) (bags (ownRow i)) ≡ k * at (E .supply) (ownRow i) = λ i l.
+        row-sum i l ∙ (rw (struck-sinks E, struck-supply E i l) at (f .rows i (rw (struck-sources E) l))) in
+        let full-column : (j : ℕ) → j < columns → sumTo (sources E) (λ i. bags i (ownColumn j)) ≡ k * at (E .demand) (ownColumn j) = λ j h.
+        column-sum j h ∙ (rw (struck-sources E, struck-sinks E, struck-demand E j h) at (f .columns j (rw (struck-sinks E) h))) in
+        record {
+          quantities = long;
+          rows = λ i l. by-cases (ℕ-discrete (at (E .supply) i) 0)
+              (λ e. rw (e, mul-zero k) (sumTo-cong (sinks E) (bags i) (λ j. 0) (λ j h. same .row i j l h e) ∙ sumTo-none (sinks E)))
+              (λ e. let (a, r) = row-among i (omega arith) in rw r at (full-row (among (E .supply) i) a));
+          columns = λ j h. by-cases (ℕ-discrete (at (E .demand) j) 0)
+              (λ e. rw (e, mul-zero k) (sumTo-cong (sources E) (λ i. bags i j) (λ i. 0) (λ i l. same .column i j l h e) ∙ sumTo-none (sources E)))
+              (λ e. let (a, c) = column-among j (omega arith) in rw c at (full-column (among (E .demand) j) a));
+        }
 
     -- ---- cost
 
@@ -149,24 +145,20 @@ module _ (E : Problem) where
 
     all-terms : sum₂ (sources E) (sinks E) term ≈ sum₂ rows columns (λ i j. term (ownRow i) (ownColumn j))
     unfolding rowsLeft sources
-    all-terms = omega (
-      arith,
-      sum-leftZ (E .supply) (λ i. sum (sinks E) (term i)) (λ i l e. sum-zero (sinks E) (term i) (λ j h. rw (same .row i j l h e) (omega arith))),
-      sum-cong rows (λ i. sum (sinks E) (term (ownRow i))) (λ i. sum columns (λ j. term (ownRow i) (ownColumn j))) row-terms,
-    )
+    all-terms =
+        let none : (i : ℕ) → i < sources E → at (E .supply) i ≡ 0 → sum (sinks E) (term i) ≈ nat 0 = λ i l e.
+        sum-zero (sinks E) (term i) (λ j h. rw (same .row i j l h e) (omega arith)) in
+        let each = sum-cong rows (λ i. sum (sinks E) (term (ownRow i))) (λ i. sum columns (λ j. term (ownRow i) (ownColumn j))) row-terms in
+        omega (arith, sum-leftZ (E .supply) (λ i. sum (sinks E) (term i)) none)
 
     struck-terms : sum₂ rows columns (λ i j. carried columns x i j ⊗ costs (struck E) i j) ≈ sum₂ rows columns (λ i j. term (ownRow i) (ownColumn j))
     struck-terms = sum₂-cong rows columns (λ i j. carried columns x i j ⊗ costs (struck E) i j) (λ i j. term (ownRow i) (ownColumn j))
         (λ i j l h. rw (same .lanes i j l h, struck-lane E i j l h) (omega arith))
 
     left-cost : flowCost E p ≡ flowCost (struck E) x
-    left-cost = eq-z (flowCost E p) (flowCost (struck E) x) (omega (
-      arith,
-      cost-flowCost E p,
-      all-terms,
-      struck-terms,
-      (rw (struck-sources E, struck-sinks E) at (cost-flowCost (struck E) x)),
-    ))
+    left-cost =
+        let struck-cost = rw (struck-sources E, struck-sinks E) at (cost-flowCost (struck E) x) in
+        eq-z (flowCost E p) (flowCost (struck E) x) (omega (arith, cost-flowCost E p, all-terms, struck-terms))
 
   -- So it is when both are taken k times.
   left-scaled : (k : ℕ) {p x : List ℕ} → SameOnLeft E p x → SameOnLeft E (scaled k p) (scaled k x)
@@ -196,24 +188,9 @@ module _ (E : Problem) where
     -- So the first lane where they differ, renumbered, is the first where x and y differ.
     first-left : length x ≡ rows * columns → (i j : ℕ) → i < rows → j < columns
         → FirstDifference p q (place (sinks E) (ownRow i) (ownColumn j)) → FirstDifference x y (place columns i j)
-    first-left long i j l h d = record {
-      lane = omega (arith, inside);
-      differ = λ e. d .differ (px .lanes i j l h ∙ e ∙ sym (qy .lanes i j l h));
-      before = λ t b.
-          let w = place-of rows columns t (omega (arith, inside)) in
-          rw (← w .placed) (before (w .row) (w .col) (w .rowBelow) (w .colBelow) (rw (w .placed) b));
-    }
-      where
-        inside : place columns i j < rows * columns
-        inside = place-below rows columns i j l h
-
-        before : (a b : ℕ) → a < rows → b < columns → place columns a b < place columns i j → at x (place columns a b) ≡ at y (place columns a b)
-        before a b r s e =
-            let up = own-earlier a b i j l h (place-earlier columns a b i j h e) in
-            sym (px .lanes a b r s)
-            ∙ d .before (place (sinks E) (ownRow a) (ownColumn b))
-            (earlier-place (sinks E) (ownRow a) (ownColumn b) (ownRow i) (ownColumn j) (column-inside b s .0) up)
-            ∙ qy .lanes a b r s
+    first-left long i j l h d = first-at rows columns long i j l h (λ e. d .differ (px .lanes i j l h ∙ e ∙ sym (qy .lanes i j l h))) (λ a b r s e.
+        let first = earlier-place (sinks E) (ownRow a) (ownColumn b) (ownRow i) (ownColumn j) (column-inside b s .0) (own-earlier a b i j l h e) in
+        sym (px .lanes a b r s) ∙ d .before (place (sinks E) (ownRow a) (ownColumn b)) first ∙ qy .lanes a b r s)
 
 -- ---- there and back
 
@@ -232,20 +209,9 @@ module _ (E : Problem) where
   unfolding leftPlan at
   leftPlan-same {k} {Q} f = record {
     lanes = λ i j l h. sym (getD-grid (length (columnsLeft E)) _ (length (rowsLeft E)) i j 0 l h);
-    row = λ i j l h e. omega (
-      arith,
-      sumTo-each (sinks E) (λ j. at Q (place (sinks E) i j)) j h,
-      f .rows i l,
-      ap (λ (t : ℕ). k * t) e,
-      mul-zero k,
-    );
-    column = λ i j l h e. omega (
-      arith,
-      sumTo-each (sources E) (λ i. at Q (place (sinks E) i j)) i l,
-      f .columns j h,
-      ap (λ (t : ℕ). k * t) e,
-      mul-zero k,
-    );
+    row = λ i j l h e. omega (arith, sumTo-each (sinks E) (λ j. at Q (place (sinks E) i j)) j h, f .rows i l, ap (λ (t : ℕ). k * t) e, mul-zero k);
+    column = λ i j l h e.
+        omega (arith, sumTo-each (sources E) (λ i. at Q (place (sinks E) i j)) i l, f .columns j h, ap (λ (t : ℕ). k * t) e, mul-zero k);
   }
 
   leftPlan-fulfils : {k : ℕ} {Q : List ℕ} → Fulfils E k Q → Fulfils (struck E) k (leftPlan E Q)
@@ -253,8 +219,7 @@ module _ (E : Problem) where
   leftPlan-fulfils f = fulfils-struck E (leftPlan-same f) (length-grid (length (columnsLeft E)) _ (length (rowsLeft E))) f
 
   module _ (x : List ℕ) where
-    ownPlan-at : (i j : ℕ) → i < sources E → j < sinks E
-        → at (ownPlan E x) (place (sinks E) i j)
+    ownPlan-at : (i j : ℕ) → i < sources E → j < sinks E → at (ownPlan E x) (place (sinks E) i j)
         ≡ cond (isLeft (E .supply) i && isLeft (E .demand) j) (at x (place (sinks (struck E)) (among (E .supply) i) (among (E .demand) j))) 0
     unfolding ownPlan at
     ownPlan-at i j l h = getD-grid (sinks E) _ (sources E) i j 0 l h
@@ -270,13 +235,7 @@ module _ (E : Problem) where
           let (r, some) = row-inside E i l in
           let (c, any) = column-inside E j h in
           ownPlan-at (at (rowsLeft E) i) (at (columnsLeft E) j) r c
-          ∙ rw (
-            left-yes (E .supply) (at (rowsLeft E) i) some,
-            left-yes (E .demand) (at (columnsLeft E) j) any,
-            among-at (E .supply) i l,
-            among-at (E .demand) j h,
-            struck-sinks E,
-          );
+          ∙ rw (left-yes (E .supply) _ some, left-yes (E .demand) _ any, among-at (E .supply) i l, among-at (E .demand) j h, struck-sinks E);
       row = λ i j l h e. ownPlan-at i j l h ∙ rw (left-no (E .supply) i e);
       column = λ i j l h e. ownPlan-at i j l h ∙ rw (left-no (E .demand) j e, and-false);
     }
@@ -301,15 +260,10 @@ module _ (E : Problem) (x : List ℕ) (c : ℤ) (b : Optimal (struck E) x c) whe
         < at (scaled k (ownPlan E x)) (place (sinks E) (at (rowsLeft E) i) (at (columnsLeft E) j))
     unfolding scaled
     carries-more some e i j l h d =
-        let long : length (scaled k x) ≡ length (rowsLeft E) * length (columnsLeft E) =
-        length-map x (λ t. k * t) ∙ (rw (struck-sources E, struck-sinks E) at (b .fulfils .quantities)) in
+        let long = length-map x (λ t. k * t) ∙ (rw (struck-sources E, struck-sinks E) at (b .fulfils .quantities)) in
         let first = first-left E ours-same theirs-same long i j l h d in
-        omega (
-          arith,
-          b .first k (leftPlan E Q) some (leftPlan-fulfils E q) (sym (left-cost E theirs-same) ∙ e) (place (length (columnsLeft E)) i j) first,
-          theirs-same .lanes i j l h,
-          ours-same .lanes i j l h,
-        )
+        let more = b .first k (leftPlan E Q) some (leftPlan-fulfils E q) (sym (left-cost E theirs-same) ∙ e) (place (length (columnsLeft E)) i j) first in
+        omega (arith, theirs-same .lanes i j l h, ours-same .lanes i j l h)
 
   -- A plan that is optimal for those left is optimal for all. Any plan Q of E is one of those left at the same cost, so ours costs no more. Where it costs the
   -- same, ours carries more on the first lane of those left where the two differ. That is the first lane where they differ at all: others carry nothing, and
@@ -325,7 +279,6 @@ module _ (E : Problem) (x : List ℕ) (c : ℤ) (b : Optimal (struck E) x c) whe
         let (some, any) = differ-left E (ours-same k Q q) (theirs-same k Q q) (w .row) (w .col) (w .rowBelow) (w .colBelow) (rw (w .placed) (d .differ)) in
         let (a, r) = row-among E (w .row) some in
         let (h, s) = column-among E (w .col) any in
-        let placed : place (sinks E) (at (rowsLeft E) (among (E .supply) (w .row))) (at (columnsLeft E) (among (E .demand) (w .col))) ≡ t =
-        (λ u. place (sinks E) (r u) (s u)) ∙ w .placed in
+        let placed = (λ u. place (sinks E) (r u) (s u)) ∙ w .placed in
         rw (← placed) (carries-more k Q q l e (among (E .supply) (w .row)) (among (E .demand) (w .col)) a h (rw placed d));
   }

@@ -25,13 +25,8 @@ pub total-size : {S : Sheet} → Accepted S → {Q : List ℕ} → Meets S 1 Q �
 unfolding planCost
 total-size {S} ok {Q} meets =
     let enough : total (S .demand) ≤ total (S .supply) = omega (arith, ok .enough) in
-    omega (
-      arith,
-      abs-sum (roasteries S * cafes S) maxCost (at Q) (atZ (S .cost)) (λ l. abs-between (ok .limits .costLow l) (ok .limits .costHigh l)),
-      ap (λ (t : ℕ). maxCost * t) (all-carried S Q enough meets),
-      mul-le-mul-left maxCost (bags-of ok),
-      mul-le-mul-left maxCost enough,
-    )
+    let sum = abs-sum (roasteries S * cafes S) maxCost (at Q) (atZ (S .cost)) (λ l. abs-between (ok .limits .costLow l) (ok .limits .costHigh l)) in
+    omega (arith, ap (λ (t : ℕ). maxCost * t) (all-carried S Q enough meets), mul-le-mul-left maxCost (bags-of ok), mul-le-mul-left maxCost enough)
 
 -- That is 32,000,000,000,000: 14 digits, and a minus below 0.
 pub total-limit : maxBags * maxCost ≡ 32_000_000_000_000
@@ -40,13 +35,9 @@ total-limit = refl
 
 -- ---- both ends are reached
 
-largest-rows : (c : ℤ) → roasteries (largest c) ≡ maxSide
-unfolding largest roasteries
-largest-rows c = length-replicate maxSide maxAmount
-
-largest-columns : (c : ℤ) → cafes (largest c) ≡ maxSide
-unfolding largest cafes
-largest-columns c = length-replicate maxSide maxAmount
+largest-sides : (c : ℤ) → (roasteries (largest c) ≡ maxSide) × (cafes (largest c) ≡ maxSide)
+unfolding largest roasteries cafes
+largest-sides c = (length-replicate maxSide maxAmount, length-replicate maxSide maxAmount)
 
 total-replicate : (n a : ℕ) → total (replicate n a) ≡ n * a
 total-replicate zero a = omega (arith, total-nil)
@@ -60,22 +51,18 @@ largest-demand c = total-replicate maxSide maxAmount
 even-sum : (n : ℕ) (x : ℕ → ℕ) (f : ℕ → ℤ) (c : ℤ) → ((l : ℕ) → l < n → f l ≡ c) → sumZ n (λ l. pos (x l) *ℤ f l) ≡ pos (sumTo n x) *ℤ c
 unfolding sumZ sumTo
 even-sum zero x f c e = eq-z (pos 0) (pos 0 *ℤ c) (omega (arith, z-mul (pos 0) c))
-even-sum (suc n) x f c e = rw (even-sum n x f c (λ l h. e l (omega arith)), e n (omega arith)) (apart (sumTo n x) (x n))
-  where
-    apart : (a b : ℕ) → (pos a *ℤ c) +ℤ (pos b *ℤ c) ≡ pos (a + b) *ℤ c
-    apart a b = eq-z ((pos a *ℤ c) +ℤ (pos b *ℤ c)) (pos (a + b) *ℤ c)
-        (omega (arith, z-add (pos a *ℤ c) (pos b *ℤ c), z-mul (pos a) c, z-mul (pos b) c, z-mul (pos (a + b)) c))
+even-sum (suc n) x f c e =
+    let apart : (a b : ℕ) → (pos a *ℤ c) +ℤ (pos b *ℤ c) ≡ pos (a + b) *ℤ c = λ a b. eq-z ((pos a *ℤ c) +ℤ (pos b *ℤ c)) (pos (a + b) *ℤ c)
+    (omega (arith, z-add (pos a *ℤ c) (pos b *ℤ c), z-mul (pos a) c, z-mul (pos b) c, z-mul (pos (a + b)) c)) in
+    rw (even-sum n x f c (λ l h. e l (omega arith)), e n (omega arith)) (apart (sumTo n x) (x n))
 
 -- The cafés of the largest sheet want maxBags bags together, and each of them costs c, whichever lanes they go by: so every plan of it costs maxBags times
 -- c. At the greatest cost, and at the least, that is the bound above.
 pub largest-total : (c : ℤ) (Q : List ℕ) → Meets (largest c) 1 Q → planCost (largest c) Q ≡ pos maxBags *ℤ c
 unfolding planCost largest atZ
 largest-total c Q meets =
+    let enough : total (largest c .demand) ≤ total (largest c .supply) = omega arith in
+    let each : (l : ℕ) → l < roasteries (largest c) * cafes (largest c) → atZ (largest c .cost) l ≡ c = λ l h.
+    getD-replicate (maxSide * maxSide) l c (pos 0) (rw (largest-sides c .0, largest-sides c .1) at h) in
     even-sum (roasteries (largest c) * cafes (largest c)) (at Q) (atZ (largest c .cost)) c each
     ∙ ap (λ (t : ℕ). pos t *ℤ c) (all-carried (largest c) Q enough meets ∙ largest-demand c)
-  where
-    enough : total (largest c .demand) ≤ total (largest c .supply)
-    enough = omega arith
-
-    each : (l : ℕ) → l < roasteries (largest c) * cafes (largest c) → atZ (largest c .cost) l ≡ c
-    each l h = getD-replicate (maxSide * maxSide) l c (pos 0) (rw (largest-rows c, largest-columns c) at h)

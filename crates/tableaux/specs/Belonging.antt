@@ -53,10 +53,7 @@ true-order n (c ∷ d ∷ cs) h = rw (
 
 pub fits-inside : (m n : ℕ) (T : List Cell) → Inside m n T → Fits m n (basisOf T)
 unfolding basisOf laneOf
-fits-inside m n T h l q =
-    let (c, r, e) = map-member laneOf T q in
-    let (k, b, s) = member-place noCell r in
-    rw (e, ← s) (h k b)
+fits-inside m n T h l q = let (c, r, e) = map-member laneOf T q in let (k, b, s) = member-place noCell r in rw (e, ← s) (h k b)
 
 five : (a b c d e : Bool) → a && b && c && d && e ≡ true → (a ≡ true) × (b ≡ true) × (c ≡ true) × (d ≡ true) × (e ≡ true)
 five true true true true e h = (refl, refl, refl, refl, h)
@@ -65,75 +62,50 @@ five true true false d e h = absurd (false≢true h)
 five true false c d e h = absurd (false≢true h)
 five false b c d e h = absurd (false≢true h)
 
-both : (a b : Bool) → a ≡ true → b ≡ true → a && b ≡ true
-both a b p q = rw (p, q)
-
-all-five : (a b c d e : Bool) → a ≡ true → b ≡ true → c ≡ true → d ≡ true → e ≡ true → a && b && c && d && e ≡ true
-all-five a b c d e p q r s t = rw (p, q, r, s, t)
+on-sheet : (P : Problem) (T : List Cell) → all (onSheet P) T ≡ true → Inside (sources P) (sinks P) T
+unfolding onSheet
+on-sheet P T e k l =
+    let row = ltb (rowOf T k) (sources P) in
+    let col = ltb (colOf T k) (sinks P) in
+    let both : row && col ≡ true = all-at (onSheet P) T noCell k e l in
+    (ltb-true (rowOf T k) (sources P) (and-left row col both), ltb-true (colOf T k) (sinks P) (and-right row col both))
 
 -- ---- belonging
 
 -- The tests of belonging say what the paper says; that the cells join all, by `spans-iff`.
 pub belongs-iff : (P : Problem) (T : List Cell) → 1 ≤ sources P → 1 ≤ sinks P → (cellsBelong P T ≡ true) ↔ Belongs P T
 unfolding cellsBelong balanced onSheet aboveZero basisOf
-belongs-iff P T p q = (to, from)
-  where
-    m : ℕ
-    m = sources P
-
-    n : ℕ
-    n = sinks P
-
-    sheet : Bool
-    sheet = all (onSheet P) T
-
-    order : Bool
-    order = inOrder n T
-
-    tree : Bool
-    tree = spans m n (basisOf T)
-
-    above : Bool
-    above = all aboveZero T
-
-    rows : Bool
-    rows = all (λ i. same (rowTotal T i) (pairedSupply P i)) (below m)
-
-    columns : Bool
-    columns = all (λ j. same (columnTotal T j) (pairedDemand P j)) (below n)
-
-    inside : sheet ≡ true → Inside m n T
-    inside e k l =
-        let c : ltb (rowOf T k) m && ltb (colOf T k) n ≡ true = all-at (onSheet P) T noCell k e l in (
-          ltb-true (rowOf T k) m (and-left (ltb (rowOf T k) m) (ltb (colOf T k) n) c),
-          ltb-true (colOf T k) n (and-right (ltb (rowOf T k) m) (ltb (colOf T k) n) c),
-        )
-
-    to : cellsBelong P T ≡ true → Belongs P T
-    to e =
-        let (a, o, t, v, r) = five sheet order tree above (rows && columns) e in
-        let (size, join) = spans-iff p (fits-inside m n T (inside a)) .0 t in
-        record {
-          count = sym (length-map T laneOf) ∙ size;
-          onSheet = inside a;
-          order = order-true n T o;
-          joined = joined-on (λ i j w. has-basic T i j .0 w) join;
-          above = λ k l. all-at aboveZero T noCell k v l;
-          rows = λ i l. same-true (rowTotal T i) (pairedSupply P i)
-              (all-below-at (λ i. same (rowTotal T i) (pairedSupply P i)) m i (and-left rows columns r) l);
-          columns = λ j l. same-true (columnTotal T j) (pairedDemand P j)
-              (all-below-at (λ j. same (columnTotal T j) (pairedDemand P j)) n j (and-right rows columns r) l);
-        }
-
-    from : Belongs P T → cellsBelong P T ≡ true
-    from b = all-five sheet order tree above (rows && columns)
-        (all-of (onSheet P) T noCell (λ k l. rw (lt-ltb (rowOf T k) m (b .onSheet k l .0), lt-ltb (colOf T k) n (b .onSheet k l .1))))
-        (true-order n T (b .order))
-        (spans-iff p (fits-inside m n T (b .onSheet)) .1 (length-map T laneOf ∙ b .count, joined-on (λ i j w. has-basic T i j .1 w) (b .joined)))
-        (all-of aboveZero T noCell (b .above))
-        (both rows columns
-        (all-below (λ i. same (rowTotal T i) (pairedSupply P i)) m (λ i l. rw (b .rows i l) (same-self (pairedSupply P i))))
-        (all-below (λ j. same (columnTotal T j) (pairedDemand P j)) n (λ j l. rw (b .columns j l) (same-self (pairedDemand P j)))))
+belongs-iff P T p q =
+    let m : ℕ = sources P in
+    let n : ℕ = sinks P in
+    let sheet : Bool = all (onSheet P) T in
+    let order : Bool = inOrder n T in
+    let tree : Bool = spans m n (basisOf T) in
+    let above : Bool = all aboveZero T in
+    let row : ℕ → Bool = λ i. same (rowTotal T i) (pairedSupply P i) in
+    let column : ℕ → Bool = λ j. same (columnTotal T j) (pairedDemand P j) in
+    let rows : Bool = all row (below m) in
+    let columns : Bool = all column (below n) in (
+      (λ e. let (a, o, t, v, r) = five sheet order tree above (rows && columns) e in
+          let inside = on-sheet P T a in
+          let (size, join) = spans-iff p (fits-inside m n T inside) .0 t in
+          record {
+            count = sym (length-map T laneOf) ∙ size;
+            onSheet = inside;
+            order = order-true n T o;
+            joined = joined-on (λ i j w. has-basic T i j .0 w) join;
+            above = λ k l. all-at aboveZero T noCell k v l;
+            rows = λ i l. same-true (rowTotal T i) (pairedSupply P i) (all-below-at row m i (and-left rows columns r) l);
+            columns = λ j l. same-true (columnTotal T j) (pairedDemand P j) (all-below-at column n j (and-right rows columns r) l);
+          }),
+      (λ b.
+          let join = joined-on (λ i j w. has-basic T i j .1 w) (b .joined) in
+          let a : sheet ≡ true = all-of (onSheet P) T noCell (λ k l. let (x, y) = b .onSheet k l in rw (lt-ltb (rowOf T k) m x, lt-ltb (colOf T k) n y)) in
+          let t : tree ≡ true = spans-iff p (fits-inside m n T (b .onSheet)) .1 (length-map T laneOf ∙ b .count, join) in
+          let r : rows ≡ true = all-below row m (λ i l. rw (b .rows i l) (same-self (pairedSupply P i))) in
+          let c : columns ≡ true = all-below column n (λ j l. rw (b .columns j l) (same-self (pairedDemand P j))) in
+          rw (a, true-order n T (b .order), t, all-of aboveZero T noCell (b .above), r, c)),
+    )
 
 -- ---- what it gives
 

@@ -36,12 +36,9 @@ mostValue = (2 * maxSide + 1) * maxBags + maxSide
 
 pub allValue-high : {P : Problem} → Sound P → allValue P ≤ mostValue
 unfolding allValue
-allValue-high {P} ok = omega (
-  arith,
-  ok .sourcesHigh,
-  mul-le-mul-left (2 * maxSide + 1) (ok .bags),
-  mul-le-mul-right {m = 2 * sources P + 1} {n = 2 * maxSide + 1} (total (P .supply)) (omega (arith, ok .sourcesHigh)),
-)
+allValue-high {P} ok =
+    let sides = mul-le-mul-right {m = 2 * sources P + 1} {n = 2 * maxSide + 1} (total (P .supply)) (omega (arith, ok .sourcesHigh)) in
+    omega (arith, ok .sourcesHigh, mul-le-mul-left (2 * maxSide + 1) (ok .bags))
 
 total-supplies : (P : Problem) → sum (sources P) (supplies P) ≈ nat (total (P .supply))
 unfolding total sources
@@ -70,10 +67,10 @@ module _ {P : Problem} (ok : Sound P) where
 
   pub raised-nonneg : {T : List Cell} → Belongs P T → nat 0 ≼ raised T
   unfolding laneCost raised
-  raised-nonneg w = omega (
-    arith,
-    measure-low ok w (costs P) (neg (nat costBelow)) (λ i j hi hj. omega (arith, z-le (ok .costLow (place (sinks P) i j)), z-neg (pos costBelow))),
-  )
+  raised-nonneg w =
+      let low : (i j : ℕ) → i < sources P → j < sinks P → neg (nat costBelow) ≼ costs P i j = λ i j hi hj.
+      omega (arith, z-le (ok .costLow (place (sinks P) i j)), z-neg (pos costBelow)) in
+      omega (arith, measure-low ok w (costs P) (neg (nat costBelow)) low)
 
   raised-bound : {T : List Cell} → Belongs P T → raised T ≼ nat (roundBound P)
   unfolding laneCost roundBound allValue raised
@@ -84,18 +81,17 @@ module _ {P : Problem} (ok : Sound P) where
     -- belongs.
     pub next-belongs : Belongs P (next P T)
     unfolding next
-    next-belongs = pivot-belongs ok w (entering-inside ok T .0) (entering-inside ok T .1) (entering-new ok T unfinished w)
+    next-belongs = let (row, col) = entering-inside ok T in pivot-belongs ok w row col (entering-new ok T unfinished w)
 
     -- The measure falls. The valued cost changes by the value of the step times the reduced cost of the entering lane. Both are whole; the first is positive,
     -- since no basic cell has the pair (0, 0), and the second negative: so it falls by 1 or more. Without marks a step could be worth nothing, and rounds could
     -- come back to where they were.
     pub next-falls : raised (next P T) ⊕ nat 1 ≼ raised T
     unfolding next raised
-    next-falls = omega (
-      arith,
-      pivot-falls ok w (entering-inside ok T .0) (entering-inside ok T .1) (entering-new ok T unfinished w)
-          (costs P) (rowPotential P T) (columnPotential P T) (prices-tight ok w) (entering-below ok T unfinished),
-    )
+    next-falls =
+        let (row, col) = entering-inside ok T in
+        let falls = pivot-falls ok w row col (entering-new ok T unfinished w) (costs P) (rowPotential P T) (columnPotential P T) in
+        omega (arith, falls (prices-tight ok w) (entering-below ok T unfinished))
 
   -- Every run ends. The measure is a natural number that falls by 1 or more in each round, so no more rounds than it says are made before a tableau is
   -- finished.
@@ -132,16 +128,12 @@ module _ {P : Problem} (ok : Sound P) where
   pub start-ends : (h : ℕ) × (h ≤ roundBound P) × FirstFinished P (start P) h
   start-ends = bound-reached (start P) (start-belongs P ok)
 
-  start-done : run P (roundBound P) (start P) .finished ≡ true
-  start-done = run-ends (start P) (start-belongs P ok)
-
   -- The count of rounds has at most 16 digits, so it fits 64 bits.
   pub roundBound-most : roundBound P < 10 ^ 16
   unfolding roundBound maxSide maxAmount maxBags maxCost costBelow costAbove
-  roundBound-most = omega (arith, ok .sourcesHigh, ok .bags, mul-le-mul-right (total (P .supply)) sides)
-    where
-      sides : 2 * sources P + 1 ≤ 65
-      sides = omega (arith, ok .sourcesHigh)
+  roundBound-most =
+      let sides : 2 * sources P + 1 ≤ 65 = omega (arith, ok .sourcesHigh) in
+      omega (arith, ok .sourcesHigh, ok .bags, mul-le-mul-right (total (P .supply)) sides)
 
   pub roundBound-fits : roundBound P < 2 ^ 64
   roundBound-fits = omega (arith, roundBound-most)
@@ -151,7 +143,7 @@ module _ {P : Problem} (ok : Sound P) where
   start-rounds = omega (arith, run-rounds P (roundBound P) (start P), roundBound-fits)
 
   pub start-finished : isFinished P (run P (roundBound P) (start P) .tableau) ≡ true
-  start-finished = run-finished P (roundBound P) (start P) ∙ start-done
+  start-finished = run-finished P (roundBound P) (start P) ∙ run-ends (start P) (start-belongs P ok)
 
   pub start-last : Belongs P (run P (roundBound P) (start P) .tableau)
   start-last = run-belongs (roundBound P) (start P) (start-belongs P ok)

@@ -61,22 +61,19 @@ leftBy-z {m} w {s} (column-struck p q) k = rw (← p, ← q) (omega (arith, take
 flow-off : (w : ℕ → ℤ) (ss : List Strike) (l : Lane) → ((s : Strike) → List·Memᴰ s ss → s .lane ≢ l) → flow w ss l ≡ pos 0
 unfolding flow
 flow-off w [] l d = refl
-flow-off w (s ∷ ss) l d =
-    flow-later w s ss l (λ e. d s (List·Memᴰ·head refl) (sym e)) ∙ flow-off (leftBy w s) ss l (λ t h. d t (List·Memᴰ·tail h))
+flow-off w (s ∷ ss) l d = flow-later w s ss l (λ e. d s (List·Memᴰ·head refl) (sym e)) ∙ flow-off (leftBy w s) ss l (λ t h. d t (List·Memᴰ·tail h))
 
 -- A strike adds what its lane carries.
 flow-splits : {m n : ℕ} (w : ℕ → ℤ) {s : Strike} {later : List Strike} → StrikeStep m n s later → Peeled m n later → (i j : ℕ)
     → toZ (flow w (s ∷ later) (lane i j)) ≈ on-lane (s .lane) (toZ (w (s .leaf))) i j ⊕ toZ (flow (leftBy w s) later (lane i j))
-flow-splits {m} {n} w {s} {later} st rest i j = by-cases (lane-dec (lane i j) (s .lane))
-    (λ e. here i j (ap (λ (l : Lane). l .row) e) (ap (λ (l : Lane). l .col) e))
+flow-splits {m} {n} w {s} {later} st rest i j =
+    let gone = flow-off (leftBy w s) later (s .lane) (lane-once st rest) in
+    by-cases (lane-dec (lane i j) (s .lane))
+    (λ e.
+    let row : i ≡ s .lane .row = ap (λ (l : Lane). l .row) e in
+    let column : j ≡ s .lane .col = ap (λ (l : Lane). l .col) e in
+    rw (row, column, flow-here w s later, gone) (omega (arith, on-lane-at (s .lane) (toZ (w (s .leaf))))))
     (λ e. rw (flow-later w s later (lane i j) e) (omega (arith, on-lane-off (s .lane) (toZ (w (s .leaf))) i j e)))
-  where
-    gone : flow (leftBy w s) later (s .lane) ≡ pos 0
-    gone = flow-off (leftBy w s) later (s .lane) (lane-once st rest)
-
-    here : (i j : ℕ) → i ≡ s .lane .row → j ≡ s .lane .col
-        → toZ (flow w (s ∷ later) (lane i j)) ≈ on-lane (s .lane) (toZ (w (s .leaf))) i j ⊕ toZ (flow (leftBy w s) later (lane i j))
-    here i j e f = rw (e, f, flow-here w s later, gone) (omega (arith, on-lane-at (s .lane) (toZ (w (s .leaf)))))
 
 -- ---- what the nodes have left in the end
 
@@ -91,16 +88,11 @@ unfolding flow left
 row-weight {m} {n} w bare i l = omega (arith, sum-zero n (λ j. nat 0) (λ j q. omega arith))
 row-weight {m} {n} w (peel {s} {later} st rest) i l =
     let y = toZ (w (s .leaf)) in
-    omega (
-      arith,
-      sum-cong n (λ j. toZ (flow w (s ∷ later) (lane i j))) (λ j. on-lane (s .lane) y i j ⊕ toZ (flow (leftBy w s) later (lane i j)))
-          (λ j q. flow-splits w st rest i j),
-      sum-add n (on-lane (s .lane) y i) (λ j. toZ (flow (leftBy w s) later (lane i j))),
-      on-lane-row (s .lane) y n (st .col) i,
-      row-weight (leftBy w s) rest i l,
-      leftBy-z w (st .ends) i,
-      point-zero (m + s .lane .col) y i (omega arith),
-    )
+    let carried : ℕ → Z = λ j. toZ (flow (leftBy w s) later (lane i j)) in
+    let split = sum-cong n (λ j. toZ (flow w (s ∷ later) (lane i j))) (λ j. on-lane (s .lane) y i j ⊕ carried j) (λ j q. flow-splits w st rest i j) in
+    let here = on-lane-row (s .lane) y n (st .col) i in
+    let off = point-zero (m + s .lane .col) y i (omega arith) in
+    omega (arith, sum-add n (on-lane (s .lane) y i) carried, row-weight (leftBy w s) rest i l, leftBy-z w (st .ends) i)
 
 -- And so for a column.
 column-weight : {m n : ℕ} (w : ℕ → ℤ) {ss : List Strike} → Peeled m n ss → (j : ℕ)
@@ -109,17 +101,12 @@ unfolding flow left
 column-weight {m} {n} w bare j = omega (arith, sum-zero m (λ i. nat 0) (λ i q. omega arith))
 column-weight {m} {n} w (peel {s} {later} st rest) j =
     let y = toZ (w (s .leaf)) in
-    omega (
-      arith,
-      sum-cong m (λ i. toZ (flow w (s ∷ later) (lane i j))) (λ i. on-lane (s .lane) y i j ⊕ toZ (flow (leftBy w s) later (lane i j)))
-          (λ i q. flow-splits w st rest i j),
-      sum-add m (λ i. on-lane (s .lane) y i j) (λ i. toZ (flow (leftBy w s) later (lane i j))),
-      on-lane-column (s .lane) y m (st .row) j,
-      column-weight (leftBy w s) rest j,
-      leftBy-z w (st .ends) (m + j),
-      point-zero (s .lane .row) y (m + j) (omega (arith, st .row)),
-      point-up m (s .lane .col) y j,
-    )
+    let carried : ℕ → Z = λ i. toZ (flow (leftBy w s) later (lane i j)) in
+    let split = sum-cong m (λ i. toZ (flow w (s ∷ later) (lane i j))) (λ i. on-lane (s .lane) y i j ⊕ carried i) (λ i q. flow-splits w st rest i j) in
+    let parts = sum-add m (λ i. on-lane (s .lane) y i j) carried in
+    let here = on-lane-column (s .lane) y m (st .row) j in
+    let off = point-zero (s .lane .row) y (m + j) (omega (arith, st .row)) in
+    omega (arith, column-weight (leftBy w s) rest j, leftBy-z w (st .ends) (m + j), point-up m (s .lane .col) y j)
 
 left-clear : (w : ℕ → ℤ) (ss : List Strike) (k : ℕ) → ((t : Strike) → List·Memᴰ t ss → (t .leaf ≢ k) × (t .other ≢ k)) → left w ss k ≡ w k
 unfolding left
@@ -134,21 +121,16 @@ left-clear w (s ∷ ss) k d =
 left-leaf : {m n : ℕ} (w : ℕ → ℤ) {ss : List Strike} → Peeled m n ss → (k : ℕ) → IsLeaf ss k → toZ (left w ss k) ≈ nat 0
 unfolding left
 left-leaf w bare k (t, h, e) = absurd (List·Memᴰ·not-nil h)
-left-leaf {m} {n} w (peel {s} {later} st rest) k (t, h, e) = ⊎-elim
+left-leaf {m} {n} w (peel {s} {later} st rest) k (t, h, e) =
+    let y = toZ (w (s .leaf)) in
+    let here : point (s .leaf) y (s .leaf) ≈ y = rw (point-at (s .leaf) y) (omega arith) in
+    let off = point-zero (s .other) y (s .leaf) (ends-differ (st .ends) (st .row)) in
+    let struck : toZ (left (leftBy w s) later (s .leaf)) ≈ nat 0 =
+    rw (left-clear (leftBy w s) later (s .leaf) (st .clear)) (omega (arith, take-both w (s .leaf) (s .other) (w (s .leaf)) (s .leaf))) in
+    ⊎-elim
     (λ q. let r : k ≡ s .leaf = sym e ∙ ap (λ (v : Strike). v .leaf) q in rw r struck)
     (λ q. left-leaf (leftBy w s) rest k (t, q, e))
     (List·Memᴰ·cases-cons h)
-  where
-    struck : toZ (left (leftBy w s) later (s .leaf)) ≈ nat 0
-    struck = rw (left-clear (leftBy w s) later (s .leaf) (st .clear)) (omega (
-      arith,
-      take-both w (s .leaf) (s .other) (w (s .leaf)) (s .leaf),
-      point-zero (s .other) (toZ (w (s .leaf))) (s .leaf) (ends-differ (st .ends) (st .row)),
-      here,
-    ))
-      where
-        here : point (s .leaf) (toZ (w (s .leaf))) (s .leaf) ≈ toZ (w (s .leaf))
-        here = rw (point-at (s .leaf) (toZ (w (s .leaf)))) (omega arith)
 
 -- ---- the flow
 
@@ -156,28 +138,21 @@ left-leaf {m} {n} w (peel {s} {later} st rest) k (t, h, e) = ⊎-elim
 -- all columns get, so where the totals agree, row 0 has got its weight too.
 pub struck-flow : {m n : ℕ} {B : List Lane} {ss : List Strike} → 1 ≤ m → Struck m n B ss → (w : ℕ → ℤ) → sum m (λ i. toZ (w i)) ≈ sum n (λ j. toZ (w (m + j)))
     → Flow m n (Has B) (λ i j. toZ (flow w ss (lane i j))) (λ i. toZ (w i)) (λ j. toZ (w (m + j)))
-struck-flow {m} {n} {B} {ss} p st w even = record {
-  on = λ i j hi hj e. by-cases (member-dec (lane i j) B) (λ d. d) (λ d. absurd (e (z-eq (flow-off w ss (lane i j) (λ t q f. d (rw f at (st .lanes t q)))))));
-  rows = λ i l. by-cases (ℕ-discrete i 0) (λ e. rw e root) (row i l);
-  cols = column;
-}
-  where
-    x : ℕ → ℕ → Z
-    x i j = toZ (flow w ss (lane i j))
-
-    row : (i : ℕ) → i < m → i ≢ 0 → sum n (x i) ≈ toZ (w i)
-    row i l e = omega (arith, row-weight w (st .peels) i l, left-leaf w (st .peels) i (st .leaves i e (omega arith)))
-
-    column : (j : ℕ) → j < n → sum m (λ i. x i j) ≈ toZ (w (m + j))
-    column j l = omega (arith, column-weight w (st .peels) j, left-leaf w (st .peels) (m + j) (st .leaves (m + j) (omega arith) (omega arith)))
-
-    root : sum n (x 0) ≈ toZ (w 0)
-    root = omega (
-      arith,
-      sum-change m (λ i. toZ (w i)) (λ i. sum n (x i)) 0 (omega arith) row,
-      sum-swap m n x,
-      sum-cong n (λ j. sum m (λ i. x i j)) (λ j. toZ (w (m + j))) column,
-    )
+struck-flow {m} {n} {B} {ss} p st w even =
+    let x : ℕ → ℕ → Z = λ i j. toZ (flow w ss (lane i j)) in
+    let row : (i : ℕ) → i < m → i ≢ 0 → sum n (x i) ≈ toZ (w i) = λ i l e.
+    omega (arith, row-weight w (st .peels) i l, left-leaf w (st .peels) i (st .leaves i e (omega arith))) in
+    let column : (j : ℕ) → j < n → sum m (λ i. x i j) ≈ toZ (w (m + j)) = λ j l.
+    omega (arith, column-weight w (st .peels) j, left-leaf w (st .peels) (m + j) (st .leaves (m + j) (omega arith) (omega arith))) in
+    let others = sum-change m (λ i. toZ (w i)) (λ i. sum n (x i)) 0 (omega arith) row in
+    let columns = sum-cong n (λ j. sum m (λ i. x i j)) (λ j. toZ (w (m + j))) column in
+    let root : sum n (x 0) ≈ toZ (w 0) = omega (arith, sum-swap m n x) in
+    record {
+      on = λ i j hi hj e. by-cases (member-dec (lane i j) B) (λ d. d)
+          (λ d. absurd (e (z-eq (flow-off w ss (lane i j) (λ t q f. d (rw f at (st .lanes t q)))))));
+      rows = λ i l. by-cases (ℕ-discrete i 0) (λ e. rw e root) (row i l);
+      cols = column;
+    }
 
 -- ---- the signs
 
@@ -195,37 +170,30 @@ point-neg p k = by-cases (ℕ-discrete k p)
     (λ e. rw (e, point-at p (neg (nat 1)), point-at p (nat 1)) (omega arith))
     (λ e. rw (point-off p (neg (nat 1)) k e, point-off p (nat 1) k e) (omega arith))
 
+point-sum : (n p : ℕ) → p < n → sum n (point p (neg (nat 1))) ≈ neg (nat 1)
+point-sum n p h =
+    let once = sum-cong n (point p (neg (nat 1))) (λ k. nat 1 ⊗ point p (neg (nat 1)) k) (λ k l. omega arith) in
+    omega (arith, sum-point n (λ k. nat 1) p (neg (nat 1)) h)
+
 module _ {m n : ℕ} {enter : Lane} (hr : enter .row < m) (hc : enter .col < n) where
   owed-row : (i : ℕ) → i < m → toZ (owed m enter i) ≈ point (enter .row) (neg (nat 1)) i
-  owed-row i l = omega (
-    arith,
-    take-both (λ k. pos 0) (enter .row) (m + enter .col) (pos 1) i,
-    point-zero (m + enter .col) (nat 1) i (omega arith),
-    point-neg (enter .row) i,
-  )
+  owed-row i l =
+      let both = take-both (λ k. pos 0) (enter .row) (m + enter .col) (pos 1) i in
+      omega (arith, point-zero (m + enter .col) (nat 1) i (omega arith), point-neg (enter .row) i)
 
   owed-column : (j : ℕ) → j < n → toZ (owed m enter (m + j)) ≈ point (enter .col) (neg (nat 1)) j
-  owed-column j l = omega (
-    arith,
-    take-both (λ k. pos 0) (enter .row) (m + enter .col) (pos 1) (m + j),
-    point-zero (enter .row) (nat 1) (m + j) (omega arith),
-    point-up m (enter .col) (nat 1) j,
-    point-neg (enter .col) j,
-  )
+  owed-column j l =
+      let both = take-both (λ k. pos 0) (enter .row) (m + enter .col) (pos 1) (m + j) in
+      omega (arith, point-zero (enter .row) (nat 1) (m + j) (omega arith), point-up m (enter .col) (nat 1) j, point-neg (enter .col) j)
 
   -- The signs are the flow of −1 at the entering lane's row and −1 at its column.
   pub struck-signs : {B : List Lane} {ss : List Strike} → 1 ≤ m → Struck m n B ss
       → Flow m n (Has B) (λ i j. toZ (sign m ss enter (lane i j))) (point (enter .row) (neg (nat 1))) (point (enter .col) (neg (nat 1)))
   unfolding sign
-  struck-signs p st = flow-margins owed-row owed-column (struck-flow p st (owed m enter) (omega (
-    arith,
-    sum-cong m (λ i. toZ (owed m enter i)) (point (enter .row) (neg (nat 1))) owed-row,
-    sum-cong n (λ j. toZ (owed m enter (m + j))) (point (enter .col) (neg (nat 1))) owed-column,
-    sum-cong m (point (enter .row) (neg (nat 1))) (λ i. nat 1 ⊗ point (enter .row) (neg (nat 1)) i) (λ i l. omega arith),
-    sum-cong n (point (enter .col) (neg (nat 1))) (λ j. nat 1 ⊗ point (enter .col) (neg (nat 1)) j) (λ j l. omega arith),
-    sum-point m (λ i. nat 1) (enter .row) (neg (nat 1)) hr,
-    sum-point n (λ j. nat 1) (enter .col) (neg (nat 1)) hc,
-  )))
+  struck-signs p st =
+      let rows = sum-cong m (λ i. toZ (owed m enter i)) (point (enter .row) (neg (nat 1))) owed-row in
+      let columns = sum-cong n (λ j. toZ (owed m enter (m + j))) (point (enter .col) (neg (nat 1))) owed-column in
+      flow-margins owed-row owed-column (struck-flow p st (owed m enter) (omega (arith, point-sum m (enter .row) hr, point-sum n (enter .col) hc)))
 
 -- ---- the flow and the signs on lanes that span
 

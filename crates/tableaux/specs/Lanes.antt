@@ -1,5 +1,5 @@
 -- Lanes: those in a list, and an amount on one lane alone.
-use Rattle.prelude.specs.Words.{ap, sym, _↔_, _≢_, ⊎-elim, by-cases, List, [], _∷_, map, Memᴰ·cast, List·Memᴰ, List·Memᴰ·head, List·Memᴰ·tail}
+use Rattle.prelude.specs.Words.{ap, sym, _∙_, _↔_, _≢_, ⊎-elim, by-cases, List, [], _∷_, Memᴰ·cast, List·Memᴰ, List·Memᴰ·head, List·Memᴰ·tail}
 use Rattle.prelude.specs.Words.{List·Memᴰ·not-nil, List·Memᴰ·cases-cons, ℕ, _<_, arith, ℕ-discrete}
 use Rattle.integers.specs.Integer.{Z, _≈_, _⊗_, nat}
 use Rattle.integers.specs.Sum.{sum, point}
@@ -26,31 +26,22 @@ Fits m n B = (l : Lane) → List·Memᴰ l B → (l .row < m) × (l .col < n)
 -- The cells of a tableau stand on the lanes of its basis.
 pub has-basic : (T : List Cell) (i j : ℕ) → Has (basisOf T) i j ↔ Basic T i j
 unfolding basisOf laneOf
-has-basic T i j = (to, from)
-  where
-    to : Has (map laneOf T) i j → Basic T i j
-    to h =
-        let (c, m, e) = map-member laneOf T h in
-        let (k, p, q) = member-place noCell m in
-        record {
-          index = k;
-          below = p;
-          row = cc (ap (λ (d : Cell). d .row) q, ap (λ (l : Lane). l .row) e);
-          column = cc (ap (λ (d : Cell). d .col) q, ap (λ (l : Lane). l .col) e);
-        }
-
-    from : Basic T i j → Has (map laneOf T) i j
-    from b = Memᴰ·cast (λ t. lane (sym (b .row) t) (sym (b .column) t)) (member-map laneOf (member-at T noCell (b .index) (b .below)))
+has-basic T i j = (
+  (λ h.
+      let (c, m, e) = map-member laneOf T h in
+      let (k, p, q) = member-place noCell m in
+      let row = ap (λ (d : Cell). d .row) q ∙ sym (ap (λ (l : Lane). l .row) e) in
+      let column = ap (λ (d : Cell). d .col) q ∙ sym (ap (λ (l : Lane). l .col) e) in
+      record { index = k; below = p; row = row; column = column }),
+  (λ b. Memᴰ·cast (λ t. lane (sym (b .row) t) (sym (b .column) t)) (member-map laneOf (member-at T noCell (b .index) (b .below)))),
+)
 
 -- ---- members
 
 pub member-dec : (l : Lane) (ls : List Lane) → Dec (List·Memᴰ l ls)
 member-dec l [] = no List·Memᴰ·not-nil
-member-dec l (k ∷ ls) = by-cases (lane-dec l k) (λ e. yes (List·Memᴰ·head e)) (λ e. go e (member-dec l ls))
-  where
-    go : l ≢ k → Dec (List·Memᴰ l ls) → Dec (List·Memᴰ l (k ∷ ls))
-    go e (yes h) = yes (List·Memᴰ·tail h)
-    go e (no d) = no (λ h. ⊎-elim e d (List·Memᴰ·cases-cons h))
+member-dec l (k ∷ ls) = by-cases (lane-dec l k) (λ e. yes (List·Memᴰ·head e)) (λ e. by-cases (member-dec l ls)
+    (λ h. yes (List·Memᴰ·tail h)) (λ d. no (λ h. ⊎-elim e d (List·Memᴰ·cases-cons h))))
 
 -- ---- an amount on one lane
 
@@ -71,8 +62,6 @@ module _ (l : Lane) (v : Z) where
   on-lane-row n h i = omega (arith, sum-point n (λ j. point (l .row) (nat 1) i) (l .col) v h, point-one (l .row) v i)
 
   pub on-lane-column : (m : ℕ) → l .row < m → (j : ℕ) → sum m (λ i. on-lane l v i j) ≈ point (l .col) v j
-  on-lane-column m h j = omega (
-    arith,
-    sum-cong m (λ i. on-lane l v i j) (λ i. point (l .col) v j ⊗ point (l .row) (nat 1) i) (λ i q. omega arith),
-    sum-point m (λ i. point (l .col) v j) (l .row) (nat 1) h,
-  )
+  on-lane-column m h j =
+      let turned = sum-cong m (λ i. on-lane l v i j) (λ i. point (l .col) v j ⊗ point (l .row) (nat 1) i) (λ i q. omega arith) in
+      omega (arith, sum-point m (λ i. point (l .col) v j) (l .row) (nat 1) h)

@@ -4,7 +4,7 @@ use Rattle.prelude.specs.Words.{pos, negsuc, natAbs, _*ℤ_, nonNeg, _≤ℤ_, 
 use Rattle.integers.specs.Integer.{Z, _≈_, _≼_, ≈-dec, _⊖_, _⊗_, nat}
 use Rattle.integers.specs.IntegerLaws.{⊗-cong}
 use Rattle.integers.specs.Bridge.{toZ, z-mul, z-eq, eq-z, le-z, z-ev, !, _-'_}
-use Rattle.network.specs.Flow.{On, Flow, Plan, cost, Feasible, Tight}
+use Rattle.network.specs.Flow.{Flow, Plan, cost, Feasible, Tight}
 use Rattle.network.specs.FlowLaws.{flow-on, flow-cong, plan-whole}
 use Rattle.network.specs.Duality.{least, least-tight}
 use Rattle.transport.specs.Lists.{at}
@@ -91,11 +91,9 @@ reduced-parts P T i j = z-ev (! (laneCost P (lane i j)) -' ! (potential P T i) -
 pub finished-feasible : (P : Problem) (T : List Cell) → isFinished P T ≡ true → (i j : ℕ) → i < sources P → j < sinks P
     → Feasible (costs P) (rowPotential P T) (columnPotential P T) i j
 unfolding isFinished
-finished-feasible P T done i j k l = omega (
-  arith,
-  reduced-parts P T i j,
-  nonNeg-true (reducedCost P T (lane i j)) (all-lanes-at (λ x. nonNeg (reducedCost P T x)) (sources P) (sinks P) i j done k l),
-)
+finished-feasible P T done i j k l =
+    let low = all-lanes-at (λ x. nonNeg (reducedCost P T x)) (sources P) (sinks P) i j done k l in
+    omega (arith, reduced-parts P T i j, nonNeg-true (reducedCost P T (lane i j)) low)
 
 -- The plan carries nothing on lanes whose reduced cost is not 0.
 abbrev pub OnTight : Problem → List Cell → List ℕ → Type 0
@@ -108,45 +106,31 @@ module _ (P : Problem) (ok : Sound P) (T : List Cell) (belongs : Belongs P T)
   ours : Flow (sources P) (sinks P) (Tight (costs P) (rowPotential P T) (columnPotential P T)) (carried (sinks P) (bagsOf P T)) (supplies P) (demands P)
   ours = flow-on (λ i j k l b. tight i j b) (bagsOf-flow P T belongs flow)
 
-  our-cost : cost (sources P) (sinks P) (costs P) (carried (sinks P) (bagsOf P T)) ≈ toZ (flowCost P (bagsOf P T))
-  our-cost = cost-flowCost P (bagsOf P T)
-
   module _ (k : ℕ) (Q : List ℕ) (meets : Fulfils P k Q) where
     theirs : Plan (sources P) (sinks P) (Feasible (costs P) (rowPotential P T) (columnPotential P T)) k (carried (sinks P) Q) (supplies P) (demands P)
     theirs = fulfils-plan (λ i j h l e. finished-feasible P T done i j h l) meets
 
-    times : nat k ⊗ cost (sources P) (sinks P) (costs P) (carried (sinks P) (bagsOf P T)) ≈ toZ (pos k *ℤ flowCost P (bagsOf P T))
-    times = omega (
-      arith,
-      ⊗-cong (nat k) (cost (sources P) (sinks P) (costs P) (carried (sinks P) (bagsOf P T))) (toZ (flowCost P (bagsOf P T))) our-cost,
-      z-mul (pos k) (flowCost P (bagsOf P T)),
-    )
+    our-cost : nat k ⊗ cost (sources P) (sinks P) (costs P) (carried (sinks P) (bagsOf P T)) ≈ toZ (pos k *ℤ flowCost P (bagsOf P T))
+    our-cost =
+        let same = ⊗-cong (nat k) (cost (sources P) (sinks P) (costs P) (carried (sinks P) (bagsOf P T))) (toZ (flowCost P (bagsOf P T))) in
+        omega (arith, same (cost-flowCost P (bagsOf P T)), z-mul (pos k) (flowCost P (bagsOf P T)))
 
     -- Optimality. The potentials' worth of the supplies and demands bounds the cost of every plan from below, for no reduced cost is negative; and the
     -- tableau's bags cost just that, for they are on basic cells, where the reduced cost is 0.
     pub bags-least : (pos k *ℤ flowCost P (bagsOf P T)) ≤ℤ flowCost P Q
-    bags-least =
-        le-z (pos k *ℤ flowCost P (bagsOf P T)) (flowCost P Q)
-        (omega (arith, times, cost-flowCost P Q, least (costs P) (rowPotential P T) (columnPotential P T) ours theirs))
+    bags-least = le-z (pos k *ℤ flowCost P (bagsOf P T)) (flowCost P Q)
+        (omega (arith, our-cost, cost-flowCost P Q, least (costs P) (rowPotential P T) (columnPotential P T) ours theirs))
 
     -- A plan costs as little exactly if it is on lanes with reduced cost 0.
     pub bags-least-exactly : (flowCost P Q ≡ (pos k *ℤ flowCost P (bagsOf P T))) ↔ OnTight P T Q
-    bags-least-exactly = (
-      (λ e i j h l r. by-cases (ℕ-discrete (at Q (place (sinks P) i j)) 0) (λ z. z) (λ z. absurd (r (eq-z (reducedCost P T (lane i j)) (pos 0) (omega (
-        arith,
-        reduced-parts P T i j,
-        same-cost .0 (omega (arith, times, cost-flowCost P Q, z-eq e)) i j h l (omega arith),
-      )))))),
-      (λ t. eq-z (flowCost P Q) (pos k *ℤ flowCost P (bagsOf P T)) (omega (
-        arith,
-        times,
-        cost-flowCost P Q,
-        same-cost .1 (λ i j h l e. by-cases (≈-dec (toZ (reducedCost P T (lane i j))) (nat 0))
-            (λ z. omega (arith, reduced-parts P T i j))
-            (λ z. absurd (e (omega (arith, t i j h l (λ r. z (z-eq r))))))),
-      ))),
-    )
-      where
-        same-cost : (cost (sources P) (sinks P) (costs P) (carried (sinks P) Q) ≈ nat k ⊗ cost (sources P) (sinks P) (costs P) (carried (sinks P) (bagsOf P T)))
-            ↔ On (sources P) (sinks P) (Tight (costs P) (rowPotential P T) (columnPotential P T)) (carried (sinks P) Q)
-        same-cost = least-tight (costs P) (rowPotential P T) (columnPotential P T) ours theirs
+    bags-least-exactly =
+        let same = least-tight (costs P) (rowPotential P T) (columnPotential P T) ours theirs in (
+          (λ e i j h l r. by-cases (ℕ-discrete (at Q (place (sinks P) i j)) 0) (λ z. z) (λ z.
+              let tight = same .0 (omega (arith, our-cost, cost-flowCost P Q, z-eq e)) i j h l (omega arith) in
+              absurd (r (eq-z (reducedCost P T (lane i j)) (pos 0) (omega (arith, reduced-parts P T i j)))))),
+          (λ t.
+              let on = same .1 (λ i j h l e. by-cases (≈-dec (toZ (reducedCost P T (lane i j))) (nat 0))
+              (λ z. omega (arith, reduced-parts P T i j))
+              (λ z. absurd (e (omega (arith, t i j h l (λ r. z (z-eq r))))))) in
+              eq-z (flowCost P Q) (pos k *ℤ flowCost P (bagsOf P T)) (omega (arith, our-cost, cost-flowCost P Q))),
+        )

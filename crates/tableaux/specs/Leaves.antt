@@ -1,11 +1,11 @@
 -- Leaves: while any of the lanes that join the nodes left is there, a node but the root has a single one; and after striking it off the lanes join the nodes
 -- left.
-use Rattle.prelude.specs.Words.{_≡_, refl, ap, sym, _∙_, _↔_, _≢_, _⊎_, inl, inr, by-cases, Bool, true, false, not, _&&_, _||_, cond, true≢false, List, [], _∷_}
-use Rattle.prelude.specs.Words.{List·Memᴰ, List·Memᴰ·head, List·Memᴰ·tail, List·Memᴰ·not-nil, List·Memᴰ·cases-cons, List·Memᴰ·eq-of-singleton, Option, none}
-use Rattle.prelude.specs.Words.{some, ℕ, zero, suc, _+_, _*_, _≤_, _<_, arith, ℕ-discrete, eqb-true, eqb-false, eq-eqb, ne-eqb, not-true, eqb, length, by-test}
+use Rattle.prelude.specs.Words.{_≡_, refl, ap, sym, _∙_, _↔_, _≢_, _⊎_, inl, inr, ⊎-elim, by-cases, Bool, true, false, not, _&&_, cond, true≢false, List, []}
+use Rattle.prelude.specs.Words.{_∷_, List·Memᴰ, List·Memᴰ·head, List·Memᴰ·tail, List·Memᴰ·not-nil, List·Memᴰ·cases-cons, List·Memᴰ·eq-of-singleton, none, some}
+use Rattle.prelude.specs.Words.{ℕ, zero, suc, _+_, _*_, _≤_, _<_, arith, ℕ-discrete, eqb-true, eqb-false, eq-eqb, ne-eqb, not-true, eqb, length, by-test}
 use Rattle.transport.specs.Lists.{keep, sumTo}
-use Rattle.transport.specs.Laws.ListLaws.{keep-yes, keep-no, keep-member, member-keep, and-left, and-right, sumTo-cong, sumTo-none, sumTo-add, sumTo-le}
-use Rattle.transport.specs.Laws.ListLaws.{sumTo-scale}
+use Rattle.transport.specs.Laws.ListLaws.{none-some, by-option, member-place, keep-yes, keep-no, keep-member, member-keep, and-left, and-right, sumTo-cong}
+use Rattle.transport.specs.Laws.ListLaws.{sumTo-none, sumTo-add, sumTo-le, sumTo-scale}
 use Rattle.transport.specs.Problem.{Lane}
 use Rattle.transport.specs.Laws.ProblemLaws.{lane}
 use Rattle.transport.specs.Leaf.{Strike, touches, strikeAt, onlyOne, firstLeaf}
@@ -16,19 +16,13 @@ use Rattle.tableaux.specs.Lanes.{Fits}
 
 pub touches-true : (m k : ℕ) (l : Lane) → touches m k l ≡ true → (l .row ≡ k) ⊎ (m + l .col ≡ k)
 unfolding touches
-touches-true m k l e = go (eqb (l .row) k) refl e
-  where
-    go : (b : Bool) → eqb (l .row) k ≡ b → b || eqb (m + l .col) k ≡ true → (l .row ≡ k) ⊎ (m + l .col ≡ k)
-    go true p e = inl (eqb-true (l .row) k p)
-    go false p e = inr (eqb-true (m + l .col) k e)
+touches-true m k l e = by-test (eqb (l .row) k) (λ p. inl (eqb-true (l .row) k p)) (λ p. inr (eqb-true (m + l .col) k (rw p at e)))
 
 pub touches-false : (m k : ℕ) (l : Lane) → touches m k l ≡ false → (l .row ≢ k) × (m + l .col ≢ k)
 unfolding touches
-touches-false m k l e = go (eqb (l .row) k) refl e
-  where
-    go : (b : Bool) → eqb (l .row) k ≡ b → b || eqb (m + l .col) k ≡ false → (l .row ≢ k) × (m + l .col ≢ k)
-    go true p e = absurd (true≢false e)
-    go false p e = (eqb-false (l .row) k p, eqb-false (m + l .col) k e)
+touches-false m k l e = by-test (eqb (l .row) k)
+    (λ p. absurd (true≢false (rw p at e)))
+    (λ p. (eqb-false (l .row) k p, eqb-false (m + l .col) k (rw p at e)))
 
 -- ---- sums of ones
 
@@ -74,61 +68,52 @@ pub record Leaf (m : ℕ) (nodes : List ℕ) (B : List Lane) (s : Strike) : Type
   pub ends : Ends m s
   pub listed : List·Memᴰ (s .leaf) nodes
 
-first-single : (m k : ℕ) (ks : List ℕ) (B : List Lane) (l : Lane) → at-node m k B ≡ l ∷ [] → firstLeaf m (k ∷ ks) B ≡ some (strikeAt m k l)
-unfolding firstLeaf onlyOne
+-- Of the lanes at the first node, one alone makes this node the leaf ..
+first-single : (m k : ℕ) (ks : List ℕ) (B : List Lane) (l : Lane) → onlyOne (at-node m k B) ≡ some l → firstLeaf m (k ∷ ks) B ≡ some (strikeAt m k l)
+unfolding firstLeaf
 first-single m k ks B l e = rw (e, firstLeaf)
 
+-- .. and else the leaf is among the later nodes.
 first-later : (m k : ℕ) (ks : List ℕ) (B : List Lane) → onlyOne (at-node m k B) ≡ none → firstLeaf m (k ∷ ks) B ≡ firstLeaf m ks B
 unfolding firstLeaf
 first-later m k ks B e = rw (e, firstLeaf)
 
+only-some : (ls : List Lane) {l : Lane} → onlyOne ls ≡ some l → ls ≡ l ∷ []
+unfolding onlyOne
+only-some [] e = absurd (none-some e)
+only-some (k ∷ []) e = cc
+only-some (k ∷ h ∷ ls) e = absurd (none-some e)
+
+only-none : (ls : List Lane) → onlyOne ls ≡ none → length ls ≢ 1
+unfolding onlyOne
+only-none [] e q = omega arith
+only-none (k ∷ []) e q = none-some (sym e)
+only-none (k ∷ h ∷ ls) e q = omega arith
+
 ends-at : (m k : ℕ) (l : Lane) → touches m k l ≡ true → Ends m (strikeAt m k l)
 unfolding touches strikeAt
-ends-at m k l h = go (eqb (l .row) k) refl h
-  where
-    go : (b : Bool) → eqb (l .row) k ≡ b → b || eqb (m + l .col) k ≡ true → Ends m (strikeAt m k l)
-    go true e h = row-struck (sym (eqb-true (l .row) k e)) (rw e)
-    go false e h = column-struck (sym (eqb-true (m + l .col) k h)) (rw e)
-
-some-some : {A : Type 0} {x y : A} → some x ≡ some y → x ≡ y
-some-some e = cc
-
-pub none-some : {A : Type 0} {x : A} → none ≡ some x → ⊥
-none-some e = let z : _≡_ {A = ℕ} 0 1 = cc in omega arith
+ends-at m k l h = by-test (eqb (l .row) k)
+    (λ e. row-struck (sym (eqb-true (l .row) k e)) (rw e))
+    (λ e. column-struck (sym (eqb-true (m + l .col) k (rw e at h))) (rw e))
 
 -- A leaf that is found ..
 pub found : (m : ℕ) (nodes : List ℕ) (B : List Lane) (s : Strike) → firstLeaf m nodes B ≡ some s → Leaf m nodes B s
-unfolding firstLeaf onlyOne strikeAt
+unfolding firstLeaf strikeAt
 found m [] B s e = absurd (none-some e)
-found m (k ∷ ks) B s e = go (at-node m k B) refl (found m ks B s)
-  where
-    later : onlyOne (at-node m k B) ≡ none → (firstLeaf m ks B ≡ some s → Leaf m ks B s) → Leaf m (k ∷ ks) B s
-    later q rest = let f = rest (sym (first-later m k ks B q) ∙ e) in record { only = f .only; ends = f .ends; listed = List·Memᴰ·tail (f .listed) }
-
-    go : (ls : List Lane) → at-node m k B ≡ ls → (firstLeaf m ks B ≡ some s → Leaf m ks B s) → Leaf m (k ∷ ks) B s
-    go [] q rest = later (rw q) rest
-    go (l ∷ []) q rest =
-        let p : strikeAt m k l ≡ s = some-some (sym (first-single m k ks B l q) ∙ e) in
-        let t : touches m k l ≡ true = keep-member (touches m k) {x = l} B (rw q (List·Memᴰ·head refl)) .1 in
-        rw (← p) (record { only = q; ends = ends-at m k l t; listed = List·Memᴰ·head refl })
-    go (l ∷ h ∷ ls) q rest = later (rw q) rest
+found m (k ∷ ks) B s e = by-option (onlyOne (at-node m k B))
+    (λ q. let f = found m ks B s (sym (first-later m k ks B q) ∙ e) in record { only = f .only; ends = f .ends; listed = List·Memᴰ·tail (f .listed) })
+    (λ l q.
+    let only : at-node m k B ≡ l ∷ [] = only-some (at-node m k B) q in
+    let t = keep-member (touches m k) {x = l} B (rw only (List·Memᴰ·head refl)) .1 in
+    let p : strikeAt m k l ≡ s = cc (first-single m k ks B l q) in
+    rw (← p) (record { only = only; ends = ends-at m k l t; listed = List·Memᴰ·head refl }))
 
 -- .. and none found means that no node of the list has a single lane.
 missed : (m : ℕ) (nodes : List ℕ) (B : List Lane) → firstLeaf m nodes B ≡ none → (k : ℕ) → List·Memᴰ k nodes → length (at-node m k B) ≢ 1
-unfolding firstLeaf onlyOne
 missed m [] B e k h = absurd (List·Memᴰ·not-nil h)
-missed m (j ∷ ks) B e k h = go (at-node m j B) refl (missed m ks B) (List·Memᴰ·cases-cons h)
-  where
-    later : onlyOne (at-node m j B) ≡ none → length (at-node m j B) ≢ 1 → (firstLeaf m ks B ≡ none → (k : ℕ) → List·Memᴰ k ks → length (at-node m k B) ≢ 1)
-        → (k ≡ j) ⊎ List·Memᴰ k ks → length (at-node m k B) ≢ 1
-    later q d rest (inl p) = rw p d
-    later q d rest (inr p) = rest (sym (first-later m j ks B q) ∙ e) k p
-
-    go : (ls : List Lane) → at-node m j B ≡ ls → (firstLeaf m ks B ≡ none → (k : ℕ) → List·Memᴰ k ks → length (at-node m k B) ≢ 1)
-        → (k ≡ j) ⊎ List·Memᴰ k ks → length (at-node m k B) ≢ 1
-    go [] q rest p = later (rw q) (λ r. omega (arith, ap length q)) rest p
-    go (l ∷ []) q rest p = absurd (none-some (sym e ∙ first-single m j ks B l q))
-    go (l ∷ h ∷ ls) q rest p = later (rw q) (λ r. omega (arith, ap length q)) rest p
+missed m (j ∷ ks) B e k h = by-option (onlyOne (at-node m j B))
+    (λ q. ⊎-elim (λ p. rw p (only-none (at-node m j B) q)) (missed m ks B (sym (first-later m j ks B q) ∙ e) k) (List·Memᴰ·cases-cons h))
+    (λ l q. absurd (none-some (sym e ∙ first-single m j ks B l q)))
 
 -- ---- degrees: they add up to twice the lanes
 
@@ -151,27 +136,16 @@ unfolding keep
 degrees m n [] h = sumTo-none (m + n)
 degrees m n (l ∷ ls) h =
     let inside = h l (List·Memᴰ·head refl) in
-    omega (
-      arith,
-      sumTo-cong (m + n) (degree m (l ∷ ls)) (λ k. one-at (l .row) k + one-at (m + l .col) k + degree m ls k)
-          (λ k q. omega (arith, degree-cons m k l ls, touches-bits m k l (inside .0))),
-      sumTo-add (m + n) (λ k. one-at (l .row) k + one-at (m + l .col) k) (degree m ls),
-      sumTo-add (m + n) (one-at (l .row)) (one-at (m + l .col)),
-      sum-one-at (m + n) (l .row) (omega (arith, inside)),
-      sum-one-at (m + n) (m + l .col) (omega (arith, inside)),
-      degrees m n ls (λ k p. h k (List·Memᴰ·tail p)),
-    )
+    let bits : (k : ℕ) → k < m + n → degree m (l ∷ ls) k ≡ one-at (l .row) k + one-at (m + l .col) k + degree m ls k = λ k q.
+    omega (arith, degree-cons m k l ls, touches-bits m k l (inside .0)) in
+    let all = sumTo-cong (m + n) (degree m (l ∷ ls)) (λ k. one-at (l .row) k + one-at (m + l .col) k + degree m ls k) bits in
+    let three = sumTo-add (m + n) (λ k. one-at (l .row) k + one-at (m + l .col) k) (degree m ls) in
+    let two = sumTo-add (m + n) (one-at (l .row)) (one-at (m + l .col)) in
+    let rest = degrees m n ls (λ k p. h k (List·Memᴰ·tail p)) in
+    omega (arith, sum-one-at (m + n) (l .row) (omega arith), sum-one-at (m + n) (m + l .col) (omega arith))
 
 degree-member : (m k : ℕ) (B : List Lane) → degree m B k ≡ 0 → (l : Lane) → List·Memᴰ l B → touches m k l ≡ false
-degree-member m k B e l h = go (touches m k l) refl
-  where
-    some-member : {ls : List Lane} → List·Memᴰ l ls → 0 < length ls
-    some-member (List·Memᴰ·head q) = omega arith
-    some-member (List·Memᴰ·tail q) = omega arith
-
-    go : (b : Bool) → touches m k l ≡ b → touches m k l ≡ false
-    go true q = absurd (omega (arith, some-member (member-keep (touches m k) q h)))
-    go false q = q
+degree-member m k B e l h = by-test (touches m k l) (λ q. absurd (omega (arith, member-place l (member-keep (touches m k) q h) .1))) (λ q. q)
 
 -- ---- the nodes left
 
@@ -195,44 +169,31 @@ not-eqb a b e = eqb-false a b (not-true (eqb a b) e)
 -- one for the same reason. If no other node had a single lane, all of them had two or more, and the degrees would add up to more than twice the lanes.
 module _ {m n : ℕ} {left : ℕ → Bool} {B : List Lane} (w : Linked m n left B) where
   pub has-lane : (k : ℕ) → k ≢ 0 → k < m + n → left k ≡ true → degree m B k ≢ 0
-  has-lane k z l e d = true≢false (sym (w .joined (λ j. not (eqb j k)) (rw (ne-eqb 0 k (λ q. z (sym q)))) closed k l e) ∙ rw (eq-eqb k k refl))
-    where
-      closed : (l : Lane) → List·Memᴰ l B → not (eqb (l .row) k) ≡ not (eqb (m + l .col) k)
-      closed l h =
-          let t = touches-false m k l (degree-member m k B d l h) in
-          rw (ne-eqb (l .row) k (t .0), ne-eqb (m + l .col) k (t .1))
+  has-lane k z l e d =
+      let closed : (l : Lane) → List·Memᴰ l B → not (eqb (l .row) k) ≡ not (eqb (m + l .col) k) = λ l h.
+      let t = touches-false m k l (degree-member m k B d l h) in rw (ne-eqb (l .row) k (t .0), ne-eqb (m + l .col) k (t .1)) in
+      true≢false (sym (w .joined (λ j. not (eqb j k)) (rw (ne-eqb 0 k (λ q. z (sym q)))) closed k l e) ∙ rw (eq-eqb k k refl))
 
   root-has-lane : 1 ≤ m → (l : Lane) → List·Memᴰ l B → degree m B 0 ≢ 0
   root-has-lane p l h d =
+      let closed : (l : Lane) → List·Memᴰ l B → eqb (l .row) 0 ≡ eqb (m + l .col) 0 = λ l h.
+      let t = touches-false m 0 l (degree-member m 0 B d l h) in rw (ne-eqb (l .row) 0 (t .0), ne-eqb (m + l .col) 0 (t .1)) in
       let e : eqb (m + l .col) 0 ≡ true = w .joined (λ j. eqb j 0) (eq-eqb 0 0 refl) closed (m + l .col) (omega (arith, w .inside l h)) (w .ends l h .1) in
       omega (arith, eqb-true (m + l .col) 0 e)
-    where
-      closed : (l : Lane) → List·Memᴰ l B → eqb (l .row) 0 ≡ eqb (m + l .col) 0
-      closed l h =
-          let t = touches-false m 0 l (degree-member m 0 B d l h) in
-          rw (ne-eqb (l .row) 0 (t .0), ne-eqb (m + l .col) 0 (t .1))
 
   pub leaf-exists : {nodes : List ℕ} → 1 ≤ m → Others m n nodes → (l : Lane) → List·Memᴰ l B → (s : Strike) × (firstLeaf m nodes B ≡ some s)
-  leaf-exists {nodes} p others l h = go (firstLeaf m nodes B) refl
-    where
-      enough : firstLeaf m nodes B ≡ none → (k : ℕ) → k < m + n → 2 * cond (left k) 1 0 ≤ degree m B k + one-at 0 k
-      enough e k q = by-cases (ℕ-discrete k 0)
-          (λ z. rw z (omega (arith, bit-le (left 0), root-has-lane p l h, one-here 0)))
-          (λ z. by-test (left k)
-          (λ t. rw t (omega (arith, has-lane k z q t, missed m nodes B e k (others k .1 (z, q)))))
-          (λ t. rw t (omega arith)))
-
-      go : (o : Option Strike) → firstLeaf m nodes B ≡ o → (s : Strike) × (firstLeaf m nodes B ≡ some s)
-      go (some s) e = (s, e)
-      go none e = absurd (omega (
-        arith,
-        sumTo-le (m + n) (λ k. 2 * cond (left k) 1 0) (λ k. degree m B k + one-at 0 k) (enough e),
-        sumTo-scale (m + n) 2 (λ k. cond (left k) 1 0),
-        sumTo-add (m + n) (degree m B) (one-at 0),
-        sum-one-at (m + n) 0 (omega arith),
-        degrees m n B (w .inside),
-        w .count,
-      ))
+  leaf-exists {nodes} p others l h = by-option (firstLeaf m nodes B)
+      (λ e.
+      let enough : (k : ℕ) → k < m + n → 2 * cond (left k) 1 0 ≤ degree m B k + one-at 0 k = λ k q. by-cases (ℕ-discrete k 0)
+      (λ z. rw z (omega (arith, bit-le (left 0), root-has-lane p l h, one-here 0)))
+      (λ z. by-test (left k)
+      (λ t. rw t (omega (arith, has-lane k z q t, missed m nodes B e k (others k .1 (z, q)))))
+      (λ t. rw t (omega arith))) in
+      let sums = sumTo-le (m + n) (λ k. 2 * cond (left k) 1 0) (λ k. degree m B k + one-at 0 k) enough in
+      let parts = sumTo-add (m + n) (degree m B) (one-at 0) in
+      let twice = sumTo-scale (m + n) 2 (λ k. cond (left k) 1 0) in
+      absurd (omega (arith, sum-one-at (m + n) 0 (omega arith), degrees m n B (w .inside), w .count)))
+      (λ s e. (s, e))
 
 -- ---- after a strike
 
@@ -271,62 +232,43 @@ unless k left j = left j && not (eqb k j)
 pub unless-bits : (k : ℕ) (left : ℕ → Bool) (j : ℕ) → left k ≡ true → cond (left j) 1 0 ≡ cond (unless k left j) 1 0 + one-at k j
 unless-bits k left j e = by-cases (ℕ-discrete k j)
     (λ p. rw (eq-eqb k j p, ← p, e) (omega arith))
-    (λ p. go (left j) p)
-  where
-    go : (b : Bool) → k ≢ j → cond {A = ℕ} b 1 0 ≡ cond (b && not (eqb k j)) 1 0 + one-at k j
-    go true p = rw (ne-eqb k j p) (omega arith)
-    go false p = rw (ne-eqb k j p) (omega arith)
+    (λ p. by-test (left j) (λ t. rw (t, ne-eqb k j p) (omega arith)) (λ t. rw (t, ne-eqb k j p) (omega arith)))
 
 -- Striking a leaf leaves lanes that join the nodes left: a split of these is one of all nodes, with the leaf on its neighbour's side.
 pub leaf-struck : {m n : ℕ} {left : ℕ → Bool} {nodes : List ℕ} {B : List Lane} {s : Strike} → Linked m n left B → Others m n nodes → Leaf m nodes B s
     → Linked m n (unless (s .leaf) left) (without m (s .leaf) B)
-leaf-struck {m} {n} {left} {nodes} {B} {s} w others f = record {
-  root = rw (w .root, ne-eqb (s .leaf) 0 (others (s .leaf) .0 (f .listed) .0));
-  inside = λ l h. w .inside l (without-member m (s .leaf) B l h .0);
-  ends = λ l h.
-      let (p, q) = without-member m (s .leaf) B l h in
-      let (a, b) = touches-false m (s .leaf) l q in
-      (rw (w .ends l p .0, ne-eqb (s .leaf) (l .row) (λ e. a (sym e))), rw (w .ends l p .1, ne-eqb (s .leaf) (m + l .col) (λ e. b (sym e))));
-  joined = λ side z closed k l e.
-      let apart = not-eqb (s .leaf) k (and-right (left k) (not (eqb (s .leaf) k)) e) in
-      let first = moved-off side 0 (others (s .leaf) .0 (f .listed) .0) ∙ z in
-      sym (moved-off side k apart) ∙ w .joined (moved side) first (all-closed side closed) k l (and-left (left k) (not (eqb (s .leaf) k)) e);
-  count = omega (
-    arith,
-    w .count,
-    length-without f,
-    sumTo-cong (m + n) (λ k. cond (left k) 1 0) (λ k. cond (unless (s .leaf) left k) 1 0 + one-at (s .leaf) k)
-        (λ k l. unless-bits (s .leaf) left k (there (f .ends))),
-    sumTo-add (m + n) (λ k. cond (unless (s .leaf) left k) 1 0) (one-at (s .leaf)),
-    sum-one-at (m + n) (s .leaf) (others (s .leaf) .0 (f .listed) .1),
-  );
-}
-  where
-    apart : s .leaf ≢ s .other
-    apart = ends-differ (f .ends) (w .inside (s .lane) (leaf-member f .0) .0)
-
-    there : Ends m s → left (s .leaf) ≡ true
-    there (row-struck p q) = ap left p ∙ w .ends (s .lane) (leaf-member f .0) .0
-    there (column-struck p q) = ap left p ∙ w .ends (s .lane) (leaf-member f .0) .1
-
+leaf-struck {m} {n} {left} {nodes} {B} {s} w others f =
+    let (proper, below) = others (s .leaf) .0 (f .listed) in
+    let mem = leaf-member f .0 in
+    let apart = ends-differ (f .ends) (w .inside (s .lane) mem .0) in
+    let there : left (s .leaf) ≡ true =
+    elim (f .ends) [ row-struck p q ↦ ap left p ∙ w .ends (s .lane) mem .0 | column-struck p q ↦ ap left p ∙ w .ends (s .lane) mem .1 ] in
     -- the split with the leaf moved to its neighbour's side
-    moved : (ℕ → Bool) → ℕ → Bool
-    moved side j = cond (eqb (s .leaf) j) (side (s .other)) (side j)
-
-    moved-leaf : (side : ℕ → Bool) → moved side (s .leaf) ≡ side (s .other)
-    moved-leaf side = rw (eq-eqb (s .leaf) (s .leaf) refl)
-
-    moved-off : (side : ℕ → Bool) (j : ℕ) → s .leaf ≢ j → moved side j ≡ side j
-    moved-off side j e = rw (ne-eqb (s .leaf) j e)
-
-    own : (side : ℕ → Bool) → Ends m s → moved side (s .lane .row) ≡ moved side (m + s .lane .col)
-    own side (row-struck p q) = rw (← p, ← q) (moved-leaf side ∙ sym (moved-off side (s .other) apart))
-    own side (column-struck p q) = rw (← p, ← q) (moved-off side (s .other) apart ∙ sym (moved-leaf side))
-
-    all-closed : (side : ℕ → Bool) → ((l : Lane) → List·Memᴰ l (without m (s .leaf) B) → side (l .row) ≡ side (m + l .col))
-        → (l : Lane) → List·Memᴰ l B → moved side (l .row) ≡ moved side (m + l .col)
-    all-closed side closed l h = by-test (touches m (s .leaf) l)
-        (λ e. rw (leaf-lane f l h e) (own side (f .ends)))
-        (λ e.
-        let (a, b) = touches-false m (s .leaf) l e in
-        moved-off side (l .row) (λ p. a (sym p)) ∙ closed l (member-without m (s .leaf) B l h e) ∙ sym (moved-off side (m + l .col) (λ p. b (sym p))))
+    let moved : (ℕ → Bool) → ℕ → Bool = λ side j. cond (eqb (s .leaf) j) (side (s .other)) (side j) in
+    let moved-leaf : (side : ℕ → Bool) → moved side (s .leaf) ≡ side (s .other) = λ side. rw (eq-eqb (s .leaf) (s .leaf) refl) in
+    let moved-off : (side : ℕ → Bool) (j : ℕ) → s .leaf ≢ j → moved side j ≡ side j = λ side j e. rw (ne-eqb (s .leaf) j e) in
+    let own : (side : ℕ → Bool) → moved side (s .lane .row) ≡ moved side (m + s .lane .col) = λ side. elim (f .ends) [
+      | row-struck p q ↦ rw (← p, ← q) (moved-leaf side ∙ sym (moved-off side (s .other) apart))
+      | column-struck p q ↦ rw (← p, ← q) (moved-off side (s .other) apart ∙ sym (moved-leaf side))
+    ] in
+    record {
+      root = rw (w .root, ne-eqb (s .leaf) 0 proper);
+      inside = λ l h. w .inside l (without-member m (s .leaf) B l h .0);
+      ends = λ l h.
+          let (p, q) = without-member m (s .leaf) B l h in
+          let (a, b) = touches-false m (s .leaf) l q in
+          (rw (w .ends l p .0, ne-eqb (s .leaf) (l .row) (λ e. a (sym e))), rw (w .ends l p .1, ne-eqb (s .leaf) (m + l .col) (λ e. b (sym e))));
+      joined = λ side z closed k l e.
+          let off = not-eqb (s .leaf) k (and-right (left k) (not (eqb (s .leaf) k)) e) in
+          sym (moved-off side k off) ∙ w .joined (moved side) (moved-off side 0 proper ∙ z) (λ l h. by-test (touches m (s .leaf) l)
+          (λ t. rw (leaf-lane f l h t) (own side))
+          (λ t.
+          let (a, b) = touches-false m (s .leaf) l t in
+          moved-off side (l .row) (λ p. a (sym p)) ∙ closed l (member-without m (s .leaf) B l h t) ∙ sym (moved-off side (m + l .col) (λ p. b (sym p)))))
+          k l (and-left (left k) (not (eqb (s .leaf) k)) e);
+      count =
+          let bits = sumTo-cong (m + n) (λ k. cond (left k) 1 0) (λ k. cond (unless (s .leaf) left k) 1 0 + one-at (s .leaf) k)
+          (λ k l. unless-bits (s .leaf) left k there) in
+          let parts = sumTo-add (m + n) (λ k. cond (unless (s .leaf) left k) 1 0) (one-at (s .leaf)) in
+          omega (arith, w .count, length-without f, sum-one-at (m + n) (s .leaf) below);
+    }

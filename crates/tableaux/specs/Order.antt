@@ -1,7 +1,7 @@
 -- Cells in sheet order, said of members instead of indices: each cell stands before all that come after it in the list.
-use Rattle.prelude.specs.Words.{_≡_, refl, ap, sym, _∙_, _⊎_, inl, inr, ⊎-elim, Dec·and, Bool, true, false, cond, List, [], _∷_, map, List·Memᴰ, List·Memᴰ·head}
-use Rattle.prelude.specs.Words.{List·Memᴰ·tail, List·Memᴰ·not-nil, List·Memᴰ·cases-cons, ℕ, zero, suc, _<_, arith, ℕ-discrete, ltb-true, ltb-false, ltb, length}
-use Rattle.prelude.specs.Words.{getD}
+use Rattle.prelude.specs.Words.{_≡_, refl, ap, sym, _∙_, _⊎_, inl, inr, ⊎-elim, Dec·and, Bool, List, [], _∷_, map, List·Memᴰ, List·Memᴰ·head, List·Memᴰ·tail}
+use Rattle.prelude.specs.Words.{List·Memᴰ·not-nil, List·Memᴰ·cases-cons, ℕ, zero, suc, _<_, arith, ℕ-discrete, ltb-true, ltb-false, ltb, length, getD, by-cases}
+use Rattle.prelude.specs.Words.{by-test}
 use Rattle.transport.specs.Lists.{keep}
 use Rattle.transport.specs.Laws.ListLaws.{member-at, member-place, map-member, keep-member}
 use Rattle.transport.specs.Problem.{place}
@@ -28,21 +28,15 @@ cell-at {T} b = record { cell = getD T (b .index) noCell; member = member-at T n
 
 pub basic-dec : (T : List Cell) (i j : ℕ) → Dec (Basic T i j)
 basic-dec [] i j = no (λ b. omega (arith, b .below))
-basic-dec (c ∷ cs) i j = go (Dec·and (ℕ-discrete (c .row) i) (ℕ-discrete (c .col) j)) (basic-dec cs i j)
-  where
-    go : Dec ((c .row ≡ i) × (c .col ≡ j)) → Dec (Basic cs i j) → Dec (Basic (c ∷ cs) i j)
-    go (yes e) d = yes (record { index = 0; below = omega arith; row = e .0; column = e .1 })
-    go (no e) (yes b) = yes (record { index = suc (b .index); below = omega (arith, b .below); row = b .row; column = b .column })
-    go (no e) (no d) = no (λ b. back (cell-at b))
-      where
-        back : CellAt (c ∷ cs) i j → ⊥
-        back x = ⊎-elim
-            (λ s. e (ap (λ y. y .row) (sym s) ∙ x .row, ap (λ y. y .col) (sym s) ∙ x .col))
-            (λ k. d (at (x .cell) k (x .row) (x .col)))
-            (List·Memᴰ·cases-cons (x .member))
-          where
-            at : (y : Cell) → List·Memᴰ y cs → y .row ≡ i → y .col ≡ j → Basic cs i j
-            at y k p q = rw (← p, ← q) (basic-member k)
+basic-dec (c ∷ cs) i j = by-cases (Dec·and (ℕ-discrete (c .row) i) (ℕ-discrete (c .col) j))
+    (λ e. yes (record { index = 0; below = omega arith; row = e .0; column = e .1 }))
+    (λ e. by-cases (basic-dec cs i j)
+    (λ b. yes (record { index = suc (b .index); below = omega (arith, b .below); row = b .row; column = b .column }))
+    (λ d. no (λ b.
+    let x = cell-at b in
+    let at : (y : Cell) → List·Memᴰ y cs → y .row ≡ i → y .col ≡ j → Basic cs i j = λ y k p q. rw (← p, ← q) (basic-member k) in
+    ⊎-elim (λ s. e (ap (λ y. y .row) (sym s) ∙ x .row, ap (λ y. y .col) (sym s) ∙ x .col)) (λ k. d (at (x .cell) k (x .row) (x .col)))
+    (List·Memᴰ·cases-cons (x .member)))))
 
 pub amount-member : {c : Cell} {T : List Cell} → Distinct T → List·Memᴰ c T → amountAt T (c .row) (c .col) ≡ c .amount
 amount-member {c} {T} d m =
@@ -67,13 +61,10 @@ module _ (n : ℕ) where
   pub ordered-by : (T : List Cell) → ((k : ℕ) → suc k < length T → cellPlace n (getD T k noCell) < cellPlace n (getD T (suc k) noCell)) → Ordered n T
   ordered-by [] h = tt
   ordered-by (c ∷ []) h = ((λ d m. absurd (List·Memᴰ·not-nil m)), tt)
-  ordered-by (c ∷ d ∷ ds) h = go (ordered-by (d ∷ ds) (λ k l. h (suc k) (omega arith)))
-    where
-      go : Ordered n (d ∷ ds) → Ordered n (c ∷ d ∷ ds)
-      go (later, rest) = (after, (later, rest))
-        where
-          after : After n (cellPlace n c) (d ∷ ds)
-          after x m = ⊎-elim (λ e. rw e (h 0 (omega arith))) (λ k. omega (arith, h 0 (omega arith), later x k)) (List·Memᴰ·cases-cons m)
+  ordered-by (c ∷ d ∷ ds) h =
+      let (later, rest) = ordered-by (d ∷ ds) (λ k l. h (suc k) (omega arith)) in
+      let first = h 0 (omega arith) in
+      ((λ x m. ⊎-elim (λ e. rw e first) (λ k. omega (arith, later x k)) (List·Memᴰ·cases-cons m)), (later, rest))
 
   pub ordered-at : (T : List Cell) → Ordered n T → (k : ℕ) → suc k < length T → cellPlace n (getD T k noCell) < cellPlace n (getD T (suc k) noCell)
   ordered-at [] o k l = absurd (omega arith)
@@ -95,79 +86,48 @@ module _ (n : ℕ) where
   pub ordered-keep : (p : Cell → Bool) (T : List Cell) → Ordered n T → Ordered n (keep p T)
   unfolding keep
   ordered-keep p [] o = tt
-  ordered-keep p (c ∷ cs) (after, o) = go (p c) (ordered-keep p cs o)
-    where
-      go : (b : Bool) → Ordered n (keep p cs) → Ordered n (cond b (c ∷ keep p cs) (keep p cs))
-      go true o′ = ((λ d m. after d (keep-member p cs m .0)), o′)
-      go false o′ = o′
+  ordered-keep p (c ∷ cs) (after, o) =
+      by-test (p c) (λ t. rw t ((λ d m. after d (keep-member p cs m .0)), ordered-keep p cs o)) (λ t. rw t (ordered-keep p cs o))
 
   pub ordered-map : (f : Cell → Cell) → ((c : Cell) → cellPlace n (f c) ≡ cellPlace n c) → (T : List Cell) → Ordered n T → Ordered n (map f T)
   ordered-map f same [] o = tt
-  ordered-map f same (c ∷ cs) (after, o) = (later, ordered-map f same cs o)
-    where
-      later : After n (cellPlace n (f c)) (map f cs)
-      later y m = let (x, k, e) = map-member f cs m in rw e (omega (arith, same c, same x, after x k))
+  ordered-map f same (c ∷ cs) (after, o) =
+      ((λ y m. let (x, k, e) = map-member f cs m in rw e (omega (arith, same c, same x, after x k))), ordered-map f same cs o)
 
   -- ---- a cell put into its place
 
   pub insert-here : (c : Cell) (T : List Cell) → List·Memᴰ c (insert n c T)
   unfolding insert
   insert-here c [] = List·Memᴰ·head refl
-  insert-here c (d ∷ ds) = go (ltb (cellPlace n c) (cellPlace n d)) (insert-here c ds)
-    where
-      go : (b : Bool) → List·Memᴰ c (insert n c ds) → List·Memᴰ c (cond b (c ∷ d ∷ ds) (d ∷ insert n c ds))
-      go true m = List·Memᴰ·head refl
-      go false m = List·Memᴰ·tail m
+  insert-here c (d ∷ ds) = by-test (ltb (cellPlace n c) (cellPlace n d)) (λ t. rw t (List·Memᴰ·head refl)) (λ t. rw t (List·Memᴰ·tail (insert-here c ds)))
 
   pub insert-keeps : (c : Cell) {x : Cell} (T : List Cell) → List·Memᴰ x T → List·Memᴰ x (insert n c T)
   unfolding insert
   insert-keeps c [] m = absurd (List·Memᴰ·not-nil m)
-  insert-keeps c {x} (d ∷ ds) m = go (ltb (cellPlace n c) (cellPlace n d)) (insert-keeps c ds) (List·Memᴰ·cases-cons m)
-    where
-      go : (b : Bool) → (List·Memᴰ x ds → List·Memᴰ x (insert n c ds)) → (x ≡ d) ⊎ List·Memᴰ x ds → List·Memᴰ x (cond b (c ∷ d ∷ ds) (d ∷ insert n c ds))
-      go true rest k = List·Memᴰ·tail m
-      go false rest (inl e) = List·Memᴰ·head e
-      go false rest (inr k) = List·Memᴰ·tail (rest k)
+  insert-keeps c (d ∷ ds) m = by-test (ltb (cellPlace n c) (cellPlace n d))
+      (λ t. rw t (List·Memᴰ·tail m))
+      (λ t. rw t (⊎-elim List·Memᴰ·head (λ k. List·Memᴰ·tail (insert-keeps c ds k)) (List·Memᴰ·cases-cons m)))
 
   pub insert-member : (c : Cell) {x : Cell} (T : List Cell) → List·Memᴰ x (insert n c T) → (x ≡ c) ⊎ List·Memᴰ x T
   unfolding insert
   insert-member c [] m = List·Memᴰ·cases-cons m
-  insert-member c {x} (d ∷ ds) m = go (ltb (cellPlace n c) (cellPlace n d)) (insert-member c ds) m
-    where
-      step : (List·Memᴰ x (insert n c ds) → (x ≡ c) ⊎ List·Memᴰ x ds) → (x ≡ d) ⊎ List·Memᴰ x (insert n c ds) → (x ≡ c) ⊎ List·Memᴰ x (d ∷ ds)
-      step rest (inl e) = inr (List·Memᴰ·head e)
-      step rest (inr k) = ⊎-elim inl (λ l. inr (List·Memᴰ·tail l)) (rest k)
-
-      go : (b : Bool) → (List·Memᴰ x (insert n c ds) → (x ≡ c) ⊎ List·Memᴰ x ds) → List·Memᴰ x (cond b (c ∷ d ∷ ds) (d ∷ insert n c ds))
-          → (x ≡ c) ⊎ List·Memᴰ x (d ∷ ds)
-      go true rest m = List·Memᴰ·cases-cons m
-      go false rest m = step rest (List·Memᴰ·cases-cons m)
+  insert-member c (d ∷ ds) m = by-test (ltb (cellPlace n c) (cellPlace n d))
+      (λ t. List·Memᴰ·cases-cons (rw t at m))
+      (λ t. ⊎-elim (λ e. inr (List·Memᴰ·head e)) (λ k. ⊎-elim inl (λ l. inr (List·Memᴰ·tail l)) (insert-member c ds k)) (List·Memᴰ·cases-cons (rw t at m)))
 
   pub length-insert : (c : Cell) (T : List Cell) → length (insert n c T) ≡ suc (length T)
   unfolding insert
   length-insert c [] = refl
-  length-insert c (d ∷ ds) = go (ltb (cellPlace n c) (cellPlace n d)) (length-insert c ds)
-    where
-      go : (b : Bool) → length (insert n c ds) ≡ suc (length ds) → length (cond b (c ∷ d ∷ ds) (d ∷ insert n c ds)) ≡ suc (suc (length ds))
-      go true e = refl
-      go false e = omega arith
+  length-insert c (d ∷ ds) = by-test (ltb (cellPlace n c) (cellPlace n d)) (λ t. rw t) (λ t. rw t (ap suc (length-insert c ds)))
 
   -- It keeps the order, where its place is free.
   pub ordered-insert : (c : Cell) (T : List Cell) → ((d : Cell) → List·Memᴰ d T → ¬ (cellPlace n d ≡ cellPlace n c)) → Ordered n T → Ordered n (insert n c T)
   unfolding insert
   ordered-insert c [] free o = ((λ d m. absurd (List·Memᴰ·not-nil m)), tt)
-  ordered-insert c (d ∷ ds) free (after, o) =
-      go (ltb (cellPlace n c) (cellPlace n d)) refl (ordered-insert c ds (λ x m. free x (List·Memᴰ·tail m)) o)
-    where
-      go : (b : Bool) → ltb (cellPlace n c) (cellPlace n d) ≡ b → Ordered n (insert n c ds) → Ordered n (cond b (c ∷ d ∷ ds) (d ∷ insert n c ds))
-      go true e o′ = (before, (after, o))
-        where
-          before : After n (cellPlace n c) (d ∷ ds)
-          before x m =
-              let less = ltb-true (cellPlace n c) (cellPlace n d) e in
-              ⊎-elim (λ q. rw q less) (λ k. omega (arith, less, after x k)) (List·Memᴰ·cases-cons m)
-      go false e o′ = (behind, o′)
-        where
-          behind : After n (cellPlace n d) (insert n c ds)
-          behind x m = ⊎-elim (λ q. rw q (omega (arith, ltb-false (cellPlace n c) (cellPlace n d) e, free d (List·Memᴰ·head refl)))) (λ k. after x k)
-              (insert-member c ds m)
+  ordered-insert c (d ∷ ds) free (after, o) = by-test (ltb (cellPlace n c) (cellPlace n d))
+      (λ t.
+      let less = ltb-true (cellPlace n c) (cellPlace n d) t in
+      rw t ((λ x m. ⊎-elim (λ q. rw q less) (λ k. omega (arith, after x k)) (List·Memᴰ·cases-cons m)), (after, o)))
+      (λ t.
+      let less : cellPlace n d < cellPlace n c = omega (arith, ltb-false (cellPlace n c) (cellPlace n d) t, free d (List·Memᴰ·head refl)) in
+      rw t ((λ x m. ⊎-elim (λ q. rw q less) (after x) (insert-member c ds m)), ordered-insert c ds (λ x m. free x (List·Memᴰ·tail m)) o))

@@ -10,7 +10,7 @@ use Rattle.network.specs.Pivot.{PairLess}
 use Rattle.transport.specs.Lists.{at}
 use Rattle.transport.specs.Problem.{Problem, sources, sinks}
 use Rattle.transport.specs.Amount.{nothing, add, subtract, less, pairedSupply, pairedDemand}
-use Rattle.transport.specs.Laws.AmountLaws.{less-q, less-e, less-no, Compared, fewer, equal, more, compared}
+use Rattle.transport.specs.Laws.AmountLaws.{less-q, less-e, less-no, fewer, equal, more, compared}
 use Rattle.transport.specs.declared.Pair.{Pair}
 
 -- ---- parts
@@ -22,10 +22,7 @@ abbrev pub marks : Pair → Z
 marks a = toZ (a .e)
 
 pub pair-eq : (a b : Pair) → bags a ≈ bags b → marks a ≈ marks b → a ≡ b
-pair-eq a b p r =
-    let s : a .q ≡ b .q = eq-z (a .q) (b .q) p in
-    let t : a .e ≡ b .e = eq-z (a .e) (b .e) r in
-    λ i. record { q = s i; e = t i }
+pair-eq a b p r = λ i. record { q = eq-z (a .q) (b .q) p i; e = eq-z (a .e) (b .e) r i }
 
 pub nothing-parts : (bags nothing ≈ nat 0) × (marks nothing ≈ nat 0)
 unfolding nothing
@@ -45,10 +42,7 @@ pub add-nothing : (a : Pair) → add a nothing ≡ a
 add-nothing a = pair-eq (add a nothing) a (omega (arith, add-parts a nothing, nothing-parts)) (omega (arith, add-parts a nothing, nothing-parts))
 
 pub add-subtract : (a b : Pair) → add a (subtract b a) ≡ b
-add-subtract a b =
-    pair-eq (add a (subtract b a)) b
-    (omega (arith, add-parts a (subtract b a), subtract-parts b a))
-    (omega (arith, add-parts a (subtract b a), subtract-parts b a))
+add-subtract a b = let d = subtract-parts b a in let s = add-parts a (subtract b a) in pair-eq (add a (subtract b a)) b (omega arith) (omega arith)
 
 pub subtract-self : (a : Pair) → subtract a a ≡ nothing
 subtract-self a = pair-eq (subtract a a) nothing (omega (arith, subtract-parts a a, nothing-parts)) (omega (arith, subtract-parts a a, nothing-parts))
@@ -69,20 +63,18 @@ abbrev AtMost : Pair → Pair → Type 0
 AtMost a b = (bags a ≺ bags b) ⊎ ((bags a ≈ bags b) × (marks a ≼ marks b))
 
 pub less-true : (a b : Pair) → less a b ≡ true → Less a b
-less-true a b p = go (compared (a .q) (b .q))
-  where
-    go : Compared (a .q) (b .q) → Less a b
-    go (fewer s) = inl (lt-yes (a .q) (b .q) s)
-    go (equal s) = inr (z-eq s, lt-yes (a .e) (b .e) (sym (less-e a b s) ∙ p))
-    go (more s) = clash p (less-no a b s)
+less-true a b p = elim (compared (a .q) (b .q)) [
+  | fewer s ↦ inl (lt-yes (a .q) (b .q) s)
+  | equal s ↦ inr (z-eq s, lt-yes (a .e) (b .e) (sym (less-e a b s) ∙ p))
+  | more s ↦ clash p (less-no a b s)
+]
 
 pub less-false : (a b : Pair) → less a b ≡ false → AtMost b a
-less-false a b p = go (compared (a .q) (b .q))
-  where
-    go : Compared (a .q) (b .q) → AtMost b a
-    go (fewer s) = clash (less-q a b s) p
-    go (equal s) = inr (z-eq (sym s), lt-no (a .e) (b .e) (sym (less-e a b s) ∙ p))
-    go (more s) = inl (lt-yes (b .q) (a .q) s)
+less-false a b p = elim (compared (a .q) (b .q)) [
+  | fewer s ↦ clash (less-q a b s) p
+  | equal s ↦ inr (z-eq (sym s), lt-no (a .e) (b .e) (sym (less-e a b s) ∙ p))
+  | more s ↦ inl (lt-yes (b .q) (a .q) s)
+]
 
 pub true-less : (a b : Pair) → Less a b → less a b ≡ true
 true-less a b (inl s) = less-q a b (yes-lt (a .q) (b .q) s)
@@ -90,22 +82,14 @@ true-less a b (inr s) = less-e a b (eq-z (a .q) (b .q) (s .0)) ∙ yes-lt (a .e)
 
 -- Of two different pairs one is smaller.
 pub less-tie : (a b : Pair) → less a b ≡ false → less b a ≡ false → a ≡ b
-less-tie a b p q = go (less-false a b p) (less-false b a q)
-  where
-    go : AtMost b a → AtMost a b → a ≡ b
-    go (inl s) (inl t) = absurd (omega arith)
-    go (inl s) (inr t) = absurd (omega arith)
-    go (inr s) (inl t) = absurd (omega arith)
-    go (inr s) (inr t) = pair-eq a b (omega arith) (omega arith)
+less-tie a b p q = ⊎-elim (λ s. absurd (⊎-elim (λ t. omega arith) (λ t. omega arith) (less-false b a q)))
+    (λ s. ⊎-elim (λ t. absurd (omega arith)) (λ t. pair-eq a b (omega arith) (omega arith)) (less-false b a q)) (less-false a b p)
 
 -- What is left of a greater pair is above (0, 0).
 pub subtract-above : (a b : Pair) → less a b ≡ true → less nothing (subtract b a) ≡ true
 subtract-above a b p =
-    true-less nothing (subtract b a)
-    (⊎-elim
-    (λ s. inl (omega (arith, subtract-parts b a, nothing-parts)))
-    (λ s. inr (omega (arith, subtract-parts b a, nothing-parts)))
-    (less-true a b p))
+    let d = subtract-parts b a in
+    true-less nothing (subtract b a) (⊎-elim (λ s. inl (omega (arith, nothing-parts))) (λ s. inr (omega (arith, nothing-parts))) (less-true a b p))
 
 -- ---- paired supplies and demands
 

@@ -1,9 +1,9 @@
 -- What a pivot holds: its cells, their amounts, their order and their number. Only lists are reasoned about: no sum, no tree.
 use Rattle.prelude.specs.Words.{_≡_, refl, ap, sym, _∙_, subst, _⊎_, inl, inr, ⊎-elim, Dec·and, _↔_, Bool, true, false, not, true≢false, List, [], _∷_, map}
-use Rattle.prelude.specs.Words.{List·Memᴰ, List·Memᴰ·not-nil, List·Memᴰ·cases-cons, ℕ, suc, _≤_, _<_, arith, ℕ-discrete, ℤ, pos, ltZ, length, getD, length-map}
+use Rattle.prelude.specs.Words.{List·Memᴰ, List·Memᴰ·not-nil, List·Memᴰ·cases-cons, ℕ, suc, _<_, arith, ℕ-discrete, ℤ, pos, ltZ, length, getD, length-map}
 use Rattle.transport.specs.Lists.{keep}
 use Rattle.transport.specs.Laws.ListLaws.{member-at, member-place, member-keep, keep-member, member-map, map-member, keep-yes, keep-no, keep-all, all-of}
-use Rattle.transport.specs.Laws.ListLaws.{by-key, FirstLeast, firstLeast-is}
+use Rattle.transport.specs.Laws.ListLaws.{by-key, firstLeast-is}
 use Rattle.transport.specs.Problem.{Lane, place}
 use Rattle.transport.specs.Laws.ProblemLaws.{lane, place-injective}
 use Rattle.transport.specs.Amount.{nothing, less}
@@ -57,28 +57,14 @@ pub record Leaves (signOf : Lane → ℤ) (T : List Cell) (out : Cell) : Type 0 
 -- Where there is a minus cell.
 pub leaving-is : (signOf : Lane → ℤ) (T : List Cell) {c : Cell} → List·Memᴰ c T → ltZ (signOf (laneOf c)) (pos 0) ≡ true → Leaves signOf T (leaving signOf T)
 unfolding leaving
-leaving-is signOf T {c} mem e =
-    go (firstLeast-is smaller (by-key (λ (a : Cell). a .amount) less-weak) noCell (keep test T) (some (member-place noCell (member-keep test e mem))))
-  where
-    test : Cell → Bool
-    test d = ltZ (signOf (laneOf d)) (pos 0)
-
-    smaller : Cell → Cell → Bool
-    smaller a b = less (a .amount) (b .amount)
-
-    some : (k : ℕ) × (k < length (keep test T)) × (getD (keep test T) k noCell ≡ c) → 1 ≤ length (keep test T)
-    some (k, l, s) = omega arith
-
-    go : (k : ℕ) × FirstLeast smaller noCell (keep test T) (leaving signOf T) k → Leaves signOf T (leaving signOf T)
-    go (k, f) = record {
-      member = here .0;
-      minus = here .1;
-      least = λ d m p. let (h, l, s) = member-place noCell (member-keep test p m) in
-          ap (λ x. less (x .amount) (leaving signOf T .amount)) (sym s) ∙ f .least h l;
-    }
-      where
-        here : List·Memᴰ (leaving signOf T) T × (test (leaving signOf T) ≡ true)
-        here = keep-member test T (rw (f .stands) at (member-at (keep test T) noCell k (f .inside)))
+leaving-is signOf T mem e =
+    let test : Cell → Bool = λ d. ltZ (signOf (laneOf d)) (pos 0) in
+    let some = member-place noCell (member-keep test e mem) .1 in
+    let (k, f) = firstLeast-is (λ a b. less (a .amount) (b .amount)) (by-key (λ (a : Cell). a .amount) less-weak) noCell (keep test T) (omega arith) in
+    let (there, minus) = keep-member test T (rw (f .stands) at (member-at (keep test T) noCell k (f .inside))) in
+    let least : (d : Cell) → List·Memᴰ d T → test d ≡ true → less (d .amount) (leaving signOf T .amount) ≡ false = λ d m p.
+    let (h, l, s) = member-place noCell (member-keep test p m) in ap (λ x. less (x .amount) (leaving signOf T .amount)) (sym s) ∙ f .least h l in
+    record { member = there; minus = minus; least = least }
 
 -- ---- the cells of a pivot
 
@@ -112,51 +98,45 @@ module _ (m n : ℕ) (T : List Cell) (e : Lane) where
 
   pub pivot-member : {x : Cell} → List·Memᴰ x (pivot m n T e) → (x ≡ withAmount e (step m n T e)) ⊎ Stays m n T e x
   unfolding pivot
-  pivot-member {x} mem = ⊎-elim inl (λ k. inr (stays (map-member (shift (signs m n T e) (step m n T e)) (keep (other out) T) k))) (insert-member n _ _ mem)
-    where
-      stays : (c : Cell) × List·Memᴰ c (keep (other out) T) × (x ≡ shift (signs m n T e) (step m n T e) c) → Stays m n T e x
-      stays (c, k, s) = record { cell = c; member = keep-member (other out) T k .0; apart = yes-other out c (keep-member (other out) T k .1); is = s }
+  pivot-member mem = ⊎-elim inl (λ k.
+      let (c, kept, s) = map-member (shift (signs m n T e) (step m n T e)) (keep (other out) T) k in
+      let (there, apart) = keep-member (other out) T kept in
+      inr (record { cell = c; member = there; apart = yes-other out c apart; is = s })) (insert-member n _ _ mem)
 
   -- Its lanes are those of the tableau without the leaving one, and the entering lane.
   pub pivot-basic : (i j : ℕ) → Basic (pivot m n T e) i j ↔ (((i ≡ e .row) × (j ≡ e .col)) ⊎ (Basic T i j × ¬ Stands out i j))
   unfolding shift withAmount laneOf
-  pivot-basic i j = ((λ b. lanes (cell-at b)), ⊎-elim enters stays)
-    where
-      lanes : CellAt (pivot m n T e) i j → ((i ≡ e .row) × (j ≡ e .col)) ⊎ (Basic T i j × ¬ Stands out i j)
-      lanes x = ⊎-elim
-          (λ s. inl (sym (x .row) ∙ ap (λ c. c .row) s, sym (x .col) ∙ ap (λ c. c .col) s))
-          (λ s. let p : s .cell .row ≡ i = sym (ap (λ c. c .row) (s .is)) ∙ x .row in
-          let q : s .cell .col ≡ j = sym (ap (λ c. c .col) (s .is)) ∙ x .col in
-          inr (rw (← p, ← q) (basic-member (s .member), s .apart)))
-          (pivot-member (x .member))
-
-      enters : (i ≡ e .row) × (j ≡ e .col) → Basic (pivot m n T e) i j
-      enters (p, q) = rw (p, q) (basic-member pivot-enters)
-
-      at : (c : Cell) → List·Memᴰ c T → c .row ≡ i → c .col ≡ j → ¬ Stands out i j → Basic (pivot m n T e) i j
-      at c mem p q d = rw (← p, ← q) (basic-member (pivot-stays mem (rw (← p, ← q) at d)))
-
-      stays : Basic T i j × ¬ Stands out i j → Basic (pivot m n T e) i j
-      stays (b, d) = let x = cell-at b in at (x .cell) (x .member) (x .row) (x .col) d
+  pivot-basic i j =
+      let lanes : CellAt (pivot m n T e) i j → ((i ≡ e .row) × (j ≡ e .col)) ⊎ (Basic T i j × ¬ Stands out i j) = λ x. ⊎-elim
+      (λ s. inl (sym (x .row) ∙ ap (λ c. c .row) s, sym (x .col) ∙ ap (λ c. c .col) s))
+      (λ s.
+      let p : s .cell .row ≡ i = sym (ap (λ c. c .row) (s .is)) ∙ x .row in
+      let q : s .cell .col ≡ j = sym (ap (λ c. c .col) (s .is)) ∙ x .col in
+      inr (rw (← p, ← q) (basic-member (s .member), s .apart)))
+      (pivot-member (x .member)) in
+      let stays : (c : Cell) → List·Memᴰ c T → c .row ≡ i → c .col ≡ j → ¬ Stands out i j → Basic (pivot m n T e) i j = λ c mem p q d.
+      rw (← p, ← q) (basic-member (pivot-stays mem (rw (← p, ← q) at d))) in (
+        (λ b. lanes (cell-at b)),
+        ⊎-elim (λ (p, q). rw (p, q) (basic-member pivot-enters)) (λ (b, d). let x = cell-at b in stays (x .cell) (x .member) (x .row) (x .col) d),
+      )
 
 -- ---- its order, number and amounts, where the tableau is in order and the entering lane is new
 
 length-without : (n : ℕ) (T : List Cell) → Ordered n T → {out : Cell} → List·Memᴰ out T → suc (length (keep (other out) T)) ≡ length T
 length-without n [] o mem = absurd (List·Memᴰ·not-nil mem)
-length-without n (c ∷ cs) (after, o) {out} mem = go (length-without n cs o) (List·Memᴰ·cases-cons mem)
-  where
-    go : (List·Memᴰ out cs → suc (length (keep (other out) cs)) ≡ length cs) → (out ≡ c) ⊎ List·Memᴰ out cs → suc (length (keep (other out) (c ∷ cs)))
-        ≡ suc (length cs)
-    go rest (inl s) = ap (λ l. suc (length l)) (keep-no (other out) c cs (other-no out c (ap (λ x. x .row) (sym s), ap (λ x. x .col) (sym s)))
-        ∙ keep-all (other out) cs (all-of (other out) cs noCell later))
-      where
-        later : (k : ℕ) → k < length cs → other out (getD cs k noCell) ≡ true
-        later k l = other-yes out (getD cs k noCell) (λ d.
-            let p : cellPlace n (getD cs k noCell) ≡ cellPlace n c = rw (d .0, d .1, s) in
-            omega (arith, after (getD cs k noCell) (member-at cs noCell k l)))
-    go rest (inr k) = ap (λ l. suc (length l)) (keep-yes (other out) c cs (other-yes out c (λ d.
-        let p : cellPlace n c ≡ cellPlace n out = rw (d .0, d .1) in
-        omega (arith, after out k)))) ∙ ap suc (rest k)
+length-without n (c ∷ cs) (after, o) {out} mem = elim (List·Memᴰ·cases-cons mem) [
+  | inl s ↦
+      let place : (k : ℕ) → Stands out (getD cs k noCell .row) (getD cs k noCell .col) → cellPlace n (getD cs k noCell) ≡ cellPlace n c = λ k d.
+      rw (d .0, d .1, s) in
+      let later : (k : ℕ) → k < length cs → other out (getD cs k noCell) ≡ true = λ k l.
+      other-yes out (getD cs k noCell) (λ d. omega (arith, place k d, after (getD cs k noCell) (member-at cs noCell k l))) in
+      ap (λ l. suc (length l)) (keep-no (other out) c cs (other-no out c (ap (λ x. x .row) (sym s), ap (λ x. x .col) (sym s)))
+      ∙ keep-all (other out) cs (all-of (other out) cs noCell later))
+  | inr k ↦
+      let place : Stands out (c .row) (c .col) → cellPlace n c ≡ cellPlace n out = λ d. rw (d .0, d .1) in
+      let apart = other-yes out c (λ d. omega (arith, place d, after out k)) in
+      ap (λ l. suc (length l)) (keep-yes (other out) c cs apart) ∙ ap suc (length-without n cs o k)
+]
 
 module _ {m n : ℕ} {T : List Cell} (o : Ordered n T) (h : Inside m n T) {e : Lane} (col : e .col < n) (new : ¬ Basic T (e .row) (e .col)) where
   abbrev leaves : Cell

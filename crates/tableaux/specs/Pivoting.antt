@@ -1,6 +1,6 @@
 -- The pivot of a tableau that belongs to a sheet belongs to it: the abstract round, read off the lists.
 use Rattle.prelude.specs.Words.{_≡_, refl, ap, sym, _∙_, subst, inl, inr, Dec·and, true, true≢false, List, List·Memᴰ, ℕ, zero, suc, _+_, _*_, _-_, _<_, arith}
-use Rattle.prelude.specs.Words.{ℕ-discrete, ℤ, pos, negsuc, ltZ, length, getD}
+use Rattle.prelude.specs.Words.{by-cases, ℕ-discrete, ℤ, pos, negsuc, ltZ, length, getD}
 use Rattle.integers.specs.Integer.{Z, _≈_, _≼_, _≺_, _⊕_, _⊖_, _⊗_, neg, nat, Within}
 use Rattle.integers.specs.IntegerLaws.{⊗-cong}
 use Rattle.integers.specs.Bridge.{toZ, z-eq, eq-z}
@@ -23,13 +23,13 @@ use Rattle.transport.specs.Round.{gain, pivot}
 use Rattle.transport.specs.Statements.{Basic, Belongs, MinusCell, HoldsStep, OneStep}
 use Rattle.transport.specs.declared.Pair.{Pair}
 use Rattle.transport.specs.declared.Cell.{Cell}
-use Rattle.tableaux.specs.View.{rowOf, colOf, basic-in, Inside, amountAt, amount-at, amount-none}
+use Rattle.tableaux.specs.View.{rowOf, colOf, basic-in, amountAt, amount-at, amount-none}
 use Rattle.tableaux.specs.PairLaws.{bags, marks, nothing-parts, add-parts, subtract-parts, true-less, less-tie}
 use Rattle.tableaux.specs.PlanView.{supplies, demands}
 use Rattle.tableaux.specs.Belonging.{distinct-of, signs-flow}
 use Rattle.tableaux.specs.Order.{Ordered, ordered-by, basic-member, basic-dec, amount-member}
 use Rattle.tableaux.specs.TableauView.{bagsAt, marksAt, Seen, cells-many, seen-belongs, belongs-seen}
-use Rattle.tableaux.specs.PivotView.{Stands, stands-dec, Leaves, leaving-is, signs, leaver, step, pivot-basic, pivot-ordered, length-pivot, pivot-inside}
+use Rattle.tableaux.specs.PivotView.{stands-dec, Leaves, leaving-is, signs, leaver, step, pivot-basic, pivot-ordered, length-pivot, pivot-inside}
 use Rattle.tableaux.specs.PivotView.{amount-enters, amount-stays, amount-leaves, amount-elsewhere}
 
 -- The loop's signs as integers of the theory.
@@ -42,12 +42,9 @@ measure P c T = cost (sources P) (sinks P) c (valued (sources P) (bagsAt T) (mar
 
 measure-cong : (m n : ℕ) (c q e q₂ e₂ : ℕ → ℕ → Z) → ((i j : ℕ) → i < m → j < n → q i j ≈ q₂ i j) → ((i j : ℕ) → i < m → j < n → e i j ≈ e₂ i j)
     → cost m n c (valued m q e) ≈ cost m n c (valued m q₂ e₂)
-measure-cong m n c q e q₂ e₂ h h′ = sum₂-cong m n (λ i j. valued m q e i j ⊗ c i j) (λ i j. valued m q₂ e₂ i j ⊗ c i j)
-    (λ i j hi hj. times (q i j) (e i j) (q₂ i j) (e₂ i j) (c i j) (h i j hi hj) (h′ i j hi hj))
-  where
-    times : (q e q₂ e₂ c : Z) → q ≈ q₂ → e ≈ e₂ → value m q e ⊗ c ≈ value m q₂ e₂ ⊗ c
-    times q e q₂ e₂ c h h′ = let same : value m q e ≈ value m q₂ e₂ = omega (arith, ⊗-cong (nat (2 * m + 1)) q q₂ h) in
-        omega (arith, ⊗-cong c (value m q e) (value m q₂ e₂) same)
+measure-cong m n c q e q₂ e₂ h h′ = sum₂-cong m n (λ i j. valued m q e i j ⊗ c i j) (λ i j. valued m q₂ e₂ i j ⊗ c i j) (λ i j hi hj.
+    let bags = ⊗-cong (nat (2 * m + 1)) (q i j) (q₂ i j) (h i j hi hj) in
+    omega (arith, ⊗-cong (c i j) (valued m q e i j) (valued m q₂ e₂ i j) (omega (arith, h′ i j hi hj))))
 
 -- The value of the step.
 abbrev stepValue : ℕ → ℕ → List Cell → Lane → Z
@@ -57,26 +54,18 @@ stepValue m n T e = value m (bags (step m n T e)) (marks (step m n T e))
 abbrev Moves : Pair → Pair → Pair → Z → Type 0
 Moves y x θ d = (bags y ≈ bags x ⊕ bags θ ⊗ d) × (marks y ≈ marks x ⊕ marks θ ⊗ d)
 
+-- The step, taken as often as d says, or as s.
+step-times : (θ : Pair) (d s : Z) → d ≈ s → (bags θ ⊗ d ≈ bags θ ⊗ s) × (marks θ ⊗ d ≈ marks θ ⊗ s)
+step-times θ d s e = (⊗-cong (bags θ) d s e, ⊗-cong (marks θ) d s e)
+
 -- The step, added or taken away, is the step times the sign.
 gain-moves : (s : ℤ) (θ x : Pair) (d : Z) → Within 1 (toZ s) → d ≈ toZ s → Moves (gain s θ x) x θ d
 unfolding gain
-gain-moves s θ x d h e = go s h (⊗-cong (bags θ) d (toZ s) e) (⊗-cong (marks θ) d (toZ s) e)
-  where
-    go : (s : ℤ) → Within 1 (toZ s) → bags θ ⊗ d ≈ bags θ ⊗ toZ s → marks θ ⊗ d ≈ marks θ ⊗ toZ s → Moves (gain s θ x) x θ d
-    go (pos zero) h p q = omega arith
-    go (pos (suc zero)) h p q = omega (arith, add-parts x θ)
-    go (pos (suc (suc k))) h p q = absurd (omega arith)
-    go (negsuc zero) h p q = omega (arith, subtract-parts x θ)
-    go (negsuc (suc k)) h p q = absurd (omega arith)
-
-enters-moves : (θ : Pair) (d : Z) → d ≈ nat 1 → Moves θ nothing θ d
-enters-moves θ d e = omega (arith, nothing-parts, ⊗-cong (bags θ) d (nat 1) e, ⊗-cong (marks θ) d (nat 1) e)
-
-leaves-moves : (θ : Pair) (d : Z) → d ≈ neg (nat 1) → Moves nothing θ θ d
-leaves-moves θ d e = omega (arith, nothing-parts, ⊗-cong (bags θ) d (neg (nat 1)) e, ⊗-cong (marks θ) d (neg (nat 1)) e)
-
-empty-moves : (θ : Pair) (d : Z) → d ≈ nat 0 → Moves nothing nothing θ d
-empty-moves θ d e = omega (arith, nothing-parts, ⊗-cong (bags θ) d (nat 0) e, ⊗-cong (marks θ) d (nat 0) e)
+gain-moves (pos zero) θ x d h e = omega (arith, step-times θ d (nat 0) e)
+gain-moves (pos (suc zero)) θ x d h e = omega (arith, step-times θ d (nat 1) e, add-parts x θ)
+gain-moves (pos (suc (suc k))) θ x d h e = absurd (omega arith)
+gain-moves (negsuc zero) θ x d h e = omega (arith, step-times θ d (neg (nat 1)) e, subtract-parts x θ)
+gain-moves (negsuc (suc k)) θ x d h e = absurd (omega arith)
 
 module _ {P : Problem} (ok : Sound P) {T : List Cell} (w : Belongs P T) {e : Lane} (row : e .row < sources P) (col : e .col < sinks P)
     (new : ¬ Basic T (e .row) (e .col)) where
@@ -156,8 +145,8 @@ module _ {P : Problem} (ok : Sound P) {T : List Cell} (w : Belongs P T) {e : Lan
   many-after : suc K ≡ length T′
   many-after = cells-many ok T′ length-after
 
-  inside-after : Inside m n T′
-  inside-after = pivot-inside order (w .onSheet) col new row
+  inside-after : (k : ℕ) → k < suc K → (rowOf T′ k < m) × (colOf T′ k < n)
+  inside-after k l = pivot-inside order (w .onSheet) col new row k (omega (arith, many-after))
 
   replaces : Replaces m n (In (rowOf T) (colOf T) (suc K)) (rowOf T ℓ) (colOf T ℓ) (In (rowOf T′) (colOf T′) (suc K)) (e .row) (e .col)
   replaces = record {
@@ -180,36 +169,42 @@ module _ {P : Problem} (ok : Sound P) {T : List Cell} (w : Belongs P T) {e : Lan
   out-basic : Basic T (out .row) (out .col)
   out-basic = basic-member (pivot-leaves .member)
 
+  -- The leaving cell has the sign −1.
+  out-minus : signs m n T e (laneOf out) ≡ negsuc 0
+  unfolding laneOf
+  out-minus =
+      let unit = sign-unit (out .row) (out .col) out-basic in
+      eq-z (signs m n T e (laneOf out)) (negsuc 0) (omega (arith, lt-yes (signs m n T e (laneOf out)) (pos 0) (pivot-leaves .minus)))
+
   entering-moves : Moves (amountAt T′ (e .row) (e .col)) (amountAt T (e .row) (e .col)) (out .amount) (round-loop (e .row) (e .col))
-  entering-moves = rw (amount-enters order (w .onSheet) col new, amount-none T (e .row) (e .col) new)
-      (enters-moves (out .amount) (round-loop (e .row) (e .col)) (loop-at σ (e .row) (e .col) (off-basis (e .row) (e .col) row col new)))
+  entering-moves =
+      let once = step-times (out .amount) (round-loop (e .row) (e .col)) (nat 1) (loop-at σ (e .row) (e .col) (off-basis (e .row) (e .col) row col new)) in
+      rw (amount-enters order (w .onSheet) col new, amount-none T (e .row) (e .col) new) (omega (arith, nothing-parts))
 
   leaving-moves : Moves (amountAt T′ (out .row) (out .col)) (amountAt T (out .row) (out .col)) (out .amount) (round-loop (out .row) (out .col))
   unfolding laneOf
-  leaving-moves = rw (amount-leaves order (w .onSheet) col new (pivot-leaves .member), amount-member (distinct-of ok w) (pivot-leaves .member))
-      (leaves-moves (out .amount) (round-loop (out .row) (out .col)) (omega (
-        arith,
-        loop-off σ (e .row) (e .col) (out .row) (out .col) (λ s. new (rw (s .0, s .1) at out-basic)),
-        sign-unit (out .row) (out .col) out-basic,
-        lt-yes (signs m n T e (lane (out .row) (out .col))) (pos 0) (pivot-leaves .minus),
-      )))
+  leaving-moves =
+      let off = loop-off σ (e .row) (e .col) (out .row) (out .col) (λ s. new (rw (s .0, s .1) at out-basic)) in
+      let once = step-times (out .amount) (round-loop (out .row) (out .col)) (neg (nat 1)) (omega (arith, z-eq out-minus)) in
+      rw (amount-leaves order (w .onSheet) col new (pivot-leaves .member), amount-member (distinct-of ok w) (pivot-leaves .member))
+      (omega (arith, nothing-parts))
 
   -- Every amount changes by the step times the loop.
   pivot-moves : (i j : ℕ) → i < sources P → j < sinks P
       → Moves (amountAt (pivot (sources P) (sinks P) T e) i j) (amountAt T i j) (step (sources P) (sinks P) T e)
       (loop (signAt (sources P) (sinks P) T e) (e .row) (e .col) i j)
-  pivot-moves i j hi hj = go (Dec·and (ℕ-discrete i (e .row)) (ℕ-discrete j (e .col))) (basic-dec T i j) (stands-dec out i j)
-    where
-      d : Z
-      d = round-loop i j
-
-      go : Dec ((i ≡ e .row) × (j ≡ e .col)) → Dec (Basic T i j) → Dec (Stands out i j) → Moves (amountAt T′ i j) (amountAt T i j) (out .amount) d
-      go (yes s) b o = rw (s .0, s .1) entering-moves
-      go (no s) (no b) o = rw (amount-elsewhere order (w .onSheet) col new i j b s, amount-none T i j b)
-          (empty-moves (out .amount) d (omega (arith, loop-off σ (e .row) (e .col) i j s, off-basis i j hi hj b)))
-      go (no s) (yes b) (yes o) = rw (o .0, o .1) leaving-moves
-      go (no s) (yes b) (no o) = rw (amount-stays order (w .onSheet) col new i j b o)
-          (gain-moves (signs m n T e (lane i j)) (out .amount) (amountAt T i j) d (sign-unit i j b) (loop-off σ (e .row) (e .col) i j s))
+  pivot-moves i j hi hj =
+      let d = round-loop i j in
+      by-cases (Dec·and (ℕ-discrete i (e .row)) (ℕ-discrete j (e .col))) (λ s. rw (s .0, s .1) entering-moves) (λ s.
+      let off = loop-off σ (e .row) (e .col) i j s in
+      by-cases (basic-dec T i j)
+      (λ b. by-cases (stands-dec out i j)
+      (λ o. rw (o .0, o .1) leaving-moves)
+      (λ o. rw (amount-stays order (w .onSheet) col new i j b o)
+      (gain-moves (signs m n T e (lane i j)) (out .amount) (amountAt T i j) d (sign-unit i j b) off)))
+      (λ b.
+      let none = step-times (out .amount) d (nat 0) (omega (arith, off-basis i j hi hj b)) in
+      rw (amount-elsewhere order (w .onSheet) col new i j b s, amount-none T i j b) (omega (arith, nothing-parts))))
 
   -- ---- the tableau after the pivot
 
@@ -221,7 +216,7 @@ module _ {P : Problem} (ok : Sound P) {T : List Cell} (w : Belongs P T) {e : Lan
 
   round-after : Tableau m n K (rowOf T′) (colOf T′) (after (rowOf T) (colOf T) ℓ σ (e .row) (e .col) (bagsAt T))
       (after (rowOf T) (colOf T) ℓ σ (e .row) (e .col) (marksAt T)) (supplies P) (demands P) (n - 1)
-  round-after = round hz wanted t choice (λ k l. inside-after k (omega (arith, many-after)) .0) (λ k l. inside-after k (omega (arith, many-after)) .1) replaces
+  round-after = round hz wanted t choice (λ k l. inside-after k l .0) (λ k l. inside-after k l .1) replaces
 
   bags-after : (i j : ℕ) → i < m → j < n → bagsAt T′ i j ≈ after (rowOf T) (colOf T) ℓ σ (e .row) (e .col) (bagsAt T) i j
   bags-after i j hi hj = rw at-out (pivot-moves i j hi hj .0)
@@ -241,19 +236,13 @@ module _ {P : Problem} (ok : Sound P) {T : List Cell} (w : Belongs P T) {e : Lan
   pub pivot-no-tie : {c : Cell} → List·Memᴰ c T → ltZ (signs (sources P) (sinks P) T e (laneOf c)) (pos 0) ≡ true → c .amount ≡ step (sources P) (sinks P) T e
       → c ≡ leaver (sources P) (sinks P) T e
   unfolding laneOf
-  pivot-no-tie {c} mem minus same = go (member-place noCell mem)
-    where
-      go : (k : ℕ) × (k < length T) × (getD T k noCell ≡ c) → c ≡ out
-      go (k, l, s) = sym s ∙ ap (λ i. getD T i noCell) tie ∙ indexed .2
-        where
-          amounts : amountAt T (rowOf T k) (colOf T k) ≡ amountAt T (rowOf T ℓ) (colOf T ℓ)
-          amounts = amount-at T (distinct-of ok w) k l ∙ ap (λ x. x .amount) s ∙ same ∙ sym at-out
-
-          tie : k ≡ ℓ
-          tie = no-tie hz wanted t choice (λ k l. inside-after k (omega (arith, many-after)) .0) (λ k l. inside-after k (omega (arith, many-after)) .1) replaces
-              k (omega (arith, many)) (subst (λ (x : Cell). toZ (signs m n T e (lane (x .row) (x .col))) ≺ nat 0) (sym s)
-              (lt-yes (signs m n T e (laneOf c)) (pos 0) minus))
-              (z-eq (ap (λ x. x .q) amounts)) (z-eq (ap (λ x. x .e) amounts))
+  pivot-no-tie {c} mem minus same =
+      let (k, l, s) = member-place noCell mem in
+      let amounts = amount-at T (distinct-of ok w) k l ∙ ap (λ x. x .amount) s ∙ same ∙ sym at-out in
+      let below = subst (λ (x : Cell). toZ (signs m n T e (lane (x .row) (x .col))) ≺ nat 0) (sym s) (lt-yes (signs m n T e (laneOf c)) (pos 0) minus) in
+      let tie = no-tie hz wanted t choice (λ k l. inside-after k l .0) (λ k l. inside-after k l .1) replaces k (omega (arith, many)) below
+      (z-eq (ap (λ x. x .q) amounts)) (z-eq (ap (λ x. x .e) amounts)) in
+      sym s ∙ ap (λ i. getD T i noCell) tie ∙ indexed .2
 
   minus-test : {c : Cell} → MinusCell P T e c → ltZ (signs (sources P) (sinks P) T e (laneOf c)) (pos 0) ≡ true
   minus-test h = rw (h .minus)
@@ -262,24 +251,16 @@ module _ {P : Problem} (ok : Sound P) {T : List Cell} (w : Belongs P T) {e : Lan
   out-holds : HoldsStep P T e out
   unfolding laneOf
   out-holds = record {
-    cell = record {
-      basic = pivot-leaves .member;
-      minus = eq-z (signs m n T e (lane (out .row) (out .col))) (negsuc 0) (omega (
-        arith,
-        sign-unit (out .row) (out .col) out-basic,
-        lt-yes (signs m n T e (lane (out .row) (out .col))) (pos 0) (pivot-leaves .minus),
-      ));
-    };
+    cell = record { basic = pivot-leaves .member; minus = out-minus };
     smallest = λ d h. pivot-leaves .least d (h .basic) (minus-test h);
   }
 
   -- .. and it alone holds the step.
   pub one-step : OneStep P T e
-  one-step = record { holds = out-holds; noTie = λ c d h k. is-out c h ∙ sym (is-out d k) }
-    where
-      is-out : (c : Cell) → HoldsStep P T e c → c ≡ out
-      is-out c h = pivot-no-tie (h .cell .basic) (minus-test (h .cell))
-          (less-tie (c .amount) (out .amount) (out-holds .smallest c (h .cell)) (h .smallest out (out-holds .cell)))
+  one-step =
+      let is-out : (c : Cell) → HoldsStep P T e c → c ≡ out = λ c h. pivot-no-tie (h .cell .basic) (minus-test (h .cell))
+      (less-tie (c .amount) (out .amount) (out-holds .smallest c (h .cell)) (h .smallest out (out-holds .cell))) in
+      record { holds = out-holds; noTie = λ c d h k. is-out c h ∙ sym (is-out d k) }
 
   -- ---- the valued cost
 
@@ -293,21 +274,15 @@ module _ {P : Problem} (ok : Sound P) {T : List Cell} (w : Belongs P T) {e : Lan
   -- The valued cost changes by the value of the step times the reduced cost of the entering lane.
   pivot-measure : (c : ℕ → ℕ → Z) (u v : ℕ → Z) → ((i j : ℕ) → Basic T i j → Tight c u v i j)
       → measure P c (pivot (sources P) (sinks P) T e) ≈ measure P c T ⊕ stepValue (sources P) (sinks P) T e ⊗ (c (e .row) (e .col) ⊖ u (e .row) ⊖ v (e .col))
-  pivot-measure c u v tight = omega (arith, same, change)
-    where
-      q′ : ℕ → ℕ → Z
-      q′ = after (rowOf T) (colOf T) ℓ σ (e .row) (e .col) (bagsAt T)
-
-      e′ : ℕ → ℕ → Z
-      e′ = after (rowOf T) (colOf T) ℓ σ (e .row) (e .col) (marksAt T)
-
-      same : measure P c T′ ≈ cost m n c (valued m q′ e′)
-      same = measure-cong m n c (bagsAt T′) (marksAt T′) q′ e′ bags-after marks-after
-
-      change : cost m n c (valued m q′ e′) ≈ measure P c T ⊕ stepValue (sources P) (sinks P) T e ⊗ (c (e .row) (e .col) ⊖ u (e .row) ⊖ v (e .col))
-      change = subst (λ (x : Z). cost m n c (valued m q′ e′) ≈ measure P c T ⊕ x ⊗ (c (e .row) (e .col) ⊖ u (e .row) ⊖ v (e .col))) at-step
-          (round-cost hz wanted t choice c u v
-          (λ k l. tight (rowOf T k) (colOf T k) (record { index = k; below = omega (arith, many); row = refl; column = refl })))
+  pivot-measure c u v tight =
+      let q′ : ℕ → ℕ → Z = after (rowOf T) (colOf T) ℓ σ (e .row) (e .col) (bagsAt T) in
+      let e′ : ℕ → ℕ → Z = after (rowOf T) (colOf T) ℓ σ (e .row) (e .col) (marksAt T) in
+      let same : measure P c T′ ≈ cost m n c (valued m q′ e′) = measure-cong m n c (bagsAt T′) (marksAt T′) q′ e′ bags-after marks-after in
+      let change : cost m n c (valued m q′ e′) ≈ measure P c T ⊕ stepValue (sources P) (sinks P) T e ⊗ (c (e .row) (e .col) ⊖ u (e .row) ⊖ v (e .col)) =
+      subst (λ (x : Z). cost m n c (valued m q′ e′) ≈ measure P c T ⊕ x ⊗ (c (e .row) (e .col) ⊖ u (e .row) ⊖ v (e .col))) at-step
+      (round-cost hz wanted t choice c u v
+      (λ k l. tight (rowOf T k) (colOf T k) (record { index = k; below = omega (arith, many); row = refl; column = refl }))) in
+      omega (arith, same, change)
 
   -- So where that reduced cost is negative it falls by 1 or more, for the step's value is positive.
   pub pivot-falls : (c : ℕ → ℕ → Z) (u v : ℕ → Z) → ((i j : ℕ) → Basic T i j → Tight c u v i j) → c (e .row) (e .col) ≺ u (e .row) ⊕ v (e .col)

@@ -60,11 +60,9 @@ sum-sumZ (suc n) f = omega (arith, z-add (sumZ n f) (f n), sum-sumZ n f)
 
 -- A plan by places in sheet order.
 pub places-cost : (N : ℕ) (Q : List ℕ) (c : List ℤ) → toZ (sumZ N (λ l. pos (at Q l) *ℤ atZ c l)) ≈ sum N (λ l. nat (at Q l) ⊗ toZ (atZ c l))
-places-cost N Q c = omega (
-  arith,
-  sum-sumZ N (λ l. pos (at Q l) *ℤ atZ c l),
-  sum-cong N (λ l. toZ (pos (at Q l) *ℤ atZ c l)) (λ l. nat (at Q l) ⊗ toZ (atZ c l)) (λ l h. z-mul (pos (at Q l)) (atZ c l)),
-)
+places-cost N Q c =
+    let each = sum-cong N (λ l. toZ (pos (at Q l) *ℤ atZ c l)) (λ l. nat (at Q l) ⊗ toZ (atZ c l)) (λ l h. z-mul (pos (at Q l)) (atZ c l)) in
+    omega (arith, sum-sumZ N (λ l. pos (at Q l) *ℤ atZ c l))
 
 -- .. and added up by rows.
 pub lanes-cost : (m n : ℕ) (Q : List ℕ) (c : List ℤ)

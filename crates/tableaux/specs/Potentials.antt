@@ -1,5 +1,5 @@
 -- Potentials through the strikes: tight on every lane, 0 at the root, the only such numbers, and bounded.
-use Rattle.prelude.specs.Words.{_≡_, refl, ap, sym, _∙_, _≢_, ⊎-elim, by-cases, true, List, [], _∷_, List·Memᴰ, List·Memᴰ·head, List·Memᴰ·tail}
+use Rattle.prelude.specs.Words.{_≡_, refl, ap, sym, _∙_, _≢_, by-cases, true, List, [], _∷_, List·Memᴰ, List·Memᴰ·head, List·Memᴰ·tail, inl, inr}
 use Rattle.prelude.specs.Words.{List·Memᴰ·not-nil, List·Memᴰ·cases-cons, ℕ, _+_, _*_, _-_, _≤_, _<_, arith, mul-le-mul-right, ℕ-discrete, decLt, eq-eqb, ne-eqb}
 use Rattle.prelude.specs.Words.{ℤ, pos, negℤ, natAbs, _-ℤ_, length}
 use Rattle.integers.specs.Integer.{_≈_, _⊕_}
@@ -17,7 +17,7 @@ use Rattle.transport.specs.Potential.{potentialBy, potential}
 use Rattle.transport.specs.declared.Cell.{Cell}
 use Rattle.network.specs.Joined.{potentials-unique}
 use Rattle.tableaux.specs.Lanes.{Fits}
-use Rattle.tableaux.specs.Leaves.{Ends, row-struck, column-struck, ends-differ}
+use Rattle.tableaux.specs.Leaves.{row-struck, column-struck, ends-differ}
 use Rattle.tableaux.specs.Striking.{Peeled, bare, peel, Struck, struck-of, step-of, root-no-leaf, spans-iff}
 
 -- ---- potentials, strike by strike
@@ -41,29 +41,26 @@ module _ (cost : Lane → ℤ) where
   strike-tight : {m n : ℕ} {ss : List Strike} → Peeled m n ss → (s : Strike) → List·Memᴰ s ss
       → toZ (potentialBy cost ss (s .leaf)) ⊕ toZ (potentialBy cost ss (s .other)) ≈ toZ (cost (s .lane))
   strike-tight bare s h = absurd (List·Memᴰ·not-nil h)
-  strike-tight {m} {n} (peel {s} {later} st rest) t h = ⊎-elim (λ e. rw e here) (λ q. there q (strike-tight rest t q)) (List·Memᴰ·cases-cons h)
-    where
-      here : toZ (potentialBy cost (s ∷ later) (s .leaf)) ⊕ toZ (potentialBy cost (s ∷ later) (s .other)) ≈ toZ (cost (s .lane))
-      here = rw (potential-leaf s later, potential-later s later (s .other) (λ e. ends-differ (st .ends) (st .row) (sym e)))
-          (omega (arith, z-add (cost (s .lane)) (negℤ (potentialBy cost later (s .other))), z-neg (potentialBy cost later (s .other))))
-
-      there : List·Memᴰ t later → toZ (potentialBy cost later (t .leaf)) ⊕ toZ (potentialBy cost later (t .other)) ≈ toZ (cost (t .lane))
-          → toZ (potentialBy cost (s ∷ later) (t .leaf)) ⊕ toZ (potentialBy cost (s ∷ later) (t .other)) ≈ toZ (cost (t .lane))
-      there q e = rw (potential-later s later (t .leaf) (st .clear t q .0), potential-later s later (t .other) (st .clear t q .1)) e
+  strike-tight {m} {n} (peel {s} {later} st rest) t h =
+      let here : toZ (potentialBy cost (s ∷ later) (s .leaf)) ⊕ toZ (potentialBy cost (s ∷ later) (s .other)) ≈ toZ (cost (s .lane)) =
+      rw (potential-leaf s later, potential-later s later (s .other) (λ e. ends-differ (st .ends) (st .row) (sym e)))
+      (omega (arith, z-add (cost (s .lane)) (negℤ (potentialBy cost later (s .other))), z-neg (potentialBy cost later (s .other)))) in
+      elim (List·Memᴰ·cases-cons h) [
+        | inl e ↦ rw e here
+        | inr q ↦ let (a, b) = st .clear t q in rw (potential-later s later (t .leaf) a, potential-later s later (t .other) b) (strike-tight rest t q)
+      ]
 
   -- Each assignment adds at most one cost.
   potential-bound : (C : ℕ) (ss : List Strike) → ((s : Strike) → List·Memᴰ s ss → natAbs (cost (s .lane)) ≤ C) → (k : ℕ) → natAbs (potentialBy cost ss k)
       ≤ length ss * C
   unfolding potentialBy
   potential-bound C [] h k = omega arith
-  potential-bound C (s ∷ ss) h k = by-cases (ℕ-discrete k (s .leaf))
-      (λ e. rw (e, potential-leaf s ss) (omega (
-        arith,
-        abs-diff (cost (s .lane)) (potentialBy cost ss (s .other)),
-        h s (List·Memᴰ·head refl),
-        potential-bound C ss (λ t q. h t (List·Memᴰ·tail q)) (s .other),
-      )))
-      (λ e. rw (potential-later s ss k e) (omega (arith, potential-bound C ss (λ t q. h t (List·Memᴰ·tail q)) k)))
+  potential-bound C (s ∷ ss) h k =
+      let rest = potential-bound C ss (λ t q. h t (List·Memᴰ·tail q)) in
+      by-cases (ℕ-discrete k (s .leaf))
+      (λ e. rw (e, potential-leaf s ss)
+      (omega (arith, abs-diff (cost (s .lane)) (potentialBy cost ss (s .other)), h s (List·Memᴰ·head refl), rest (s .other))))
+      (λ e. rw (potential-later s ss k e) (omega (arith, rest k)))
 
 -- In whatever order the lanes are struck off, the potentials are tight on each of them.
 struck-tight : {m n : ℕ} {B : List Lane} {ss : List Strike} → Struck m n B ss → (cost : Lane → ℤ) (l : Lane) → List·Memᴰ l B
@@ -71,15 +68,12 @@ struck-tight : {m n : ℕ} {B : List Lane} {ss : List Strike} → Struck m n B s
 struck-tight {m} {n} {B} {ss} w cost l q =
     let (s, r, c) = w .struck l q in
     let (later, st) = step-of (w .peels) s r in
-    rw (← c) (by-ends s (st .ends) (strike-tight cost (w .peels) s r))
-  where
-    by : ℕ → ℤ
-    by = potentialBy cost ss
-
-    by-ends : (s : Strike) → Ends m s → toZ (by (s .leaf)) ⊕ toZ (by (s .other)) ≈ toZ (cost (s .lane))
-        → toZ (by (s .lane .row)) ⊕ toZ (by (m + s .lane .col)) ≈ toZ (cost (s .lane))
-    by-ends s (row-struck a b) t = omega (arith, z-eq (ap by a), z-eq (ap by b))
-    by-ends s (column-struck a b) t = omega (arith, z-eq (ap by a), z-eq (ap by b))
+    let both = strike-tight cost (w .peels) s r in
+    let by : ℕ → ℤ = potentialBy cost ss in
+    rw (← c) (elim (st .ends) [
+      | row-struck a b ↦ omega (arith, z-eq (ap by a), z-eq (ap by b))
+      | column-struck a b ↦ omega (arith, z-eq (ap by a), z-eq (ap by b))
+    ])
 
 module _ {m n : ℕ} {B : List Lane} (p : 1 ≤ m) (h : Fits m n B) (e : spans m n B ≡ true) (cost : Lane → ℤ) where
   abbrev solution : ℕ → ℤ
@@ -94,17 +88,15 @@ module _ {m n : ℕ} {B : List Lane} (p : 1 ≤ m) (h : Fits m n B) (e : spans m
   -- They are the only numbers that are 0 at the root and tight on every lane.
   pub potential-only : (q : ℕ → ℤ) → q 0 ≡ pos 0 → ((l : Lane) → List·Memᴰ l B → toZ (q (l .row)) ⊕ toZ (q (m + l .col)) ≈ toZ (cost l))
       → (k : ℕ) → k < m + n → q k ≡ solution k
-  potential-only q z tight k l = by-cases (decLt k m)
-      (λ r. eq-z (q k) (solution k) (same .0 k r))
-      (λ r. let place : m + (k - m) ≡ k = omega arith in
-      eq-z (q k) (solution k) (omega (arith, same .1 (k - m) (omega arith), z-eq (ap q place), z-eq (ap solution place))))
-    where
-      same : ((i : ℕ) → i < m → toZ (q i) ≈ toZ (solution i)) × ((j : ℕ) → j < n → toZ (q (m + j)) ≈ toZ (solution (m + j)))
-      same = potentials-unique (spans-iff p h .0 e .1) (λ i j. toZ (cost (lane i j)))
-          (λ i. toZ (q i)) (λ j. toZ (q (m + j))) (λ i. toZ (solution i)) (λ j. toZ (solution (m + j)))
-          (λ i j hi hj s. tight (lane i j) s)
-          (λ i j hi hj s. potential-tight (lane i j) s)
-          (z-eq (z ∙ sym potential-root))
+  potential-only q z tight k l =
+      let (rows, columns) = potentials-unique (spans-iff p h .0 e .1) (λ i j. toZ (cost (lane i j)))
+      (λ i. toZ (q i)) (λ j. toZ (q (m + j))) (λ i. toZ (solution i)) (λ j. toZ (solution (m + j)))
+      (λ i j hi hj s. tight (lane i j) s) (λ i j hi hj s. potential-tight (lane i j) s) (z-eq (z ∙ sym potential-root)) in
+      by-cases (decLt k m)
+      (λ r. eq-z (q k) (solution k) (rows k r))
+      (λ r.
+      let place : m + (k - m) ≡ k = omega arith in
+      eq-z (q k) (solution k) (omega (arith, columns (k - m) (omega arith), z-eq (ap q place), z-eq (ap solution place))))
 
   -- So every order of striking gives the same.
   pub potential-any : {ss : List Strike} → Struck m n B ss → (k : ℕ) → k < m + n → potentialBy cost ss k ≡ solution k
@@ -126,12 +118,9 @@ cost-size {P} ok k = abs-between (ok .costLow k) (ok .costHigh k)
 pub price-size : (P : Problem) → Sound P → (T : List Cell) → Fits (sources P) (sinks P) (basisOf T) → spans (sources P) (sinks P) (basisOf T) ≡ true
     → (k : ℕ) → natAbs (potential P T k) ≤ maxCells * costAbove
 unfolding potential laneCost maxCells basisSize
-price-size P c T h e k = omega (
-  arith,
-  potential-size (c .sourcesLow) h e (laneCost P) costAbove
-      (λ l q. cost-size c (place (sinks P) (l .row) (l .col))) k,
-  mul-le-mul-right {m = sources P + sinks P - 1} {n = 2 * maxSide - 1} costAbove (omega (arith, c .sourcesHigh, c .sinksHigh)),
-)
+price-size P c T h e k =
+    let nodes = mul-le-mul-right {m = sources P + sinks P - 1} {n = 2 * maxSide - 1} costAbove (omega (arith, c .sourcesHigh, c .sinksHigh)) in
+    omega (arith, potential-size (c .sourcesLow) h e (laneCost P) costAbove (λ l q. cost-size c (place (sinks P) (l .row) (l .col))) k)
 
 pub price-limit : maxCells * costAbove ≡ 63_000_000
 unfolding maxCells maxSide costAbove maxCost

@@ -1,5 +1,5 @@
 -- Runs of rounds: a run ends at the first finished tableau, if that comes within its allowance, and else after exactly its allowance.
-use Rattle.prelude.specs.Words.{_≡_, refl, ap, _∙_, _⊎_, inl, inr, ⊎-elim, _↔_, Bool, true, false, List, ℕ, zero, suc, _≤_, _<_, arith, clash}
+use Rattle.prelude.specs.Words.{_≡_, ap, _∙_, _⊎_, inl, inr, ⊎-elim, _↔_, true, false, List, ℕ, zero, suc, _≤_, _<_, arith, clash, by-test}
 use Rattle.transport.specs.Problem.{Problem}
 use Rattle.transport.specs.Potential.{isFinished}
 use Rattle.transport.specs.Round.{next, run}
@@ -11,37 +11,27 @@ module _ (P : Problem) where
   unfolding after
   reached-now T e = record { finished = e; before = λ h l. absurd (omega arith) }
 
+  -- A tableau that is not finished, and before k rounds none after it.
+  unfinished : (T : List Cell) (k : ℕ) → isFinished P T ≡ false → ((h : ℕ) → h < k → isFinished P (after P h (next P T)) ≡ false)
+      → (h : ℕ) → h < suc k → isFinished P (after P h T) ≡ false
+  unfolding after
+  unfinished T k e none zero l = e
+  unfinished T k e none (suc h) l = none h (omega arith)
+
   pub reached-later : (T : List Cell) (k : ℕ) → isFinished P T ≡ false → FirstFinished P (next P T) k → FirstFinished P T (suc k)
   unfolding after
-  reached-later T k e r = record { finished = r .finished; before = before }
-    where
-      before : (h : ℕ) → h < suc k → isFinished P (after P h T) ≡ false
-      before zero l = e
-      before (suc h) l = r .before h (omega arith)
+  reached-later T k e r = record { finished = r .finished; before = unfinished T k e (r .before) }
 
   -- Within k rounds a finished tableau is reached, or not.
   pub reached-or : (k : ℕ) (T : List Cell) → ((h : ℕ) × (h ≤ k) × FirstFinished P T h) ⊎ Unfinished P T k
   unfolding after
-  reached-or zero T = go (isFinished P T) refl
-    where
-      go : (b : Bool) → isFinished P T ≡ b → ((h : ℕ) × (h ≤ 0) × FirstFinished P T h) ⊎ Unfinished P T 0
-      go true e = inl (0, omega arith, reached-now T e)
-      go false e = inr none
-        where
-          none : Unfinished P T 0
-          none zero l = e
-          none (suc h) l = absurd (omega arith)
-  reached-or (suc k) T = go (isFinished P T) refl (reached-or k (next P T))
-    where
-      go : (b : Bool) → isFinished P T ≡ b → ((h : ℕ) × (h ≤ k) × FirstFinished P (next P T) h) ⊎ Unfinished P (next P T) k
-          → ((h : ℕ) × (h ≤ suc k) × FirstFinished P T h) ⊎ Unfinished P T (suc k)
-      go true e rest = inl (0, omega arith, reached-now T e)
-      go false e (inl (h, l, r)) = inl (suc h, omega arith, reached-later T h e r)
-      go false e (inr none) = inr more
-        where
-          more : Unfinished P T (suc k)
-          more zero l = e
-          more (suc h) l = none h (omega arith)
+  reached-or zero T = by-test (isFinished P T)
+      (λ e. inl (0, omega arith, reached-now T e))
+      (λ e. inr (λ h l. unfinished T 0 e (λ g q. absurd (omega arith)) h (omega arith)))
+  reached-or (suc k) T = by-test (isFinished P T) (λ e. inl (0, omega arith, reached-now T e)) (λ e. ⊎-elim
+      (λ (h, l, r). inl (suc h, omega arith, reached-later T h e r))
+      (λ none. inr (λ h l. unfinished T (suc k) e (λ g q. none g (omega arith)) h (omega arith)))
+      (reached-or k (next P T)))
 
   -- ---- the run's steps
 
@@ -96,13 +86,7 @@ module _ (P : Problem) where
       (reached-or k T)
 
   pub run-rounds : (k : ℕ) (T : List Cell) → run P k T .rounds ≤ k
-  run-rounds k T = ⊎-elim
-      (λ (h, l, r). rw (run-reached h k T l r) l)
-      (λ none. rw (run-spent k T none) (omega arith))
-      (reached-or k T)
+  run-rounds k T = ⊎-elim (λ (h, l, r). rw (run-reached h k T l r) l) (λ none. rw (run-spent k T none) (omega arith)) (reached-or k T)
 
   pub run-tableau : (k : ℕ) (T : List Cell) → run P k T .tableau ≡ after P (run P k T .rounds) T
-  run-tableau k T = ⊎-elim
-      (λ (h, l, r). rw (run-reached h k T l r))
-      (λ none. rw (run-spent k T none))
-      (reached-or k T)
+  run-tableau k T = ⊎-elim (λ (h, l, r). rw (run-reached h k T l r)) (λ none. rw (run-spent k T none)) (reached-or k T)

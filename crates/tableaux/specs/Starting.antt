@@ -1,6 +1,6 @@
 -- The start belongs to its sheet, and the corner rule empties a row and a column together at the last cell only.
 use Rattle.prelude.specs.Words.{ℕ, zero, suc, _+_, _-_, _≤_, _<_, arith, decLt, ℕ-discrete, _≡_, refl, ap, sym, _∙_, _≢_, _↔_, _⊎_, inl, inr, ⊎-elim, by-cases}
-use Rattle.prelude.specs.Words.{Bool, true, false, true≢false, List, [], _∷_, map, eq-eqb, ne-eqb, eqb, length, getD, drop, drop-cons, by-test, clash}
+use Rattle.prelude.specs.Words.{true, false, true≢false, List, [], _∷_, map, eq-eqb, ne-eqb, eqb, length, getD, drop, drop-cons, by-test, clash}
 use Rattle.integers.specs.Integer.{_≈_, _≼_, ≼-dec, _⊕_, nat}
 use Rattle.network.specs.Basis.{Basis}
 use Rattle.network.specs.Staircase.{Step, staircase}
@@ -15,6 +15,7 @@ use Rattle.transport.specs.Belonging.{rowTotal, columnTotal}
 use Rattle.transport.specs.Statements.{Belongs}
 use Rattle.transport.specs.declared.Pair.{Pair}
 use Rattle.transport.specs.declared.Cell.{Cell}
+use Rattle.tableaux.specs.Bases.{joined-on}
 use Rattle.tableaux.specs.View.{rowOf, colOf, basic-in}
 use Rattle.tableaux.specs.PairLaws.{bags, marks, Less, pair-eq, nothing-parts, subtract-parts, add-nothing, add-subtract, subtract-self, subtract-nothing}
 use Rattle.tableaux.specs.PairLaws.{less-true, less-false, true-less, subtract-above, pairedSupply-parts, pairedDemand-bags, pairedDemand-last}
@@ -99,23 +100,21 @@ module _ (P : Problem) (ok : Sound P) where
 
     -- A row with more than the column stands before the last column: the last one takes all that the rows still have.
     right-exists : less d s ≡ true → suc j < sinks P
-    right-exists p = by-cases (decLt (suc j) (sinks P)) (λ l. l) (λ l. absurd (end (omega (arith, st .column))))
-      where
-        end : suc j ≡ sinks P → ⊥
-        end e = ⊎-elim
-            (λ q. omega (arith, st .bagsEven, ap (λ (t : ℕ). sumTo t (at (P .demand))) e, whole, sumTo-part (suc i) (sources P) (at (P .supply)) (st .row)))
-            (λ q. omega (arith, st .marksEven, pairedDemand-last P j e, st .row))
-            (less-true d s p)
+    right-exists p =
+        let end : suc j ≡ sinks P → ⊥ = λ e. ⊎-elim
+        (λ q. omega (arith, st .bagsEven, ap (λ (t : ℕ). sumTo t (at (P .demand))) e, whole, sumTo-part (suc i) (sources P) (at (P .supply)) (st .row)))
+        (λ q. omega (arith, st .marksEven, pairedDemand-last P j e, st .row))
+        (less-true d s p) in
+        by-cases (decLt (suc j) (sinks P)) (λ l. l) (λ l. absurd (end (omega (arith, st .column))))
 
     -- A row with no more than the column stands before the last row, or at the last cell.
     down-exists : less d s ≡ false → suc i ≡ sources P → left ≡ 0
-    down-exists p e = by-cases (decLt (suc j) (sinks P)) (λ l. absurd (early l)) (λ l. omega (arith, st .column, st .size))
-      where
-        early : suc j < sinks P → ⊥
-        early l = ⊎-elim
-            (λ q. omega (arith, st .bagsEven, ap (λ (t : ℕ). sumTo t (at (P .supply))) e, whole, sumTo-part (suc j) (sinks P) (at (P .demand)) (st .column)))
-            (λ q. omega (arith, st .marksEven, pairedDemand-early P j l))
-            (less-false d s p)
+    down-exists p e =
+        let early : suc j < sinks P → ⊥ = λ l. ⊎-elim
+        (λ q. omega (arith, st .bagsEven, ap (λ (t : ℕ). sumTo t (at (P .supply))) e, whole, sumTo-part (suc j) (sinks P) (at (P .demand)) (st .column)))
+        (λ q. omega (arith, st .marksEven, pairedDemand-early P j l))
+        (less-false d s p) in
+        by-cases (decLt (suc j) (sinks P)) (λ l. absurd (early l)) (λ l. omega (arith, st .column, st .size))
 
     -- At the last cell equal pairs remain.
     last-even : left ≡ 0 → s ≡ d
@@ -144,6 +143,10 @@ module _ (P : Problem) (ok : Sound P) where
     pub state-down : less d s ≡ false → State P left (suc i) j (pairedSupply P (suc i)) (subtract d s)
     unfolding sumTo
     state-down p =
+        let under : (bags s ≈ bags d) × (marks s ≼ marks d) → Less s d = λ q. inr (
+          q .0,
+          by-cases (≼-dec (marks d) (marks s)) (λ r. absurd (omega (arith, even-last (suc left) i j s d st (q .0) (omega arith)))) (λ r. omega arith),
+        ) in
         let l : suc i < sources P = by-cases (decLt (suc i) (sources P)) (λ l. l)
         (λ l. absurd (omega (arith, down-exists (suc left) i j s d st p (omega (arith, st .row))))) in
         record {
@@ -155,13 +158,6 @@ module _ (P : Problem) (ok : Sound P) where
           bagsEven = omega (arith, st .bagsEven, subtract-parts d s, pairedSupply-parts P (suc i));
           marksEven = omega (arith, st .marksEven, subtract-parts d s, pairedSupply-parts P (suc i));
         }
-      where
-        under : (bags s ≈ bags d) × (marks s ≼ marks d) → Less s d
-        under q = inr (
-          q .0,
-          by-cases (≼-dec (marks d) (marks s)) (λ r. absurd (omega (arith, even-last (suc left) i j s d st (q .0) (omega arith))))
-              (λ r. omega arith),
-        )
 
 -- ---- the cells that the rule puts
 
@@ -250,44 +246,46 @@ along-off : (line : Cell → ℕ) (c : Cell) (cs : List Cell) (k : ℕ) → line
 unfolding keep
 along-off line c cs k e = rw (ne-eqb (line c) k e)
 
+-- The cells along the rows, or along the columns: line p still has the pair r. The last cell is on the last line; another empties its line, or takes a part.
+data Along (line : Cell → ℕ) (paired : ℕ → Pair) (end : ℕ) : ℕ → Pair → List Cell → Type 0 where
+  ends : {p : ℕ} {r : Pair} (c : Cell) → line c ≡ p → c .amount ≡ r → suc p ≡ end → Along line paired end p r (c ∷ [])
+  empties : {p : ℕ} {r : Pair} {T : List Cell} (c : Cell) → line c ≡ p → c .amount ≡ r → Along line paired end (suc p) (paired (suc p)) T
+      → Along line paired end p r (c ∷ T)
+  takes : {p : ℕ} {r : Pair} {T : List Cell} (c : Cell) → line c ≡ p → Along line paired end p (subtract r (c .amount)) T → Along line paired end p r (c ∷ T)
+
 module _ {P : Problem} where
-  -- The rows before row i get nothing ..
-  rows-before : {i j : ℕ} {s d : Pair} {T : List Cell} → Stairs P i j s d T → (h : ℕ) → h < i → along (λ c. c .row) T h ≡ nothing
-  rows-before (last {i} {j} {s} p q a) h l = along-off (λ c. c .row) (cell i j s) [] h (omega arith) ∙ along-none (λ c. c .row) h
-  rows-before (down {i} {j} {s} {d} {T} a t) h l = along-off (λ c. c .row) (cell i j s) T h (omega arith) ∙ rows-before t h (omega arith)
-  rows-before (right {i} {j} {s} {d} {T} a t) h l = along-off (λ c. c .row) (cell i j d) T h (omega arith) ∙ rows-before t h l
+  rows-along : {i j : ℕ} {s d : Pair} {T : List Cell} → Stairs P i j s d T → Along (λ c. c .row) (pairedSupply P) (sources P) i s T
+  rows-along (last p q a) = ends _ refl refl p
+  rows-along (down a t) = empties _ refl refl (rows-along t)
+  rows-along (right a t) = takes _ refl (rows-along t)
 
-  -- .. row i gets what remains of it ..
-  row-here : {i j : ℕ} {s d : Pair} {T : List Cell} → Stairs P i j s d T → along (λ c. c .row) T i ≡ s
-  row-here (last {i} {j} {s} p q a) = along-here (λ c. c .row) (cell i j s) [] i refl ∙ rw (along-none (λ c. c .row) i) (add-nothing s)
-  row-here (down {i} {j} {s} {d} {T} a t) = along-here (λ c. c .row) (cell i j s) T i refl ∙ rw (rows-before t i (omega arith)) (add-nothing s)
-  row-here (right {i} {j} {s} {d} {T} a t) = along-here (λ c. c .row) (cell i j d) T i refl ∙ rw (row-here t) (add-subtract d s)
+  columns-along : {i j : ℕ} {s d : Pair} {T : List Cell} → Stairs P i j s d T → Along (λ c. c .col) (pairedDemand P) (sinks P) j d T
+  columns-along (last p q a) = ends _ refl refl q
+  columns-along (down a t) = takes _ refl (columns-along t)
+  columns-along (right a t) = empties _ refl refl (columns-along t)
 
-  -- .. and each row after it gets its paired supply.
-  rows-after : {i j : ℕ} {s d : Pair} {T : List Cell} → Stairs P i j s d T → (h : ℕ) → i < h → h < sources P → along (λ c. c .row) T h ≡ pairedSupply P h
-  rows-after (last p q a) h l r = absurd (omega arith)
-  rows-after (down {i} {j} {s} {d} {T} a t) h l r =
-      along-off (λ c. c .row) (cell i j s) T h (omega arith)
-      ∙ by-cases (ℕ-discrete (suc i) h) (λ e. rw (← e) (row-here t)) (λ e. rows-after t h (omega arith) r)
-  rows-after (right {i} {j} {s} {d} {T} a t) h l r = along-off (λ c. c .row) (cell i j d) T h (omega arith) ∙ rows-after t h l r
+module _ {line : Cell → ℕ} {paired : ℕ → Pair} {end : ℕ} where
+  -- The lines before line p get nothing ..
+  line-before : {p : ℕ} {r : Pair} {T : List Cell} → Along line paired end p r T → (h : ℕ) → h < p → along line T h ≡ nothing
+  line-before (ends c e f z) h l = along-off line c [] h (omega arith) ∙ along-none line h
+  line-before (empties {T = T} c e f t) h l = along-off line c T h (omega arith) ∙ line-before t h (omega arith)
+  line-before (takes {T = T} c e t) h l = along-off line c T h (omega arith) ∙ line-before t h l
 
-  -- The same of columns.
-  columns-before : {i j : ℕ} {s d : Pair} {T : List Cell} → Stairs P i j s d T → (h : ℕ) → h < j → along (λ c. c .col) T h ≡ nothing
-  columns-before (last {i} {j} {s} p q a) h l = along-off (λ c. c .col) (cell i j s) [] h (omega arith) ∙ along-none (λ c. c .col) h
-  columns-before (down {i} {j} {s} {d} {T} a t) h l = along-off (λ c. c .col) (cell i j s) T h (omega arith) ∙ columns-before t h l
-  columns-before (right {i} {j} {s} {d} {T} a t) h l = along-off (λ c. c .col) (cell i j d) T h (omega arith) ∙ columns-before t h (omega arith)
+  -- .. line p gets what remains of it ..
+  line-here : {p : ℕ} {r : Pair} {T : List Cell} → Along line paired end p r T → along line T p ≡ r
+  line-here (ends {p} {r} c e f z) = along-here line c [] p e ∙ rw (along-none line p, f) (add-nothing r)
+  line-here (empties {p} {r} {T} c e f t) = along-here line c T p e ∙ rw (line-before t p (omega arith), f) (add-nothing r)
+  line-here (takes {p} {r} {T} c e t) = along-here line c T p e ∙ rw (line-here t) (add-subtract (c .amount) r)
 
-  column-here : {i j : ℕ} {s d : Pair} {T : List Cell} → Stairs P i j s d T → along (λ c. c .col) T j ≡ d
-  column-here (last {i} {j} {s} p q a) = along-here (λ c. c .col) (cell i j s) [] j refl ∙ rw (along-none (λ c. c .col) j) (add-nothing s)
-  column-here (down {i} {j} {s} {d} {T} a t) = along-here (λ c. c .col) (cell i j s) T j refl ∙ rw (column-here t) (add-subtract s d)
-  column-here (right {i} {j} {s} {d} {T} a t) = along-here (λ c. c .col) (cell i j d) T j refl ∙ rw (columns-before t j (omega arith)) (add-nothing d)
+  -- .. and each line after it gets its pair.
+  line-after : {p : ℕ} {r : Pair} {T : List Cell} → Along line paired end p r T → (h : ℕ) → p < h → h < end → along line T h ≡ paired h
+  line-after (ends c e f z) h l q = absurd (omega arith)
+  line-after (empties {p} {T = T} c e f t) h l q = along-off line c T h (omega arith)
+      ∙ by-cases (ℕ-discrete (suc p) h) (λ s. rw (← s) (line-here t)) (λ s. line-after t h (omega arith) q)
+  line-after (takes {T = T} c e t) h l q = along-off line c T h (omega arith) ∙ line-after t h l q
 
-  columns-after : {i j : ℕ} {s d : Pair} {T : List Cell} → Stairs P i j s d T → (h : ℕ) → j < h → h < sinks P → along (λ c. c .col) T h ≡ pairedDemand P h
-  columns-after (last p q a) h l r = absurd (omega arith)
-  columns-after (down {i} {j} {s} {d} {T} a t) h l r = along-off (λ c. c .col) (cell i j s) T h (omega arith) ∙ columns-after t h l r
-  columns-after (right {i} {j} {s} {d} {T} a t) h l r =
-      along-off (λ c. c .col) (cell i j d) T h (omega arith)
-      ∙ by-cases (ℕ-discrete (suc j) h) (λ e. rw (← e) (column-here t)) (λ e. columns-after t h (omega arith) r)
+  all-lines : {T : List Cell} → Along line paired end 0 (paired 0) T → (h : ℕ) → h < end → along line T h ≡ paired h
+  all-lines t h l = by-cases (ℕ-discrete 0 h) (λ e. rw (← e) (line-here t)) (λ e. line-after t h (omega arith) l)
 
 -- ---- the theorems
 
@@ -302,33 +300,22 @@ later n i j h k l (inr e) = rw (e .0, e .1) (omega arith)
 -- staircase, whose cells join all; and each row and column has given or taken all of its pair when the rule leaves it.
 pub start-belongs : (P : Problem) → Sound P → Belongs P (start P)
 unfolding rowTotal columnTotal basisSize
-start-belongs P ok = record {
-  count = omega (arith, stairs-length t);
-  onSheet = λ k l. (basis .rows k (omega arith), basis .cols k (omega arith));
-  order = λ k l. later (sinks P) _ _ _ _ (ok .sinksLow) (stairs-step t k l);
-  joined = record {
-    rows = λ A B z h. basis .joined .rows A B z (λ i j k l w. h i j k l (basic-in T (suc K) i j many .1 w));
-    cols = λ A B z h. basis .joined .cols A B z (λ i j k l w. h i j k l (basic-in T (suc K) i j many .1 w));
-  };
-  above = stairs-above t;
-  rows = λ i l. by-cases (ℕ-discrete 0 i) (λ e. rw (← e) (row-here t)) (λ e. rows-after t i (omega arith) l);
-  columns = λ j l. by-cases (ℕ-discrete 0 j) (λ e. rw (← e) (column-here t)) (λ e. columns-after t j (omega arith) l);
-}
-  where
-    T : List Cell
-    T = start P
-
-    t : Stairs P 0 0 (pairedSupply P 0) (pairedDemand P 0) T
-    t = start-stairs P ok
-
-    K : ℕ
-    K = length T - 1
-
-    many : suc K ≡ length T
-    many = omega (arith, stairs-some t)
-
-    basis : Basis (sources P) (sinks P) K (rowOf T) (colOf T)
-    basis = staircase (stairs-first t .0) (stairs-first t .1) (stairs-last t K many .0) (stairs-last t K many .1) (λ k l. stairs-step t k (omega (arith, many)))
+start-belongs P ok =
+    let T : List Cell = start P in
+    let t : Stairs P 0 0 (pairedSupply P 0) (pairedDemand P 0) T = start-stairs P ok in
+    let K : ℕ = length T - 1 in
+    let many : suc K ≡ length T = omega (arith, stairs-some t) in
+    let basis : Basis (sources P) (sinks P) K (rowOf T) (colOf T) =
+    staircase (stairs-first t .0) (stairs-first t .1) (stairs-last t K many .0) (stairs-last t K many .1) (λ k l. stairs-step t k (omega (arith, many))) in
+    record {
+      count = omega (arith, stairs-length t);
+      onSheet = λ k l. (basis .rows k (omega arith), basis .cols k (omega arith));
+      order = λ k l. later (sinks P) _ _ _ _ (ok .sinksLow) (stairs-step t k l);
+      joined = joined-on (λ i j. basic-in T (suc K) i j many .1) (basis .joined);
+      above = stairs-above t;
+      rows = all-lines (rows-along t);
+      columns = all-lines (columns-along t);
+    }
 
 -- The states that the rule passes through: row i and column j, whose remaining pairs are s and d, with `left` cells still to put.
 pub data PassesBy (P : Problem) : ℕ → ℕ → ℕ → Pair → Pair → Type 0 where
@@ -355,48 +342,27 @@ pub record Put (P : Problem) (k : ℕ) : Type 0 where
   pub size : k + suc left ≡ basisSize (sources P) (sinks P)
   pub cells : drop k (start P) ≡ corner P (suc left) row column rowPair columnPair
 
+put : {P : Problem} {k left i j : ℕ} {s d : Pair} → PassesBy P (suc left) i j s d → k + suc left ≡ basisSize (sources P) (sinks P)
+    → drop k (start P) ≡ corner P (suc left) i j s d → Put P k
+put {P} {k} {left} {i} {j} {s} {d} w e f = record { left = left; row = i; column = j; rowPair = s; columnPair = d; passes = w; size = e; cells = f }
+
 pub start-put : (P : Problem) → Sound P → (k : ℕ) → k < length (start P) → Put P k
 unfolding start
-start-put P ok zero l = record {
-  left = basisSize (sources P) (sinks P) - 1;
-  row = 0;
-  column = 0;
-  rowPair = pairedSupply P 0;
-  columnPair = pairedDemand P 0;
-  passes = rw (← size-suc P ok) begins;
-  size = omega (arith, size-suc P ok);
-  cells = rw (← size-suc P ok) refl;
-}
-start-put P ok (suc k) l =
-    let w : Put P k = start-put P ok k (omega arith) in
-    next (w .left) (w .row) (w .column) (w .rowPair) (w .columnPair) (w .passes) (w .size) (w .cells) (less (w .columnPair) (w .rowPair)) refl
+start-put P ok zero l =
+    let e = size-suc P ok in
+    let w : PassesBy P (suc (basisSize (sources P) (sinks P) - 1)) 0 0 (pairedSupply P 0) (pairedDemand P 0) = rw (← e) begins in
+    put w (omega arith) (rw (← e) refl)
+start-put P ok (suc k) l = let w = start-put P ok k (omega arith) in next (w .left) (w .passes) (w .size) (w .cells)
   where
     tail : (c : Cell) (cs : List Cell) → drop k (start P) ≡ c ∷ cs → drop (suc k) (start P) ≡ cs
     tail c cs e = let f : drop k (start P) ≡ getD (start P) k noCell ∷ drop (suc k) (start P) = drop-cons (start P) k noCell (omega arith) in cc
 
-    next : (left i j : ℕ) (s d : Pair) → PassesBy P (suc left) i j s d → k + suc left ≡ basisSize (sources P) (sinks P)
-        → drop k (start P) ≡ corner P (suc left) i j s d → (b : Bool) → less d s ≡ b → Put P (suc k)
-    next zero i j s d w e f b p = absurd (omega (arith, start-belongs P ok .count))
-    next (suc left) i j s d w e f true p = record {
-      left = left;
-      row = i;
-      column = suc j;
-      rowPair = subtract s (smaller s d);
-      columnPair = pairedDemand P (suc j);
-      passes = rowNotEmpty w (row-left s d p);
-      size = omega arith;
-      cells = rw (smaller-column s d p) (tail _ _ (f ∙ corner-right P (suc left) i j s d p));
-    }
-    next (suc left) i j s d w e f false p = record {
-      left = left;
-      row = suc i;
-      column = j;
-      rowPair = pairedSupply P (suc i);
-      columnPair = subtract d (smaller s d);
-      passes = rowEmpty w (row-empty s d p);
-      size = omega arith;
-      cells = rw (smaller-row s d p) (tail _ _ (f ∙ corner-down P (suc left) i j s d p));
-    }
+    next : (left : ℕ) {i j : ℕ} {s d : Pair} → PassesBy P (suc left) i j s d → k + suc left ≡ basisSize (sources P) (sinks P)
+        → drop k (start P) ≡ corner P (suc left) i j s d → Put P (suc k)
+    next zero w e f = absurd (omega (arith, start-belongs P ok .count))
+    next (suc left) {i} {j} {s} {d} w e f = by-test (less d s)
+        (λ p. put (rowNotEmpty w (row-left s d p)) (omega arith) (rw (smaller-column s d p) (tail _ _ (f ∙ corner-right P (suc left) i j s d p))))
+        (λ p. put (rowEmpty w (row-empty s d p)) (omega arith) (rw (smaller-row s d p) (tail _ _ (f ∙ corner-down P (suc left) i j s d p))))
 
 passes-state : (P : Problem) → Sound P → {left i j : ℕ} {s d : Pair} → PassesBy P left i j s d → (k : ℕ) → left ≡ suc k → State P k i j s d
 passes-state P ok begins k e = begin P ok k e
@@ -411,18 +377,13 @@ passes-state P ok (rowNotEmpty {left} {i} {j} {s} {d} w p) k e = by-test (less d
 -- or m.
 pub both-empty : (P : Problem) → Sound P → (left i j : ℕ) (s d : Pair) → PassesBy P (suc left) i j s d
     → ((subtract s (smaller s d) ≡ nothing) × (subtract d (smaller s d) ≡ nothing)) ↔ ((i ≡ sources P - 1) × (j ≡ sinks P - 1))
-both-empty P ok left i j s d w = (
-  (λ e. end (subtract-nothing s (smaller s d) (e .0) ∙ sym (subtract-nothing d (smaller s d) (e .1)))),
-  (λ e. even (last-even P ok left i j s d st (omega (arith, st .row, st .column, st .size)))),
-)
-  where
-    st : State P left i j s d
-    st = passes-state P ok w left refl
-
-    end : s ≡ d → (i ≡ sources P - 1) × (j ≡ sinks P - 1)
-    end e =
-        let z : left ≡ 0 = even-last P ok left i j s d st (rw e (omega arith)) (rw e (omega arith)) in
-        omega (arith, st .row, st .column, st .size)
-
-    even : s ≡ d → (subtract s (smaller s d) ≡ nothing) × (subtract d (smaller s d) ≡ nothing)
-    even e = rw (e, smaller-row d d (less-weak .irreflexive d)) (subtract-self d, subtract-self d)
+both-empty P ok left i j s d w =
+    let st : State P left i j s d = passes-state P ok w left refl in
+    let last : s ≡ d → left ≡ 0 = λ e. even-last P ok left i j s d st (rw e (omega arith)) (rw e (omega arith)) in
+    let even : s ≡ d → (subtract s (smaller s d) ≡ nothing) × (subtract d (smaller s d) ≡ nothing) = λ e.
+    rw (e, smaller-row d d (less-weak .irreflexive d)) (subtract-self d, subtract-self d) in (
+      (λ e.
+          let z = last (subtract-nothing s (smaller s d) (e .0) ∙ sym (subtract-nothing d (smaller s d) (e .1))) in
+          omega (arith, st .row, st .column, st .size)),
+      (λ e. even (last-even P ok left i j s d st (omega (arith, st .row, st .column, st .size)))),
+    )

@@ -1,9 +1,10 @@
 -- Striking off leaf after leaf: lanes join all nodes without a loop exactly if all of them are struck off, and what the list of strikes then is.
 use Rattle.prelude.specs.Words.{_≡_, refl, ap, sym, _∙_, _↔_, _≢_, _⊎_, inl, inr, ⊎-elim, by-cases, Bool, true, false, cond, List, [], _∷_, List·Memᴰ}
-use Rattle.prelude.specs.Words.{List·Memᴰ·head, List·Memᴰ·tail, List·Memᴰ·not-nil, List·Memᴰ·cases-cons, Memᴰ·cast, Option, none, some, ℕ, zero, suc, _+_, _-_}
-use Rattle.prelude.specs.Words.{_≤_, _<_, arith, ℕ-discrete, decLt, lt-ltb, le-ltb, eqb-true, eq-eqb, eqb, ltb, length}
+use Rattle.prelude.specs.Words.{List·Memᴰ·head, List·Memᴰ·tail, List·Memᴰ·not-nil, List·Memᴰ·cases-cons, Memᴰ·cast, none, some, ℕ, zero, suc, _+_, _-_, _≤_}
+use Rattle.prelude.specs.Words.{_<_, arith, ℕ-discrete, decLt, lt-ltb, le-ltb, eqb-true, eq-eqb, eqb, ltb, length, by-test}
 use Rattle.transport.specs.Lists.{table, sumTo}
-use Rattle.transport.specs.Laws.ListLaws.{member-at, member-place, getD-table, length-table, and-left, and-right, sumTo-none, sumTo-add, sumTo-le}
+use Rattle.transport.specs.Laws.ListLaws.{none-some, by-option, member-at, member-place, getD-table, length-table, and-left, and-right, sumTo-none, sumTo-add}
+use Rattle.transport.specs.Laws.ListLaws.{sumTo-le}
 use Rattle.transport.specs.Problem.{Lane}
 use Rattle.transport.specs.Laws.ProblemLaws.{lane}
 use Rattle.transport.specs.Tableau.{basisSize}
@@ -12,9 +13,8 @@ use Rattle.transport.specs.Belonging.{spans}
 use Rattle.transport.specs.Statements.{Joined, Closed}
 use Rattle.network.specs.Cut.{bit-le}
 use Rattle.tableaux.specs.Lanes.{Has, Fits}
-use Rattle.tableaux.specs.Leaves.{one-at, one-off, sum-one-at, sum-ones, touches-false, at-node, without, Ends, row-struck, column-struck, Leaf}
-use Rattle.tableaux.specs.Leaves.{none-some, found, Linked, Others, leaf-exists, without-member, member-without, leaf-member, leaf-lane, length-without}
-use Rattle.tableaux.specs.Leaves.{ends-differ, leaf-struck}
+use Rattle.tableaux.specs.Leaves.{one-at, one-off, sum-one-at, sum-ones, touches-false, at-node, without, Ends, row-struck, column-struck, found, Linked}
+use Rattle.tableaux.specs.Leaves.{Others, leaf-exists, without-member, member-without, leaf-member, leaf-lane, length-without, ends-differ, leaf-struck}
 
 -- ---- striking off leaf after leaf
 
@@ -36,16 +36,12 @@ linked-struck : {m n : ℕ} {left : ℕ → Bool} {nodes : List ℕ} (most : ℕ
     → length (strikeOff m nodes most B) ≡ length B
 unfolding strikeOff
 linked-struck zero p others w q = omega arith
-linked-struck {m} {n} {left} {nodes} (suc most) {B} p others w q = go (firstLeaf m nodes B) refl (λ s f. linked-struck most p others (leaf-struck w others f))
-  where
-    go : (o : Option Strike) → firstLeaf m nodes B ≡ o
-        → ((s : Strike) → Leaf m nodes B s → length (without m (s .leaf) B) ≤ most → length (strikeOff m nodes most (without m (s .leaf) B))
-        ≡ length (without m (s .leaf) B))
-        → length (strikeOff m nodes (suc most) B) ≡ length B
-    go none e rest = rw (strike-none m nodes most B e) (sym (no-members B (λ l h. none-some (sym e ∙ leaf-exists w p others l h .1))))
-    go (some s) e rest =
-        let f = found m nodes B s e in
-        rw (strike-some m nodes most B s e) (omega (arith, length-without f, rest s f (omega (arith, length-without f))))
+linked-struck {m} {n} {left} {nodes} (suc most) {B} p others w q = by-option (firstLeaf m nodes B)
+    (λ e. rw (strike-none m nodes most B e) (sym (no-members B (λ l h. none-some (sym e ∙ leaf-exists w p others l h .1)))))
+    (λ s e.
+    let f = found m nodes B s e in
+    let less = length-without f in
+    rw (strike-some m nodes most B s e) (omega (arith, linked-struck most p others (leaf-struck w others f) (omega arith))))
 
 -- A strike's lane is one of the list, and its leaf one of the nodes.
 record StrikeOf (m : ℕ) (nodes : List ℕ) (B : List Lane) (t : Strike) : Type 0 where
@@ -56,21 +52,13 @@ record StrikeOf (m : ℕ) (nodes : List ℕ) (B : List Lane) (t : Strike) : Type
 strike-of : (m : ℕ) (nodes : List ℕ) (most : ℕ) (B : List Lane) (t : Strike) → List·Memᴰ t (strikeOff m nodes most B) → StrikeOf m nodes B t
 unfolding strikeOff
 strike-of m nodes zero B t h = absurd (List·Memᴰ·not-nil h)
-strike-of m nodes (suc most) B t h = go (firstLeaf m nodes B) refl (λ k. strike-of m nodes most (without m k B) t)
-  where
-    go : (o : Option Strike) → firstLeaf m nodes B ≡ o
-        → ((k : ℕ) → List·Memᴰ t (strikeOff m nodes most (without m k B)) → StrikeOf m nodes (without m k B) t) → StrikeOf m nodes B t
-    go none e rest = absurd (List·Memᴰ·not-nil (rw (strike-none m nodes most B e) at h))
-    go (some s) e rest = at (List·Memᴰ·cases-cons (rw (strike-some m nodes most B s e) at h))
-      where
-        f : Leaf m nodes B s
-        f = found m nodes B s e
-
-        at : (t ≡ s) ⊎ List·Memᴰ t (strikeOff m nodes most (without m (s .leaf) B)) → StrikeOf m nodes B t
-        at (inl q) = rw q (record { member = leaf-member f .0; ends = f .ends; listed = f .listed })
-        at (inr q) =
-            let r = rest (s .leaf) q in
-            record { member = without-member m (s .leaf) B (t .lane) (r .member) .0; ends = r .ends; listed = r .listed }
+strike-of m nodes (suc most) B t h = by-option (firstLeaf m nodes B)
+    (λ e. absurd (List·Memᴰ·not-nil (rw (strike-none m nodes most B e) at h)))
+    (λ s e. let f = found m nodes B s e in ⊎-elim
+    (λ q. rw q (record { member = leaf-member f .0; ends = f .ends; listed = f .listed }))
+    (λ q. let r = strike-of m nodes most (without m (s .leaf) B) t q in
+    record { member = without-member m (s .leaf) B (t .lane) (r .member) .0; ends = r .ends; listed = r .listed })
+    (List·Memᴰ·cases-cons (rw (strike-some m nodes most B s e) at h)))
 
 -- A strike and those after it: no later strike touches its leaf.
 pub record StrikeStep (m n : ℕ) (s : Strike) (later : List Strike) : Type 0 where
@@ -91,45 +79,32 @@ ends-clear {m} {k} {t} (column-struck p q) e = let (a, b) = touches-false m k (t
 peeled : {m n : ℕ} {nodes : List ℕ} (most : ℕ) {B : List Lane} → Others m n nodes → Fits m n B → Peeled m n (strikeOff m nodes most B)
 unfolding strikeOff
 peeled zero others h = bare
-peeled {m} {n} {nodes} (suc most) {B} others h =
-    go (firstLeaf m nodes B) refl (λ k. peeled most {B = without m k B} others (λ l p. h l (without-member m k B l p .0)))
-  where
-    go : (o : Option Strike) → firstLeaf m nodes B ≡ o → ((k : ℕ) → Peeled m n (strikeOff m nodes most (without m k B)))
-        → Peeled m n (strikeOff m nodes (suc most) B)
-    go none e rest = rw (strike-none m nodes most B e) bare
-    go (some s) e rest =
-        let f = found m nodes B s e in
-        rw (strike-some m nodes most B s e) (peel (record {
-          ends = f .ends;
-          row = h (s .lane) (leaf-member f .0) .0;
-          col = h (s .lane) (leaf-member f .0) .1;
-          proper = others (s .leaf) .0 (f .listed) .0;
-          clear = λ t q. let r = strike-of m nodes most (without m (s .leaf) B) t q in
-              ends-clear (r .ends) (without-member m (s .leaf) B (t .lane) (r .member) .1);
-        }) (rest (s .leaf)))
+peeled {m} {n} {nodes} (suc most) {B} others h = by-option (firstLeaf m nodes B)
+    (λ e. rw (strike-none m nodes most B e) bare)
+    (λ s e.
+    let f = found m nodes B s e in
+    rw (strike-some m nodes most B s e) (peel (record {
+      ends = f .ends;
+      row = h (s .lane) (leaf-member f .0) .0;
+      col = h (s .lane) (leaf-member f .0) .1;
+      proper = others (s .leaf) .0 (f .listed) .0;
+      clear = λ t q. let r = strike-of m nodes most (without m (s .leaf) B) t q in
+          ends-clear (r .ends) (without-member m (s .leaf) B (t .lane) (r .member) .1);
+    }) (peeled most {B = without m (s .leaf) B} others (λ l p. h l (without-member m (s .leaf) B l p .0)))))
 
 -- If as many lanes are struck off as there are, each lane is.
 all-struck : (m : ℕ) (nodes : List ℕ) (most : ℕ) (B : List Lane) (l : Lane) → length (strikeOff m nodes most B) ≡ length B → List·Memᴰ l B
     → (s : Strike) × List·Memᴰ s (strikeOff m nodes most B) × (s .lane ≡ l)
 unfolding strikeOff
 all-struck m nodes zero B l e h = absurd (omega (arith, member-place l h .1))
-all-struck m nodes (suc most) B l e h = go (firstLeaf m nodes B) refl (λ k. all-struck m nodes most (without m k B) l)
-  where
-    go : (o : Option Strike) → firstLeaf m nodes B ≡ o
-        → ((k : ℕ) → length (strikeOff m nodes most (without m k B)) ≡ length (without m k B) → List·Memᴰ l (without m k B)
-        → (s : Strike) × List·Memᴰ s (strikeOff m nodes most (without m k B)) × (s .lane ≡ l))
-        → (s : Strike) × List·Memᴰ s (strikeOff m nodes (suc most) B) × (s .lane ≡ l)
-    go none o rest = absurd (omega (arith, ap length (strike-none m nodes most B o), member-place l h .1))
-    go (some s) o rest = rw (strike-some m nodes most B s o) (at (touches m (s .leaf) l) refl)
-      where
-        f : Leaf m nodes B s
-        f = found m nodes B s o
-
-        at : (b : Bool) → touches m (s .leaf) l ≡ b → (t : Strike) × List·Memᴰ t (s ∷ strikeOff m nodes most (without m (s .leaf) B)) × (t .lane ≡ l)
-        at true t = (s, List·Memᴰ·head refl, sym (leaf-lane f l h t))
-        at false t =
-            let (r, p, q) = rest (s .leaf) (omega (arith, ap length (strike-some m nodes most B s o), length-without f)) (member-without m (s .leaf) B l h t) in
-            (r, List·Memᴰ·tail p, q)
+all-struck m nodes (suc most) B l e h = by-option (firstLeaf m nodes B)
+    (λ o. absurd (omega (arith, ap length (strike-none m nodes most B o), member-place l h .1)))
+    (λ s o. let f = found m nodes B s o in rw (strike-some m nodes most B s o) (by-test (touches m (s .leaf) l)
+    (λ t. (s, List·Memᴰ·head refl, sym (leaf-lane f l h t)))
+    (λ t.
+    let less = ap length (strike-some m nodes most B s o) in
+    let (r, p, q) = all-struck m nodes most (without m (s .leaf) B) l (omega (arith, length-without f)) (member-without m (s .leaf) B l h t) in
+    (r, List·Memᴰ·tail p, q))))
 
 -- ---- leaves
 
@@ -139,11 +114,10 @@ IsLeaf ss k = (s : Strike) × List·Memᴰ s ss × (s .leaf ≡ k)
 
 leaf-or : (ss : List Strike) (k : ℕ) → IsLeaf ss k ⊎ ((s : Strike) → List·Memᴰ s ss → s .leaf ≢ k)
 leaf-or [] k = inr (λ s h. absurd (List·Memᴰ·not-nil h))
-leaf-or (s ∷ ss) k = by-cases (ℕ-discrete (s .leaf) k) (λ e. inl (s, List·Memᴰ·head refl, e)) (λ e. go e (leaf-or ss k))
-  where
-    go : s .leaf ≢ k → IsLeaf ss k ⊎ ((t : Strike) → List·Memᴰ t ss → t .leaf ≢ k) → IsLeaf (s ∷ ss) k ⊎ ((t : Strike) → List·Memᴰ t (s ∷ ss) → t .leaf ≢ k)
-    go e (inl (t, h, q)) = inl (t, List·Memᴰ·tail h, q)
-    go e (inr d) = inr (λ t h. ⊎-elim (λ q. rw q e) (d t) (List·Memᴰ·cases-cons h))
+leaf-or (s ∷ ss) k = by-cases (ℕ-discrete (s .leaf) k) (λ e. inl (s, List·Memᴰ·head refl, e)) (λ e. ⊎-elim
+    (λ (t, h, q). inl (t, List·Memᴰ·tail h, q))
+    (λ d. inr (λ t h. ⊎-elim (λ q. rw q e) (d t) (List·Memᴰ·cases-cons h)))
+    (leaf-or ss k))
 
 -- How often node k is a leaf.
 unfoldable times : List Strike → ℕ → ℕ
@@ -163,11 +137,7 @@ times-once k (peel {s} {later} st rest) = by-cases (ℕ-discrete (s .leaf) k)
     (λ e. omega (arith, one-off (s .leaf) k e, times-once k rest))
 
 pub leaf-below : {m n : ℕ} {s : Strike} {later : List Strike} → StrikeStep m n s later → s .leaf < m + n
-leaf-below {m} {n} {s} st = go (st .ends)
-  where
-    go : Ends m s → s .leaf < m + n
-    go (row-struck p q) = omega (arith, st .row)
-    go (column-struck p q) = omega (arith, st .col)
+leaf-below st = elim (st .ends) [ row-struck p q ↦ omega (arith, st .row) | column-struck p q ↦ omega (arith, st .col) ]
 
 times-total : {m n : ℕ} {ss : List Strike} → Peeled m n ss → sumTo (m + n) (times ss) ≡ length ss
 unfolding times
@@ -181,27 +151,17 @@ root-no-leaf (peel {s} {later} st rest) t h = ⊎-elim (λ q. rw q (st .proper))
 
 -- m + n − 1 distinct leaves, none of them the root, are all other nodes: with one missing there would be too few.
 pub every-leaf : {m n : ℕ} {ss : List Strike} → Peeled m n ss → suc (length ss) ≡ m + n → (k : ℕ) → k ≢ 0 → k < m + n → IsLeaf ss k
-every-leaf {m} {n} {ss} peels e k z l = go (leaf-or ss k)
-  where
-    each : ((s : Strike) → List·Memᴰ s ss → s .leaf ≢ k) → (j : ℕ) → j < m + n → times ss j + one-at 0 j + one-at k j ≤ 1
-    each d j q = by-cases (ℕ-discrete 0 j)
-        (λ p. omega (arith, times-none ss j (λ s h r. root-no-leaf peels s h (r ∙ sym p)), one-off k j (omega arith), bit-le (eqb 0 j)))
-        (λ p. by-cases (ℕ-discrete k j)
-        (λ r. omega (arith, times-none ss j (λ s h t. d s h (t ∙ sym r)), one-off 0 j p, bit-le (eqb k j)))
-        (λ r. omega (arith, times-once j peels, one-off 0 j p, one-off k j r)))
-
-    go : IsLeaf ss k ⊎ ((s : Strike) → List·Memᴰ s ss → s .leaf ≢ k) → IsLeaf ss k
-    go (inl h) = h
-    go (inr d) = absurd (omega (
-      arith,
-      sumTo-le (m + n) (λ j. times ss j + one-at 0 j + one-at k j) (λ j. 1) (each d),
-      sumTo-add (m + n) (λ j. times ss j + one-at 0 j) (one-at k),
-      sumTo-add (m + n) (times ss) (one-at 0),
-      sum-ones (m + n),
-      sum-one-at (m + n) 0 (omega arith),
-      sum-one-at (m + n) k l,
-      times-total peels,
-    ))
+every-leaf {m} {n} {ss} peels e k z l = ⊎-elim (λ h. h) (λ d.
+    let each : (j : ℕ) → j < m + n → times ss j + one-at 0 j + one-at k j ≤ 1 = λ j q. by-cases (ℕ-discrete 0 j)
+    (λ p. omega (arith, times-none ss j (λ s h r. root-no-leaf peels s h (r ∙ sym p)), one-off k j (omega arith), bit-le (eqb 0 j)))
+    (λ p. by-cases (ℕ-discrete k j)
+    (λ r. omega (arith, times-none ss j (λ s h t. d s h (t ∙ sym r)), one-off 0 j p, bit-le (eqb k j)))
+    (λ r. omega (arith, times-once j peels, one-off 0 j p, one-off k j r))) in
+    let most = sumTo-le (m + n) (λ j. times ss j + one-at 0 j + one-at k j) (λ j. 1) each in
+    let three = sumTo-add (m + n) (λ j. times ss j + one-at 0 j) (one-at k) in
+    let two = sumTo-add (m + n) (times ss) (one-at 0) in
+    absurd (omega (arith, sum-ones (m + n), sum-one-at (m + n) 0 (omega arith), sum-one-at (m + n) k l, times-total peels)))
+    (leaf-or ss k)
 
 -- ---- the strikes of lanes that span
 
@@ -212,23 +172,22 @@ step-of {m} {n} (peel {s} {later} st rest) t h = ⊎-elim (λ e. (later, rw e st
 
 -- No later strike has the lane of an earlier one.
 pub lane-once : {m n : ℕ} {s : Strike} {later : List Strike} → StrikeStep m n s later → Peeled m n later → (t : Strike) → List·Memᴰ t later → t .lane ≢ s .lane
-lane-once {m} {n} {s} {later} st rest t h e = let (ts, step) = step-of rest t h in go (st .ends) (step .ends) (st .clear t h)
-  where
-    go : Ends m s → Ends m t → (t .leaf ≢ s .leaf) × (t .other ≢ s .leaf) → ⊥
-    go (row-struck p q) (row-struck p′ q′) d = d .0 (p′ ∙ ap (λ (l : Lane). l .row) e ∙ sym p)
-    go (row-struck p q) (column-struck p′ q′) d = d .1 (q′ ∙ ap (λ (l : Lane). l .row) e ∙ sym p)
-    go (column-struck p q) (row-struck p′ q′) d = d .1 (q′ ∙ ap (λ (l : Lane). m + l .col) e ∙ sym p)
-    go (column-struck p q) (column-struck p′ q′) d = d .0 (p′ ∙ ap (λ (l : Lane). m + l .col) e ∙ sym p)
+lane-once {m} {n} {s} {later} st rest t h e =
+    let (ts, step) = step-of rest t h in
+    let (leaf, other) = st .clear t h in
+    let row = ap (λ (l : Lane). l .row) e in
+    let column = ap (λ (l : Lane). m + l .col) e in
+    elim (st .ends) [
+      | row-struck p q ↦ elim (step .ends) [ row-struck p′ q′ ↦ leaf (p′ ∙ row ∙ sym p) | column-struck p′ q′ ↦ other (q′ ∙ row ∙ sym p) ]
+      | column-struck p q ↦ elim (step .ends) [ row-struck p′ q′ ↦ other (q′ ∙ column ∙ sym p) | column-struck p′ q′ ↦ leaf (p′ ∙ column ∙ sym p) ]
+    ]
 
 pub strike-once : {m n : ℕ} {ss : List Strike} → Peeled m n ss → (s t : Strike) → List·Memᴰ s ss → List·Memᴰ t ss → s .lane ≡ t .lane → s ≡ t
 strike-once bare s t h k e = absurd (List·Memᴰ·not-nil h)
-strike-once {m} {n} (peel {s = r} {later} st rest) s t h k e = go (List·Memᴰ·cases-cons h) (List·Memᴰ·cases-cons k) (strike-once rest s t)
-  where
-    go : (s ≡ r) ⊎ List·Memᴰ s later → (t ≡ r) ⊎ List·Memᴰ t later → (List·Memᴰ s later → List·Memᴰ t later → s .lane ≡ t .lane → s ≡ t) → s ≡ t
-    go (inl p) (inl q) again = p ∙ sym q
-    go (inl p) (inr q) again = absurd (lane-once st rest t q (sym e ∙ ap (λ (v : Strike). v .lane) p))
-    go (inr p) (inl q) again = absurd (lane-once st rest s p (e ∙ ap (λ (v : Strike). v .lane) q))
-    go (inr p) (inr q) again = again p q e
+strike-once {m} {n} (peel {s = r} {later} st rest) s t h k e = ⊎-elim
+    (λ p. ⊎-elim (λ q. p ∙ sym q) (λ q. absurd (lane-once st rest t q (sym e ∙ ap (λ (v : Strike). v .lane) p))) (List·Memᴰ·cases-cons k))
+    (λ p. ⊎-elim (λ q. absurd (lane-once st rest s p (e ∙ ap (λ (v : Strike). v .lane) q))) (λ q. strike-once rest s t p q e) (List·Memᴰ·cases-cons k))
+    (List·Memᴰ·cases-cons h)
 
 -- What the strikes of B are where all of B is struck off: each lane of B is that of one strike, and the other way round; no strike touches the leaf of an
 -- earlier one; and every node but the root is the leaf of one.
@@ -242,51 +201,35 @@ pub record Struck (m n : ℕ) (B : List Lane) (ss : List Strike) : Type 0 where
 
 pub nodes-others : (m n : ℕ) → 1 ≤ m → Others m n (table (basisSize m n) suc)
 unfolding basisSize
-nodes-others m n p k = (to, from)
-  where
-    to : List·Memᴰ k (table (m + n - 1) suc) → (k ≢ 0) × (k < m + n)
-    to h =
-        let (j, l, e) = member-place 0 h in
-        let q : j < m + n - 1 = omega (arith, length-table suc (m + n - 1)) in
-        let r : k ≡ suc j = sym e ∙ getD-table suc (m + n - 1) j 0 q in
-        (omega arith, omega arith)
-
-    from : (k ≢ 0) × (k < m + n) → List·Memᴰ k (table (m + n - 1) suc)
-    from h =
-        let e : suc (k - 1) ≡ k = omega (arith, h) in
-        let q : k - 1 < m + n - 1 = omega (arith, h) in
-        Memᴰ·cast (sym (getD-table suc (m + n - 1) (k - 1) 0 q ∙ e)) (member-at (table (m + n - 1) suc) 0 (k - 1) (omega (arith, length-table suc (m + n - 1))))
+nodes-others m n p k =
+    let most = length-table suc (m + n - 1) in (
+      (λ h. let (j, l, e) = member-place 0 h in
+          let r : k ≡ suc j = sym e ∙ getD-table suc (m + n - 1) j 0 (omega arith) in
+          (omega arith, omega arith)),
+      (λ h.
+          let e : suc (k - 1) ≡ k = omega arith in
+          Memᴰ·cast (sym (getD-table suc (m + n - 1) (k - 1) 0 (omega arith) ∙ e)) (member-at (table (m + n - 1) suc) 0 (k - 1) (omega arith))),
+    )
 
 module _ {m n : ℕ} {B : List Lane} (p : 1 ≤ m) (h : Fits m n B) where
   -- Where the lanes span, all are struck off.
   pub struck-of : spans m n B ≡ true → Struck m n B (strikes m n B)
   unfolding spans strikes basisSize
-  struck-of e = record {
-    peels = peels;
-    struck = λ l q. all-struck m nodes (length B) B l (all ∙ sym count) q;
-    once = strike-once peels;
-    lanes = λ s q. strike-of m nodes (length B) B s q .member;
-    leaves = every-leaf peels size;
-    size = size;
-  }
-    where
-      nodes : List ℕ
-      nodes = table (m + n - 1) suc
-
-      ss : List Strike
-      ss = strikeOff m nodes (length B) B
-
-      peels : Peeled m n ss
-      peels = peeled (length B) (nodes-others m n p) h
-
-      count : length B ≡ m + n - 1
-      count = eqb-true (length B) (m + n - 1) (and-left (eqb (length B) (m + n - 1)) (eqb (length ss) (m + n - 1)) e)
-
-      all : length ss ≡ m + n - 1
-      all = eqb-true (length ss) (m + n - 1) (and-right (eqb (length B) (m + n - 1)) (eqb (length ss) (m + n - 1)) e)
-
-      size : suc (length ss) ≡ m + n
-      size = omega (arith, all)
+  struck-of e =
+      let nodes : List ℕ = table (m + n - 1) suc in
+      let ss : List Strike = strikeOff m nodes (length B) B in
+      let peels : Peeled m n ss = peeled (length B) (nodes-others m n p) h in
+      let count : length B ≡ m + n - 1 = eqb-true (length B) (m + n - 1) (and-left (eqb (length B) (m + n - 1)) (eqb (length ss) (m + n - 1)) e) in
+      let all : length ss ≡ m + n - 1 = eqb-true (length ss) (m + n - 1) (and-right (eqb (length B) (m + n - 1)) (eqb (length ss) (m + n - 1)) e) in
+      let size : suc (length ss) ≡ m + n = omega (arith, all) in
+      record {
+        peels = peels;
+        struck = λ l q. all-struck m nodes (length B) B l (all ∙ sym count) q;
+        once = strike-once peels;
+        lanes = λ s q. strike-of m nodes (length B) B s q .member;
+        leaves = every-leaf peels size;
+        size = size;
+      }
 
 -- ---- spanning is joining
 
@@ -312,23 +255,20 @@ hung-first {m} {n} {s} st hang = live-later (ends-differ (st .ends) (st .row)) (
 all-sides : {m n : ℕ} {ss : List Strike} → Peeled m n ss → Hung ss → (side : ℕ → Bool) → side 0 ≡ true
     → ((s : Strike) → List·Memᴰ s ss → side (s .leaf) ≡ side (s .other)) → (s : Strike) → List·Memᴰ s ss → side (s .leaf) ≡ true
 all-sides bare hang side z closed s h = absurd (List·Memᴰ·not-nil h)
-all-sides {m} {n} (peel {s} {later} st rest) hang side z closed t h = go (all-sides rest (hung-later st hang) side z (λ r q. closed r (List·Memᴰ·tail q)))
-  where
-    go : ((r : Strike) → List·Memᴰ r later → side (r .leaf) ≡ true) → side (t .leaf) ≡ true
-    go back = ⊎-elim
-        (λ e. rw e (closed s (List·Memᴰ·head refl) ∙ ⊎-elim (λ q. ap side q ∙ z) (λ (r, q, f). ap side (sym f) ∙ back r q) (hung-first st hang)))
-        (back t)
-        (List·Memᴰ·cases-cons h)
+all-sides (peel {s} {later} st rest) hang side z closed t h =
+    let back = all-sides rest (hung-later st hang) side z (λ r q. closed r (List·Memᴰ·tail q)) in
+    ⊎-elim
+    (λ e. rw e (closed s (List·Memᴰ·head refl) ∙ ⊎-elim (λ q. ap side q ∙ z) (λ (r, q, f). ap side (sym f) ∙ back r q) (hung-first st hang)))
+    (back t)
+    (List·Memᴰ·cases-cons h)
 
 pub struck-live : {m n : ℕ} {B : List Lane} {ss : List Strike} → Struck m n B ss → (k : ℕ) → k < m + n → Live ss k
 struck-live w k l = by-cases (ℕ-discrete k 0) inl (λ e. inr (w .leaves k e l))
 
 pub struck-hung : {m n : ℕ} {B : List Lane} {ss : List Strike} → Struck m n B ss → Hung ss
-struck-hung {m} {n} {B} {ss} w s h = let (later, st) = step-of (w .peels) s h in struck-live w (s .other) (below st (st .ends))
-  where
-    below : {later : List Strike} → StrikeStep m n s later → Ends m s → s .other < m + n
-    below st (row-struck a b) = omega (arith, st .col)
-    below st (column-struck a b) = omega (arith, st .row)
+struck-hung w s h =
+    let (later, st) = step-of (w .peels) s h in
+    struck-live w (s .other) (elim (st .ends) [ row-struck a b ↦ omega (arith, st .col) | column-struck a b ↦ omega (arith, st .row) ])
 
 pub struck-joined : {m n : ℕ} {B : List Lane} {ss : List Strike} → 1 ≤ m → Struck m n B ss → Joined m n (Has B)
 struck-joined {m} {n} {B} {ss} p w = record {
@@ -345,24 +285,22 @@ struck-joined {m} {n} {B} {ss} p w = record {
     side-col : (A C : ℕ → Bool) (j : ℕ) → side A C (m + j) ≡ C j
     side-col A C j = let e : m + j - m ≡ j = omega arith in rw (le-ltb (m + j) m (omega arith), e)
 
+    across : (A C : ℕ → Bool) → Closed m n (Has B) A C → (s : Strike) → List·Memᴰ s ss → side A C (s .leaf) ≡ side A C (s .other)
+    across A C closed s h =
+        let (later, st) = step-of (w .peels) s h in
+        let crosses = closed (s .lane .row) (s .lane .col) (st .row) (st .col) (w .lanes s h) in
+        let same = side-row A C (s .lane .row) (st .row) ∙ crosses ∙ sym (side-col A C (s .lane .col)) in
+        elim (st .ends) [
+          | row-struck a b ↦ ap (side A C) a ∙ same ∙ ap (side A C) (sym b)
+          | column-struck a b ↦ ap (side A C) a ∙ sym same ∙ ap (side A C) (sym b)
+        ]
+
     all : (A C : ℕ → Bool) → A 0 ≡ true → Closed m n (Has B) A C → (k : ℕ) → k < m + n → side A C k ≡ true
-    all A C z closed k l = by-cases (ℕ-discrete k 0)
-        (λ e. rw e root)
-        (λ e. let (s, h, q) = w .leaves k e l in rw (← q) (all-sides (w .peels) (struck-hung w) (side A C) root across s h))
-      where
-        root : side A C 0 ≡ true
-        root = side-row A C 0 (omega arith) ∙ z
-
-        across : (s : Strike) → List·Memᴰ s ss → side A C (s .leaf) ≡ side A C (s .other)
-        across s h = let (later, st) = step-of (w .peels) s h in ends st (st .ends)
-          where
-            same : {later : List Strike} → StrikeStep m n s later → side A C (s .lane .row) ≡ side A C (m + s .lane .col)
-            same st = side-row A C (s .lane .row) (st .row) ∙ closed (s .lane .row) (s .lane .col) (st .row) (st .col) (w .lanes s h)
-                ∙ sym (side-col A C (s .lane .col))
-
-            ends : {later : List Strike} → StrikeStep m n s later → Ends m s → side A C (s .leaf) ≡ side A C (s .other)
-            ends st (row-struck a b) = ap (side A C) a ∙ same st ∙ ap (side A C) (sym b)
-            ends st (column-struck a b) = ap (side A C) a ∙ sym (same st) ∙ ap (side A C) (sym b)
+    all A C z closed k l =
+        let root = side-row A C 0 (omega arith) ∙ z in
+        by-cases (ℕ-discrete k 0) (λ e. rw e root) (λ e.
+        let (s, h, q) = w .leaves k e l in
+        rw (← q) (all-sides (w .peels) (struck-hung w) (side A C) root (across A C closed) s h))
 
 pub joined-linked : {m n : ℕ} {B : List Lane} → 1 ≤ m → Fits m n B → length B ≡ basisSize m n → Joined m n (Has B) → Linked m n (λ k. true) B
 unfolding basisSize
@@ -397,23 +335,14 @@ pub data Strikable (m : ℕ) : List Lane → Type 0 where
   leaf : {B : List Lane} (k : ℕ) (l : Lane) → at-node m k B ≡ l ∷ [] → Strikable m (without m k B) → Strikable m B
 
 linked-leaves : {m n : ℕ} {left : ℕ → Bool} (size : ℕ) (B : List Lane) → 1 ≤ m → Linked m n left B → length B ≤ size → Strikable m B
-linked-leaves {m} zero B p w q = empty B q
-  where
-    empty : (B : List Lane) → length B ≤ 0 → Strikable m B
-    empty [] q = none-left
-    empty (l ∷ ls) q = absurd (omega arith)
-linked-leaves {m} {n} {left} (suc size) B p w q =
-    go B refl (λ s f. linked-leaves size (without m (s .leaf) B) p (leaf-struck w (nodes-others m n p) f) (omega (arith, length-without f)))
-  where
-    nodes : List ℕ
-    nodes = table (basisSize m n) suc
-
-    go : (C : List Lane) → B ≡ C → ((s : Strike) → Leaf m nodes B s → Strikable m (without m (s .leaf) B)) → Strikable m B
-    go [] e rest = rw e none-left
-    go (l ∷ ls) e rest =
-        let (s, o) = leaf-exists w p (nodes-others m n p) l (rw e (List·Memᴰ·head refl)) in
-        let f = found m nodes B s o in
-        leaf (s .leaf) (s .lane) (f .only) (rest s f)
+linked-leaves {m} zero [] p w q = none-left
+linked-leaves {m} zero (l ∷ ls) p w q = absurd (omega arith)
+linked-leaves {m} (suc size) [] p w q = none-left
+linked-leaves {m} {n} {left} (suc size) (l ∷ ls) p w q =
+    let others = nodes-others m n p in
+    let (s, o) = leaf-exists w p others l (List·Memᴰ·head refl) in
+    let f = found m (table (basisSize m n) suc) (l ∷ ls) s o in
+    leaf (s .leaf) (s .lane) (f .only) (linked-leaves size (without m (s .leaf) (l ∷ ls)) p (leaf-struck w others f) (omega (arith, length-without f)))
 
 -- The sentence of the paper on single basic cells: joined lanes have a leaf, and what is left without it is joined again.
 pub leaf-again : {m n : ℕ} {B : List Lane} → 1 ≤ m → Fits m n B → length B ≡ basisSize m n → Joined m n (Has B) → Strikable m B

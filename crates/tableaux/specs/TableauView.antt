@@ -2,6 +2,7 @@
 use Rattle.prelude.specs.Words.{_≡_, refl, List, List·Memᴰ, ℕ, suc, _+_, _-_, _<_, arith, length, getD}
 use Rattle.integers.specs.Integer.{Z, _≼_, nat, Within}
 use Rattle.integers.specs.SumLaws.{sum-each}
+use Rattle.tableaux.specs.Bases.{joined-on}
 use Rattle.network.specs.Flow.{Flow}
 use Rattle.network.specs.FlowLaws.{flow-on}
 use Rattle.network.specs.Marks.{marks-within}
@@ -29,9 +30,7 @@ marksAt T i j = marks (amountAt T i j)
 
 -- The cells are a basis with their bags and marks, the bags of supplies and demands, and the marks to the last sink.
 abbrev pub Seen : Problem → List Cell → Type 1
-Seen P T =
-    Tableau (sources P) (sinks P) (sources P + sinks P - 2) (rowOf T) (colOf T) (bagsAt T) (marksAt T)
-    (supplies P) (demands P) (sinks P - 1)
+Seen P T = Tableau (sources P) (sinks P) (sources P + sinks P - 2) (rowOf T) (colOf T) (bagsAt T) (marksAt T) (supplies P) (demands P) (sinks P - 1)
 
 module _ {P : Problem} (ok : Sound P) (T : List Cell) (size : length T ≡ basisSize (sources P) (sinks P)) where
   pub cells-many : suc (sources P + sinks P - 2) ≡ length T
@@ -41,30 +40,23 @@ module _ {P : Problem} (ok : Sound P) (T : List Cell) (size : length T ≡ basis
   -- Such cells, in sheet order, belong to the sheet.
   pub seen-belongs : Ordered (sinks P) T → Seen P T → Belongs P T
   unfolding rowTotal columnTotal pairedSupply pairedDemand nothing add
-  seen-belongs o t = record {
-    count = size;
-    onSheet = inside;
-    order = ordered-at (sinks P) T o;
-    joined = record {
-      rows = λ A B z h. t .basis .joined .rows A B z (λ i j k l w. h i j k l (basic-in T (suc (sources P + sinks P - 2)) i j cells-many .1 w));
-      cols = λ A B z h. t .basis .joined .cols A B z (λ i j k l w. h i j k l (basic-in T (suc (sources P + sinks P - 2)) i j cells-many .1 w));
-    };
-    above = λ k l. true-less nothing (getD T k noCell .amount) (rw (amount-at T distinct k l) at (t .above k (omega (arith, cells-many))));
-    rows = λ i l.
-        pair-eq (rowTotal T i) (pairedSupply P i)
-        (omega (arith, row-sum (λ a. a .q) refl (λ a b. refl) (sources P) (sinks P) T distinct inside i, t .bags .rows i l))
-        (omega (arith, row-sum (λ a. a .e) refl (λ a b. refl) (sources P) (sinks P) T distinct inside i, t .marks .rows i l));
-    columns = λ j l.
-        pair-eq (columnTotal T j) (pairedDemand P j)
-        (omega (arith, column-sum (λ a. a .q) refl (λ a b. refl) (sources P) (sinks P) T distinct inside j, t .bags .cols j l))
-        (omega (arith, column-sum (λ a. a .e) refl (λ a b. refl) (sources P) (sinks P) T distinct inside j, t .marks .cols j l, demand-marks P j));
-  }
-    where
-      distinct : Distinct T
-      distinct = ordered-distinct (sinks P) T o
-
-      inside : Inside (sources P) (sinks P) T
-      inside k l = (t .basis .rows k (omega (arith, cells-many)), t .basis .cols k (omega (arith, cells-many)))
+  seen-belongs o t =
+      let distinct : Distinct T = ordered-distinct (sinks P) T o in
+      let cell : (k : ℕ) → k < length T → k < suc (sources P + sinks P - 2) = λ k l. omega (arith, cells-many) in
+      let inside : Inside (sources P) (sinks P) T = λ k l. (t .basis .rows k (cell k l), t .basis .cols k (cell k l)) in
+      record {
+        count = size;
+        onSheet = inside;
+        order = ordered-at (sinks P) T o;
+        joined = joined-on (λ i j. basic-in T (suc (sources P + sinks P - 2)) i j cells-many .1) (t .basis .joined);
+        above = λ k l. true-less nothing (getD T k noCell .amount) (rw (amount-at T distinct k l) at (t .above k (cell k l)));
+        rows = λ i l. pair-eq (rowTotal T i) (pairedSupply P i)
+            (omega (arith, row-sum (λ a. a .q) refl (λ a b. refl) (sources P) (sinks P) T distinct inside i, t .bags .rows i l))
+            (omega (arith, row-sum (λ a. a .e) refl (λ a b. refl) (sources P) (sinks P) T distinct inside i, t .marks .rows i l));
+        columns = λ j l. pair-eq (columnTotal T j) (pairedDemand P j)
+            (omega (arith, column-sum (λ a. a .q) refl (λ a b. refl) (sources P) (sinks P) T distinct inside j, t .bags .cols j l))
+            (omega (arith, column-sum (λ a. a .e) refl (λ a b. refl) (sources P) (sinks P) T distinct inside j, t .marks .cols j l, demand-marks P j));
+      }
 
 -- What belongs to the sheet is such a tableau.
 pub belongs-seen : {P : Problem} {T : List Cell} → Sound P → Belongs P T → Seen P T
@@ -93,45 +85,20 @@ pub record Bounded (P : Problem) (c : Cell) : Type 0 where
 
 module _ {P : Problem} (ok : Sound P) {T : List Cell} (w : Belongs P T) where
   pub cell-bounded : {c : Cell} → List·Memᴰ c T → Bounded P c
-  cell-bounded {c} mem = go (member-place noCell mem)
-    where
-      m : ℕ
-      m = sources P
-
-      n : ℕ
-      n = sinks P
-
-      t : Seen P T
-      t = belongs-seen ok w
-
-      go : (k : ℕ) × (k < length T) × (getD T k noCell ≡ c) → Bounded P c
-      go (k, l, s) = rw (← s) (record {
-        few = rw here at (marks-within (t .basis) (omega (arith, ok .sinksLow)) (t .marks) k (omega (arith, many)));
+  cell-bounded {c} mem =
+      let (k, l, s) = member-place noCell mem in
+      let (hi, hj) = w .onSheet k l in
+      let i : ℕ = rowOf T k in
+      let j : ℕ = colOf T k in
+      let t = belongs-seen ok w in
+      let here = amount-at T (distinct-of ok w) k l in
+      let row : bagsAt T i j ≼ nat (at (P .supply) i) =
+      omega (arith, sum-each (sinks P) (bagsAt T i) (λ y hy. bags-nonneg t i y hi hy) j hj, t .bags .rows i hi) in
+      let column : bagsAt T i j ≼ nat (at (P .demand) j) =
+      omega (arith, sum-each (sources P) (λ x. bagsAt T x j) (λ x hx. bags-nonneg t x j hx hj) i hi, t .bags .cols j hj) in
+      rw (← s) (record {
+        few = rw here at (marks-within (t .basis) (omega (arith, ok .sinksLow)) (t .marks) k (omega (arith, cells-many ok T (w .count))));
         nonneg = rw here at (bags-nonneg t i j hi hj);
         supply = rw here at row;
         demand = rw here at column;
       })
-        where
-          i : ℕ
-          i = rowOf T k
-
-          j : ℕ
-          j = colOf T k
-
-          hi : i < m
-          hi = w .onSheet k l .0
-
-          hj : j < n
-          hj = w .onSheet k l .1
-
-          many : suc (sources P + sinks P - 2) ≡ length T
-          many = cells-many ok T (w .count)
-
-          here : amountAt T i j ≡ getD T k noCell .amount
-          here = amount-at T (distinct-of ok w) k l
-
-          row : bagsAt T i j ≼ nat (at (P .supply) i)
-          row = omega (arith, sum-each n (bagsAt T i) (λ y hy. bags-nonneg t i y hi hy) j hj, t .bags .rows i hi)
-
-          column : bagsAt T i j ≼ nat (at (P .demand) j)
-          column = omega (arith, sum-each m (λ x. bagsAt T x j) (λ x hx. bags-nonneg t x j hx hj) i hi, t .bags .cols j hj)

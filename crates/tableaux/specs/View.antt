@@ -96,22 +96,16 @@ module _ (part : Pair → ℤ) (part-zero : part nothing ≡ pos 0) (part-add : 
   -- a cell adds its amount at its row and column
   splits : (c : Cell) (cs : List Cell) → Distinct (c ∷ cs) → (i j : ℕ)
       → at (c ∷ cs) i j ≈ point (c .row) (nat 1) i ⊗ point (c .col) (toZ (part (c .amount))) j ⊕ at cs i j
-  splits c cs d i j = by-cases (Dec·and (ℕ-discrete (c .row) i) (ℕ-discrete (c .col) j))
-      (λ e. rw (
-        amount-here c cs i j (e .0) (e .1),
-        ← e .0,
-        ← e .1,
-        amount-none cs (c .row) (c .col) (distinct-fresh c cs d),
-        part-zero,
-        point-at (c .row) (nat 1),
-        point-at (c .col) (toZ (part (c .amount))),
-      ) (omega arith))
-      (λ e. rw (amount-later c cs i j e) (omega (arith, off e)))
-    where
-      off : ¬ ((c .row ≡ i) × (c .col ≡ j)) → point (c .row) (nat 1) i ⊗ point (c .col) (toZ (part (c .amount))) j ≈ nat 0
-      off e = by-cases (ℕ-discrete i (c .row))
-          (λ f. rw (point-off (c .col) (toZ (part (c .amount))) j (λ g. e (sym f, sym g))) (omega arith))
-          (λ f. rw (point-off (c .row) (nat 1) i f) (omega arith))
+  splits c cs d i j =
+      let x = toZ (part (c .amount)) in
+      let gone = amount-none cs (c .row) (c .col) (distinct-fresh c cs d) in
+      by-cases (Dec·and (ℕ-discrete (c .row) i) (ℕ-discrete (c .col) j))
+      (λ e. rw (amount-here c cs i j (e .0) (e .1), ← e .0, ← e .1, gone, part-zero, point-at (c .row) (nat 1), point-at (c .col) x) (omega arith))
+      (λ e.
+      let off : point (c .row) (nat 1) i ⊗ point (c .col) x j ≈ nat 0 = by-cases (ℕ-discrete i (c .row))
+      (λ f. rw (point-off (c .col) x j (λ g. e (sym f, sym g))) (omega arith))
+      (λ f. rw (point-off (c .row) (nat 1) i f) (omega arith)) in
+      rw (amount-later c cs i j e) (omega (arith, off)))
 
   zero-part : toZ (part nothing) ≈ nat 0
   zero-part = rw part-zero (omega arith)
@@ -133,25 +127,21 @@ module _ (part : Pair → ℤ) (part-zero : part nothing ≡ pos 0) (part-add : 
   pub row-sum : (m n : ℕ) (T : List Cell) → Distinct T → Inside m n T → (i : ℕ) → sum n (at T i) ≈ along (λ c. c .row) T i
   unfolding amountAt keep addUp
   row-sum m n [] d h i = omega (arith, sum-zero n (at [] i) (λ j l. zero-part), zero-part)
-  row-sum m n (c ∷ cs) d h i = omega (
-    arith,
-    sum-cong n (at (c ∷ cs) i) (λ j. point (c .row) (nat 1) i ⊗ point (c .col) (toZ (part (c .amount))) j ⊕ at cs i j) (λ j l. splits c cs d i j),
-    sum-add n (λ j. point (c .row) (nat 1) i ⊗ point (c .col) (toZ (part (c .amount))) j) (at cs i),
-    sum-point n (λ j. point (c .row) (nat 1) i) (c .col) (toZ (part (c .amount))) (h 0 (omega arith) .1),
-    row-sum m n cs (distinct-tail c cs d) (inside-tail m n c cs h) i,
-    along-cons (λ c. c .row) c cs i,
-    point-one (c .row) (toZ (part (c .amount))) i,
-  )
+  row-sum m n (c ∷ cs) d h i =
+      let x = toZ (part (c .amount)) in
+      let split = sum-cong n (at (c ∷ cs) i) (λ j. point (c .row) (nat 1) i ⊗ point (c .col) x j ⊕ at cs i j) (λ j l. splits c cs d i j) in
+      let parts = sum-add n (λ j. point (c .row) (nat 1) i ⊗ point (c .col) x j) (at cs i) in
+      let here = sum-point n (λ j. point (c .row) (nat 1) i) (c .col) x (h 0 (omega arith) .1) in
+      let rest = row-sum m n cs (distinct-tail c cs d) (inside-tail m n c cs h) i in
+      omega (arith, along-cons (λ c. c .row) c cs i, point-one (c .row) x i)
 
   pub column-sum : (m n : ℕ) (T : List Cell) → Distinct T → Inside m n T → (j : ℕ) → sum m (λ i. at T i j) ≈ along (λ c. c .col) T j
   unfolding amountAt keep addUp
   column-sum m n [] d h j = omega (arith, sum-zero m (λ i. at [] i j) (λ i l. zero-part), zero-part)
-  column-sum m n (c ∷ cs) d h j = omega (
-    arith,
-    sum-cong m (λ i. at (c ∷ cs) i j) (λ i. point (c .col) (toZ (part (c .amount))) j ⊗ point (c .row) (nat 1) i ⊕ at cs i j)
-        (λ i l. omega (arith, splits c cs d i j)),
-    sum-add m (λ i. point (c .col) (toZ (part (c .amount))) j ⊗ point (c .row) (nat 1) i) (λ i. at cs i j),
-    sum-point m (λ i. point (c .col) (toZ (part (c .amount))) j) (c .row) (nat 1) (h 0 (omega arith) .0),
-    column-sum m n cs (distinct-tail c cs d) (inside-tail m n c cs h) j,
-    along-cons (λ c. c .col) c cs j,
-  )
+  column-sum m n (c ∷ cs) d h j =
+      let x = point (c .col) (toZ (part (c .amount))) j in
+      let split = sum-cong m (λ i. at (c ∷ cs) i j) (λ i. x ⊗ point (c .row) (nat 1) i ⊕ at cs i j) (λ i l. omega (arith, splits c cs d i j)) in
+      let parts = sum-add m (λ i. x ⊗ point (c .row) (nat 1) i) (λ i. at cs i j) in
+      let here = sum-point m (λ i. x) (c .row) (nat 1) (h 0 (omega arith) .0) in
+      let rest = column-sum m n cs (distinct-tail c cs d) (inside-tail m n c cs h) j in
+      omega (arith, along-cons (λ c. c .col) c cs j)

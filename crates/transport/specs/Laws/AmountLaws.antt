@@ -42,12 +42,11 @@ ge-ltZ (negsuc a) (pos b) l = absurd (omega arith)
 ge-ltZ (negsuc a) (negsuc b) l = le-ltb b a (omega arith)
 
 pub ltZ-weak : StrictWeak ltZ
-ltZ-weak =
-    record {
-      irreflexive = λ x. ge-ltZ x x (omega arith);
-      transitive = λ x y z p q. lt-ltZ x z (omega (arith, ltZ-lt x y p, ltZ-lt y z q));
-      negative = λ x y z p q. ge-ltZ x z (omega (arith, ltZ-ge x y p, ltZ-ge y z q));
-    }
+ltZ-weak = record {
+  irreflexive = λ x. ge-ltZ x x (omega arith);
+  transitive = λ x y z p q. lt-ltZ x z (omega (arith, ltZ-lt x y p, ltZ-lt y z q));
+  negative = λ x y z p q. ge-ltZ x z (omega (arith, ltZ-ge x y p, ltZ-ge y z q));
+}
 
 pub eqZ-true : (x y : ℤ) → eqZ x y ≡ true → x ≡ y
 unfolding eqZ
@@ -83,28 +82,20 @@ leastOf-least {zs} {z} m =
 
 -- ---- less: by q first, then by e
 
-tied : (x y : ℤ) (r : Bool) → x ≡ y → ltZ x y || (eqZ x y && r) ≡ r
-tied x y r p = rw (p, ltZ-weak .irreflexive y, eqZ-same y)
-
-over : (x y : ℤ) (r : Bool) → ltZ y x ≡ true → ltZ x y || (eqZ x y && r) ≡ false
-over x y r p = rw (
-  ge-ltZ x y (omega (arith, ltZ-lt y x p)),
-  by-test (eqZ x y)
-      (λ s. clash p (rw (eqZ-true x y s) (ltZ-weak .irreflexive y)))
-      (λ s. s),
-)
-
 pub less-q : (a b : Pair) → ltZ (a .q) (b .q) ≡ true → less a b ≡ true
 unfolding less
 less-q a b p = rw p
 
 pub less-e : (a b : Pair) → a .q ≡ b .q → less a b ≡ ltZ (a .e) (b .e)
 unfolding less
-less-e a b p = tied (a .q) (b .q) (ltZ (a .e) (b .e)) p
+less-e a b p = rw (p, ltZ-weak .irreflexive (b .q), eqZ-same (b .q))
 
 pub less-no : (a b : Pair) → ltZ (b .q) (a .q) ≡ true → less a b ≡ false
 unfolding less
-less-no a b p = over (a .q) (b .q) (ltZ (a .e) (b .e)) p
+less-no a b p =
+    let same : eqZ (a .q) (b .q) ≡ true → a .q ≡ b .q = eqZ-true (a .q) (b .q) in
+    let apart : eqZ (a .q) (b .q) ≡ false = by-test (eqZ (a .q) (b .q)) (λ s. clash p (rw (same s) (ltZ-weak .irreflexive (b .q)))) (λ s. s) in
+    rw (ge-ltZ (a .q) (b .q) (omega (arith, ltZ-lt (b .q) (a .q) p)), apart)
 
 -- How the bags of two pairs compare.
 pub data Compared (x y : ℤ) : Type 0 where
@@ -113,37 +104,29 @@ pub data Compared (x y : ℤ) : Type 0 where
   more : ltZ y x ≡ true → Compared x y
 
 pub compared : (x y : ℤ) → Compared x y
-compared x y = go (ltZ x y) refl (ltZ y x) refl
-  where
-    go : (s : Bool) → ltZ x y ≡ s → (t : Bool) → ltZ y x ≡ t → Compared x y
-    go true p t r = fewer p
-    go false p true r = more r
-    go false p false r = equal (ltZ-tie x y p r)
+compared x y = by-test (ltZ x y) fewer (λ p. by-test (ltZ y x) more (λ r. equal (ltZ-tie x y p r)))
 
 -- As the code tests it, without a branch.
 pub less-tests : (a b : Pair) → ltZ (a .q) (b .q) || (not (ltZ (b .q) (a .q)) && ltZ (a .e) (b .e)) ≡ less a b
-less-tests a b = go (compared (a .q) (b .q))
-  where
-    tests : Bool → Bool → Bool
-    tests x y = x || (not y && ltZ (a .e) (b .e))
-
-    go : Compared (a .q) (b .q) → tests (ltZ (a .q) (b .q)) (ltZ (b .q) (a .q)) ≡ less a b
-    go (fewer s) = ap (λ x. tests x (ltZ (b .q) (a .q))) s ∙ sym (less-q a b s)
-    go (equal s) =
-        let none : ltZ (a .q) (b .q) ≡ false = ap (λ (x : ℤ). ltZ x (b .q)) s ∙ ltZ-weak .irreflexive (b .q) in
-        let back : ltZ (b .q) (a .q) ≡ false = ap (λ (x : ℤ). ltZ (b .q) x) s ∙ ltZ-weak .irreflexive (b .q) in
-        ap (λ x. tests x (ltZ (b .q) (a .q))) none ∙ ap (tests false) back ∙ sym (less-e a b s)
-    go (more s) =
-        let none : ltZ (a .q) (b .q) ≡ false = ge-ltZ (a .q) (b .q) (omega (arith, ltZ-lt (b .q) (a .q) s)) in
-        ap (λ x. tests x (ltZ (b .q) (a .q))) none ∙ ap (tests false) s ∙ sym (less-no a b s)
+less-tests a b =
+    let tests : Bool → Bool → Bool = λ x y. x || (not y && ltZ (a .e) (b .e)) in
+    elim (compared (a .q) (b .q)) [
+      | fewer s ↦ ap (λ x. tests x (ltZ (b .q) (a .q))) s ∙ sym (less-q a b s)
+      | equal s ↦
+          let none : ltZ (a .q) (b .q) ≡ false = ap (λ (x : ℤ). ltZ x (b .q)) s ∙ ltZ-weak .irreflexive (b .q) in
+          let back : ltZ (b .q) (a .q) ≡ false = ap (λ (x : ℤ). ltZ (b .q) x) s ∙ ltZ-weak .irreflexive (b .q) in
+          ap (λ x. tests x (ltZ (b .q) (a .q))) none ∙ ap (tests false) back ∙ sym (less-e a b s)
+      | more s ↦
+          let none = ge-ltZ (a .q) (b .q) (omega (arith, ltZ-lt (b .q) (a .q) s)) in
+          ap (λ x. tests x (ltZ (b .q) (a .q))) none ∙ ap (tests false) s ∙ sym (less-no a b s)
+    ]
 
 pub less-weak : StrictWeak less
-less-weak =
-    record {
-      irreflexive = λ x. less-e x x refl ∙ ltZ-weak .irreflexive (x .e);
-      transitive = λ x y z. transitive x y z (compared (x .q) (y .q)) (compared (y .q) (z .q));
-      negative = λ x y z. negative x y z (compared (x .q) (y .q)) (compared (y .q) (z .q));
-    }
+less-weak = record {
+  irreflexive = λ x. less-e x x refl ∙ ltZ-weak .irreflexive (x .e);
+  transitive = λ x y z. transitive x y z (compared (x .q) (y .q)) (compared (y .q) (z .q));
+  negative = λ x y z. negative x y z (compared (x .q) (y .q)) (compared (y .q) (z .q));
+}
   where
     transitive : (x y z : Pair) → Compared (x .q) (y .q) → Compared (y .q) (z .q) → less x y ≡ true → less y z ≡ true → less x z ≡ true
     transitive x y z (fewer s) (fewer t) p r = less-q x z (ltZ-weak .transitive (x .q) (y .q) (z .q) s t)

@@ -1,14 +1,15 @@
 -- Laws of Calls: the value or the first refusal, what a lent list then holds, and rooms.
-use Rattle.prelude.specs.Words.{_≡_, refl, sym, _∙_, ap, _↔_, Bool, true, false, _||_, true≢false, List, [], _∷_, _++_, Option, none, some, ℕ, _*_, _≤_, _<_}
-use Rattle.prelude.specs.Words.{arith, ltb-false, lt-ltb, le-ltb, length, drop}
+use Rattle.prelude.specs.Words.{_≡_, refl, sym, _∙_, ap, _↔_, Bool, true, false, _||_, true≢false, List, [], _∷_, _++_, none, some, ℕ, _*_, _≤_, _<_, arith}
+use Rattle.prelude.specs.Words.{ltb-false, lt-ltb, le-ltb, length, drop}
 use Rattle.transport.specs.Sheet.{Sheet, roasteries, cafes, refusal}
 use Rattle.transport.specs.Laws.SheetLaws.{refusal-yes, refusal-no, refusal-clear, refusal-pass, refusal-stands}
 use Rattle.transport.specs.Calls.{Refusal, refused, given, refusedBy, unless, lentAfter, tooShort, Solution}
+use Rattle.transport.specs.Laws.ListLaws.{none-some, by-option}
 
 -- ---- answers
 
 pub some≢none : {A : Type 0} {a : A} → some a ≡ none → ⊥
-some≢none e = let n : _≡_ {A = ℕ} 0 1 = cc in omega arith
+some≢none e = none-some (sym e)
 
 pub refused≢given : {A : Type 0} {r : Refusal} {a : A} → refused r ≡ given a → ⊥
 refused≢given e = let n : _≡_ {A = ℕ} 0 1 = cc in omega arith
@@ -26,33 +27,29 @@ module _ {A : Type 0} (tests : List (Bool × ℕ)) (x : A) where
 
   pub unless-given-iff : (y : A) → (unless tests x ≡ given y) ↔ (refusal tests ≡ none) × (y ≡ x)
   unfolding refusedBy
-  unless-given-iff y = (there (refusal tests) refl, λ h. unless-given (h .0) ∙ ap given (sym (h .1)))
-    where
-      there : (o : Option ℕ) → refusal tests ≡ o → unless tests x ≡ given y → (refusal tests ≡ none) × (y ≡ x)
-      there none e f = (e, let same : y ≡ x = cc (unless-given e) in same)
-      there (some k) e f = absurd (refused≢given (sym (unless-refused k e) ∙ f))
+  unless-given-iff y = (
+    (λ f. by-option (refusal tests) (λ e. (e, let same : y ≡ x = cc (unless-given e) in same))
+        (λ k e. absurd (refused≢given (sym (unless-refused k e) ∙ f)))),
+    (λ h. unless-given (h .0) ∙ ap given (sym (h .1))),
+  )
 
   -- What a test refuses by has no place.
   pub unless-placeless : (r : Refusal) → unless tests x ≡ refused r → r .position ≡ none
   unfolding refusedBy
-  unless-placeless r f = go (refusal tests) refl
-    where
-      go : (o : Option ℕ) → refusal tests ≡ o → r .position ≡ none
-      go none e = absurd (refused≢given (sym f ∙ unless-given e))
-      go (some k) e =
-          let same : record { number = k; position = none } ≡ r = cc (unless-refused k e) in
-          sym (ap (λ (q : Refusal). q .position) same)
+  unless-placeless r f = by-option (refusal tests) (λ e. absurd (refused≢given (sym f ∙ unless-given e))) (λ k e.
+      let same : record { number = k; position = none } ≡ r = cc (unless-refused k e) in
+      sym (ap (λ (q : Refusal). q .position) same))
 
 -- ---- one test more at the end
 
 module _ (ts : List (Bool × ℕ)) (t : Bool × ℕ) where
   pub refusal-last : (refusal (ts ++ (t ∷ [])) ≡ none) ↔ (refusal ts ≡ none) × (t .0 ≡ false)
   unfolding refusal
-  refusal-last = (there (refusal ts) refl, λ h. refusal-pass ts (t ∷ []) (h .0) ∙ refusal-no t [] (h .1))
-    where
-      there : (o : Option ℕ) → refusal ts ≡ o → refusal (ts ++ (t ∷ [])) ≡ none → (refusal ts ≡ none) × (t .0 ≡ false)
-      there none e f = (e, refusal-clear t [] (sym (refusal-pass ts (t ∷ []) e) ∙ f) .0)
-      there (some k) e f = absurd (some≢none (sym (refusal-stands ts (t ∷ []) k e) ∙ f))
+  refusal-last = (
+    (λ f. by-option (refusal ts) (λ e. (e, refusal-clear t [] (sym (refusal-pass ts (t ∷ []) e) ∙ f) .0))
+        (λ k e. absurd (some≢none (sym (refusal-stands ts (t ∷ []) k e) ∙ f)))),
+    (λ h. refusal-pass ts (t ∷ []) (h .0) ∙ refusal-no t [] (h .1)),
+  )
 
 module _ {A : Type 0} (tests : List (Bool × ℕ)) (last : Bool) (number : ℕ) (x : A) where
   pub unless-before : (k : ℕ) → refusal tests ≡ some k → unless (tests ++ ((last, number) ∷ [])) x ≡ refusedBy k

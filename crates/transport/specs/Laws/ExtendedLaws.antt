@@ -1,12 +1,12 @@
 -- The laws of Extended: whether there is an extra café, what each column wants, and what each lane costs.
-use Rattle.prelude.specs.Words.{_≡_, refl, sym, ap, _∙_, subst, by-cases, cond, [], _∷_, _++_, append-nil, ℕ, _+_, _*_, _≤_, _<_, arith, decLt, eqb, ℤ, pos}
-use Rattle.prelude.specs.Words.{length, getD, length-append, List·getD-append, List·getD-eq-default, eqb-true, eqb-false, lt-ltb, le-ltb, by-test}
+use Rattle.prelude.specs.Words.{_≡_, refl, ap, by-cases, cond, [], _∷_, _++_, append-nil, ℕ, _+_, _≤_, _<_, arith, decLt, eqb, ℤ, pos, length, length-append}
+use Rattle.prelude.specs.Words.{List·getD-append, eqb-true, eqb-false, lt-ltb, le-ltb, by-test}
 use Rattle.transport.specs.Lists.{at, atZ, total}
 use Rattle.transport.specs.Problem.{sinks, place, laneCost}
 use Rattle.transport.specs.Sheet.{Sheet, roasteries, cafes}
 use Rattle.transport.specs.Extended.{surplus, wanted, costAt, extended}
 use Rattle.transport.specs.Laws.ListLaws.{getD-append-at, total-append, total-cons, total-nil}
-use Rattle.transport.specs.Laws.ProblemLaws.{lane, place-of, length-grid, getD-grid}
+use Rattle.transport.specs.Laws.ProblemLaws.{grid-each, lane, getD-grid}
 
 -- ---- columns
 
@@ -24,11 +24,10 @@ module _ (S : Sheet) where
 
   pub wanted-total : total (S .demand) ≤ total (S .supply) → total (wanted S) ≡ total (S .supply)
   unfolding surplus
-  wanted-total enough = go extra
-    where
-      go : Extra S → total (wanted S) ≡ total (S .supply)
-      go (without z e) = rw e (omega arith)
-      go (with z e) = rw e (omega (arith, total-append (S .demand) (surplus S ∷ []), total-cons (surplus S) [], total-nil))
+  wanted-total enough = elim extra [
+    | without z e ↦ rw e (omega arith)
+    | with z e ↦ rw e (omega (arith, total-append (S .demand) (surplus S ∷ []), total-cons (surplus S) [], total-nil))
+  ]
 
   -- Every café is a column, and there is at most one more.
   pub width-low : cafes S ≤ length (wanted S)
@@ -42,13 +41,12 @@ module _ (S : Sheet) where
   -- A column after the cafés is the extra one, and takes the surplus.
   pub beyond : (j : ℕ) → cafes S ≤ j → j < length (wanted S) → (1 ≤ surplus S) × (j ≡ cafes S) × (at (wanted S) j ≡ surplus S)
   unfolding cafes at
-  beyond j l h = go extra
-    where
-      go : Extra S → (1 ≤ surplus S) × (j ≡ cafes S) × (at (wanted S) j ≡ surplus S)
-      go (without z e) = absurd (omega (arith, ap length e))
-      go (with z e) =
-          let last : j ≡ length (S .demand) + 0 = omega (arith, ap length e, length-append (S .demand) (surplus S ∷ [])) in
-          (z, omega arith, rw (e, last) (getD-append-at (S .demand) (surplus S ∷ []) (length (S .demand)) 0 0 refl))
+  beyond j l h = elim extra [
+    | without z e ↦ absurd (omega (arith, ap length e))
+    | with z e ↦
+        let last : j ≡ length (S .demand) + 0 = omega (arith, ap length e, length-append (S .demand) (surplus S ∷ [])) in
+        (z, omega arith, rw (e, last) (getD-append-at (S .demand) (surplus S ∷ []) (length (S .demand)) 0 0 refl))
+  ]
 
   -- ---- lanes
 
@@ -66,19 +64,7 @@ module _ (S : Sheet) where
 
   -- Every number of the cost list is 0 or a cost of the sheet: what holds of these holds of all.
   pub cost-each : (Good : ℤ → Type 0) → Good (pos 0) → ((k : ℕ) → Good (atZ (S .cost) k)) → (l : ℕ) → Good (atZ (extended S .cost) l)
-  unfolding extended atZ
-  cost-each Good zero each l = by-cases (decLt l (roasteries S * length (wanted S))) inside outside
-    where
-      outside : ¬ (l < roasteries S * length (wanted S)) → Good (getD (extended S .cost) l (pos 0))
-      outside h =
-          rw (List·getD-eq-default (extended S .cost) (pos 0) {n = l} (omega (arith, length-grid (length (wanted S)) (costAt S) (roasteries S)))) zero
-
-      inside : l < roasteries S * length (wanted S) → Good (getD (extended S .cost) l (pos 0))
-      inside h =
-          let w = place-of (roasteries S) (length (wanted S)) l h in
-          let here : getD (extended S .cost) l (pos 0) ≡ costAt S (w .row) (w .col) =
-          ap (λ (k : ℕ). getD (extended S .cost) k (pos 0)) (sym (w .placed))
-          ∙ getD-grid (length (wanted S)) (costAt S) (roasteries S) (w .row) (w .col) (pos 0) (w .rowBelow) (w .colBelow) in
-          by-cases (decLt (w .col) (cafes S))
-          (λ b. subst Good (sym (here ∙ cost-cafe (w .row) (w .col) b)) (each (place (cafes S) (w .row) (w .col))))
-          (λ b. subst Good (sym (here ∙ cost-extra (w .row) (w .col) (omega arith))) zero)
+  unfolding extended
+  cost-each Good none each = grid-each (roasteries S) (length (wanted S)) (costAt S) Good none (λ i j. by-cases (decLt j (cafes S))
+      (λ b. rw (cost-cafe i j b) (each (place (cafes S) i j)))
+      (λ b. rw (cost-extra i j (omega arith)) none))

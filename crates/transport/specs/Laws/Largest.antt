@@ -31,15 +31,9 @@ largest-accepted c low high =
     let sides = side-limits in
     let count : length (replicate maxSide maxAmount) ≡ maxSide = length-replicate maxSide maxAmount in
     let most : (k : ℕ) → getD (replicate maxSide maxAmount) k 0 ≤ maxAmount =
-    replicate-each (λ a. a ≤ maxAmount) maxSide maxAmount 0 (omega arith) (omega arith)
-    in
-    let some : maxAmount ≤ total (replicate maxSide maxAmount) =
-    omega (
-      arith,
-      getD-replicate maxSide 0 maxAmount 0 (sides .0),
-      sumTo-each (length (replicate maxSide maxAmount)) (at (replicate maxSide maxAmount)) 0 (omega arith),
-    )
-    in
+    replicate-each (λ a. a ≤ maxAmount) maxSide maxAmount 0 (omega arith) (omega arith) in
+    let first = sumTo-each (length (replicate maxSide maxAmount)) (at (replicate maxSide maxAmount)) 0 (omega arith) in
+    let some : maxAmount ≤ total (replicate maxSide maxAmount) = omega (arith, getD-replicate maxSide 0 maxAmount 0 (sides .0)) in
     let limits : WithinLimits (largest c) = record {
       roasteriesLow = omega arith;
       roasteriesHigh = omega arith;

@@ -1,12 +1,22 @@
--- The laws of Lists: tables, tests of all elements, kept elements, sums, and the first least element.
+-- The laws of Lists: tables, tests of all elements, kept elements, sums, and the first least element; and of options.
 use Rattle.prelude.specs.Words.{ℕ, zero, suc, _+_, _*_, _-_, _≤_, _<_, arith, add-one, eq-or-lt-of-le, mul-add, add-suc, add-zero, suc-mul, zero-mul, decLt}
-use Rattle.prelude.specs.Words.{_≡_, refl, sym, ap, _∙_, ⊎-elim, _⊎_, inl, inr, by-cases, Bool, true, false, _&&_, cond, true≢false, false≢true, List, [], _∷_}
-use Rattle.prelude.specs.Words.{_++_, map, flatMap, append-assoc, append-nil, List·Memᴰ, List·Memᴰ·head, List·Memᴰ·tail, List·Memᴰ·not-nil}
-use Rattle.prelude.specs.Words.{List·Memᴰ·cases-cons, List·Memᴰ·append-cases, Memᴰ·append-left, Memᴰ·append-right, length, drop, getD, set, length-append}
-use Rattle.prelude.specs.Words.{length-drop, length-map, List·getD-append, List·getD-eq-default, drop-cons, set-at, getD-at, getD-drop, ext-getD, ℤ, pos, _+ℤ_}
-use Rattle.prelude.specs.Words.{by-test}
+use Rattle.prelude.specs.Words.{_≡_, refl, sym, ap, _∙_, ⊎-elim, by-cases, Bool, true, false, _&&_, cond, true≢false, false≢true, List, [], _∷_, _++_, map}
+use Rattle.prelude.specs.Words.{flatMap, append-assoc, append-nil, List·Memᴰ, List·Memᴰ·head, List·Memᴰ·tail, List·Memᴰ·not-nil, List·Memᴰ·cases-cons}
+use Rattle.prelude.specs.Words.{List·Memᴰ·append-cases, Memᴰ·append-left, Memᴰ·append-right, length, drop, getD, set, length-append, length-drop, length-map}
+use Rattle.prelude.specs.Words.{List·getD-append, List·getD-eq-default, drop-cons, set-at, getD-at, getD-drop, ext-getD, ℤ, pos, _+ℤ_, by-test, Option, none}
+use Rattle.prelude.specs.Words.{some}
 use lib.Seq.{getD-append-add}
 use Rattle.transport.specs.Lists.{all, keep, leastFrom, firstLeast, table, below, sumTo, sumZ, at, atZ, total}
+
+-- ---- options
+
+pub none-some : {A : Type 0} {x : A} → none ≡ some x → ⊥
+none-some e = let z : _≡_ {A = ℕ} 0 1 = cc in omega arith
+
+-- A statement that holds whether something is there or not.
+pub by-option : {A P : Type 0} (o : Option A) → (o ≡ none → P) → ((a : A) → o ≡ some a → P) → P
+by-option none h g = h refl
+by-option (some a) h g = g a refl
 
 -- ---- table
 
@@ -27,8 +37,7 @@ module _ {A : Type 0} (f : ℕ → A) where
   pub getD-table : (n i : ℕ) (d : A) → i < n → getD (table n f) i d ≡ f i
   unfolding table
   getD-table zero i d p = absurd (omega arith)
-  getD-table (suc n) i d p =
-      ⊎-elim
+  getD-table (suc n) i d p = ⊎-elim
       (λ e. rw e (getD-at (table n f) (f n) [] d n (length-table n)))
       (λ q. List·getD-append (table n f) (f n ∷ []) d i (omega (arith, length-table n)) ∙ getD-table n i d q)
       (eq-or-lt-of-le {n = i} {m = n} (omega arith))
@@ -91,11 +100,8 @@ module _ {A : Type 0} where
 
   pub map-member : {B : Type 0} (f : A → B) {y : B} (xs : List A) → List·Memᴰ y (map f xs) → (x : A) × List·Memᴰ x xs × (y ≡ f x)
   map-member f [] m = absurd (List·Memᴰ·not-nil m)
-  map-member {B} f {y} (x ∷ xs) m = go (map-member f xs) (List·Memᴰ·cases-cons m)
-    where
-      go : (List·Memᴰ y (map f xs) → (z : A) × List·Memᴰ z xs × (y ≡ f z)) → (y ≡ f x) ⊎ List·Memᴰ y (map f xs) → (z : A) × List·Memᴰ z (x ∷ xs) × (y ≡ f z)
-      go rest (inl e) = (x, List·Memᴰ·head refl, e)
-      go rest (inr k) = let (z, l, e) = rest k in (z, List·Memᴰ·tail l, e)
+  map-member f (x ∷ xs) m = ⊎-elim (λ e. (x, List·Memᴰ·head refl, e))
+      (λ k. let (z, l, e) = map-member f xs k in (z, List·Memᴰ·tail l, e)) (List·Memᴰ·cases-cons m)
 
   pub member-flatMap : {B : Type 0} (f : A → List B) {x : A} {y : B} {xs : List A} → List·Memᴰ x xs → List·Memᴰ y (f x) → List·Memᴰ y (flatMap f xs)
   unfolding flatMap
@@ -105,12 +111,8 @@ module _ {A : Type 0} where
   pub flatMap-member : {B : Type 0} (f : A → List B) {y : B} (xs : List A) → List·Memᴰ y (flatMap f xs) → (x : A) × List·Memᴰ x xs × List·Memᴰ y (f x)
   unfolding flatMap
   flatMap-member f [] m = absurd (List·Memᴰ·not-nil m)
-  flatMap-member {B} f {y} (x ∷ xs) m = go (flatMap-member f xs) (List·Memᴰ·append-cases (f x) m)
-    where
-      go : (List·Memᴰ y (flatMap f xs) → (z : A) × List·Memᴰ z xs × List·Memᴰ y (f z)) → List·Memᴰ y (f x) ⊎ List·Memᴰ y (flatMap f xs)
-          → (z : A) × List·Memᴰ z (x ∷ xs) × List·Memᴰ y (f z)
-      go rest (inl k) = (x, List·Memᴰ·head refl, k)
-      go rest (inr k) = let (z, l, e) = rest k in (z, List·Memᴰ·tail l, e)
+  flatMap-member f (x ∷ xs) m = ⊎-elim (λ k. (x, List·Memᴰ·head refl, k))
+      (λ k. let (z, l, e) = flatMap-member f xs k in (z, List·Memᴰ·tail l, e)) (List·Memᴰ·append-cases (f x) m)
 
   pub member-table : (n : ℕ) (f : ℕ → A) (k : ℕ) → k < n → List·Memᴰ (f k) (table n f)
   member-table n f k l = rw (← getD-table f n k (f 0) l) (member-at (table n f) (f 0) k (omega (arith, length-table f n)))
@@ -191,20 +193,15 @@ module _ {A : Type 0} (p : A → Bool) where
   all-members [] h = refl
   all-members (x ∷ xs) h = rw (h x (List·Memᴰ·head refl), all-members xs (λ y m. h y (List·Memᴰ·tail m)))
 
-  all-table : (n : ℕ) (f : ℕ → A) → ((k : ℕ) → k < n → p (f k) ≡ true) → all p (table n f) ≡ true
-  all-table n f h =
-      all-of (table n f) (f 0) (λ k l. ap p (getD-table f n k (f 0) (omega (arith, length-table f n))) ∙ h k (omega (arith, length-table f n)))
-
-  all-table-at : (n : ℕ) (f : ℕ → A) (k : ℕ) → all p (table n f) ≡ true → k < n → p (f k) ≡ true
-  all-table-at n f k e l = ap p (sym (getD-table f n k (f 0) l)) ∙ all-at (table n f) (f 0) k e (omega (arith, length-table f n))
-
 pub all-below : (p : ℕ → Bool) (n : ℕ) → ((k : ℕ) → k < n → p k ≡ true) → all p (below n) ≡ true
 unfolding below
-all-below p n h = all-table p n (λ k. k) h
+all-below p n h =
+    let long = length-table (λ k. k) n in
+    all-of p (table n (λ k. k)) 0 (λ k l. ap p (getD-table (λ k. k) n k 0 (omega arith)) ∙ h k (omega arith))
 
 pub all-below-at : (p : ℕ → Bool) (n k : ℕ) → all p (below n) ≡ true → k < n → p k ≡ true
 unfolding below
-all-below-at p n k e l = all-table-at p n (λ k. k) k e l
+all-below-at p n k e l = ap p (sym (getD-table (λ k. k) n k 0 l)) ∙ all-at p (table n (λ k. k)) 0 k e (omega (arith, length-table (λ k. k) n))
 
 -- ---- keep
 
@@ -220,12 +217,7 @@ module _ {A : Type 0} (p : A → Bool) where
   pub keep-append : (xs ys : List A) → keep p (xs ++ ys) ≡ keep p xs ++ keep p ys
   unfolding keep
   keep-append [] ys = refl
-  keep-append (x ∷ xs) ys = go (p x) (keep-append xs ys)
-    where
-      go : (b : Bool) → keep p (xs ++ ys) ≡ keep p xs ++ keep p ys → cond b (x ∷ keep p (xs ++ ys)) (keep p (xs ++ ys)) ≡ cond b (x ∷ keep p xs) (keep p xs)
-          ++ keep p ys
-      go true e = rw e
-      go false e = e
+  keep-append (x ∷ xs) ys = by-test (p x) (λ e. rw (e, keep-append xs ys)) (λ e. rw (e, keep-append xs ys))
 
   pub member-keep : {x : A} {xs : List A} → p x ≡ true → List·Memᴰ x xs → List·Memᴰ x (keep p xs)
   member-keep e (List·Memᴰ·head {x} {xs} q) = rw (keep-yes x xs (rw q at e)) (List·Memᴰ·head q)
@@ -236,16 +228,9 @@ module _ {A : Type 0} (p : A → Bool) where
   pub keep-member : {x : A} (xs : List A) → List·Memᴰ x (keep p xs) → List·Memᴰ x xs × (p x ≡ true)
   unfolding keep
   keep-member [] m = absurd (List·Memᴰ·not-nil m)
-  keep-member {x} (y ∷ xs) m = go (p y) refl m (keep-member xs)
-    where
-      head : (x ≡ y) ⊎ List·Memᴰ x (keep p xs) → p y ≡ true → (List·Memᴰ x (keep p xs) → List·Memᴰ x xs × (p x ≡ true)) → List·Memᴰ x (y ∷ xs) × (p x ≡ true)
-      head (inl q) e rest = (List·Memᴰ·head q, ap p q ∙ e)
-      head (inr m) e rest = (List·Memᴰ·tail (rest m .0), rest m .1)
-
-      go : (b : Bool) → p y ≡ b → List·Memᴰ x (cond b (y ∷ keep p xs) (keep p xs)) → (List·Memᴰ x (keep p xs) → List·Memᴰ x xs × (p x ≡ true))
-          → List·Memᴰ x (y ∷ xs) × (p x ≡ true)
-      go true e m rest = head (List·Memᴰ·cases-cons m) e rest
-      go false e m rest = (List·Memᴰ·tail (rest m .0), rest m .1)
+  keep-member (y ∷ xs) m = by-test (p y)
+      (λ e. ⊎-elim (λ q. (List·Memᴰ·head q, ap p q ∙ e)) (λ k. let (l, t) = keep-member xs k in (List·Memᴰ·tail l, t)) (List·Memᴰ·cases-cons (rw e at m)))
+      (λ e. let (l, t) = keep-member xs (rw e at m) in (List·Memᴰ·tail l, t))
 
   pub keep-all : (xs : List A) → all p xs ≡ true → keep p xs ≡ xs
   unfolding keep all
@@ -266,22 +251,12 @@ module _ {A : Type 0} where
   pub keep-map : {B : Type 0} (p : B → Bool) (f : A → B) (xs : List A) → keep p (map f xs) ≡ map f (keep (λ x. p (f x)) xs)
   unfolding keep
   keep-map p f [] = refl
-  keep-map p f (x ∷ xs) = go (p (f x)) (keep-map p f xs)
-    where
-      go : (b : Bool) → keep p (map f xs) ≡ map f (keep (λ x. p (f x)) xs)
-          → cond b (f x ∷ keep p (map f xs)) (keep p (map f xs)) ≡ map f (cond b (x ∷ keep (λ x. p (f x)) xs) (keep (λ x. p (f x)) xs))
-      go true e = rw e
-      go false e = e
+  keep-map p f (x ∷ xs) = by-test (p (f x)) (λ e. rw (e, keep-map p f xs)) (λ e. rw (e, keep-map p f xs))
 
   pub keep-keep : (p q : A → Bool) (xs : List A) → keep p (keep q xs) ≡ keep (λ x. q x && p x) xs
   unfolding keep
   keep-keep p q [] = refl
-  keep-keep p q (x ∷ xs) = go (q x) (keep-keep p q xs)
-    where
-      go : (b : Bool) → keep p (keep q xs) ≡ keep (λ x. q x && p x) xs
-          → keep p (cond b (x ∷ keep q xs) (keep q xs)) ≡ cond (b && p x) (x ∷ keep (λ x. q x && p x) xs) (keep (λ x. q x && p x) xs)
-      go true e = rw e
-      go false e = e
+  keep-keep p q (x ∷ xs) = by-test (q x) (λ e. rw (e, keep-keep p q xs)) (λ e. rw (e, keep-keep p q xs))
 
 -- ---- sumTo
 
@@ -404,12 +379,11 @@ pub record FirstLeast {A : Type 0} (less : A → A → Bool) (d : A) (xs : List 
 
 -- A strict weak order of keys orders what has a key.
 pub by-key : {A B : Type 0} {less : B → B → Bool} (f : A → B) → StrictWeak less → StrictWeak (λ (x y : A). less (f x) (f y))
-by-key f w =
-    record {
-      irreflexive = λ x. w .irreflexive (f x);
-      transitive = λ x y z p q. w .transitive (f x) (f y) (f z) p q;
-      negative = λ x y z p q. w .negative (f x) (f y) (f z) p q;
-    }
+by-key f w = record {
+  irreflexive = λ x. w .irreflexive (f x);
+  transitive = λ x y z. w .transitive (f x) (f y) (f z);
+  negative = λ x y z. w .negative (f x) (f y) (f z);
+}
 
 module _ {A : Type 0} (less : A → A → Bool) where
   later : (d : A) (xs : List A) (r s : A) (k h : ℕ) → FirstLeast less d xs r k → FirstLeast less d xs s h → k < h → ⊥
@@ -417,12 +391,9 @@ module _ {A : Type 0} (less : A → A → Bool) where
 
   -- There is one place for a first least element.
   firstLeast-place : (d : A) (xs : List A) (r s : A) (k h : ℕ) → FirstLeast less d xs r k → FirstLeast less d xs s h → k ≡ h
-  firstLeast-place d xs r s k h f g = go (decLt k h) (decLt h k)
-    where
-      go : Dec (k < h) → Dec (h < k) → k ≡ h
-      go (yes l) q = absurd (later d xs r s k h f g l)
-      go (no l) (yes q) = absurd (later d xs s r h k g f q)
-      go (no l) (no q) = omega arith
+  firstLeast-place d xs r s k h f g = by-cases (decLt k h)
+      (λ l. absurd (later d xs r s k h f g l))
+      (λ l. by-cases (decLt h k) (λ q. absurd (later d xs s r h k g f q)) (λ q. omega arith))
 
   leastFrom-more : (x y : A) (xs : List A) → leastFrom less x (xs ++ (y ∷ [])) ≡ cond (less y (leastFrom less x xs)) y (leastFrom less x xs)
   unfolding leastFrom
@@ -439,15 +410,18 @@ module _ {A : Type 0} (less : A → A → Bool) where
   module _ (w : StrictWeak less) where
     -- x is put in front of a list whose first element is less ..
     front : (d x y : A) (ys : List A) (r : A) (k : ℕ) → less y x ≡ true → FirstLeast less d (y ∷ ys) r k → FirstLeast less d (x ∷ y ∷ ys) r (suc k)
-    front d x y ys r k e f = record { inside = omega (arith, f .inside); stands = f .stands; least = least; first = first }
-      where
-        least : (h : ℕ) → h < length (x ∷ y ∷ ys) → less (getD (x ∷ y ∷ ys) h d) r ≡ false
-        least zero l = is-false (less x r) (λ q. true≢false (sym (w .transitive y x r e q) ∙ f .least 0 (omega arith)))
-        least (suc h) l = f .least h (omega arith)
-
-        first : (h : ℕ) → h < suc k → less r (getD (x ∷ y ∷ ys) h d) ≡ true
-        first zero l = is-true (less r x) (λ q. true≢false (sym e ∙ w .negative y r x (f .least 0 (omega arith)) q))
-        first (suc h) l = f .first h (omega arith)
+    front d x y ys r k e f = record {
+      inside = omega (arith, f .inside);
+      stands = f .stands;
+      least = λ h. elim h [
+        | zero ↦ λ l. is-false (less x r) (λ q. true≢false (sym (w .transitive y x r e q) ∙ f .least 0 (omega arith)))
+        | suc h ↦ λ l. f .least h (omega arith)
+      ];
+      first = λ h. elim h [
+        | zero ↦ λ l. is-true (less r x) (λ q. true≢false (sym e ∙ w .negative y r x (f .least 0 (omega arith)) q))
+        | suc h ↦ λ l. f .first h (omega arith)
+      ];
+    }
 
     -- .. and y behind the first element of a list, where y is not less.
     behind : (d x y : A) (ys : List A) (r : A) (k : ℕ) → less y x ≡ false → FirstLeast less d (x ∷ ys) r k → (h : ℕ) × FirstLeast less d (x ∷ y ∷ ys) r h
@@ -470,17 +444,18 @@ module _ {A : Type 0} (less : A → A → Bool) where
 
     leastFrom-is : (d x : A) (ys : List A) → (k : ℕ) × FirstLeast less d (x ∷ ys) (leastFrom less x ys) k
     unfolding leastFrom
-    leastFrom-is d x [] = (0, record { inside = omega arith; stands = refl; least = only; first = λ h q. absurd (omega arith) })
-      where
-        only : (h : ℕ) → h < 1 → less (getD (x ∷ []) h d) x ≡ false
-        only zero l = w .irreflexive x
-        only (suc h) l = absurd (omega arith)
-    leastFrom-is d x (y ∷ ys) = go (less y x) refl (leastFrom-is d (cond (less y x) y x) ys)
-      where
-        go : (b : Bool) → less y x ≡ b → (k : ℕ) × FirstLeast less d (cond (less y x) y x ∷ ys) (leastFrom less (cond (less y x) y x) ys) k
-            → (k : ℕ) × FirstLeast less d (x ∷ y ∷ ys) (leastFrom less (cond (less y x) y x) ys) k
-        go true e f = rw e (let (k, f) = rw e at f in (suc k, front d x y ys _ k e f))
-        go false e f = rw e (let (k, f) = rw e at f in behind d x y ys _ k e f)
+    leastFrom-is d x [] = (
+      0,
+      record {
+        inside = omega arith;
+        stands = refl;
+        least = λ h. elim h [ zero ↦ λ l. w .irreflexive x | suc h ↦ λ l. absurd (omega arith) ];
+        first = λ h q. absurd (omega arith);
+      },
+    )
+    leastFrom-is d x (y ∷ ys) = by-test (less y x)
+        (λ e. rw e (let (k, f) = leastFrom-is d y ys in (suc k, front d x y ys _ k e f)))
+        (λ e. rw e (let (k, f) = leastFrom-is d x ys in behind d x y ys _ k e f))
 
     -- The first least element of a list that is not empty.
     pub firstLeast-is : (d : A) (xs : List A) → 1 ≤ length xs → (k : ℕ) × FirstLeast less d xs (firstLeast less d xs) k

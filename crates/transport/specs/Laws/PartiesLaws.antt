@@ -39,10 +39,7 @@ module _ (p : ℕ → Bool) where
   -- Those kept are below n, and pass the test.
   kept-at : (n k : ℕ) → k < length (kept n) → (at (kept n) k < n) × (p (at (kept n) k) ≡ true)
   unfolding at below
-  kept-at n k l =
-      let (m, e) = keep-member p (below n) (member-at (kept n) 0 k l) in
-      let (h, b, s) = table-member n (λ k. k) m in
-      (rw s b, e)
+  kept-at n k l = let (m, e) = keep-member p (below n) (member-at (kept n) 0 k l) in let (h, b, s) = table-member n (λ k. k) m in (rw s b, e)
 
   last-kept : (n : ℕ) → at (kept n ++ (n ∷ [])) (length (kept n)) ≡ n
   unfolding at
@@ -61,13 +58,8 @@ module _ (p : ℕ → Bool) where
       kept-step (λ ks. sumTo n f + f n ≡ sumTo (length ks) (λ k. f (at ks k))) n
       (λ e.
       let ks = kept n ++ (n ∷ []) in
-      rw (length-append (kept n) (n ∷ []))
-      (omega (
-        arith,
-        sumTo-one (length (kept n)) (λ k. f (at ks k)),
-        sumTo-cong (length (kept n)) (λ k. f (at ks k)) (λ k. f (at (kept n) k)) (λ k l. ap f (earlier-kept n k l)),
-        ap f (last-kept n),
-      )))
+      let same = sumTo-cong (length (kept n)) (λ k. f (at ks k)) (λ k. f (at (kept n) k)) (λ k l. ap f (earlier-kept n k l)) in
+      rw (length-append (kept n) (n ∷ [])) (omega (arith, sumTo-one (length (kept n)) (λ k. f (at ks k)), ap f (last-kept n))))
       (λ e. omega (arith, none n (omega arith) e))
 
   -- ---- how many of those kept come before a number
@@ -148,12 +140,9 @@ module _ (xs : List ℕ) where
   -- Own numbers grow with the numbers among those left.
   pub left-grows : (h k : ℕ) → h < k → k < length (left xs) → at (left xs) h < at (left xs) k
   unfolding among
-  left-grows h k l b = by-cases (decLt (at (left xs) h) (at (left xs) k)) (λ q. q) (λ q. absurd (omega (
-    arith,
-    among-at h (omega arith),
-    among-at k b,
-    before-grows (at (left xs) k) (at (left xs) h) (omega arith) (left xs),
-  )))
+  left-grows h k l b = by-cases (decLt (at (left xs) h) (at (left xs) k)) (λ q. q) (λ q.
+      let more = before-grows (at (left xs) k) (at (left xs) h) (omega arith) (left xs) in
+      absurd (omega (arith, among-at h (omega arith), among-at k b)))
 
   -- A sum over all is one over those left, where a party at 0 adds nothing.
   pub sum-left : (f : ℕ → ℕ) → ((k : ℕ) → k < length xs → at xs k ≡ 0 → f k ≡ 0) → sumTo (length xs) f ≡ sumTo (length (left xs)) (λ k. f (at (left xs) k))
@@ -242,15 +231,14 @@ left-before xs = refl
 pub left-append : (xs : List ℕ) (x : ℕ) → 1 ≤ x → left (xs ++ (x ∷ [])) ≡ left xs ++ (length xs ∷ [])
 unfolding left at isLeft below
 left-append xs x some =
+    let earlier : leftBefore (xs ++ (x ∷ [])) (length xs) ≡ leftBefore xs (length xs) =
+    keep-cong (isLeft (xs ++ (x ∷ []))) (isLeft xs) (below (length xs)) (λ k m.
+    let (h, b, s) = table-member (length xs) (λ k. k) m in
+    rw (s, List·getD-append xs (x ∷ []) 0 h b)) in
     let more = xs ++ (x ∷ []) in
     let last : at more (length xs) ≡ x = ap (λ (t : ℕ). getD more t 0) (sym (add-zero (length xs))) ∙ getD-append-at xs (x ∷ []) (length xs) 0 0 refl in
     let long : length more ≡ suc (length xs) = omega (arith, length-append xs (x ∷ [])) in
     rw long (before-yes more (length xs) (rw last some) ∙ ap (λ (t : List ℕ). t ++ (length xs ∷ [])) earlier)
-  where
-    earlier : leftBefore (xs ++ (x ∷ [])) (length xs) ≡ leftBefore xs (length xs)
-    earlier = keep-cong (isLeft (xs ++ (x ∷ []))) (isLeft xs) (below (length xs)) (λ k m.
-        let (h, b, s) = table-member (length xs) (λ k. k) m in
-        rw (s, List·getD-append xs (x ∷ []) 0 h b))
 
 -- It changes no number among those left before it.
 pub among-more : (xs : List ℕ) (x : ℕ) → 1 ≤ x → (k : ℕ) → k ≤ length xs → among (xs ++ (x ∷ [])) k ≡ among xs k

@@ -1,9 +1,9 @@
 -- The laws of Problem: places and lanes in sheet order.
 use Rattle.prelude.specs.Words.{ℕ, zero, suc, _+_, _*_, _/_, _%_, _<_, arith, mul-le-mul-right, suc-mul, zero-mul, div-add-mod', mod-lt, div-lt-iff-lt-mul}
-use Rattle.prelude.specs.Words.{mul-zero, eq-or-lt-of-le, decLt, _≡_, sym, ap, _∙_, _⊎_, inl, inr, ⊎-elim, Bool, true, List, [], _∷_, _++_, flatMap, append-nil}
-use Rattle.prelude.specs.Words.{ℤ, length, getD, length-append, List·getD-append, ext-getD}
+use Rattle.prelude.specs.Words.{mul-zero, eq-or-lt-of-le, decLt, _≡_, sym, ap, _∙_, ⊎-elim, Bool, true, List, [], _∷_, _++_, flatMap, append-nil, ℤ, length}
+use Rattle.prelude.specs.Words.{getD, length-append, List·getD-append, ext-getD, by-cases, pos, subst, List·getD-eq-default}
 use native.Mathlib.Nat.{eq-zero-or-pos}
-use Rattle.transport.specs.Lists.{all, table, below, grid}
+use Rattle.transport.specs.Lists.{all, table, below, grid, atZ}
 use Rattle.transport.specs.Problem.{Problem, Lane, lanes, place}
 use Rattle.transport.specs.Laws.ListLaws.{flatMap-append, getD-append-at, length-table, getD-table, all-at, all-of}
 
@@ -19,12 +19,9 @@ place-below m n i j p q = omega (arith, mul-le-mul-right n p)
 
 pub place-injective : (n i j h k : ℕ) → j < n → k < n → place n i j ≡ place n h k → (i ≡ h) × (j ≡ k)
 unfolding place
-place-injective n i j h k p q e = go (decLt i h) (decLt h i)
-  where
-    go : Dec (i < h) → Dec (h < i) → (i ≡ h) × (j ≡ k)
-    go (yes l) r = absurd (omega (arith, mul-le-mul-right n l))
-    go (no l) (yes r) = absurd (omega (arith, mul-le-mul-right n r))
-    go (no l) (no r) = let s : i ≡ h = omega arith in (s, omega (arith, ap (λ (t : ℕ). t * n) s))
+place-injective n i j h k p q e = by-cases (decLt i h) (λ l. absurd (omega (arith, mul-le-mul-right n l))) (λ l. by-cases (decLt h i)
+    (λ r. absurd (omega (arith, mul-le-mul-right n r)))
+    (λ r. let s : i ≡ h = omega arith in (s, omega (arith, ap (λ (t : ℕ). t * n) s))))
 
 -- The row and the column of a place.
 pub record Placed (m n l : ℕ) : Type 0 where
@@ -36,11 +33,10 @@ pub record Placed (m n l : ℕ) : Type 0 where
 
 pub place-of : (m n l : ℕ) → l < m * n → Placed m n l
 unfolding place
-place-of m n l p = go (eq-zero-or-pos n)
-  where
-    go : (n ≡ 0) ⊎ (0 < n) → Placed m n l
-    go (inl e) = absurd (omega (arith, ap (λ (t : ℕ). m * t) e, mul-zero m))
-    go (inr q) = record { row = l / n; col = l % n; rowBelow = div-lt-iff-lt-mul q .1 p; colBelow = mod-lt l q; placed = div-add-mod' l n }
+place-of m n l p = ⊎-elim
+    (λ e. absurd (omega (arith, ap (λ (t : ℕ). m * t) e, mul-zero m)))
+    (λ q. record { row = l / n; col = l % n; rowBelow = div-lt-iff-lt-mul q .1 p; colBelow = mod-lt l q; placed = div-add-mod' l n })
+    (eq-zero-or-pos n)
 
 -- ---- rows one after the other
 
@@ -71,6 +67,16 @@ module _ {A : Type 0} (n : ℕ) (f : ℕ → ℕ → A) where
       let w = place-of m n l (omega (arith, length-grid m)) in
       rw (← w .placed) (getD-grid m (w .row) (w .col) d (w .rowBelow) (w .colBelow) ∙ h (w .row) (w .col) (w .rowBelow) (w .colBelow)))
 
+-- Every number of a grid is 0 or one of its own: what holds of these holds of all.
+pub grid-each : (m n : ℕ) (f : ℕ → ℕ → ℤ) (Good : ℤ → Type 0) → Good (pos 0) → ((i j : ℕ) → Good (f i j)) → (l : ℕ) → Good (atZ (grid m n f) l)
+unfolding atZ
+grid-each m n f Good none each l = by-cases (decLt l (m * n))
+    (λ h.
+    let w = place-of m n l h in
+    subst Good (sym (ap (λ (k : ℕ). getD (grid m n f) k (pos 0)) (sym (w .placed)) ∙ getD-grid n f m (w .row) (w .col) (pos 0) (w .rowBelow) (w .colBelow)))
+    (each (w .row) (w .col)))
+    (λ h. rw (List·getD-eq-default (grid m n f) (pos 0) {n = l} (omega (arith, length-grid n f m))) none)
+
 -- ---- lanes
 
 -- The lane from row i to column j.
@@ -86,12 +92,9 @@ unfolding lanes
 getD-lanes m n i j d p q = getD-grid n lane m i j d p q
 
 pub all-lanes : (p : Lane → Bool) (m n : ℕ) → ((i j : ℕ) → i < m → j < n → p (lane i j) ≡ true) → all p (lanes m n) ≡ true
-all-lanes p m n h = all-of p (lanes m n) (lane 0 0) each
-  where
-    each : (l : ℕ) → l < length (lanes m n) → p (getD (lanes m n) l (lane 0 0)) ≡ true
-    each l q =
-        let w = place-of m n l (omega (arith, length-lanes m n)) in
-        rw (← w .placed, getD-lanes m n (w .row) (w .col) (lane 0 0) (w .rowBelow) (w .colBelow)) (h (w .row) (w .col) (w .rowBelow) (w .colBelow))
+all-lanes p m n h = all-of p (lanes m n) (lane 0 0) (λ l q.
+    let w = place-of m n l (omega (arith, length-lanes m n)) in
+    rw (← w .placed, getD-lanes m n (w .row) (w .col) (lane 0 0) (w .rowBelow) (w .colBelow)) (h (w .row) (w .col) (w .rowBelow) (w .colBelow)))
 
 pub all-lanes-at : (p : Lane → Bool) (m n i j : ℕ) → all p (lanes m n) ≡ true → i < m → j < n → p (lane i j) ≡ true
 all-lanes-at p m n i j e l q =

@@ -1,6 +1,6 @@
 -- The range of signed numbers: bounds by absolute value, which `omega` reads, and what the code's tests and sums on bits say of the numbers.
-use Rattle.prelude.specs.Words.{ℕ, zero, suc, _+_, _*_, _-_, _<_, _≤_, _^_, arith, mul-le-mul-left, _≡_, refl, _∙_, Bool, true, false, cond, T, ltb, leb→le, ℤ}
-use Rattle.prelude.specs.Words.{pos, negsuc, natAbs, negℤ, subℕ, _+ℤ_, _-ℤ_, _*ℤ_, mag, leZ, _≤ℤ_, ltb-true}
+use Rattle.prelude.specs.Words.{ℕ, zero, suc, _+_, _*_, _<_, _≤_, _^_, arith, mul-le-mul-left, _≡_, refl, _∙_, T, ltb, leb→le, ℤ, pos, negsuc, natAbs, negℤ}
+use Rattle.prelude.specs.Words.{subℕ, _+ℤ_, _-ℤ_, _*ℤ_, mag, leZ, _≤ℤ_, ltb-true, by-test}
 use mir.Syntax.{Width}
 use mir.Val.{SFits, hbits, toZ, ofZ}
 use mir.Facts.{toZ-ofZ}
@@ -9,12 +9,8 @@ use Rattle.transport.specs.Amount.{Pair}
 
 -- ---- absolute values
 
-abs-cond : (a b : ℕ) (t : Bool) → ltb a b ≡ t → natAbs (cond t (negsuc (b - suc a)) (pos (a - b))) ≤ a + b
-abs-cond a b true e = omega (arith, ltb-true a b e)
-abs-cond a b false e = omega arith
-
 abs-sub : (a b : ℕ) → natAbs (subℕ a b) ≤ a + b
-abs-sub a b = abs-cond a b (ltb a b) refl
+abs-sub a b = by-test (ltb a b) (λ e. rw e (omega (arith, ltb-true a b e))) (λ e. rw e (omega arith))
 
 pub abs-neg : (a : ℤ) → natAbs (negℤ a) ≡ natAbs a
 abs-neg (pos zero) = refl
@@ -47,13 +43,9 @@ abs-between {most} {a} low high = go most a (low .le) (high .le)
 pub abs-sum : (n most : ℕ) (x : ℕ → ℕ) (c : ℕ → ℤ) → ((k : ℕ) → natAbs (c k) ≤ most) → natAbs (sumZ n (λ k. pos (x k) *ℤ c k)) ≤ most * sumTo n x
 unfolding sumZ sumTo
 abs-sum zero most x c each = omega arith
-abs-sum (suc n) most x c each = omega (
-  arith,
-  abs-add (sumZ n (λ k. pos (x k) *ℤ c k)) (pos (x n) *ℤ c n),
-  abs-times (x n) (c n),
-  mul-le-mul-left (x n) (each n),
-  abs-sum n most x c each,
-)
+abs-sum (suc n) most x c each =
+    let add = abs-add (sumZ n (λ k. pos (x k) *ℤ c k)) (pos (x n) *ℤ c n) in
+    omega (arith, abs-times (x n) (c n), mul-le-mul-left (x n) (each n), abs-sum n most x c each)
 
 pub mag-abs : (a : ℤ) → mag a ≤ natAbs a
 mag-abs (pos n) = omega arith

@@ -1,18 +1,15 @@
 -- The laws of Sheet: the first refusal, and what the sheet check says.
-use Rattle.prelude.specs.Words.{ℕ, _*_, _≤_, _<_, arith, decLt, _≡_, refl, sym, ap, _∙_, Bool, true, false, not, _&&_, and-false, true≢false, List, [], _∷_}
-use Rattle.prelude.specs.Words.{_++_, append-nil, Option, none, some, leb, eqb, ltb, T, ℤ, pos, negsuc, negℤ, leZ, ltZ, _≤ℤ_, leZ-yes, length, getD, leb-true}
-use Rattle.prelude.specs.Words.{le-leb, lt-leb, eqb-true, eq-eqb, ne-eqb, le-ltb, lt-ltb, ltb-true, ltb-false, not-false, by-test}
+use Rattle.prelude.specs.Words.{ℕ, _*_, _≤_, _<_, arith, decLt, _≡_, refl, sym, ap, _∙_, Bool, true, false, not, _&&_, and-false, List, [], _∷_, _++_}
+use Rattle.prelude.specs.Words.{append-nil, none, some, leb, ltb, T, ℤ, pos, negsuc, negℤ, leZ, ltZ, _≤ℤ_, leZ-yes, length, leb-true, le-leb, lt-leb, eqb-true}
+use Rattle.prelude.specs.Words.{eq-eqb, ne-eqb, le-ltb, lt-ltb, ltb-true, ltb-false, not-false, by-test, clash, by-cases}
 use Rattle.transport.specs.Lists.{all, at, atZ, total, atMost, within, withinZ}
 use Rattle.transport.specs.Limits.{maxSources, maxSinks, maxSide, maxAmount, maxCost}
 use Rattle.transport.specs.Sheet.{Sheet, roasteries, cafes, badSides, badLength, badAmount, badCost, lacking, crowded, idle, numberTests, sheetTests}
 use Rattle.transport.specs.Sheet.{refusal}
 use Rattle.transport.specs.Statements.{WithinLimits, Lacking, Crowded, Idle, Accepted}
-use Rattle.transport.specs.Laws.ListLaws.{and-left, and-right, all-at, all-of, at-past, atZ-past}
+use Rattle.transport.specs.Laws.ListLaws.{none-some, and-left, and-right, all-at, all-of, at-past, atZ-past}
 
 -- ---- refusal
-
-none-some : (k : ℕ) → _≡_ {A = Option ℕ} none (some k) → ⊥
-none-some k e = let z : _≡_ {A = ℕ} 0 1 = cc in omega arith
 
 pub refusal-yes : (t : Bool × ℕ) (ts : List (Bool × ℕ)) → t .0 ≡ true → refusal (t ∷ ts) ≡ some (t .1)
 unfolding refusal
@@ -24,19 +21,17 @@ refusal-no t ts e = rw (e, refusal)
 
 -- Where nothing is refused, the first test does not hold, and none of the others refuses.
 pub refusal-clear : (t : Bool × ℕ) (ts : List (Bool × ℕ)) → refusal (t ∷ ts) ≡ none → (t .0 ≡ false) × (refusal ts ≡ none)
-refusal-clear t ts e = by-test (t .0) (λ p. absurd (none-some _ (sym e ∙ refusal-yes t ts p))) (λ p. (p, sym (refusal-no t ts p) ∙ e))
+refusal-clear t ts e = by-test (t .0) (λ p. absurd (none-some (sym e ∙ refusal-yes t ts p))) (λ p. (p, sym (refusal-no t ts p) ∙ e))
 
 -- Tests that refuse nothing leave it to those after them ..
 pub refusal-pass : (ts us : List (Bool × ℕ)) → refusal ts ≡ none → refusal (ts ++ us) ≡ refusal us
 refusal-pass [] us e = refl
-refusal-pass (t ∷ ts) us e =
-    let (p, q) = refusal-clear t ts e in
-    refusal-no t (ts ++ us) p ∙ refusal-pass ts us q
+refusal-pass (t ∷ ts) us e = let (p, q) = refusal-clear t ts e in refusal-no t (ts ++ us) p ∙ refusal-pass ts us q
 
 -- .. and a refusal stands, whatever is tested after it.
 pub refusal-stands : (ts us : List (Bool × ℕ)) (k : ℕ) → refusal ts ≡ some k → refusal (ts ++ us) ≡ some k
 unfolding refusal
-refusal-stands [] us k e = absurd (none-some k e)
+refusal-stands [] us k e = absurd (none-some e)
 refusal-stands (t ∷ ts) us k e = by-test (t .0)
     (λ p. refusal-yes t (ts ++ us) p ∙ sym (refusal-yes t ts p) ∙ e)
     (λ p. refusal-no t (ts ++ us) p ∙ refusal-stands ts us k (sym (refusal-no t ts p) ∙ e))
@@ -62,44 +57,34 @@ within-high low high x p = rw (lt-leb x high p, and-false)
 
 withinZ-true : (low high z : ℤ) → withinZ low high z ≡ true → (low ≤ℤ z) × (z ≤ℤ high)
 unfolding withinZ
-withinZ-true low high z e =
-    (leZ-yes (told (leZ low z) (and-left (leZ low z) (leZ z high) e)), leZ-yes (told (leZ z high) (and-right (leZ low z) (leZ z high) e)))
-  where
-    told : (b : Bool) → b ≡ true → T b
-    told true e = tt
-    told false e = absurd (true≢false (sym e))
+withinZ-true low high z e = (leZ-yes (rw (and-left (leZ low z) (leZ z high) e) tt), leZ-yes (rw (and-right (leZ low z) (leZ z high) e) tt))
 
 true-withinZ : (low high z : ℤ) → low ≤ℤ z → z ≤ℤ high → withinZ low high z ≡ true
 unfolding withinZ
-true-withinZ low high z p q = rw (yes (leZ low z) (p .le), yes (leZ z high) (q .le))
-  where
-    yes : (b : Bool) → T b → b ≡ true
-    yes true t = refl
-    yes false t = absurd t
+true-withinZ low high z p q =
+    let yes : (b : Bool) → T b → b ≡ true = λ b. elim b [ true ↦ λ t. refl | false ↦ λ t. absurd t ] in
+    rw (yes (leZ low z) (p .le), yes (leZ z high) (q .le))
 
 -- As the code tests it, by the strict order.
 pub withinZ-tests : (low high z : ℤ) → withinZ low high z ≡ not (ltZ z low) && not (ltZ high z)
 unfolding withinZ
 withinZ-tests low high z = rw (le-lt low z, le-lt z high)
   where
-    nat : (a b : ℕ) (t : Bool) → ltb b a ≡ t → leb a b ≡ not t
-    nat a b true e = lt-leb a b (ltb-true b a e)
-    nat a b false e = le-leb a b (ltb-false b a e)
+    nat : (a b : ℕ) → leb a b ≡ not (ltb b a)
+    nat a b = by-test (ltb b a) (λ e. rw e (lt-leb a b (ltb-true b a e))) (λ e. rw e (le-leb a b (ltb-false b a e)))
 
     le-lt : (a b : ℤ) → leZ a b ≡ not (ltZ b a)
-    le-lt (pos a) (pos b) = nat a b (ltb b a) refl
+    le-lt (pos a) (pos b) = nat a b
     le-lt (pos a) (negsuc b) = refl
     le-lt (negsuc a) (pos b) = refl
-    le-lt (negsuc a) (negsuc b) = nat b a (ltb a b) refl
+    le-lt (negsuc a) (negsuc b) = nat b a
 
 -- No number of the list is above the bound.
 pub all-most : (high : ℕ) (xs : List ℕ) → all (atMost high) xs ≡ true → (k : ℕ) → at xs k ≤ high
 unfolding at atMost
-all-most high xs e k = go (decLt k (length xs))
-  where
-    go : Dec (k < length xs) → getD xs k 0 ≤ high
-    go (yes l) = leb-true _ high (all-at (atMost high) xs 0 k e l)
-    go (no l) = omega (arith, at-past xs k (omega arith))
+all-most high xs e k = by-cases (decLt k (length xs))
+    (λ l. leb-true _ high (all-at (atMost high) xs 0 k e l))
+    (λ l. omega (arith, at-past xs k (omega arith)))
 
 most-all : (high : ℕ) (xs : List ℕ) → ((k : ℕ) → at xs k ≤ high) → all (atMost high) xs ≡ true
 unfolding at atMost
@@ -109,11 +94,9 @@ most-all high xs most = all-of (atMost high) xs 0 (λ k l. le-leb _ high (most k
 all-withinZ-at : (low high : ℤ) (zs : List ℤ) → low ≤ℤ pos 0 → pos 0 ≤ℤ high → all (withinZ low high) zs ≡ true
     → (k : ℕ) → (low ≤ℤ atZ zs k) × (atZ zs k ≤ℤ high)
 unfolding atZ
-all-withinZ-at low high zs p q e k = go (decLt k (length zs))
-  where
-    go : Dec (k < length zs) → (low ≤ℤ getD zs k (pos 0)) × (getD zs k (pos 0) ≤ℤ high)
-    go (yes l) = withinZ-true low high _ (all-at (withinZ low high) zs (pos 0) k e l)
-    go (no l) = rw (atZ-past zs k (omega arith)) (p, q)
+all-withinZ-at low high zs p q e k = by-cases (decLt k (length zs))
+    (λ l. withinZ-true low high _ (all-at (withinZ low high) zs (pos 0) k e l))
+    (λ l. rw (atZ-past zs k (omega arith)) (p, q))
 
 within-limits : (S : Sheet) → badSides S .0 ≡ false → badLength S .0 ≡ false → badAmount S .0 ≡ false → badCost S .0 ≡ false → WithinLimits S
 unfolding badSides badLength badAmount badCost roasteries cafes maxCost
@@ -143,10 +126,6 @@ record Passes (S : Sheet) : Type 0 where
   amounts : badAmount S .0 ≡ false
   costs : badCost S .0 ≡ false
 
-all-withinZ : (low high : ℤ) (zs : List ℤ) → ((k : ℕ) → (low ≤ℤ atZ zs k) × (atZ zs k ≤ℤ high)) → all (withinZ low high) zs ≡ true
-unfolding atZ
-all-withinZ low high zs h = all-of (withinZ low high) zs (pos 0) (λ k l. true-withinZ low high _ (h k .0) (h k .1))
-
 module _ {S : Sheet} (h : WithinLimits S) where
   pub supplies-most : all (atMost maxAmount) (S .supply) ≡ true
   supplies-most = most-all maxAmount (S .supply) (h .supplyHigh)
@@ -155,12 +134,12 @@ module _ {S : Sheet} (h : WithinLimits S) where
   demands-most = most-all maxAmount (S .demand) (h .demandHigh)
 
 limits-pass : {S : Sheet} → WithinLimits S → Passes S
-unfolding badSides badLength badAmount badCost
+unfolding badSides badLength badAmount badCost atZ
 limits-pass {S} h = record {
   sides = rw (true-within 1 maxSources (roasteries S) (h .roasteriesLow) (h .roasteriesHigh), true-within 1 maxSinks (cafes S) (h .cafesLow) (h .cafesHigh));
   lengths = rw (eq-eqb (length (S .cost)) (roasteries S * cafes S) (h .costLength));
   amounts = rw (supplies-most h, demands-most h);
-  costs = rw (all-withinZ (negℤ (pos maxCost)) (pos maxCost) (S .cost) (λ k. (h .costLow k, h .costHigh k)));
+  costs = rw (all-of (withinZ (negℤ (pos maxCost)) (pos maxCost)) (S .cost) (pos 0) (λ k l. true-withinZ _ _ _ (h .costLow k) (h .costHigh k)));
 }
 
 -- 5, 10 and 11, each exactly on its condition.
@@ -179,11 +158,9 @@ module _ (S : Sheet) where
 
   pub crowded-no : ¬ Crowded S → crowded S .0 ≡ false
   unfolding crowded
-  crowded-no c = go (decLt (total (S .demand)) (total (S .supply)))
-    where
-      go : Dec (total (S .demand) < total (S .supply)) → ltb (total (S .demand)) (total (S .supply)) && eqb (cafes S) maxSide ≡ false
-      go (no l) = rw (le-ltb (total (S .demand)) (total (S .supply)) (omega arith))
-      go (yes l) = rw (ne-eqb (cafes S) maxSide (λ e. c (l, e)), and-false)
+  crowded-no c = by-cases (decLt (total (S .demand)) (total (S .supply)))
+      (λ l. rw (ne-eqb (cafes S) maxSide (λ e. c (l, e)), and-false))
+      (λ l. rw (le-ltb (total (S .demand)) (total (S .supply)) (omega arith)))
 
   pub idle-yes : Idle S → idle S .0 ≡ true
   unfolding idle
@@ -192,15 +169,6 @@ module _ (S : Sheet) where
   pub idle-no : ¬ Idle S → idle S .0 ≡ false
   unfolding idle
   idle-no n = ne-eqb (total (S .demand)) 0 n
-
-  no-lacking : lacking S .0 ≡ false → ¬ Lacking S
-  no-lacking e l = true≢false (sym (lacking-yes l) ∙ e)
-
-  no-crowded : crowded S .0 ≡ false → ¬ Crowded S
-  no-crowded e c = true≢false (sym (crowded-yes c) ∙ e)
-
-  no-idle : idle S .0 ≡ false → ¬ Idle S
-  no-idle e i = true≢false (sym (idle-yes i) ∙ e)
 
 -- A sheet that nothing is refused of is accepted.
 pub accepted : (S : Sheet) → refusal (sheetTests S) ≡ none → Accepted S
@@ -215,9 +183,9 @@ accepted S e =
     let (wants, e) = refusal-clear (idle S) [] e in
     record {
       limits = within-limits S sides lengths amounts costs;
-      enough = no-lacking S short;
-      room = no-crowded S full;
-      wanting = no-idle S wants;
+      enough = λ l. clash (lacking-yes S l) short;
+      room = λ c. clash (crowded-yes S c) full;
+      wanting = λ i. clash (idle-yes S i) wants;
     }
 
 -- The tests that a sheet within the limits passes leave it to 5, 10, 11 and those after them.

@@ -1,8 +1,8 @@
 -- What the theory of rounds asks of a balanced problem; and the problem of the parties left of an accepted sheet has it. The bound on amounts is one on the
 -- total, and costs are bounded from both sides, so that the theory serves problems that are more than a sheet's.
-use Rattle.prelude.specs.Words.{ℕ, _*_, _≤_, _<_, arith, mul-le-mul-right, _≡_, sym, ap, _∙_, subst, by-cases, List, decLt, ℕ-discrete, ℤ, pos, negℤ, _≤ℤ_}
-use Rattle.prelude.specs.Words.{leZ-yes, none, length, getD, length-append, List·getD-eq-default}
-use Rattle.transport.specs.Lists.{at, atZ, grid, total}
+use Rattle.prelude.specs.Words.{ℕ, _*_, _≤_, _<_, arith, mul-le-mul-right, _≡_, sym, _∙_, by-cases, List, decLt, ℕ-discrete, pos, negℤ, _≤ℤ_, leZ-yes, none}
+use Rattle.prelude.specs.Words.{length, length-append}
+use Rattle.transport.specs.Lists.{at, atZ, total}
 use Rattle.transport.specs.Limits.{maxSources, maxSinks, maxSide, maxAmount, maxBags, maxCost, costBelow, costAbove}
 use Rattle.transport.specs.Problem.{Problem, sources, sinks, laneCost}
 use Rattle.transport.specs.Sheet.{Sheet, roasteries, cafes, sheetTests, refusal}
@@ -11,8 +11,8 @@ use Rattle.transport.specs.Parties.{left, rowsLeft, columnsLeft, struck,
 use Rattle.transport.specs.Statements.{Accepted}
 use Rattle.transport.specs.Laws.ListLaws.{sumTo-each, sumTo-bound, at-past}
 use Rattle.transport.specs.Laws.SheetLaws.{accepted}
-use Rattle.transport.specs.Laws.ProblemLaws.{place-of, length-grid, getD-grid}
-use Rattle.transport.specs.Laws.ExtendedLaws.{Extra, without, with, extra, wanted-total, cost-each}
+use Rattle.transport.specs.Laws.ProblemLaws.{grid-each, length-grid}
+use Rattle.transport.specs.Laws.ExtendedLaws.{without, with, extra, wanted-total, cost-each}
 use Rattle.transport.specs.Laws.PartiesLaws.{left-at, length-left, amountsLeft, length-amounts, amounts-at, total-left, some-left}
 
 pub record Sound (P : Problem) : Type 0 where
@@ -61,43 +61,22 @@ zero-between : (negℤ (pos costBelow) ≤ℤ pos 0) × (pos 0 ≤ℤ pos costAb
 unfolding costBelow costAbove maxCost
 zero-between = (leZ-yes tt, leZ-yes tt)
 
--- Every number of a grid is 0 or one of its own: what holds of these holds of all.
-grid-each : (m n : ℕ) (f : ℕ → ℕ → ℤ) (Good : ℤ → Type 0) → Good (pos 0) → ((i j : ℕ) → Good (f i j)) → (l : ℕ) → Good (atZ (grid m n f) l)
-unfolding atZ
-grid-each m n f Good zero each l = by-cases (decLt l (m * n))
-    (λ h.
-    let w = place-of m n l h in
-    subst Good (sym (ap (λ (k : ℕ). getD (grid m n f) k (pos 0)) (sym (w .placed)) ∙ getD-grid n f m (w .row) (w .col) (pos 0) (w .rowBelow) (w .colBelow)))
-    (each (w .row) (w .col)))
-    (λ h. rw (List·getD-eq-default (grid m n f) (pos 0) {n = l} (omega (arith, length-grid n f m))) zero)
-
 module _ {S : Sheet} (ok : Accepted S) where
   -- Room for all columns, since a surplus and 32 cafés are refused.
   pub wanted-room : length (wanted S) ≤ maxSide
   unfolding cafes surplus
-  wanted-room = go (extra S)
-    where
-      go : Extra S → length (wanted S) ≤ maxSide
-      go (without z e) = rw e (omega (arith, ok .limits .cafesHigh, sinks-room))
-      go (with z e) = by-cases (ℕ-discrete (cafes S) maxSide)
-          (λ f. absurd (ok .room (omega arith, f)))
-          (λ f. rw (e, length-append) (omega (arith, ok .limits .cafesHigh, sinks-room)))
-
-  cost-low : (l : ℕ) → negℤ (pos costBelow) ≤ℤ atZ (extended S .cost) l
-  unfolding costBelow maxCost
-  cost-low l = cost-each S (λ c. negℤ (pos costBelow) ≤ℤ c) (leZ-yes tt) (ok .limits .costLow) l
-
-  cost-high : (l : ℕ) → atZ (extended S .cost) l ≤ℤ pos costAbove
-  unfolding costAbove maxCost
-  cost-high l = cost-each S (λ c. c ≤ℤ pos costAbove) (leZ-yes tt) (ok .limits .costHigh) l
+  wanted-room = elim (extra S) [
+    | without z e ↦ rw e (omega (arith, ok .limits .cafesHigh, sinks-room))
+    | with z e ↦ by-cases (ℕ-discrete (cafes S) maxSide)
+        (λ f. absurd (ok .room (omega arith, f)))
+        (λ f. rw (e, length-append) (omega (arith, ok .limits .cafesHigh, sinks-room)))
+  ]
 
   pub bags-of : total (S .supply) ≤ maxBags
   unfolding maxBags total roasteries
-  bags-of = omega (
-    arith,
-    sumTo-bound (roasteries S) maxAmount (at (S .supply)) (λ k l. ok .limits .supplyHigh k),
-    mul-le-mul-right {m = roasteries S} {n = maxSide} maxAmount (omega (arith, ok .limits .roasteriesHigh, sources-room)),
-  )
+  bags-of =
+      let right = mul-le-mul-right {m = roasteries S} {n = maxSide} maxAmount (omega (arith, ok .limits .roasteriesHigh, sources-room)) in
+      omega (arith, sumTo-bound (roasteries S) maxAmount (at (S .supply)) (λ k l. ok .limits .supplyHigh k))
 
   -- The columns want all that there is, and something is wanted: so somebody is left on either side.
   extended-balance : total (S .supply) ≡ total (wanted S)
@@ -110,7 +89,7 @@ module _ {S : Sheet} (ok : Accepted S) where
   columns-left = some-left (wanted S) (omega (arith, extended-balance, ok .enough, ok .wanting))
 
   pub sound : Sound (problemOf S)
-  unfolding problemOf struck extended sources sinks rowsLeft columnsLeft roasteries laneCost
+  unfolding problemOf struck extended sources sinks rowsLeft columnsLeft roasteries laneCost costBelow costAbove maxCost
   sound =
       let h = ok .limits in
       let rows = length-amounts (S .supply) in
@@ -125,8 +104,10 @@ module _ {S : Sheet} (ok : Accepted S) where
         demandLow = λ j l. amount-left (wanted S) j (rw columns at l);
         bags = rw (total-left (S .supply)) bags-of;
         balance = total-left (S .supply) ∙ extended-balance ∙ sym (total-left (wanted S));
-        costLow = grid-each (length (left (S .supply))) (length (left (wanted S))) _ (λ c. negℤ (pos costBelow) ≤ℤ c) (zero-between .0) (λ i j. cost-low _);
-        costHigh = grid-each (length (left (S .supply))) (length (left (wanted S))) _ (λ c. c ≤ℤ pos costAbove) (zero-between .1) (λ i j. cost-high _);
+        costLow = grid-each (length (left (S .supply))) (length (left (wanted S))) _ (λ c. negℤ (pos costBelow) ≤ℤ c) (zero-between .0)
+            (λ i j. cost-each S (λ c. negℤ (pos costBelow) ≤ℤ c) (zero-between .0) (ok .limits .costLow) _);
+        costHigh = grid-each (length (left (S .supply))) (length (left (wanted S))) _ (λ c. c ≤ℤ pos costAbove) (zero-between .1)
+            (λ i j. cost-each S (λ c. c ≤ℤ pos costAbove) (zero-between .1) (ok .limits .costHigh) _);
       }
 
 pub accepted-sound : (S : Sheet) → refusal (sheetTests S) ≡ none → Sound (problemOf S)
