@@ -1,5 +1,5 @@
 -- The declared answers of solve, read sheet and the two writers cross the border as Border says.
-use Rattle.prelude.specs.Words.{_≡_, refl, sym, ap, _∙_, List, Option, none, some, ℕ, _-_, pos, length}
+use Rattle.prelude.specs.Words.{_≡_, refl, sym, ap, _∙_, List, Option, none, some, ℕ, _-_, pos, length, some≢none}
 use Rattle.transport.specs.declared.SolveAnswer.{SolveAnswer}
 use Rattle.transport.specs.declared.SolveAnswer.the-variants as SolveAnswer
 use Rattle.transport.specs.declared.ReadAnswer.{ReadAnswer}
@@ -8,7 +8,7 @@ use Rattle.transport.specs.declared.WriteAnswer.{WriteAnswer}
 use Rattle.transport.specs.declared.WriteAnswer.the-variants as WriteAnswer
 use Rattle.transport.specs.Sheet.{Sheet}
 use Rattle.transport.specs.Calls.{Answer, refused, given, Refusal, Solution}
-use Rattle.transport.specs.Laws.CallLaws.{unless-placeless, some≢none}
+use Rattle.transport.specs.Laws.CallLaws.{unless-placeless}
 use Rattle.transport.specs.SheetText.{Reading, stuck, got, sheetReader, readTests, readSheetCall}
 use Rattle.transport.specs.Answers.{solveAnswer, readAnswer, writeAnswer}
 use Rattle.grammar.specs.SheetCalls.{read-got, read-stuck}

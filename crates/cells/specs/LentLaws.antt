@@ -25,7 +25,7 @@ pub lent-tableau : (T : List Cell) → length T ≤ maxCells → lentTableau T �
 unfolding lentTableau tableauOf
 lent-tableau T l = rw (take-all maxCells T l)
 
-pub lent-nothing : lentTableau [] ≡ noTableau
+lent-nothing : lentTableau [] ≡ noTableau
 unfolding noTableau
 lent-nothing = lent-tableau [] (omega arith)
 

@@ -2,6 +2,7 @@
 -- the prices are its potentials.
 use Rattle.prelude.specs.Words.{_≡_, refl, sym, ap, _∙_, by-cases, Bool, true, false, not, _&&_, _||_, and-false, and-true, List, [], _∷_, _++_, none, ℕ, suc}
 use Rattle.prelude.specs.Words.{_+_, _*_, _≤_, _<_, arith, decLt, eqb, ltb, ℤ, pos, length, getD, ext-getD, le-leb, lt-ltb, le-ltb, not-false, by-test}
+use Rattle.prelude.specs.Words.{by-option}
 use Rattle.transport.specs.declared.Cell.{Cell}
 use Rattle.transport.specs.declared.Tableau.{Tableau}
 use Rattle.transport.specs.Lists.{all, grid, at, atZ, below, table, within, atMost, total}
@@ -23,7 +24,7 @@ use Rattle.transport.specs.PlanText.{planText, writePlanCall, refusedLine, prin
 use Rattle.transport.specs.Statements.{Belongs, SheetTextOf}
 use Rattle.transport.specs.Laws.SheetLaws.{refusal-no, refusal-clear, refusal-pass, refusal-stands, within-true, idle-no}
 use Rattle.transport.specs.Laws.CallLaws.{unless-given, unless-refused, refusal-last}
-use Rattle.transport.specs.Laws.ListLaws.{by-option, map-table, table-getD, table-cong, length-table, getD-table, at-past, and-right, sumTo-each}
+use Rattle.transport.specs.Laws.ListLaws.{map-table, table-getD, table-cong, length-table, getD-table, at-past, and-right, sumTo-each}
 use Rattle.transport.specs.Laws.ProblemLaws.{problem, lane, length-grid, grid-is}
 use Rattle.transport.specs.Laws.ExtendedLaws.{width-low, beyond, wanted-at}
 use Rattle.transport.specs.Laws.PartiesLaws.{left-yes, left-no, among-at, left-all, amountsLeft}

@@ -4,11 +4,11 @@
 -- and what is given stands in front, a tableau's cells in its array, as many as it counts, prices, plan, sheet and text in their lists, as many as m, n, m ×
 -- n or the length in the answer.
 use Rattle.prelude.specs.Words.{_≡_, refl, ap, sym, _∙_, Bool, true, false, none, List, _++_, ℕ, _+_, _*_, _≤_, _<_, ℤ, pos, length, take, take-at}
-use Rattle.prelude.specs.Words.{take-append-seam, by-test}
+use Rattle.prelude.specs.Words.{take-append-seam, by-test, by-option, some≢none}
 use Rattle.transport.specs.declared.Cell.{Cell}
 use Rattle.transport.specs.declared.Tableau.{Tableau}
 use Rattle.transport.specs.Lists.{at, atZ, padded}
-use Rattle.transport.specs.Laws.ListLaws.{length-table, getD-table, by-option}
+use Rattle.transport.specs.Laws.ListLaws.{length-table, getD-table}
 use Rattle.transport.specs.Sheet.{roasteries, cafes, Sheet, sheetTests, refusal}
 use Rattle.transport.specs.Extended.{wanted, extended}
 use Rattle.transport.specs.Problem.{sources, sinks}
@@ -24,7 +24,7 @@ use Rattle.transport.specs.Laws.SheetLaws.{refusal-stands}
 use Rattle.transport.specs.Laws.ExtendedLaws.{wanted-at}
 use Rattle.transport.specs.Laws.PartiesLaws.{left-yes, among-left, struck-sources, struck-sinks}
 use Rattle.transport.specs.Laws.Sound.{accepted-sound}
-use Rattle.transport.specs.Laws.CallLaws.{some≢none, unless-given, unless-refused, unless-given-iff}
+use Rattle.transport.specs.Laws.CallLaws.{unless-given, unless-refused, unless-given-iff}
 use Rattle.transport.specs.SheetText.{Reading, stuck, got, sheetReader, sheetText, writeSheetCall, readWith, readTests, readSheetCall}
 use Rattle.transport.specs.PlanText.{planText, writePlanCall}
 use Rattle.transport.specs.Answers.{startAnswer, startSays, prices, roundAnswer, roundSays, runOutcome, runAnswer, runSays, settleAnswer, settleSays}

@@ -1,12 +1,12 @@
 -- What is shown of a sheet that was read, and of a text that is no sheet text.
 use Rattle.prelude.specs.Words.{_≡_, refl, sym, ap, _∙_, by-cases, Bool, none, some, List, [], _∷_, _++_, ℕ, suc, min, _*_, _-_, _≤_, arith, decLe, length}
-use Rattle.prelude.specs.Words.{take, take-all, eq-eqb, by-test, by-option}
+use Rattle.prelude.specs.Words.{take, take-all, eq-eqb, by-test, by-option, some≢none}
 use Rattle.transport.specs.declared.WriteAnswer.the-variants.{Written, Refused}
 use Rattle.transport.specs.Limits.{maxSources, maxSinks, maxText}
 use Rattle.transport.specs.Sheet.{Sheet, sheetTests, numberTests, badSides, badLength, badAmount, badCost, lacking, crowded, idle, refusal}
 use Rattle.transport.specs.Laws.SheetLaws.{true-within, refusal-yes, refusal-no}
 use Rattle.transport.specs.Calls.{Answer, given, refusedBy, lentAfter}
-use Rattle.transport.specs.Laws.CallLaws.{some≢none, unless-given, unless-refused}
+use Rattle.transport.specs.Laws.CallLaws.{unless-given, unless-refused}
 use Rattle.transport.specs.Text.{bytes, digits, digitsUpTo, numberLine, rowLine}
 use Rattle.transport.specs.SheetText.{stuck, got, sheetReader}
 use Rattle.transport.specs.PlanText.{planText, writePlanCall, refusedLine, printed, fitting, shown}

@@ -37,7 +37,7 @@ digits-decimal (suc n) = let x = numeral (λ y. true) (λ y l e. refl) (suc n) (
       leading = λ more e. absurd (omega (arith, x .above, head-eq-of-cons-eq e));
     })
 
-pub decimal-digits : (ds : List ℕ) → Decimal ds → digits (value 0 ds) ≡ ds
+decimal-digits : (ds : List ℕ) → Decimal ds → digits (value 0 ds) ≡ ds
 unfolding value
 decimal-digits [] h = absurd (omega (arith, h .some))
 decimal-digits (b ∷ ds) h = let (v, s) = digit-value b (h .digit .0) in let start : 0 * 10 + digitValue b ≡ digitValue b = omega arith in

@@ -1,13 +1,13 @@
 -- Read sheet and write sheet: when they succeed, that they undo each other, and what refusal 9 says.
 use Rattle.prelude.specs.Words.{_≡_, refl, sym, _∙_, ap, _↔_, Bool, false, _||_, List, [], none, some, ℕ, suc, _*_, _-_, _≤_, arith, mul-le-mul, decLe, length}
-use Rattle.prelude.specs.Words.{take, take-all, by-cases}
+use Rattle.prelude.specs.Words.{take, take-all, by-cases, some≢none}
 use Rattle.transport.specs.Limits.{maxSources, maxSinks, maxText}
 use Rattle.transport.specs.Sheet.{Sheet, roasteries, cafes, refusal, sheetTests, numberTests}
 use Rattle.transport.specs.Calls.{Refusal, refused, given, unless, tooShort}
 use Rattle.transport.specs.SheetText.{stuck, got, sheetText, sheetReader, writeSheetCall, readWith, readTests, readSheetCall}
 use Rattle.transport.specs.Laws.SheetLaws.{accepted, passes}
 use Rattle.transport.specs.Statements.{Accepted, SheetTextOf, Place, Undo}
-use Rattle.transport.specs.Laws.CallLaws.{refusal-last, unless-given-iff, unless-placeless, room-iff, rooms-iff, some≢none, refused≢given}
+use Rattle.transport.specs.Laws.CallLaws.{refusal-last, unless-given-iff, unless-placeless, room-iff, rooms-iff, refused≢given}
 use Rattle.grammar.specs.Numbers.{within-iff}
 use Rattle.grammar.specs.Exact.{stuck≢got, by-reading}
 use Rattle.grammar.specs.Place.{reader-iff, place, place-unique, place-cut}
@@ -17,7 +17,7 @@ use Rattle.grammar.specs.Refusals.{text-accepted, accepted-text}
 -- ---- write sheet
 
 -- Write sheet succeeds exactly if the sheet check accepts the sheet and the output is no shorter than the text, which it then gives.
-pub writeSheet-iff : (S : Sheet) (room : ℕ) (text : List ℕ)
+writeSheet-iff : (S : Sheet) (room : ℕ) (text : List ℕ)
     → (writeSheetCall S room ≡ given text) ↔ Accepted S × (length (sheetText S) ≤ room) × (text ≡ sheetText S)
 unfolding writeSheetCall
 writeSheet-iff S room text = (
@@ -50,7 +50,7 @@ module _ (tests : Sheet → List (Bool × ℕ)) (text : List ℕ) where
   read-text S h = read-got S [] (reader-iff text S [] .1 (refl, h))
 
   -- Reading succeeds exactly on the text of a sheet that no test refuses.
-  pub read-iff : (S : Sheet) → (readWith tests text ≡ given S) ↔ SheetTextOf S text × (refusal (tests S) ≡ none)
+  read-iff : (S : Sheet) → (readWith tests text ≡ given S) ↔ SheetTextOf S text × (refusal (tests S) ≡ none)
   read-iff S = (
     λ f. by-reading (sheetReader text) (λ rest e. absurd (refused≢given (sym (read-stuck rest e) ∙ f)))
         (λ R rest e. let h = unless-given-iff (tests R) R S .0 (sym (read-got R rest e) ∙ f) in rw (h .1) (reader-iff text R rest .0 e .1, h .0)),

@@ -9,7 +9,7 @@ pub sum-cong : (n : ℕ) (f g : ℕ → Z) → ((i : ℕ) → i < n → f i ≈ 
 sum-cong zero f g h = omega arith
 sum-cong (suc n) f g h = omega (arith, sum-cong n f g (λ i l. h i (omega arith)), h n (omega arith))
 
-pub sum-le : (n : ℕ) (f g : ℕ → Z) → ((i : ℕ) → i < n → f i ≼ g i) → sum n f ≼ sum n g
+sum-le : (n : ℕ) (f g : ℕ → Z) → ((i : ℕ) → i < n → f i ≼ g i) → sum n f ≼ sum n g
 sum-le zero f g h = omega arith
 sum-le (suc n) f g h = omega (arith, sum-le n f g (λ i l. h i (omega arith)), h n (omega arith))
 

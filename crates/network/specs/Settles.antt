@@ -126,7 +126,7 @@ module _ {m n p q : ℕ} {P : ℕ → ℕ → Type 0} (dec : (i j : ℕ) → Dec
       (some-or-all m (Reachable n p x C N row) (Past n p x C N row) (λ i hi. next-or n p x C N row (s .tree .root) i))
 
   -- Bags can be brought onto the lane, or it is stuck.
-  pub brings-or-stuck : P p q → Circuits ⊎ End
+  brings-or-stuck : P p q → Circuits ⊎ End
   unfolding none
   brings-or-stuck lane = grows m 1 (omega arith) (search-start
       {C = λ j. decide (ℕ-discrete j q)} {row = λ k. p} {col = λ k. 0} {up = λ k. 0} {from = λ j. 0} refl lane refl

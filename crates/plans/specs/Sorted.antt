@@ -19,7 +19,7 @@ module _ {A : Type 0} {R : A → A → Type 0} where
   pub sorted-single : (x : A) → Sorted R (x ∷ [])
   sorted-single x = one-more {xs = []} (λ y m. absurd (List·Memᴰ·not-nil m)) none
 
-  pub sorted-append : {xs ys : List A} → Sorted R xs → Sorted R ys → ((x y : A) → List·Memᴰ x xs → List·Memᴰ y ys → R x y) → Sorted R (xs ++ ys)
+  sorted-append : {xs ys : List A} → Sorted R xs → Sorted R ys → ((x y : A) → List·Memᴰ x xs → List·Memᴰ y ys → R x y) → Sorted R (xs ++ ys)
   sorted-append none t f = t
   sorted-append (one-more {x} {xs} g s) t f =
       one-more (λ y m. ⊎-elim (g y) (f x y (List·Memᴰ·head refl)) (List·Memᴰ·append-cases xs m)) (sorted-append s t (λ a b m. f a b (List·Memᴰ·tail m)))

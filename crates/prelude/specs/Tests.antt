@@ -2,6 +2,8 @@
 use mathlib.Core.Path.{_≡_, refl, sym, _∙_}
 use mathlib.Core.Bool.{Bool, true, false, true≢false}
 use mathlib.Core.Option.{Option, some, none}
+use Prim.Native.Nat.{ℕ}
+use native.Mathlib.Omega.{arith}
 
 -- A statement that holds whichever way a test goes ..
 pub by-test : {P : Type 0} (b : Bool) → (b ≡ true → P) → (b ≡ false → P) → P
@@ -16,3 +18,7 @@ by-option (some x) here there = there x refl
 -- No test goes both ways.
 pub clash : {P : Type 0} {b : Bool} → b ≡ true → b ≡ false → P
 clash e f = absurd (true≢false (sym e ∙ f))
+
+-- Something is not nothing.
+pub some≢none : {A : Type 0} {a : A} → some a ≡ none → ⊥
+some≢none e = let z : _≡_ {A = ℕ} 0 1 = cc in omega arith

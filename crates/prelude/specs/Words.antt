@@ -14,7 +14,7 @@ pub use mathlib.Core.Logic.{_↔_, _⊎_, inl, inr, ⊎-elim, _≢_, by-cases, D
 pub use mathlib.Core.Bool.{Bool, true, false, cond, not, _&&_, _||_, true≢false, false≢true, Bool-discrete, decide, decide-iff}
 pub use mathlib.Core.Bool.{and-true, and-false, and-comm, and-eq-true-iff, or-true, or-false}
 unfoldable pub use mathlib.Core.Bool.{xor}
-pub use Rattle.prelude.specs.Tests.{by-test, by-option, clash}
+pub use Rattle.prelude.specs.Tests.{by-test, by-option, clash, some≢none}
 pub use native.Mathlib.Decide.{ℕ-discrete, decLt, decLe}
 pub use lib.Dec.{T, eqb, ltb, leb, leb→le}
 pub use borrow.Author.Tests.{eq-eqb, ne-eqb, lt-ltb, le-ltb, lt-leb, le-leb, eqb-true, eqb-false, ltb-true, ltb-false, leb-true, not-true, not-false}

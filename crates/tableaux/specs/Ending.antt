@@ -52,7 +52,7 @@ all-value P bound =
 
 module _ {P : Problem} (ok : Sound P) {T : List Cell} (w : Belongs P T) (c : ℕ → ℕ → Z) (bound : Z) where
   -- A bound on the costs is one on the measure, taken as often as all values add up to.
-  pub measure-low : ((i j : ℕ) → i < sources P → j < sinks P → bound ≼ c i j) → bound ⊗ nat (allValue P) ≼ measure P c T
+  measure-low : ((i j : ℕ) → i < sources P → j < sinks P → bound ≼ c i j) → bound ⊗ nat (allValue P) ≼ measure P c T
   measure-low h = omega (arith, all-value P bound, cost-low (omega (arith, ok .sinksLow)) (belongs-seen ok w) c bound h)
 
   measure-high : ((i j : ℕ) → i < sources P → j < sinks P → c i j ≼ bound) → measure P c T ≼ bound ⊗ nat (allValue P)
@@ -101,7 +101,7 @@ module _ {P : Problem} (ok : Sound P) where
       (λ e. absurd (omega (arith, next-falls w e, raised-nonneg (next-belongs w e))))
   ends (suc k) T w l = by-test (isFinished P T)
       (λ e. (0, omega arith, reached-now P T e))
-      (λ e. let (h, q, r) = (ends k (next P T)) (next-belongs w e) (omega (arith, next-falls w e)) in (suc h, omega arith, reached-later P T h e r))
+      (λ e. let (h, q, r) = ends k (next P T) (next-belongs w e) (omega (arith, next-falls w e)) in (suc h, omega arith, reached-later P T h e r))
 
   -- So from every tableau that belongs, a run of the bound of rounds comes to a finished one.
   bound-reached : (T : List Cell) → Belongs P T → (h : ℕ) × (h ≤ roundBound P) × FirstFinished P T h

@@ -187,7 +187,7 @@ module _ {m n : ℕ} {enter : Lane} (hr : enter .row < m) (hc : enter .col < n) 
       omega (arith, point-zero (enter .row) (nat 1) (m + j) (omega arith), point-up m (enter .col) (nat 1) j, point-neg (enter .col) j)
 
   -- The signs are the flow of −1 at the entering lane's row and −1 at its column.
-  pub struck-signs : {B : List Lane} {ss : List Strike} → 1 ≤ m → Struck m n B ss
+  struck-signs : {B : List Lane} {ss : List Strike} → 1 ≤ m → Struck m n B ss
       → Flow m n (Has B) (λ i j. toZ (sign m ss enter (lane i j))) (point (enter .row) (neg (nat 1))) (point (enter .col) (neg (nat 1)))
   unfolding sign
   struck-signs p st =

@@ -56,7 +56,7 @@ amount-nonneg (c ∷ cs) h i j = by-cases (Dec·and (ℕ-discrete (c .row) i) (�
     (⊎-elim (λ s. omega (arith, nothing-parts)) (λ s. omega (arith, nothing-parts)) (less-true nothing (c .amount) (h 0 (omega arith)))))
     (λ e. rw (amount-later c cs i j e) (amount-nonneg cs (λ k l. h (suc k) (omega arith)) i j))
 
-pub bags-carried : (P : Problem) (T : List Cell) → Belongs P T → (i j : ℕ) → i < sources P → j < sinks P
+bags-carried : (P : Problem) (T : List Cell) → Belongs P T → (i j : ℕ) → i < sources P → j < sinks P
     → carried (sinks P) (bagsOf P T) i j ≈ bags (amountAt T i j)
 unfolding bagsOn
 bags-carried P T belongs i j k l = rw (bagsOf-at P T i j k l) (nat-natAbs (amountAt T i j .q) (amount-nonneg T (belongs .above) i j))

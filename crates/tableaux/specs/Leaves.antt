@@ -3,9 +3,10 @@
 use Rattle.prelude.specs.Words.{_≡_, refl, ap, sym, _∙_, _↔_, _≢_, _⊎_, inl, inr, ⊎-elim, by-cases, Bool, true, false, not, _&&_, cond, true≢false, List, []}
 use Rattle.prelude.specs.Words.{_∷_, List·Memᴰ, List·Memᴰ·head, List·Memᴰ·tail, List·Memᴰ·not-nil, List·Memᴰ·cases-cons, List·Memᴰ·eq-of-singleton, none, some}
 use Rattle.prelude.specs.Words.{ℕ, zero, suc, _+_, _*_, _≤_, _<_, arith, ℕ-discrete, eqb-true, eqb-false, eq-eqb, ne-eqb, not-true, eqb, length, by-test}
+use Rattle.prelude.specs.Words.{by-option, some≢none}
 use Rattle.transport.specs.Lists.{keep, sumTo}
-use Rattle.transport.specs.Laws.ListLaws.{none-some, by-option, member-place, keep-yes, keep-no, keep-member, member-keep, and-left, and-right, sumTo-cong}
-use Rattle.transport.specs.Laws.ListLaws.{sumTo-none, sumTo-add, sumTo-le, sumTo-scale}
+use Rattle.transport.specs.Laws.ListLaws.{member-place, keep-yes, keep-no, keep-member, member-keep, and-left, and-right, sumTo-cong, sumTo-none, sumTo-add}
+use Rattle.transport.specs.Laws.ListLaws.{sumTo-le, sumTo-scale}
 use Rattle.transport.specs.Problem.{Lane}
 use Rattle.transport.specs.Laws.ProblemLaws.{lane}
 use Rattle.transport.specs.Leaf.{Strike, touches, strikeAt, onlyOne, firstLeaf}
@@ -80,14 +81,14 @@ first-later m k ks B e = rw (e, firstLeaf)
 
 only-some : (ls : List Lane) {l : Lane} → onlyOne ls ≡ some l → ls ≡ l ∷ []
 unfolding onlyOne
-only-some [] e = absurd (none-some e)
+only-some [] e = absurd (some≢none (sym e))
 only-some (k ∷ []) e = cc
-only-some (k ∷ h ∷ ls) e = absurd (none-some e)
+only-some (k ∷ h ∷ ls) e = absurd (some≢none (sym e))
 
 only-none : (ls : List Lane) → onlyOne ls ≡ none → length ls ≢ 1
 unfolding onlyOne
 only-none [] e q = omega arith
-only-none (k ∷ []) e q = none-some (sym e)
+only-none (k ∷ []) e q = some≢none e
 only-none (k ∷ h ∷ ls) e q = omega arith
 
 ends-at : (m k : ℕ) (l : Lane) → touches m k l ≡ true → Ends m (strikeAt m k l)
@@ -99,7 +100,7 @@ ends-at m k l h = by-test (eqb (l .row) k)
 -- A leaf that is found ..
 pub found : (m : ℕ) (nodes : List ℕ) (B : List Lane) (s : Strike) → firstLeaf m nodes B ≡ some s → Leaf m nodes B s
 unfolding firstLeaf strikeAt
-found m [] B s e = absurd (none-some e)
+found m [] B s e = absurd (some≢none (sym e))
 found m (k ∷ ks) B s e = by-option (onlyOne (at-node m k B))
     (λ q. let f = found m ks B s (sym (first-later m k ks B q) ∙ e) in record { only = f .only; ends = f .ends; listed = List·Memᴰ·tail (f .listed) })
     (λ l q.
@@ -113,7 +114,7 @@ missed : (m : ℕ) (nodes : List ℕ) (B : List Lane) → firstLeaf m nodes B �
 missed m [] B e k h = absurd (List·Memᴰ·not-nil h)
 missed m (j ∷ ks) B e k h = by-option (onlyOne (at-node m j B))
     (λ q. ⊎-elim (λ p. rw p (only-none (at-node m j B) q)) (missed m ks B (sym (first-later m j ks B q) ∙ e) k) (List·Memᴰ·cases-cons h))
-    (λ l q. absurd (none-some (sym e ∙ first-single m j ks B l q)))
+    (λ l q. absurd (some≢none (sym (first-single m j ks B l q) ∙ e)))
 
 -- ---- degrees: they add up to twice the lanes
 

@@ -88,15 +88,15 @@ module _ (m n : ℕ) (T : List Cell) (e : Lane) where
   abbrev out : Cell
   out = leaver m n T e
 
-  pub pivot-enters : List·Memᴰ (withAmount e (step m n T e)) (pivot m n T e)
+  pivot-enters : List·Memᴰ (withAmount e (step m n T e)) (pivot m n T e)
   unfolding pivot
   pivot-enters = insert-here n _ _
 
-  pub pivot-stays : {c : Cell} → List·Memᴰ c T → ¬ Stands out (c .row) (c .col) → List·Memᴰ (shift (signs m n T e) (step m n T e) c) (pivot m n T e)
+  pivot-stays : {c : Cell} → List·Memᴰ c T → ¬ Stands out (c .row) (c .col) → List·Memᴰ (shift (signs m n T e) (step m n T e) c) (pivot m n T e)
   unfolding pivot
   pivot-stays {c} mem d = insert-keeps n _ _ (member-map (shift (signs m n T e) (step m n T e)) (member-keep (other out) (other-yes out c d) mem))
 
-  pub pivot-member : {x : Cell} → List·Memᴰ x (pivot m n T e) → (x ≡ withAmount e (step m n T e)) ⊎ Stays m n T e x
+  pivot-member : {x : Cell} → List·Memᴰ x (pivot m n T e) → (x ≡ withAmount e (step m n T e)) ⊎ Stays m n T e x
   unfolding pivot
   pivot-member mem = ⊎-elim inl (λ k.
       let (c, kept, s) = map-member (shift (signs m n T e) (step m n T e)) (keep (other out) T) k in

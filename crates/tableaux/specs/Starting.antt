@@ -346,7 +346,7 @@ put : {P : Problem} {k left i j : ℕ} {s d : Pair} → PassesBy P (suc left) i 
     → drop k (start P) ≡ corner P (suc left) i j s d → Put P k
 put {P} {k} {left} {i} {j} {s} {d} w e f = record { left = left; row = i; column = j; rowPair = s; columnPair = d; passes = w; size = e; cells = f }
 
-pub start-put : (P : Problem) → Sound P → (k : ℕ) → k < length (start P) → Put P k
+start-put : (P : Problem) → Sound P → (k : ℕ) → k < length (start P) → Put P k
 unfolding start
 start-put P ok zero l =
     let e = size-suc P ok in

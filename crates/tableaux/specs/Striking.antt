@@ -1,10 +1,9 @@
 -- Striking off leaf after leaf: lanes join all nodes without a loop exactly if all of them are struck off, and what the list of strikes then is.
 use Rattle.prelude.specs.Words.{_≡_, refl, ap, sym, _∙_, _↔_, _≢_, _⊎_, inl, inr, ⊎-elim, by-cases, Bool, true, false, cond, List, [], _∷_, List·Memᴰ}
 use Rattle.prelude.specs.Words.{List·Memᴰ·head, List·Memᴰ·tail, List·Memᴰ·not-nil, List·Memᴰ·cases-cons, Memᴰ·cast, none, some, ℕ, zero, suc, _+_, _-_, _≤_}
-use Rattle.prelude.specs.Words.{_<_, arith, ℕ-discrete, decLt, lt-ltb, le-ltb, eqb-true, eq-eqb, eqb, ltb, length, by-test}
+use Rattle.prelude.specs.Words.{_<_, arith, ℕ-discrete, decLt, lt-ltb, le-ltb, eqb-true, eq-eqb, eqb, ltb, length, by-test, by-option, some≢none}
 use Rattle.transport.specs.Lists.{table, sumTo}
-use Rattle.transport.specs.Laws.ListLaws.{none-some, by-option, member-at, member-place, getD-table, length-table, and-left, and-right, sumTo-none, sumTo-add}
-use Rattle.transport.specs.Laws.ListLaws.{sumTo-le}
+use Rattle.transport.specs.Laws.ListLaws.{member-at, member-place, getD-table, length-table, and-left, and-right, sumTo-none, sumTo-add, sumTo-le}
 use Rattle.transport.specs.Problem.{Lane}
 use Rattle.transport.specs.Laws.ProblemLaws.{lane}
 use Rattle.transport.specs.Tableau.{basisSize}
@@ -37,7 +36,7 @@ linked-struck : {m n : ℕ} {left : ℕ → Bool} {nodes : List ℕ} (most : ℕ
 unfolding strikeOff
 linked-struck zero p others w q = omega arith
 linked-struck {m} {n} {left} {nodes} (suc most) {B} p others w q = by-option (firstLeaf m nodes B)
-    (λ e. rw (strike-none m nodes most B e) (sym (no-members B (λ l h. none-some (sym e ∙ leaf-exists w p others l h .1)))))
+    (λ e. rw (strike-none m nodes most B e) (sym (no-members B (λ l h. some≢none (sym (leaf-exists w p others l h .1) ∙ e)))))
     (λ s e.
     let f = found m nodes B s e in
     let less = length-without f in

@@ -62,11 +62,11 @@ bit-pow-other j k n = by-cases (decLt k j) (bit-pow-below j k) (λ p. rw (one-mu
     above : (k < j → ⊥) → j < k
     above p = omega arith
 
-pub put-here : (x j : ℕ) → bit (put x j) j ≡ 1
+put-here : (x j : ℕ) → bit (put x j) j ≡ 1
 unfolding put
 put-here x j = omega (arith, bit-or x (1 * 2 ^ j) j, bit-pow-same j)
 
-pub put-there : (x j k : ℕ) → (k ≡ j → ⊥) → bit (put x j) k ≡ bit x k
+put-there : (x j k : ℕ) → (k ≡ j → ⊥) → bit (put x j) k ≡ bit x k
 unfolding put
 put-there x j k n = omega (arith, bit-or x (1 * 2 ^ j) k, bit-pow-other j k n)
 

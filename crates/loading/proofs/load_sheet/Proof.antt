@@ -1,8 +1,7 @@
 -- `loading::load_sheet` meets its contract: what the sheet check refuses is refused, and else the tableau is tested and loaded.
-use Rattle.prelude.specs.Words.{sym, ap, _∙_, needs}
+use Rattle.prelude.specs.Words.{sym, ap, _∙_, needs, some≢none}
 use Rattle.transport.specs.Sheet.{Sheet, sheetOf}
 use Rattle.transport.specs.Laws.SheetLaws.{accepted}
-use Rattle.transport.specs.Laws.CallLaws.{some≢none}
 use Rattle.sheet.specs.Check.{checkAnswer, check-some, accepted-none, refused-some}
 use Rattle.loading.specs.Loading.{sheet-refused}
 use Rattle.loading.proofs.load_sheet.Statement.{statement}

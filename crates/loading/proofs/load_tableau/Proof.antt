@@ -1,5 +1,5 @@
 -- `loading::load_tableau` meets its contract: among those left the caller's tableau belongs exactly if it belongs to the sheet under own numbers.
-use Rattle.prelude.specs.Words.{_≡_, sym, ap, _∙_, map, not-true, not-false}
+use Rattle.prelude.specs.Words.{_≡_, sym, ap, _∙_, map, not-true, not-false, some≢none}
 use Rattle.transport.specs.Sheet.{Sheet, cafes, sheetOf}
 use Rattle.transport.specs.Extended.{extended}
 use Rattle.transport.specs.Parties.{rowsLeft, columnsLeft, problemOf}
@@ -9,7 +9,6 @@ use Rattle.transport.specs.OwnNumbers.{belongsTo}
 use Rattle.transport.specs.Calls.{inside}
 use Rattle.transport.specs.Statements.{Accepted}
 use Rattle.transport.specs.Laws.Sound.{sound}
-use Rattle.transport.specs.Laws.CallLaws.{some≢none}
 use Rattle.transport.specs.declared.Tableau.{Tableau}
 use Rattle.sheet.specs.Check.{checkAnswer, check-none, check-some}
 use Rattle.parties.specs.Parties.{PartiesOf, parties-problem, supplies-lent, demands-lent, rows-lent, columns-lent, cafes-lent}

@@ -1,15 +1,11 @@
 -- Laws of Calls: the value or the first refusal, what a lent list then holds, and rooms.
 use Rattle.prelude.specs.Words.{_≡_, refl, sym, _∙_, ap, _↔_, Bool, true, false, _||_, true≢false, List, [], _∷_, _++_, none, some, ℕ, _*_, _≤_, _<_, arith}
-use Rattle.prelude.specs.Words.{ltb-false, lt-ltb, le-ltb, length, drop}
+use Rattle.prelude.specs.Words.{ltb-false, lt-ltb, le-ltb, length, drop, by-option, some≢none}
 use Rattle.transport.specs.Sheet.{Sheet, roasteries, cafes, refusal}
 use Rattle.transport.specs.Laws.SheetLaws.{refusal-yes, refusal-no, refusal-clear, refusal-pass, refusal-stands}
 use Rattle.transport.specs.Calls.{Refusal, refused, given, refusedBy, unless, lentAfter, tooShort, Solution}
-use Rattle.transport.specs.Laws.ListLaws.{none-some, by-option}
 
 -- ---- answers
-
-pub some≢none : {A : Type 0} {a : A} → some a ≡ none → ⊥
-some≢none e = none-some (sym e)
 
 pub refused≢given : {A : Type 0} {r : Refusal} {a : A} → refused r ≡ given a → ⊥
 refused≢given e = let n : _≡_ {A = ℕ} 0 1 = cc in omega arith

@@ -3,20 +3,9 @@ use Rattle.prelude.specs.Words.{ℕ, zero, suc, _+_, _*_, _-_, _≤_, _<_, arit
 use Rattle.prelude.specs.Words.{_≡_, refl, sym, ap, _∙_, ⊎-elim, by-cases, Bool, true, false, _&&_, cond, true≢false, false≢true, List, [], _∷_, _++_, map}
 use Rattle.prelude.specs.Words.{flatMap, append-assoc, append-nil, List·Memᴰ, List·Memᴰ·head, List·Memᴰ·tail, List·Memᴰ·not-nil, List·Memᴰ·cases-cons}
 use Rattle.prelude.specs.Words.{List·Memᴰ·append-cases, Memᴰ·append-left, Memᴰ·append-right, length, drop, getD, set, length-append, length-drop, length-map}
-use Rattle.prelude.specs.Words.{List·getD-append, List·getD-eq-default, drop-cons, set-at, getD-at, getD-drop, ext-getD, ℤ, pos, _+ℤ_, by-test, Option, none}
-use Rattle.prelude.specs.Words.{some}
+use Rattle.prelude.specs.Words.{List·getD-append, List·getD-eq-default, drop-cons, set-at, getD-at, getD-drop, ext-getD, ℤ, pos, _+ℤ_, by-test}
 use lib.Seq.{getD-append-add}
 use Rattle.transport.specs.Lists.{all, keep, leastFrom, firstLeast, table, below, sumTo, sumZ, at, atZ, total}
-
--- ---- options
-
-pub none-some : {A : Type 0} {x : A} → none ≡ some x → ⊥
-none-some e = let z : _≡_ {A = ℕ} 0 1 = cc in omega arith
-
--- A statement that holds whether something is there or not.
-pub by-option : {A P : Type 0} (o : Option A) → (o ≡ none → P) → ((a : A) → o ≡ some a → P) → P
-by-option none h g = h refl
-by-option (some a) h g = g a refl
 
 -- ---- table
 

@@ -1,13 +1,13 @@
 -- The laws of Sheet: the first refusal, and what the sheet check says.
 use Rattle.prelude.specs.Words.{ℕ, _*_, _≤_, _<_, arith, decLt, _≡_, refl, sym, ap, _∙_, Bool, true, false, not, _&&_, and-false, List, [], _∷_, _++_}
 use Rattle.prelude.specs.Words.{append-nil, none, some, leb, ltb, T, ℤ, pos, negsuc, negℤ, leZ, ltZ, _≤ℤ_, leZ-yes, length, leb-true, le-leb, lt-leb, eqb-true}
-use Rattle.prelude.specs.Words.{eq-eqb, ne-eqb, le-ltb, lt-ltb, ltb-true, ltb-false, not-false, by-test, clash, by-cases}
+use Rattle.prelude.specs.Words.{eq-eqb, ne-eqb, le-ltb, lt-ltb, ltb-true, ltb-false, not-false, by-test, clash, by-cases, some≢none}
 use Rattle.transport.specs.Lists.{all, at, atZ, total, atMost, within, withinZ}
 use Rattle.transport.specs.Limits.{maxSources, maxSinks, maxSide, maxAmount, maxCost}
 use Rattle.transport.specs.Sheet.{Sheet, roasteries, cafes, badSides, badLength, badAmount, badCost, lacking, crowded, idle, numberTests, sheetTests}
 use Rattle.transport.specs.Sheet.{refusal}
 use Rattle.transport.specs.Statements.{WithinLimits, Lacking, Crowded, Idle, Accepted}
-use Rattle.transport.specs.Laws.ListLaws.{none-some, and-left, and-right, all-at, all-of, at-past, atZ-past}
+use Rattle.transport.specs.Laws.ListLaws.{and-left, and-right, all-at, all-of, at-past, atZ-past}
 
 -- ---- refusal
 
@@ -21,7 +21,7 @@ refusal-no t ts e = rw (e, refusal)
 
 -- Where nothing is refused, the first test does not hold, and none of the others refuses.
 pub refusal-clear : (t : Bool × ℕ) (ts : List (Bool × ℕ)) → refusal (t ∷ ts) ≡ none → (t .0 ≡ false) × (refusal ts ≡ none)
-refusal-clear t ts e = by-test (t .0) (λ p. absurd (none-some (sym e ∙ refusal-yes t ts p))) (λ p. (p, sym (refusal-no t ts p) ∙ e))
+refusal-clear t ts e = by-test (t .0) (λ p. absurd (some≢none (sym (refusal-yes t ts p) ∙ e))) (λ p. (p, sym (refusal-no t ts p) ∙ e))
 
 -- Tests that refuse nothing leave it to those after them ..
 pub refusal-pass : (ts us : List (Bool × ℕ)) → refusal ts ≡ none → refusal (ts ++ us) ≡ refusal us
@@ -31,7 +31,7 @@ refusal-pass (t ∷ ts) us e = let (p, q) = refusal-clear t ts e in refusal-no t
 -- .. and a refusal stands, whatever is tested after it.
 pub refusal-stands : (ts us : List (Bool × ℕ)) (k : ℕ) → refusal ts ≡ some k → refusal (ts ++ us) ≡ some k
 unfolding refusal
-refusal-stands [] us k e = absurd (none-some e)
+refusal-stands [] us k e = absurd (some≢none (sym e))
 refusal-stands (t ∷ ts) us k e = by-test (t .0)
     (λ p. refusal-yes t (ts ++ us) p ∙ sym (refusal-yes t ts p) ∙ e)
     (λ p. refusal-no t (ts ++ us) p ∙ refusal-stands ts us k (sym (refusal-no t ts p) ∙ e))
