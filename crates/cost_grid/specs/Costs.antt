@@ -14,7 +14,7 @@ use Rattle.transport.specs.Laws.RangeLaws.{abs-between}
 use Rattle.transport.specs.Laws.Sound.{sources-room, sinks-room}
 use Rattle.transport.specs.Statements.{Accepted}
 use Rattle.tree.specs.Layout.{stride, stride-is, laneRoom, getD-all}
-use Rattle.tree.specs.Grid.{Filled}
+use Rattle.tree.specs.Grid.{GridFilled}
 
 -- ---- what is filled in
 
@@ -51,7 +51,7 @@ byColumn-once h k i j p q l e = omega arith
 
 -- All rows are filled in, over zeros.
 pub all-spread : {cost : List ℤ} {cafes : ℕ} {rows cols : List ℕ} {i : ℕ} {out : List ℤ} → Spreadable cost cafes rows cols → i ≡ length rows
-    → Filled byColumn (ownCost cost cafes rows cols) (pos 0) (length cols) (replicate laneRoom (pos 0)) i 0 out → Spread cost cafes rows cols out
+    → GridFilled byColumn (ownCost cost cafes rows cols) (pos 0) (length cols) (replicate laneRoom (pos 0)) i 0 out → Spread cost cafes rows cols out
 all-spread {cost} {cafes} {rows} {cols} {i} {out} s all w = record {
   long = w .long ∙ length-replicate laneRoom (pos 0);
   lanes = λ h k l r. w .on h k (omega (arith, s .colsFew)) r;

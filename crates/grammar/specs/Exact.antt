@@ -48,8 +48,8 @@ pub joining : {A B : Type 0} {L : A → List ℕ → Type 0} {M : A → B → Li
 joining a front back h k = record { value = a; front = front; back = back; first = h; second = k; joined = refl }
 
 -- A text of L, and nothing after it.
-pub ending : {A B : Type 0} {L : A → List ℕ → Type 0} {M : A → B → List ℕ → Type 0} {b : B} (a : A) (t : List ℕ) → L a t → M a b [] → Then L M b t
-ending a t h k = record { value = a; front = t; back = []; first = h; second = k; joined = sym (append-nil t) }
+pub nothing-after : {A B : Type 0} {L : A → List ℕ → Type 0} {M : A → B → List ℕ → Type 0} {b : B} (a : A) (t : List ℕ) → L a t → M a b [] → Then L M b t
+nothing-after a t h k = record { value = a; front = t; back = []; first = h; second = k; joined = sym (append-nil t) }
 
 -- The two parts in other words.
 pub glued : {t front back left right : List ℕ} → t ≡ front ++ back → front ≡ left → back ≡ right → t ≡ left ++ right

@@ -5,7 +5,7 @@ use Rattle.transport.specs.Text.{bytes, kindOf, wholeDigits, numberLine, rowLin
 use Rattle.transport.specs.Limits.{maxSources, maxSinks}
 use Rattle.transport.specs.SheetText.{Reader, _>>=_, pure, isDigit, number, side, whole, line, row}
 use Rattle.grammar.specs.Numbers.{Side, Small, SmallWhole}
-use Rattle.grammar.specs.Exact.{Exact, Any, Then, glued, joining, ending, bind, then, reworded, agreeing}
+use Rattle.grammar.specs.Exact.{Exact, Any, Then, glued, joining, nothing-after, bind, then, reworded, agreeing}
 use Rattle.grammar.specs.Every.{Count}
 use Rattle.grammar.specs.Readers.{Only, pure-exact, Bytes, word-exact, Of}
 use Rattle.grammar.specs.Closing.{closedBy, ClosedText, spaced}
@@ -47,7 +47,7 @@ module _ {A : Type 0} (Good : A → Type 0) (write : A → List ℕ) where
   row-none xs t = (λ h. rw (h .second .0) ((refl, tt), glued (h .joined) (h .first) (h .second .1)), back xs)
     where
       back : (ys : List A) → Row 0 ys t → Then (Bytes (bytes "\n")) (λ u. Only []) ys t
-      back [] h = ending tt t (h .1) (refl, refl)
+      back [] h = nothing-after tt t (h .1) (refl, refl)
       back (y ∷ ys) h = absurd (omega arith)
 
   row-one : (xs : List A) (t : List ℕ) → Then (ClosedText Good write 10) (λ x. Only (x ∷ [])) xs t ↔ Row 1 xs t
@@ -56,7 +56,7 @@ module _ {A : Type 0} (Good : A → Type 0) (write : A → List ℕ) where
     where
       back : (ys : List A) → Row 1 ys t → Then (ClosedText Good write 10) (λ x. Only (x ∷ [])) ys t
       back [] h = absurd (omega arith)
-      back (y ∷ []) h = rw (h .1) (ending y (write y ++ (10 ∷ [])) (h .0 .1 .0, refl) (refl, refl))
+      back (y ∷ []) h = rw (h .1) (nothing-after y (write y ++ (10 ∷ [])) (h .0 .1 .0, refl) (refl, refl))
       back (y ∷ z ∷ ys) h = absurd (omega arith)
 
   abbrev Longer : ℕ → List A → List ℕ → Type 0
@@ -83,7 +83,7 @@ module _ {A : Type 0} (Good : A → Type 0) (write : A → List ℕ) where
       back [] h = absurd (omega arith)
       back (y ∷ []) h = absurd (omega arith)
       back (y ∷ z ∷ ys) h = rw (h .1) (joining y (write y ++ (32 ∷ [])) (rowLine write (z ∷ ys)) (h .0 .1 .0, refl)
-          (ending (z ∷ ys) (rowLine write (z ∷ ys)) ((omega arith, h .0 .1 .1), refl) (refl, refl)))
+          (nothing-after (z ∷ ys) (rowLine write (z ∷ ys)) ((omega arith, h .0 .1 .1), refl) (refl, refl)))
 
   module _ (r : Reader A) (last : Exact (line r) (ClosedText Good write 10) Any) (inner : Exact (closedBy 32 r) (ClosedText Good write 32) Any) where
     row-exact : (n : ℕ) → Exact (row r n) (Row n) Any

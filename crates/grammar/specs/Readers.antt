@@ -4,7 +4,7 @@ use Rattle.prelude.specs.Words.{eq-eqb, by-test}
 use mathlib.Core.List.{cons≢nil, nil≢cons}
 use Rattle.transport.specs.SheetText.{Reading, stuck, got, Reader, _>>_, pure, byteThat, word, end, times}
 use Rattle.grammar.specs.Every.{Count}
-use Rattle.grammar.specs.Exact.{Exact, Taken, Stopped, Any, AtEnd, Then, glued, stuck≢got, bind, then, reworded, joining, ending, stopped-at-once}
+use Rattle.grammar.specs.Exact.{Exact, Taken, Stopped, Any, AtEnd, Then, glued, stuck≢got, bind, then, reworded, joining, nothing-after, stopped-at-once}
 
 module _ {A : Type 0} where
   -- No byte, and the value a.
@@ -116,7 +116,7 @@ module _ {A : Type 0} (Good : A → Type 0) (write : A → List ℕ) where
       back : (zs : List A) → Of (Count Good (suc k)) (flatMap write) zs t → Further k zs t
       back [] h = absurd (omega arith)
       back (y ∷ ys) h = rw (h .1) (joining y (write y) (flatMap write ys) (h .0 .1 .0, refl)
-          (ending ys (flatMap write ys) ((omega arith, h .0 .1 .1), refl) (refl, refl)))
+          (nothing-after ys (flatMap write ys) ((omega arith, h .0 .1 .1), refl) (refl, refl)))
 
   pub times-exact : {r : Reader A} → Exact r (Of Good write) Any → (k : ℕ) → Exact (times k r) (Of (Count Good k) (flatMap write)) Any
   unfolding times

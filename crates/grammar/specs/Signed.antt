@@ -6,7 +6,7 @@ use Rattle.transport.specs.Lists.{within}
 use Rattle.transport.specs.SheetText.{Reader, _>>=_, pure, isDigit, numberFrom, minus, signed, whole}
 use Rattle.grammar.specs.Numbers.{SmallWhole}
 use Rattle.grammar.specs.Decimal.{Decimal, digits-decimal}
-use Rattle.grammar.specs.Exact.{Exact, Any, Then, glued, ending, bind, reworded, agreeing}
+use Rattle.grammar.specs.Exact.{Exact, Any, Then, glued, nothing-after, bind, reworded, agreeing}
 use Rattle.grammar.specs.Readers.{Only, pure-exact}
 use Rattle.grammar.specs.Closing.{closedBy, ClosedText, ClosedNumber, spaced, closed-later}
 use Rattle.grammar.specs.Number.{From, from-exact}
@@ -64,9 +64,9 @@ module _ (c : ℕ) (plain : isDigit c ≡ false) where
 
   whole-back : (z : ℤ) (t : List ℕ) → ClosedText SmallWhole wholeDigits c z t → Behind 45 (AfterSign true) z t ⊎ AfterSign false z t
   unfolding wholeDigits bytes
-  whole-back (pos n) t h = inr (ending n t ((omega arith, h .0), h .1) (refl, refl))
+  whole-back (pos n) t h = inr (nothing-after n t ((omega arith, h .0), h .1) (refl, refl))
   whole-back (negsuc n) t h = let back = digits (suc n) ++ (c ∷ []) in
-      inl (record { back = back; text = h .1; member = ending (suc n) back ((omega arith, h .0), refl) (refl, refl) })
+      inl (record { back = back; text = h .1; member = nothing-after (suc n) back ((omega arith, h .0), refl) (refl, refl) })
 
   -- A cost without a minus begins with a digit, so the two ways have no text in common.
   some-byte : (z : ℤ) → ¬ AfterSign false z []

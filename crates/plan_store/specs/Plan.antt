@@ -16,7 +16,7 @@ use Rattle.transport.specs.Laws.PartiesLaws.{left-at, length-left, left-grows, 
 use Rattle.transport.specs.Laws.Sound.{sources-room, sinks-room}
 use Rattle.tableaux.specs.PlanView.{carried}
 use Rattle.tree.specs.Layout.{stride, stride-is}
-use Rattle.tree.specs.Grid.{Filled}
+use Rattle.tree.specs.Grid.{GridFilled}
 use Rattle.augment.specs.Bags.{laneBags}
 
 -- The bags on the lane at place k in sheet order, among n columns.
@@ -91,8 +91,8 @@ growing-once xs grow h k p r e = by-cases (decLt h k)
 abbrev pub ownPlace : ℕ → List ℕ → List ℕ → ℕ → ℕ → ℕ
 ownPlace n rows cols i j = place n (at rows i) (at cols j)
 
-abbrev pub bagsOn : List ℤ → ℕ → ℕ → ℕ
-bagsOn q i j = natAbs (getD q (i * stride + j) (pos 0))
+abbrev pub bagCount : List ℤ → ℕ → ℕ → ℕ
+bagCount q i j = natAbs (getD q (i * stride + j) (pos 0))
 
 module _ {q : List ℤ} {rows cols : List ℕ} {m n : ℕ} {old : List ℕ} (s : Storable q rows cols m n old) where
   -- It is one of the plan's places ..
@@ -108,17 +108,20 @@ module _ {q : List ℤ} {rows cols : List ℕ} {m n : ℕ} {old : List ℕ} (s :
 
   -- All rows are stored, over a list whose places were cleared.
   pub all-stored : {i : ℕ} {mid new : List ℕ} → i ≡ length rows → Emptied (m * n) (m * n) old mid
-      → Filled (ownPlace n rows cols) (bagsOn q) 0 (length cols) mid i 0 new → Stored q rows cols m n old new
+      → GridFilled (ownPlace n rows cols) (bagCount q) 0 (length cols) mid i 0 new → Stored q rows cols m n old new
   unfolding at
   all-stored {i} {mid} {new} all c w = record {
     long = w .long ∙ c .long;
     rest = ext-getD 0 (drop (m * n) new) (drop (m * n) mid) (simp length-drop (rw (w .long))) (λ t l.
         rw (getD-drop, getD-drop) (w .off (m * n + t) (λ h k u r e. omega (arith, own-inside (row u r) r)))) ∙ c .rest;
     on = λ h k l r. w .on h k (omega (arith, s .colsFew)) r;
-    offRow = λ h k l r none. w .off (place n h k) (λ h′ k′ u t e. none h′ (row u t) (own h k h′ k′ r t e .0)) ∙ c .clear (place n h k) (place-below m n h k l r);
-    offColumn = λ h k l r none. w .off (place n h k) (λ h′ k′ u t e. none k′ t (own h k h′ k′ r t e .1)) ∙ c .clear (place n h k) (place-below m n h k l r);
+    offRow = λ h k l r none. w .off (place n h k) (λ h′ k′ u t e. none h′ (row u t) (own h k h′ k′ r t e .0)) ∙ clear h k l r;
+    offColumn = λ h k l r none. w .off (place n h k) (λ h′ k′ u t e. none k′ t (own h k h′ k′ r t e .1)) ∙ clear h k l r;
   }
     where
+      clear : (h k : ℕ) → h < m → k < n → at mid (place n h k) ≡ 0
+      clear h k l r = c .clear (place n h k) (place-below m n h k l r)
+
       row : {h k : ℕ} → h * stride + k < i * stride + 0 → k < length cols → h < length rows
       row u r = omega (arith, s .colsFew)
 

@@ -3,21 +3,21 @@ use Rattle.prelude.specs.Words.{ℕ, _+_, _*_, _<_, _≤_, arith, decLt, _≡_,
 use Rattle.prelude.specs.Words.{getD-set-other}
 use Rattle.tree.specs.Layout.{stride}
 
--- The rows before i are filled in, and of row i the columns before j, of n columns: lane (h, k) has its value at its spot. At other places the list is as it was.
-pub record Filled {A : Type 0} (spot : ℕ → ℕ → ℕ) (value : ℕ → ℕ → A) (d : A) (n : ℕ) (old : List A) (i j : ℕ) (new : List A) : Type 0 where
+-- The rows before i are filled in, and of row i the columns before j, of n columns: lane (h, k) has its value at its spot. Elsewhere the list is as it was.
+pub record GridFilled {A : Type 0} (spot : ℕ → ℕ → ℕ) (value : ℕ → ℕ → A) (d : A) (n : ℕ) (old : List A) (i j : ℕ) (new : List A) : Type 0 where
   pub long : length new ≡ length old
   pub on : (h k : ℕ) → h * stride + k < i * stride + j → k < n → getD new (spot h k) d ≡ value h k
   pub off : (s : ℕ) → ((h k : ℕ) → h * stride + k < i * stride + j → k < n → ¬ (spot h k ≡ s)) → getD new s d ≡ getD old s d
 
 module _ {A : Type 0} {spot : ℕ → ℕ → ℕ} {value : ℕ → ℕ → A} {d : A} {n : ℕ} {old : List A} where
-  pub filled-none : Filled spot value d n old 0 0 old
-  filled-none = record { long = refl; on = λ h k l r. absurd (omega arith); off = λ s f. refl }
+  pub grid-start : GridFilled spot value d n old 0 0 old
+  grid-start = record { long = refl; on = λ h k l r. absurd (omega arith); off = λ s f. refl }
 
-  module _ {i j : ℕ} {new : List A} (w : Filled spot value d n old i j new) (low : n ≤ stride) where
+  module _ {i j : ℕ} {new : List A} (w : GridFilled spot value d n old i j new) (low : n ≤ stride) where
     -- One lane more, if no earlier one has its spot.
-    pub filled-one : j < n → spot i j < length new → ((h k : ℕ) → h * stride + k < i * stride + j → k < n → ¬ (spot h k ≡ spot i j))
-        → Filled spot value d n old i (j + 1) (set new (spot i j) (value i j))
-    filled-one r inside apart = record {
+    pub grid-lane : j < n → spot i j < length new → ((h k : ℕ) → h * stride + k < i * stride + j → k < n → ¬ (spot h k ≡ spot i j))
+        → GridFilled spot value d n old i (j + 1) (set new (spot i j) (value i j))
+    grid-lane r inside apart = record {
       long = simp length-set (w .long);
       on = λ h k s t. by-cases (decLt (h * stride + k) (i * stride + j))
           (λ u. getD-set-other new (spot i j) (spot h k) (value i j) d (apart h k u t) ∙ w .on h k u t)
@@ -29,8 +29,8 @@ module _ {A : Type 0} {spot : ℕ → ℕ → ℕ} {value : ℕ → ℕ → A} {
     }
 
     -- The row is full.
-    pub filled-row : j ≡ n → Filled spot value d n old (i + 1) 0 new
-    filled-row e = record {
+    pub grid-row : j ≡ n → GridFilled spot value d n old (i + 1) 0 new
+    grid-row e = record {
       long = w .long;
       on = λ h k s t. w .on h k (omega arith) t;
       off = λ s f. w .off s (λ h k u t. f h k (omega arith) t);

@@ -9,14 +9,15 @@ use Rattle.transport.specs.Problem.{place}
 use Rattle.transport.specs.Laws.RangeLaws.{mag-abs, abs-fits, back}
 use Rattle.cost_grid.specs.Costs.{ownCost, byColumn, byColumn-once, all-spread}
 use Rattle.tree.specs.Layout.{laneRoom}
-use Rattle.tree.specs.Grid.{Filled, filled-none, filled-one, filled-row}
+use Rattle.tree.specs.Grid.{GridFilled, grid-start, grid-lane, grid-row}
 use Rattle.cost_grid.proofs.spread_costs.Statement.{statement}
 use Rattle.cost_grid.proofs.spread_costs.Tie as tie
 
 abbrev Inv-loop2 : tie.InvT-loop2
 Inv-loop2 cost cafes rows cols out₀ all i first j₀ out j =
     let c = ownCost cost cafes rows cols in
-    (j ≤ length cols) × ((before : List ℤ) → Filled byColumn c (pos 0) (length cols) before i 0 out₀ → Filled byColumn c (pos 0) (length cols) before i j out)
+    let n = length cols in
+    (j ≤ n) × ((before : List ℤ) → GridFilled byColumn c (pos 0) n before i 0 out₀ → GridFilled byColumn c (pos 0) n before i j out)
 
 abbrev μ-loop2 : tie.MeasureT-loop2
 μ-loop2 cost cafes rows cols out₀ all i first j₀ out j = length cols - j
@@ -24,7 +25,7 @@ abbrev μ-loop2 : tie.MeasureT-loop2
 abbrev Inv-loop : tie.InvT-loop
 Inv-loop cost cafes rows cols out₀ all i₀ out i =
     (i ≤ length rows)
-    × Filled byColumn (ownCost cost cafes rows cols) (pos 0) (length cols) out₀ i 0 out
+    × GridFilled byColumn (ownCost cost cafes rows cols) (pos 0) (length cols) out₀ i 0 out
     × (all ≡ true → length cols ≡ cafes)
 
 abbrev μ-loop : tie.MeasureT-loop
@@ -38,7 +39,7 @@ abbrev startOf : tie.At-loop Inv-loop2 μ-loop2 Inv-loop μ-loop → tie.Start I
 startOf c = c .before .before .before .before
 
 loop-holds : tie.Need-loop-holds Inv-loop2 μ-loop2 Inv-loop μ-loop
-loop-holds c = (omega arith, filled-none, λ e. eqb-true _ _ e)
+loop-holds c = (omega arith, grid-start, λ e. eqb-true _ _ e)
 
 mul-first-2 : tie.Need-mul-first-2 Inv-loop2 μ-loop2 Inv-loop μ-loop
 unfolding at
@@ -99,7 +100,7 @@ loop2-again c =
     let x = costHere l in (
       omega arith,
       λ before p. rw (c .before .own-number .ensures, read-back l, toZ-ofZ {w = w32} (abs-fits w32 x (small l)))
-          (filled-one (l .loop2 .inv .1 before p) (s .pre .colsFew) (omega arith) (omega (arith, s .pre .rowsFew, s .pre .colsFew))
+          (grid-lane (l .loop2 .inv .1 before p) (s .pre .colsFew) (omega arith) (omega (arith, s .pre .rowsFew, s .pre .colsFew))
           (λ h k u t. byColumn-once h k i (l .loop2 .j) (omega (arith, s .pre .rowsFew, s .pre .colsFew)) (omega (arith, s .pre .rowsFew)) u)),
     )
 
@@ -109,7 +110,7 @@ loop-again c =
     let o = turn (c .before) .loop in
     let s = startOf (turn (c .before)) in (
       omega arith,
-      filled-row (l .inv .1 _ (o .inv .1)) (s .pre .colsFew) (omega arith),
+      grid-row (l .inv .1 _ (o .inv .1)) (s .pre .colsFew) (omega arith),
       o .inv .2,
     )
 

@@ -6,8 +6,8 @@ use mir.Val.{toZ, ofZ}
 use Rattle.transport.specs.Lists.{at}
 use Rattle.transport.specs.Problem.{place}
 use Rattle.tree.specs.Layout.{stride, laneRoom}
-use Rattle.plan_store.specs.Plan.{Emptied, emptied-none, emptied-one, ownPlace, bagsOn, own-inside, own-once, all-stored}
-use Rattle.tree.specs.Grid.{Filled, filled-none, filled-one, filled-row}
+use Rattle.plan_store.specs.Plan.{Emptied, emptied-none, emptied-one, ownPlace, bagCount, own-inside, own-once, all-stored}
+use Rattle.tree.specs.Grid.{GridFilled, grid-start, grid-lane, grid-row}
 use Rattle.plan_store.proofs.store_plan.Statement.{statement}
 use Rattle.plan_store.proofs.store_plan.Tie as tie
 
@@ -20,14 +20,14 @@ abbrev μ-loop : tie.MeasureT-loop
 abbrev Inv-loop3 : tie.InvT-loop3
 Inv-loop3 q rows cols m n plan₀ l all i first j₀ plan j =
     let to = ownPlace n rows cols in
-    (j ≤ length cols) × ((old : List ℕ) → Filled to (bagsOn q) 0 (length cols) old i 0 plan₀ → Filled to (bagsOn q) 0 (length cols) old i j plan)
+    (j ≤ length cols) × ((old : List ℕ) → GridFilled to (bagCount q) 0 (length cols) old i 0 plan₀ → GridFilled to (bagCount q) 0 (length cols) old i j plan)
 
 abbrev μ-loop3 : tie.MeasureT-loop3
 μ-loop3 q rows cols m n plan₀ l all i first j₀ plan j = length cols - j
 
 abbrev Inv-loop2 : tie.InvT-loop2
 Inv-loop2 q rows cols m n plan₀ l all i₀ plan i =
-    (i ≤ length rows) × Filled (ownPlace n rows cols) (bagsOn q) 0 (length cols) plan₀ i 0 plan × (all ≡ true → length cols ≡ n)
+    (i ≤ length rows) × GridFilled (ownPlace n rows cols) (bagCount q) 0 (length cols) plan₀ i 0 plan × (all ≡ true → length cols ≡ n)
 
 abbrev μ-loop2 : tie.MeasureT-loop2
 μ-loop2 q rows cols m n plan₀ l all i₀ plan i = length rows - i
@@ -132,14 +132,14 @@ loop3-again c =
     let s = startOf (turn l) .pre in (
       omega arith,
       λ old p. rw (lies c .0, c .before .own-number .ensures)
-          (filled-one (l .loop3 .inv .1 old p) (s .colsFew) (omega arith) (inside (c .before .before) .0) (own-once s (omega arith) (omega arith))),
+          (grid-lane (l .loop3 .inv .1 old p) (s .colsFew) (omega arith) (inside (c .before .before) .0) (own-once s (omega arith) (omega arith))),
     )
 
 loop2-again : tie.Need-loop2-again Inv-loop μ-loop Inv-loop3 μ-loop3 Inv-loop2 μ-loop2
 loop2-again c =
     let l = c .before in
     let t = turn l .loop2 .inv in
-    (omega arith, filled-row (l .loop3 .inv .1 _ (t .1)) (startOf (turn l) .pre .colsFew) (omega arith), t .2)
+    (omega arith, grid-row (l .loop3 .inv .1 _ (t .1)) (startOf (turn l) .pre .colsFew) (omega arith), t .2)
 
 returns : tie.Need-returns Inv-loop μ-loop Inv-loop3 μ-loop3 Inv-loop2 μ-loop2
 returns c = all-stored (startOf (c .before) .pre) (omega arith) (cleared (c .before)) (c .before .loop2 .inv .1)
@@ -149,7 +149,7 @@ store-plan-spec =
     tie.close (tie.spec Inv-loop μ-loop Inv-loop3 μ-loop3 Inv-loop2 μ-loop2 (λ c. (omega arith, emptied-none _ _))
     (λ c. omega (arith, size (startBefore c))) (λ c. omega (arith, size (startBefore (c .before)))) (λ c. loop-inside c)
     (λ c. omega (arith, size (startBefore (c .before)))) (λ c. search needs) loop-again
-    (λ c. (omega arith, filled-none, λ e. eqb-true _ _ e)) (λ c. search needs) (λ c. search needs) mul-first-2
+    (λ c. (omega arith, grid-start, λ e. eqb-true _ _ e)) (λ c. search needs) (λ c. search needs) mul-first-2
     (λ c. (omega arith, λ old p. p)) own-number-requires (λ c. omega arith) (λ c. omega arith) (λ c. omega arith) (λ c. omega arith)
     cast-plan (λ c. omega (arith, goes c .1)) (λ c. omega (arith, goes c .1)) (λ c. goes c .0) (λ c. search needs) (λ c. search needs)
     loop3-again (λ c. search needs) (λ c. search needs) loop2-again (λ c. long-row (c .before)) returns)
