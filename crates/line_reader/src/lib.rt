@@ -7,15 +7,15 @@ ghost use Rattle.transport.specs.SheetText.{number, whole};
 ghost use Rattle.tokens.specs.Reading.{readingOf, placeOf, valueIs, valueSide};
 ghost use Rattle.line_reader.specs.LinesRead.{readLines};
 ghost use Rattle.line_reader.specs.SheetRead.{listReader, costReader};
+use number_reader::read_end;
+use number_reader::read_number;
+use number_reader::read_side;
 use sections::lines;
 use sections::section;
 use tokens::Taken;
 use tokens::TakenWhole;
 use tokens::bytes::read_word;
-use tokens::numbers::read_end;
-use tokens::numbers::read_number;
-use tokens::numbers::read_side;
-use tokens::wholes::read_whole;
+use whole_reader::read_whole;
 
 // So many numbers, in lines of `width`, into the front of the list.
 fn read_lines(text: &[u8], at: usize, width: usize, count: usize, list: &mut [u64]) -> Taken

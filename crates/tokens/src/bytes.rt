@@ -33,7 +33,7 @@ fn kind_at(text: &[u8], at: usize) -> ByteKind
 }
 
 // Whether a digit comes next.
-pub(crate) fn digit_at(text: &[u8], at: usize) -> bool
+pub fn digit_at(text: &[u8], at: usize) -> bool
     ensures { λ r. ⌜ r ≡ digitNext (drop at (now (text .entry))) ⌝ }
 {
     let kind = kind_at(text, at);
@@ -47,7 +47,7 @@ pub(crate) fn digit_at(text: &[u8], at: usize) -> bool
 }
 
 // Whether the end of a number comes next: a line end after the last one of its line, else a space. `left` counts as in `sections::lines`.
-pub(crate) fn end_at(text: &[u8], at: usize, left: usize) -> bool
+pub fn end_at(text: &[u8], at: usize, left: usize) -> bool
     ensures { λ r. ⌜ r ≡ byteNext (ending left) (drop at (now (text .entry))) ⌝ }
 {
     let kind = kind_at(text, at);
@@ -61,7 +61,7 @@ pub(crate) fn end_at(text: &[u8], at: usize, left: usize) -> bool
 }
 
 // Whether this byte comes next.
-pub(crate) fn byte_at(text: &[u8], at: usize, byte: u8) -> bool
+pub fn byte_at(text: &[u8], at: usize, byte: u8) -> bool
     ensures { λ r. ⌜ r ≡ byteNext byte (drop at (now (text .entry))) ⌝ }
 {
     if text.len() <= at {

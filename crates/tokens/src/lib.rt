@@ -1,8 +1,5 @@
-// What a sheet text is read by: bytes of a kind, words, numbers and the bytes that end them. Each reader starts at a place of the text, and its answer says
-// where it ended.
+// What a sheet text is read by: bytes of a kind, and words. Each reader starts at a place of the text, and its answer says where it ended.
 pub mod bytes;
-pub mod numbers;
-pub mod wholes;
 
 // What a reader finds from its place on: a value, with the place after it; or the place before the first byte that cannot come there.
 pub enum Taken {

@@ -1,9 +1,9 @@
 -- The first digit decides whether there is a side, and the second belongs to it as long as it stays within the limit.
 use Rattle.prelude.specs.Words.{sym, _∙_, _+_, arith, not-true, not-false, needs}
 use Rattle.transport.specs.Laws.SheetLaws.{true-within, within-high}
 use Rattle.tokens.specs.Reading.{DigitAt, digit-at, more-none, more-stop, more-step, more-over, side-stuck, side-zero, side-more}
-use Rattle.tokens.proofs.numbers.read_side.Statement.{statement}
-use Rattle.tokens.proofs.numbers.read_side.Tie as tie
+use Rattle.number_reader.proofs.read_side.Statement.{statement}
+use Rattle.number_reader.proofs.read_side.Tie as tie
 
 returns : tie.Need-returns
 returns c = (side-stuck _ _ (sym (c .before .digit-at .ensures) ∙ not-true _ (c .if1 .taken)), c .before .before .before .pre .0)

@@ -1,9 +1,9 @@
 -- The first digit is read here, and the others by more_digits.
 use Rattle.prelude.specs.Words.{sym, _∙_, arith, not-true, not-false, needs}
 use Rattle.transport.specs.Limits.{maxDigits}
 use Rattle.tokens.specs.Reading.{DigitAt, digit-at, number-stuck, number-low, number-zero, number-more}
-use Rattle.tokens.proofs.numbers.read_number.Statement.{statement}
-use Rattle.tokens.proofs.numbers.read_number.Tie as tie
+use Rattle.number_reader.proofs.read_number.Statement.{statement}
+use Rattle.number_reader.proofs.read_number.Tie as tie
 
 returns : tie.Need-returns
 returns c = (number-stuck _ _ (sym (c .before .digit-at .ensures) ∙ not-true _ (c .if1 .taken)), c .before .before .before .pre)

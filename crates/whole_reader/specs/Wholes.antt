@@ -11,10 +11,12 @@ use Rattle.sections.specs.Lines.{ending}
 use Rattle.transport.specs.Limits.{maxDigits}
 use Rattle.transport.specs.Laws.RangeLaws.{abs-neg, abs-fits}
 use Rattle.transport.specs.SheetText.{Reading, stuck, got, Reader, _>>=_, pure, isDigit, numberFrom, minus, signed, whole}
-use Rattle.tokens.specs.Reading.{Taken, Got, Stuck, readingOf, placeOf, byteNext, bind-got, bind-stuck, endReading, end-stuck, end-no, end-yes}
+use Rattle.tokens.specs.declared.Taken.{Taken}
+use Rattle.tokens.specs.declared.Taken.the-variants.{Got, Stuck}
+use Rattle.tokens.specs.Reading.{readingOf, placeOf, byteNext, bind-got, bind-stuck, endReading, end-stuck, end-no, end-yes}
 use Rattle.tokens.specs.Reading.{byte-inside, closed-end}
-pub use Rattle.tokens.specs.declared.TakenWhole.{TakenWhole}
-pub use Rattle.tokens.specs.declared.TakenWhole.the-variants as Whole
+use Rattle.tokens.specs.declared.TakenWhole.{TakenWhole}
+use Rattle.tokens.specs.declared.TakenWhole.the-variants as Whole
 
 -- As `readingOf` and `placeOf`.
 abbrev pub wholeReading : List ℕ → TakenWhole → Reading ℤ

@@ -1,9 +1,9 @@
 -- The loop's invariant: the rest of the digits is to be read from the present place on; `count` digits make a value below 10 ^ count.
 use Rattle.prelude.specs.Words.{needs, _≡_, refl, sym, _∙_, _≤_, _<_, _+_, _*_, _-_, _^_, suc, arith, not-true, not-false, length, drop, getD}
 use Rattle.transport.specs.SheetText.{moreDigits}
 use Rattle.tokens.specs.Reading.{always, DigitAt, digit-at, more-none, more-stop, more-step, value-next, value-fits}
-use Rattle.tokens.proofs.numbers.more_digits.Statement.{statement}
-use Rattle.tokens.proofs.numbers.more_digits.Tie as tie
+use Rattle.number_reader.proofs.more_digits.Statement.{statement}
+use Rattle.number_reader.proofs.more_digits.Tie as tie
 
 abbrev Inv-loop : tie.InvT-loop
 Inv-loop text at first most value₀ next₀ count₀ value next count = (count ≤ most) × (value < 10 ^ count) × (next ≤ length text)

@@ -1,9 +1,10 @@
 -- A number that was not read stays as it is; else what comes next decides.
 use Rattle.prelude.specs.Words.{_≡_, sym, _∙_, true, _≤_, arith, not-true, not-false, length, drop, needs}
 use Rattle.sections.specs.Lines.{ending}
-use Rattle.tokens.specs.Reading.{byteNext, byte-inside, drop-next, end-stuck, end-no, end-yes, Got}
-use Rattle.tokens.proofs.numbers.read_end.Statement.{statement}
-use Rattle.tokens.proofs.numbers.read_end.Tie as tie
+use Rattle.tokens.specs.Reading.{byteNext, byte-inside, drop-next, end-stuck, end-no, end-yes}
+use Rattle.tokens.specs.declared.Taken.the-variants.{Got}
+use Rattle.number_reader.proofs.read_end.Statement.{statement}
+use Rattle.number_reader.proofs.read_end.Tie as tie
 
 returns : tie.Need-returns
 returns c = let told = c .enum-told .given .1 in (rw told (end-stuck (ending (c .before .before .before .args .left)) _), c .before .before .before .pre)

@@ -4,10 +4,10 @@ ghost use Prim.Native.Nat.{_-_, _≤_, _<_};
 ghost use lib.ListN.{length, drop};
 ghost use Rattle.transport.specs.SheetText.{moreDigits, numberFrom, side};
 ghost use Rattle.sections.specs.Lines.{ending};
 ghost use Rattle.tokens.specs.Reading.{readingOf, placeOf, always, endReading};
-use crate::Taken;
-use crate::bytes::digit_at;
-use crate::bytes::end_at;
+use tokens::Taken;
+use tokens::bytes::digit_at;
+use tokens::bytes::end_at;
 
 // The most digits that a number of a sheet text has.
 const MAX_DIGITS: usize = 7;

@@ -4,13 +4,13 @@ ghost use Prim.Native.Nat.{_≤_, _^_};
 ghost use lib.ListN.{length, drop};
 ghost use Rattle.transport.specs.SheetText.{whole};
 ghost use Rattle.sections.specs.Lines.{ending};
 ghost use Rattle.tokens.specs.Reading.{endReading};
-ghost use Rattle.tokens.specs.Wholes.{wholeReading, wholePlace, signedTaken, valueBelow};
-use crate::Taken;
-use crate::TakenWhole;
-use crate::bytes::byte_at;
-use crate::numbers::read_end;
-use crate::numbers::read_number;
+ghost use Rattle.whole_reader.specs.Wholes.{wholeReading, wholePlace, signedTaken, valueBelow};
+use number_reader::read_end;
+use number_reader::read_number;
+use tokens::Taken;
+use tokens::TakenWhole;
+use tokens::bytes::byte_at;
 
 // A number that was read, with its sign.
 fn signed(negative: bool, number: Taken) -> TakenWhole

@@ -1,10 +1,10 @@
 -- The minus, and then the number that comes after it.
 use Rattle.prelude.specs.Words.{sym, ap, _∙_, arith, needs}
 use Rattle.sections.specs.Lines.{ending}
 use Rattle.tokens.specs.Reading.{endReading}
-use Rattle.tokens.specs.Wholes.{signed-reading, signed-place, number-value, minus-few, minus-fits, whole-read}
-use Rattle.tokens.proofs.wholes.read_whole.Statement.{statement}
-use Rattle.tokens.proofs.wholes.read_whole.Tie as tie
+use Rattle.whole_reader.specs.Wholes.{signed-reading, signed-place, number-value, minus-few, minus-fits, whole-read}
+use Rattle.whole_reader.proofs.read_whole.Statement.{statement}
+use Rattle.whole_reader.proofs.read_whole.Tie as tie
 
 add-first : tie.Need-add-first
 add-first c = let t = c .before .before in omega (arith, minus-fits (t .args .text .now) (t .args .at) _ (t .pre) (sym (c .byte-at .ensures)))

@@ -1,8 +1,8 @@
 -- A number that was read is below 2 ^ 63, so that it and its opposite have 64 bits.
 use Rattle.prelude.specs.Words.{_<_, _^_, needs}
-use Rattle.tokens.specs.Wholes.{number-fits, number-back, opposite-fits, opposite-back}
-use Rattle.tokens.proofs.wholes.signed.Statement.{statement}
-use Rattle.tokens.proofs.wholes.signed.Tie as tie
+use Rattle.whole_reader.specs.Wholes.{number-fits, number-back, opposite-fits, opposite-back}
+use Rattle.whole_reader.proofs.signed.Statement.{statement}
+use Rattle.whole_reader.proofs.signed.Tie as tie
 
 small : (c : tie.After-known-told) → c .before .number .given .0 .0 < 2 ^ 63
 small c = rw (c .before .number .given .1) at (c .before .before .before .pre)
