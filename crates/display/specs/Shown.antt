@@ -1,7 +1,9 @@
 -- What is shown of a sheet that was read, and of a text that is no sheet text.
 use Rattle.prelude.specs.Words.{_≡_, refl, sym, ap, _∙_, by-cases, Bool, none, some, List, [], _∷_, _++_, ℕ, suc, min, _*_, _-_, _≤_, arith, decLe, length}
-use Rattle.prelude.specs.Words.{take, take-all, eq-eqb, by-test, by-option, some≢none}
+use Rattle.prelude.specs.Words.{take, take-all, eq-eqb, by-test, by-option, some≢none, drop, length-drop}
 use Rattle.transport.specs.declared.WriteAnswer.the-variants.{Written, Refused}
+use Rattle.transport.specs.declared.ReadAnswer.{ReadAnswer}
+use Rattle.transport.specs.declared.ReadAnswer.the-variants.{NotSheetText}
 use Rattle.transport.specs.Limits.{maxSources, maxSinks, maxText}
 use Rattle.transport.specs.Sheet.{Sheet, sheetTests, numberTests, badSides, badLength, badAmount, badCost, lacking, crowded, idle, refusal}
 use Rattle.transport.specs.Laws.SheetLaws.{true-within, refusal-yes, refusal-no}
@@ -14,6 +16,7 @@ use Rattle.transport.specs.Answers.{writeAnswer}
 use Rattle.sheet.specs.Refusals.{sheet-numbers}
 use Rattle.grammar.specs.Every.{Every}
 use Rattle.grammar.specs.SheetCalls.{read-got, read-stuck}
+use Rattle.sheet_reader.specs.SheetAnswer.{answerOf, readFits}
 use Rattle.decimals.specs.Front.{front}
 use Rattle.decimals.specs.Fitting.{fitting-short, fitting-fits}
 use Rattle.sections.specs.Lines.{ended}
@@ -148,6 +151,14 @@ module _ (input : List ℕ) where
       → printed input ≡ bytes "refused 9 " ++ ended digits (length textRead - length rest) 10
   unfolding printed
   printed-place rest e = rw (read-stuck numberTests textRead rest e, printed) (place-line (length textRead - length rest))
+
+  pub printed-stuck : {text : List ℕ} {found : ReadAnswer} {place : ℕ} (f : ℕ → ℕ → Sheet) → text ≡ textRead → sheetReader text ≡ answerOf text f found
+      → readFits text found → found ≡ NotSheetText place → printed input ≡ bytes "refused 9 " ++ ended digits place 10
+  printed-stuck {text} {place = place} f t reads fits e =
+      let stands : sheetReader textRead ≡ stuck (drop place textRead) = rw (t, e) at reads in
+      let inside : place ≤ length textRead = rw (t, e) at fits in
+      let same : length textRead - length (drop place textRead) ≡ place = omega (arith, length-drop place textRead) in
+      printed-place (drop place textRead) stands ∙ (rw same)
 
   pub printed-sheet : (S : Sheet) (rest : List ℕ) → sheetReader textRead ≡ got S rest → refusal (sheetTests S) ≡ refusal (numberTests S) → printed input
       ≡ sheetShown S

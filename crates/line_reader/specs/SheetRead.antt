@@ -1,13 +1,27 @@
 -- The sheet reader by its sections: two lists, the costs and the end.
-use Rattle.prelude.specs.Words.{_≡_, refl, sym, ap, _∙_, List, [], _∷_, _++_, flatten, ℕ, zero, suc, _*_, _-_, _≤_, arith, ℤ, length, take}
+use Rattle.prelude.specs.Words.{_≡_, refl, sym, ap, _∙_, List, [], _∷_, _++_, flatten, ℕ, zero, suc, _*_, _-_, _≤_, arith, ℤ, length, take, drop, subst}
 use Rattle.transport.specs.Limits.{maxSources, maxSinks}
 use Rattle.transport.specs.Text.{bytes, digits, headLine}
 use Rattle.transport.specs.Sheet.{Sheet}
 use Rattle.transport.specs.SheetText.{Reading, stuck, got, Reader, _>>=_, _>>_, pure, times, word, end, number, whole, side, line, row, sheetReader}
 use Rattle.decimals.specs.Front.{front, front-take}
 use Rattle.sections.specs.Lines.{ended, head-line}
-use Rattle.tokens.specs.Reading.{bind-got, bind-stuck, bind-inside, bind-same, bind-assoc, then-got, then-stuck, then-same, then-assoc}
+use Rattle.tokens.specs.declared.Taken.{Taken}
+use Rattle.tokens.specs.declared.Taken.the-variants.{Got, Stuck}
+use Rattle.tokens.specs.Reading.{readingOf, placeOf, bind-got, bind-stuck, bind-inside, bind-same, bind-assoc, then-got, then-stuck, then-same, then-assoc}
 use Rattle.line_reader.specs.LinesRead.{readLines, column-lines, rows-lines, flat}
+
+-- ---- what is found
+
+module _ {B : Type 0} (text : List ℕ) {first : Reading B} {found : Taken} (g : ℕ → B) (e : first ≡ readingOf text g found) (p : placeOf found ≤ length text)
+  where
+    pub found-got : {v next : ℕ} → found ≡ Got v next → (first ≡ got (g v) (drop next text)) × (next ≤ length text)
+    found-got s = (e ∙ ap (readingOf text g) s, rw s at p)
+
+    -- Where the reader that comes first is stuck, so is the whole.
+    pub found-stuck : {A : Type 0} {whole : Reading A} {place : ℕ} (f : ℕ → A) (Value : Taken → Type 0) → Value (Stuck place)
+        → ((u : List ℕ) → first ≡ stuck u → whole ≡ stuck u) → found ≡ Stuck place → (whole ≡ readingOf text f found) × (placeOf found ≤ length text) × Value found
+    found-stuck f Value v stop s = (rw s (stop _ (e ∙ ap (readingOf text g) s)), p, subst Value (sym s) v)
 
 -- ---- a list after its head line
 

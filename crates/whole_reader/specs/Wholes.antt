@@ -13,8 +13,7 @@ use Rattle.transport.specs.Laws.RangeLaws.{abs-neg, abs-fits}
 use Rattle.transport.specs.SheetText.{Reading, stuck, got, Reader, _>>=_, pure, isDigit, numberFrom, minus, signed, whole}
 use Rattle.tokens.specs.declared.Taken.{Taken}
 use Rattle.tokens.specs.declared.Taken.the-variants.{Got, Stuck}
-use Rattle.tokens.specs.Reading.{readingOf, placeOf, byteNext, bind-got, bind-stuck, endReading, end-stuck, end-no, end-yes}
-use Rattle.tokens.specs.Reading.{byte-inside, closed-end}
+use Rattle.tokens.specs.Reading.{readingOf, placeOf, byteNext, bind-got, bind-stuck, endReading, end-stuck, end-no, end-yes, byte-inside, closed-end}
 use Rattle.tokens.specs.declared.TakenWhole.{TakenWhole}
 use Rattle.tokens.specs.declared.TakenWhole.the-variants as Whole
 

@@ -2,8 +2,9 @@
 use Rattle.prelude.specs.Words.{needs, _≡_, refl, ap, _∙_, _-_, arith, length, drop, length-set}
 use Rattle.transport.specs.SheetText.{number}
 use Rattle.sections.specs.Lines.{ending}
-use Rattle.tokens.specs.Reading.{readingOf, endReading}
+use Rattle.tokens.specs.Reading.{readingOf, valueIs, endReading}
 use Rattle.line_reader.specs.LinesRead.{ReadSoFar, read-start, read-stopped, read-more, read-done}
+use Rattle.line_reader.specs.SheetRead.{found-got, found-stuck}
 use Rattle.line_reader.proofs.read_lines.Statement.{statement}
 use Rattle.line_reader.proofs.read_lines.Tie as tie
 
@@ -18,32 +19,29 @@ loop-holds c =
     let t = c .before .before in
     (refl, read-start number (t .args .text .now) (t .args .at) (t .args .width) (t .args .count) (t .pre .0) (t .pre .1) (t .args .list .now))
 
-found : (c : tie.After-read-end Inv-loop μ-loop) → let l = c .before .before .before .loop in
-    let text = c .before .before .before .before .before .before .args .text .now in
-    endReading (ending (l .left)) (number (drop (l .next) text)) ≡ readingOf text (λ v. v) (c .read-end .result)
-unfolding number
-found c = ap (endReading (ending (c .before .before .before .loop .left))) (c .before .read-number .ensures .0) ∙ c .read-end .ensures .0
+module _ (c : tie.After-read-end Inv-loop μ-loop) where
+  abbrev turn : tie.At-loop Inv-loop μ-loop
+  turn = c .before .before .before
+
+  found : let text = turn .before .before .before .args .text .now in
+      endReading (ending (turn .loop .left)) (number (drop (turn .loop .next) text)) ≡ readingOf text (λ v. v) (c .read-end .result)
+  unfolding number
+  found = ap (endReading (ending (turn .loop .left))) (c .before .read-number .ensures .0) ∙ c .read-end .ensures .0
 
 returns : tie.Need-returns Inv-loop μ-loop
 returns c =
     let t = c .before .before in
-    let stopped = c .enum-told .given .1 in (
-      rw stopped (read-stopped (c .before .before .before .before .before .loop .inv .1) (omega arith) _ (found t ∙ (rw stopped))),
-      t .read-end .ensures .1,
-      rw stopped tt,
-    )
+    found-stuck _ _ (found t) (t .read-end .ensures .1) _ (valueIs _) tt (read-stopped (turn t .loop .inv .1) (omega arith)) (c .enum-told .given .1)
 
-left-after-requires : tie.Need-left-after-requires Inv-loop μ-loop
-left-after-requires c κs = c .before .before .before .before .before .before .loop .inv .1 .onLine
+abbrev read : tie.After-known-told Inv-loop μ-loop → tie.After-read-end Inv-loop μ-loop
+read c = c .before .before .before
 
 loop-again : tie.Need-loop-again Inv-loop μ-loop
 loop-again c =
-    let t = c .before .before .before .before in
-    let l = c .before .before .before .before .before .before .before .loop in
-    let is-number = c .before .before .number .given .1 in (
-      simp length-set (l .inv .0),
-      read-more (l .inv .1) (omega arith) _ _ _ (omega arith) (found t ∙ (rw is-number)) (rw is-number at (t .read-end .ensures .1)) (c .left-after .ensures),
-    )
+    let t = read (c .before) in
+    let l = turn t .loop .inv in
+    let (is-read, inside) = found-got _ _ (found t) (t .read-end .ensures .1) (c .before .before .number .given .1) in
+    (simp length-set (l .0), read-more (l .1) (omega arith) _ _ _ (omega arith) is-read inside (c .left-after .ensures))
 
 returns-2 : tie.Need-returns-2 Inv-loop μ-loop
 returns-2 c = let s = c .before .loop .inv .1 in (read-done s (omega arith), s .place, refl)
@@ -51,5 +49,5 @@ returns-2 c = let s = c .before .loop .inv .1 in (read-done s (omega arith), s .
 pub read-lines-spec : {M : Type 1} → statement M
 read-lines-spec =
     tie.close (tie.spec Inv-loop μ-loop loop-holds (λ c κs. c .before .loop .inv .1 .place) (λ c κs. c .read-number .ensures .1)
-    (λ c. search needs) (λ c. search needs) (λ c. search needs) returns (λ c. search needs) (λ c. search needs) left-after-requires
-    (λ c. search needs) (λ c. search needs) loop-again (λ c. search needs) returns-2)
+    (λ c. search needs) (λ c. search needs) (λ c. search needs) returns (λ c. search needs) (λ c. search needs)
+    (λ c κs. turn (read c) .loop .inv .1 .onLine) (λ c. search needs) (λ c. search needs) loop-again (λ c. search needs) returns-2)

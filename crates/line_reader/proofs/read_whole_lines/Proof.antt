@@ -18,27 +18,25 @@ loop-holds c =
     let t = c .before in
     (refl, read-start whole (t .args .text .now) (t .args .at) (t .args .width) (t .args .count) (t .pre .0) (t .pre .1) (t .args .list .now))
 
+abbrev turn : tie.After-read-whole Inv-loop μ-loop → tie.At-loop Inv-loop μ-loop
+turn c = c .before .before
+
 returns : tie.Need-returns Inv-loop μ-loop
 returns c =
-    let w = c .before .before .before .read-whole in
-    let stopped = c .before .number2 .given .1 in (
-      read-stopped (c .before .before .before .before .before .loop .inv .1) (omega arith) _ (w .ensures .0 ∙ (rw stopped)),
-      rw stopped at (w .ensures .1),
-      tt,
-    )
-
-left-after-requires : tie.Need-left-after-requires Inv-loop μ-loop
-left-after-requires c κs = c .before .before .before .before .before .loop .inv .1 .onLine
+    let w = c .before .before .before in
+    let e = w .read-whole .ensures in
+    let stopped = c .before .number2 .given .1 in
+    (read-stopped (turn w .loop .inv .1) (omega arith) _ (e .0 ∙ (rw stopped)), rw stopped at (e .1), tt)
 
 loop-again : tie.Need-loop-again Inv-loop μ-loop
 loop-again c =
-    let l = c .before .before .before .before .before .before .loop in
-    let w = c .before .before .before .before .read-whole in
-    let is-number = c .before .before .number .given .1 in
-    let as-it-is = back w64 (c .before .before .number .given .0 .0) (search needs) in (
-      simp length-set (l .inv .0),
-      rw as-it-is (read-more (l .inv .1) (omega arith) _ _ _ (omega arith) (w .ensures .0 ∙ (rw is-number)) (rw is-number at (w .ensures .1))
-          (c .left-after .ensures)),
+    let w = c .before .before .before .before in
+    let e = w .read-whole .ensures in
+    let l = turn w .loop .inv in
+    let number = c .before .before .number .given in
+    let as-it-is = back w64 (number .0 .0) (search needs) in (
+      simp length-set (l .0),
+      rw as-it-is (read-more (l .1) (omega arith) _ _ _ (omega arith) (e .0 ∙ (rw (number .1))) (rw (number .1) at (e .1)) (c .left-after .ensures)),
     )
 
 returns-2 : tie.Need-returns-2 Inv-loop μ-loop
@@ -47,5 +45,5 @@ returns-2 c = let s = c .before .loop .inv .1 in (read-done s (omega arith), s .
 pub read-whole-lines-spec : {M : Type 1} → statement M
 read-whole-lines-spec =
     tie.close (tie.spec Inv-loop μ-loop loop-holds (λ c κs. c .before .loop .inv .1 .place) (λ c. search needs) (λ c. search needs)
-    (λ c. search needs) (λ c. search needs) (λ c. search needs) returns left-after-requires (λ c. search needs) (λ c. search needs)
-    loop-again (λ c. search needs) returns-2)
+    (λ c. search needs) (λ c. search needs) (λ c. search needs) returns (λ c κs. turn (c .before .before .before) .loop .inv .1 .onLine) (λ c. search needs)
+    (λ c. search needs) loop-again (λ c. search needs) returns-2)

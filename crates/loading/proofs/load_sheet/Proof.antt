@@ -10,22 +10,22 @@ use Rattle.loading.proofs.load_sheet.Tie as tie
 abbrev start : tie.After-check-sheet → tie.Start
 start a = a .before .before .before
 
-abbrev sheetAt : tie.Start → Sheet
-sheetAt s = sheetOf (s .args .supply .now) (s .args .demand .now) (s .args .cost .now)
+abbrev S : tie.After-check-sheet → Sheet
+S a = let x = start a .args in sheetOf (x .supply .now) (x .demand .now) (x .cost .now)
 
 returns : tie.Need-returns
 returns c =
     let a = c .before .before .before in
-    let s = start a in
-    let refuses = sheet-refused (sheetAt s) (s .args .t) _ (refused-some _ _ (sym (a .check-sheet .ensures) ∙ c .before .check .given .1)) in
+    let refuses = sheet-refused (S a) (start a .args .t) _ (refused-some _ _ (sym (a .check-sheet .ensures) ∙ c .before .check .given .1)) in
     (sym (ap checkAnswer refuses ∙ check-some _), λ e. absurd (some≢none (sym refuses ∙ e)))
+
+abbrev told : tie.After-load-tableau-arg6 → tie.After-enum-told
+told c = c .before .before .before .before .before .before
 
 load-tableau-requires : tie.Need-load-tableau-requires
 load-tableau-requires c κs =
-    let told = c .before .before .before .before .before .before in
-    let a = told .before .before in
-    let s = start a in
-    (accepted (sheetAt s) (accepted-none _ (sym (a .check-sheet .ensures) ∙ told .enum-told .given .1)), s .pre)
+    let a = told c .before .before in
+    (accepted (S a) (accepted-none _ (sym (a .check-sheet .ensures) ∙ told c .enum-told .given .1)), start a .pre)
 
 pub load-sheet-spec : {M : Type 1} → statement M
 load-sheet-spec =

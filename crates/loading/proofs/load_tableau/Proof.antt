@@ -20,9 +20,6 @@ use Rattle.loading.specs.Loading.{tableau-refused, none-refused, begun-l
 use Rattle.loading.proofs.load_tableau.Statement.{statement}
 use Rattle.loading.proofs.load_tableau.Tie as tie
 
-abbrev sheetAt : tie.Start → Sheet
-sheetAt s = sheetOf (s .args .supply .now) (s .args .demand .now) (s .args .cost .now)
-
 abbrev startBefore : tie.After-cols → tie.Start
 startBefore c = c .before .before .before .before .before .before
 
@@ -32,13 +29,12 @@ abbrev startOf : tie.After-number-parties → tie.Start
 startOf p = startBefore (p .before)
 
 abbrev sheetOn : tie.After-number-parties → Sheet
-sheetOn p = sheetAt (startOf p)
+sheetOn p = let a = startOf p .args in sheetOf (a .supply .now) (a .demand .now) (a .cost .now)
 
 ok : (p : tie.After-number-parties) → Accepted (sheetOn p)
 ok p = startOf p .pre .0
 
-parties : (p : tie.After-number-parties)
-    → let l = p .number-parties .last .1 .1 in
+parties : (p : tie.After-number-parties) → let l = p .number-parties .last .1 .1 in
     PartiesOf (sheetOn p) (p .number-parties .result) (l .0) (l .1 .0) (l .1 .1 .0) (l .1 .1 .1 .0)
 parties p = p .number-parties .ensures (sheetOn p .cost)
 
@@ -53,13 +49,11 @@ partiesBefore r = r .before .before .before
 abbrev tableau : tie.After-renumber → Tableau
 tableau r = startOf (partiesBefore r) .args .t
 
-inner-cells : (r : tie.After-renumber)
-    → let E = extended (sheetOn (partiesBefore r)) in
+inner-cells : (r : tie.After-renumber) → let E = extended (sheetOn (partiesBefore r)) in
     cellsOf (r .renumber .result) ≡ map (cellAmong (rowsLeft E) (columnsLeft E)) (cellsOf (tableau r))
 inner-cells r = let h = parties (partiesBefore r) in rw (h .rowNumbers, h .columnNumbers) at (r .renumber .ensures .1)
 
-same-verdict : (r : tie.After-renumber)
-    → let S = sheetOn (partiesBefore r) in
+same-verdict : (r : tie.After-renumber) → let S = sheetOn (partiesBefore r) in
     belongs (problemOf S) (r .renumber .result) ≡ belongsTo (extended S) (tableau r)
 unfolding problemOf
 same-verdict r =

@@ -12,22 +12,9 @@ Inv-loop own among₀ k₀ among k = (k ≤ length own) × NumberedTo own k amon
 abbrev μ-loop : tie.MeasureT-loop
 μ-loop own among₀ k₀ among k = length own - k
 
-loop-holds : tie.Need-loop-holds Inv-loop μ-loop
-unfolding maxSide
-loop-holds c = (omega arith, numbered-none (c .args .own .now))
-
 -- An own number has a place in the list.
-inside : (c : tie.After-shared-slice-known Inv-loop μ-loop)
-    → at (c .before .before .before .args .own .now) (c .before .before .loop .k) < maxSide
-inside c = c .before .before .before .pre .inside (c .before .before .loop .k) (omega arith)
-
-mul-among-2 : tie.Need-mul-among-2 Inv-loop μ-loop
-unfolding at maxSide
-mul-among-2 c = omega (arith, inside c)
-
-array-write-among : tie.Need-array-write-among Inv-loop μ-loop
-unfolding at maxSide
-array-write-among c = inside c
+inside : (c : tie.After-shared-slice-known Inv-loop μ-loop) → let t = c .before .before in at (t .before .args .own .now) (t .loop .k) < maxSide
+inside c = let t = c .before .before in t .before .pre .inside (t .loop .k) (omega arith)
 
 loop-again : tie.Need-loop-again Inv-loop μ-loop
 unfolding at
@@ -40,6 +27,7 @@ returns c =
     numbered-all own (c .before .loop .among) (c .before .before .pre) (rw e at (c .before .loop .inv .1))
 
 pub numbers-spec : {M : Type 1} → statement M
+unfolding at maxSide
 numbers-spec =
-    tie.close (tie.spec Inv-loop μ-loop loop-holds (λ c. omega arith) (λ c. omega arith) mul-among-2 array-write-among (λ c. omega arith)
-    (λ c. omega arith) loop-again returns)
+    tie.close (tie.spec Inv-loop μ-loop (λ c. (omega arith, numbered-none (c .args .own .now))) (λ c. omega arith) (λ c. omega arith)
+    (λ c. omega (arith, inside c)) (λ c. inside c) (λ c. omega arith) (λ c. omega arith) loop-again returns)

@@ -28,21 +28,8 @@ long c = search (needs, length-mapped)
 abbrev inLoop : tie.After-cell-among Inv-loop μ-loop → tie.In-loop Inv-loop μ-loop
 inLoop c = c .before .before .before .before
 
-mul-c : tie.Need-mul-c Inv-loop μ-loop
-unfolding maxCells maxSide
-mul-c c = omega (arith, below c)
-
-element-copy-out-c : tie.Need-element-copy-out-c Inv-loop μ-loop
-unfolding maxCells maxSide
-element-copy-out-c c = below c
-
-mul-t12 : tie.Need-mul-t12 Inv-loop μ-loop
-unfolding maxCells maxSide
-mul-t12 c = omega (arith, below (inLoop c))
-
-add-k : tie.Need-add-k Inv-loop μ-loop
-unfolding maxCells maxSide
-add-k c = omega (arith, below (inLoop c))
+abbrev start : tie.After-numbers Inv-loop μ-loop → tie.Start Inv-loop μ-loop
+start c = c .before .before .before
 
 loop-again : tie.Need-loop-again Inv-loop μ-loop
 unfolding noCell nothing maxCells maxSide
@@ -52,7 +39,7 @@ loop-again c =
     let cols = here .before .before in
     let rows = cols .before in
     let cell = c .cell-among .ensures _ _ (rows .numbers .ensures) (cols .numbers2 .ensures) in
-    (omega arith, changed-one (l .inv .1) (omega (arith, below (inLoop c), long (rows .before .before .before))) (c .cell-among .result) cell, l .inv .2)
+    (omega arith, changed-one (l .inv .1) (omega (arith, below (inLoop c), long (start rows))) (c .cell-among .result) cell, l .inv .2)
 
 returns : tie.Need-returns Inv-loop μ-loop
 unfolding maxCells maxSide
@@ -60,10 +47,11 @@ returns c =
     let l = c .before .loop in
     let n = c .before .before in
     let all : l .k ≡ n .counted .result = omega arith in
-    (l .inv .1 .many, changed-cells _ (l .inv .1) (long (n .before .before .before .before .before)) (all ∙ n .counted .ensures))
+    (l .inv .1 .many, changed-cells _ (l .inv .1) (long (start (n .before .before))) (all ∙ n .counted .ensures))
 
 pub renumber-spec : {M : Type 1} → statement M
+unfolding maxCells maxSide
 renumber-spec =
-    tie.close (tie.spec Inv-loop μ-loop (λ c κs. c .before .before .pre .0) (λ c κs. c .before .before .before .pre .1) (λ c κs. tt)
-    loop-holds mul-c element-copy-out-c (λ c κs. tt) mul-t12 (λ c. element-copy-out-c (inLoop c)) add-k (λ c. omega arith) loop-again
-    returns)
+    tie.close (tie.spec Inv-loop μ-loop (λ c κs. c .before .before .pre .0) (λ c κs. start c .pre .1) (λ c κs. tt)
+    loop-holds (λ c. omega (arith, below c)) (λ c. below c) (λ c κs. tt) (λ c. omega (arith, below (inLoop c))) (λ c. below (inLoop c))
+    (λ c. omega (arith, below (inLoop c))) (λ c. omega arith) loop-again returns)

@@ -14,53 +14,41 @@ Inv-loop buffer₀ at₀ buffer at = (at ≤ length buffer) × (length buffer �
 abbrev μ-loop : tie.MeasureT-loop
 μ-loop buffer₀ at₀ buffer at = length buffer - at
 
--- The buffer is as long as it was.
-after : (c : tie.After-read Inv-loop μ-loop) → let l = c .before .before .before .loop in
-    length (putMid (l .at) (length (l .buffer) - l .at) (l .buffer) (c .read .last .1 .0)) ≡ length (l .buffer)
-after c = let l = c .before .before .before .loop in same-len-mid (l .at) (length (l .buffer) - l .at) (l .buffer) (c .read .last .1 .0) (search needs)
+module _ (c : tie.After-read Inv-loop μ-loop) where
+  abbrev turn : tie.At-loop Inv-loop μ-loop
+  turn = c .before .before .before
 
-same-length : tie.Need-same-length Inv-loop μ-loop
-same-length c = after (c .before .before .before) ∙ c .before .before .before .before .before .before .loop .inv .1
+  -- The buffer is as long as it was.
+  after : let l = turn .loop in length (putMid (l .at) (length (l .buffer) - l .at) (l .buffer) (c .read .last .1 .0)) ≡ length (l .buffer)
+  after = let l = turn .loop in same-len-mid (l .at) (length (l .buffer) - l .at) (l .buffer) (c .read .last .1 .0) (search needs)
 
-same-length-2 : tie.Need-same-length-2 Inv-loop μ-loop
-same-length-2 c = after (c .before .before .before .before) ∙ c .before .before .before .before .before .before .before .loop .inv .1
-
-returns-2 : tie.Need-returns-2 Inv-loop μ-loop
-returns-2 c = omega (arith, after (c .before .before .before .before))
+abbrev read : tie.Else1 Inv-loop μ-loop → tie.After-read Inv-loop μ-loop
+read c = c .before .before .before
 
 -- What was read: at least one byte, and no more than were left.
 module _ (c : tie.Else2 Inv-loop μ-loop) where
-  in-range : mag (c .before .before .before .before .read .result) < 2 ^ 63
+  abbrev r : tie.After-read Inv-loop μ-loop
+  r = read (c .before)
+
+  in-range : mag (r .read .result) < 2 ^ 63
   in-range = search needs
 
-  most : natAbs (toZ w64 (ofZ w64 (c .before .before .before .before .read .result)))
-      ≤ length (c .before .before .before .before .before .before .before .loop .buffer) - c .before .before .before .before .before .before .before .loop .at
+  most : natAbs (toZ w64 (ofZ w64 (r .read .result))) ≤ length (turn r .loop .buffer) - turn r .loop .at
   most =
-      let l = c .before .before .before .before .before .before .before .loop in
-      omega (
-        arith,
-        moved-most (c .before .before .before .before .read .result) in-range (c .before .if1 .left) _
-            (c .before .before .before .before .read .ensures),
-        mid-len (l .at) (length (l .buffer)) (l .buffer) (omega arith),
-      )
+      let l = turn r .loop in
+      let moved = moved-most (r .read .result) in-range (c .before .if1 .left) _ (r .read .ensures) in
+      omega (arith, moved, mid-len (l .at) (length (l .buffer)) (l .buffer) (omega arith))
 
-  least : 1 ≤ natAbs (toZ w64 (ofZ w64 (c .before .before .before .before .read .result)))
-  least = moved-some (c .before .before .before .before .read .result) in-range (c .before .if1 .left) (c .if2 .left)
+  least : 1 ≤ natAbs (toZ w64 (ofZ w64 (r .read .result)))
+  least = moved-some (r .read .result) in-range (c .before .if1 .left) (c .if2 .left)
 
 cast-at : tie.Need-cast-at Inv-loop μ-loop
-cast-at c = (not-negative (toZ w64 (ofZ w64 (c .before .before .before .before .read .result))) (c .before .if1 .left), omega (arith, most c))
-
-loop-less : tie.Need-loop-less Inv-loop μ-loop
-loop-less c = omega (arith, most c, least c, after (c .before .before .before .before))
-
-loop-again : tie.Need-loop-again Inv-loop μ-loop
-loop-again c = omega (arith, most c, after (c .before .before .before .before))
-
-returns-3 : tie.Need-returns-3 Inv-loop μ-loop
-returns-3 c = c .before .loop .inv .0
+cast-at c = (not-negative (toZ w64 (ofZ w64 (r c .read .result))) (c .before .if1 .left), omega (arith, most c))
 
 pub read-input-spec : {M : Type 1} → statement M
 read-input-spec =
     tie.close (tie.spec Inv-loop μ-loop (λ c. omega arith) (λ c. omega arith) (λ c. omega arith) (λ c. search needs) (λ c κs. search needs)
-    same-length (λ c. tt) same-length-2 returns-2 cast-at (λ c. omega (arith, most c)) loop-less loop-again (λ c. c .before .loop .inv .1)
-    returns-3)
+    (λ c. let k = c .before .before .before in after k ∙ turn k .loop .inv .1) (λ c. tt)
+    (λ c. let k = read (c .before) in after k ∙ turn k .loop .inv .1) (λ c. omega (arith, after (read (c .before)))) cast-at
+    (λ c. omega (arith, most c)) (λ c. omega (arith, most c, least c, after (r c))) (λ c. omega (arith, most c, after (r c)))
+    (λ c. c .before .loop .inv .1) (λ c. c .before .loop .inv .0))

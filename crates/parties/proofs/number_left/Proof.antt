@@ -12,23 +12,22 @@ Inv-loop amounts left₀ own₀ count₀ k₀ left own count k = (k ≤ length a
 abbrev μ-loop : tie.MeasureT-loop
 μ-loop amounts left₀ own₀ count₀ k₀ left own count k = length amounts - k
 
-loop-holds : tie.Need-loop-holds Inv-loop μ-loop
-unfolding maxSide
-loop-holds c = (omega arith, listed-none (c .before .before .args .amounts .now) _ _ refl refl)
+abbrev start : tie.At-loop Inv-loop μ-loop → tie.Start Inv-loop μ-loop
+start c = c .before .before .before
+
+abbrev turn : tie.After-shared-slice-known Inv-loop μ-loop → tie.At-loop Inv-loop μ-loop
+turn c = c .before .before
 
 -- The lists have room for a party that is left.
-room : (c : tie.Then1 Inv-loop μ-loop) → c .before .before .before .loop .count < 32
+room : (c : tie.Then1 Inv-loop μ-loop) → turn (c .before) .loop .count < 32
 unfolding maxSide
-room c =
-    let l = c .before .before .before in
-    listed-room (l .before .before .before .args .amounts .now) (l .loop .k) (l .loop .inv .1) (omega arith)
+room c = let t = turn (c .before) in listed-room (start t .args .amounts .now) (t .loop .k) (t .loop .inv .1) (omega arith)
 
 -- The party has an amount and is listed, or it has none.
 loop-again : tie.Need-loop-again Inv-loop μ-loop
 unfolding at maxSide
 loop-again c =
-    let l = c .before .before .before .loop in
-    let amounts = c .before .before .before .before .before .before .args .amounts .now in (
+    let t = turn (c .before) in let l = t .loop in let amounts = start t .args .amounts .now in (
       omega arith,
       ⊎-elim
           (λ (d, e, f, g). rw (e, f, g) (listed-yes amounts (l .k) (l .inv .1) (omega arith) (omega (arith, d .taken))))
@@ -37,12 +36,12 @@ loop-again c =
     )
 
 returns : tie.Need-returns Inv-loop μ-loop
-returns c =
-    let l = c .before .loop in
-    listed-all (c .before .before .before .before .args .amounts .now) (l .k) (l .inv .1) (omega arith)
+returns c = let t = c .before in listed-all (start t .args .amounts .now) (t .loop .k) (t .loop .inv .1) (omega arith)
 
 pub number-left-spec : {M : Type 1} → statement M
+unfolding maxSide
 number-left-spec =
-    tie.close (tie.spec Inv-loop μ-loop loop-holds (λ c. search needs) (λ c. search needs) (λ c. omega (arith, room c))
+    tie.close (tie.spec Inv-loop μ-loop (λ c. (omega arith, listed-none (c .before .before .args .amounts .now) _ _ refl refl))
+    (λ c. search needs) (λ c. search needs) (λ c. omega (arith, room c))
     (λ c. omega (arith, room c)) (λ c. omega (arith, room c)) (λ c. omega (arith, room c)) (λ c. omega (arith, room c)) (λ c. search needs)
     (λ c. search needs) loop-again returns)

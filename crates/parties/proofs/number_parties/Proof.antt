@@ -25,28 +25,22 @@ demand-few : (s : tie.Start) → length (s .args .demand .now) ≤ maxSide
 unfolding cafes
 demand-few s = omega (arith, okAt s .limits .cafesHigh, sinks-room)
 
-total-of-requires : tie.Need-total-of-requires
-total-of-requires c κs = let s = c .before .before in (supply-few s, supplies-most (okAt s .limits))
-
-total-of-requires-2 : tie.Need-total-of-requires-2
-total-of-requires-2 c κs = let s = c .before .before .before in (demand-few s, demands-most (okAt s .limits))
-
-number-left-requires : tie.Need-number-left-requires
-number-left-requires c κs = supply-few (c .before .before .before .before .before .before)
-
-number-left-requires-2 : tie.Need-number-left-requires-2
-number-left-requires-2 c κs = demand-few (c .before .before .before .before .before .before .before .before .before)
-
 -- ---- both sides are numbered
+
+abbrev start : tie.After-total-of2 → tie.Start
+start c = c .before .before .before .before
+
+abbrev totals : tie.After-number-left → tie.After-total-of2
+totals c = c .before .before .before
 
 abbrev rowsAt : tie.After-number-left2 → tie.After-number-left
 rowsAt p = p .before .before .before
 
 abbrev totalsAt : tie.After-number-left2 → tie.After-total-of2
-totalsAt p = rowsAt p .before .before .before
+totalsAt p = totals (rowsAt p)
 
 abbrev startOf : tie.After-number-left2 → tie.Start
-startOf p = totalsAt p .before .before .before .before
+startOf p = start (totalsAt p)
 
 -- What stays at home.
 home-is : (p : tie.After-number-left2) (cost : List ℤ)
@@ -80,6 +74,8 @@ returns-2 c = λ cost.
 
 pub number-parties-spec : {M : Type 1} → statement M
 number-parties-spec =
-    tie.close (tie.spec total-of-requires total-of-requires-2 (λ c. search needs) number-left-requires number-left-requires-2 returns
+    tie.close (tie.spec (λ c κs. let s = c .before .before in (supply-few s, supplies-most (okAt s .limits)))
+    (λ c κs. let s = c .before .before .before in (demand-few s, demands-most (okAt s .limits))) (λ c. search needs)
+    (λ c κs. supply-few (start (c .before .before))) (λ c κs. demand-few (start (totals (c .before .before)))) returns
     (λ c. omega (arith, room c)) (λ c. omega (arith, room c)) (λ c. omega (arith, room c)) (λ c. omega (arith, room c))
     (λ c. omega (arith, room c)) returns-2)

@@ -15,8 +15,11 @@ Inv-loop cost cafes rows u j first least₀ k₀ least k =
 abbrev μ-loop : tie.MeasureT-loop
 μ-loop cost cafes rows u j first least₀ k₀ least k = length rows - k
 
+abbrev first : tie.After-slack-arg Inv-loop μ-loop → tie.Start Inv-loop μ-loop
+first c = c .before .before .before
+
 abbrev start : tie.At-loop Inv-loop μ-loop → tie.Start Inv-loop μ-loop
-start c = c .before .before .before .before .before
+start c = first (c .before .before)
 
 -- The k-th roastery left has its number on the list of prices, and its price is read as it is.
 module _ (c : tie.Start Inv-loop μ-loop) (k : ℕ) (l : k < length (c .args .rows .now)) where
@@ -43,38 +46,22 @@ module _ (c : tie.Start Inv-loop μ-loop) (k : ℕ) (l : k < length (c .args .ro
 some : (c : tie.Start Inv-loop μ-loop) → 0 < length (c .args .rows .now)
 some c = c .pre .2 .some
 
-mul-slack : tie.Need-mul-slack Inv-loop μ-loop
-unfolding at
-mul-slack c = let s = c .before .before in omega (arith, listed s 0 (some s))
-
-shared-slice-copy-out-slack : tie.Need-shared-slice-copy-out-slack Inv-loop μ-loop
-unfolding at
-shared-slice-copy-out-slack c = let s = c .before .before in listed s 0 (some s)
-
 slack-requires : tie.Need-slack-requires Inv-loop μ-loop
 unfolding at atZ
 slack-requires c κs =
-    let s = c .before .before .before in
+    let s = first c in
     let (m, costs, rows) = s .pre in
     ((m, costs, rows .inside 0 (some s)), small s 0 (some s))
 
 loop-holds : tie.Need-loop-holds Inv-loop μ-loop
 unfolding at atZ
 loop-holds c =
-    let s = c .before .before .before .before in
+    let s = first (c .before) in
     (omega arith, some s, back w64 (c .slack .result) (search needs) ∙ slack-is s 0 (some s) (c .slack .result) (c .slack .ensures) ∙ sym (least-one _))
 
 -- The next one.
 next : (c : tie.In-loop Inv-loop μ-loop) → c .before .loop .k < length (start (c .before) .args .rows .now)
 next c = omega arith
-
-mul-slack-2 : tie.Need-mul-slack-2 Inv-loop μ-loop
-unfolding at
-mul-slack-2 c = let here = c .before .before in omega (arith, listed (start here) (here .loop .k) (next (c .before)))
-
-shared-slice-copy-out-slack-2 : tie.Need-shared-slice-copy-out-slack-2 Inv-loop μ-loop
-unfolding at
-shared-slice-copy-out-slack-2 c = let here = c .before .before in listed (start here) (here .loop .k) (next (c .before))
 
 slack-requires-2 : tie.Need-slack-requires-2 Inv-loop μ-loop
 unfolding at atZ
@@ -99,7 +86,11 @@ returns c =
     rw all at (c .before .loop .inv .2)
 
 pub cafe-price-spec : {M : Type 1} → statement M
+unfolding at
 cafe-price-spec =
-    tie.close (tie.spec Inv-loop μ-loop (λ c. some (c .before .before)) mul-slack shared-slice-copy-out-slack slack-requires loop-holds
-    (λ c. omega arith) (λ c. omega arith) mul-slack-2 shared-slice-copy-out-slack-2 slack-requires-2 (λ c κs. tt) (λ c. omega arith)
-    (λ c. omega arith) loop-again returns)
+    tie.close (tie.spec Inv-loop μ-loop (λ c. some (c .before .before))
+    (λ c. let s = c .before .before in omega (arith, listed s 0 (some s))) (λ c. let s = c .before .before in listed s 0 (some s))
+    slack-requires loop-holds (λ c. omega arith) (λ c. omega arith)
+    (λ c. let here = c .before .before in omega (arith, listed (start here) (here .loop .k) (next (c .before))))
+    (λ c. let here = c .before .before in listed (start here) (here .loop .k) (next (c .before))) slack-requires-2 (λ c κs. tt)
+    (λ c. omega arith) (λ c. omega arith) loop-again returns)

@@ -22,8 +22,8 @@ cols c = c .before .before
 abbrev counted : tie.After-price-roasteries-arg → tie.After-column-count
 counted c = c .before .before
 
-abbrev priced : tie.After-u2 → tie.After-price-roasteries
-priced c = c .before
+abbrev priced : tie.After-copy-prices-arg → tie.After-price-roasteries
+priced c = c .before .before .before
 
 -- .. and to the start.
 abbrev sheet : tie.Start → Sheet
@@ -81,24 +81,18 @@ array-share-prefix-columns c =
     let w = start-roasteries call .pre .0 .1 in
     let struck = counted call .before in
     let second = cols (struck .before) in
-    omega (
-      arith,
-      n-room w,
-      columns-long w (rows second .place-prices .ensures) (second .place-prices2 .ensures) (struck .price-cafes .ensures),
-    )
+    omega (arith, n-room w, columns-long w (rows second .place-prices .ensures) (second .place-prices2 .ensures) (struck .price-cafes .ensures))
 
 slice-aggregate-copy-prices : tie.Need-slice-aggregate-copy-prices
 slice-aggregate-copy-prices c = sym (length-take-le _ _ (array-share-prefix-columns (c .before)))
 
 copy-prices-requires : tie.Need-copy-prices-requires
-copy-prices-requires c κs =
-    let s = start-roasteries (c .before .before .before .before) in
-    omega (arith, slice-aggregate-copy-prices (c .before), s .pre .2)
+copy-prices-requires c κs = omega (arith, slice-aggregate-copy-prices (c .before), start-roasteries (priced c .before) .pre .2)
 
 returns : tie.Need-returns
 unfolding roasteries cafes maxSide
 returns c T w =
-    let call = c .before .before .before .before .before in
+    let call = priced (c .before .before) in
     let s = start-roasteries (call .before) in
     let count = counted (call .before) in
     let struck = count .before in

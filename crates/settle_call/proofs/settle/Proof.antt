@@ -1,5 +1,5 @@
 -- `settle_call::settle` meets its contract: each way out is a case of the call.
-use Rattle.prelude.specs.Words.{arith, ℕ, _≤_, mul-le-mul-left, _≡_, refl, sym, _∙_, true, none, needs, not-true, not-false, length}
+use Rattle.prelude.specs.Words.{arith, ℕ, _≤_, mul-le-mul-left, _≡_, refl, sym, subst, _∙_, Bool, true, none, needs, not-true, not-false, length}
 use Rattle.transport.specs.Limits.{maxSide}
 use Rattle.transport.specs.Sheet.{Sheet, roasteries, cafes, refusal, sheetOf}
 use Rattle.transport.specs.Parties.{problemOf}
@@ -16,14 +16,11 @@ use Rattle.settle_call.specs.Settle.{front-refuses, unfinished-refuses, 
 use Rattle.settle_call.proofs.settle.Statement.{statement}
 use Rattle.settle_call.proofs.settle.Tie as tie
 
-abbrev sheetAt : tie.Start → Sheet
-sheetAt s = sheetOf (s .args .supply .now) (s .args .demand .now) (s .args .cost .now)
-
 abbrev start : tie.After-load-sheet → tie.Start
 start l = l .before .before .before .before .before .before .before .before .before .before
 
 abbrev sheetOn : tie.After-load-sheet → Sheet
-sheetOn l = sheetAt (start l)
+sheetOn l = let a = start l .args in sheetOf (a .supply .now) (a .demand .now) (a .cost .now)
 
 abbrev tableau : tie.After-load-sheet → Tableau
 tableau l = start l .args .t
@@ -45,30 +42,28 @@ loaded c = c .before .before
 passed : (c : tie.After-enum-told) → refusal (tableauTests (sheetOn (loaded c)) (tableau (loaded c))) ≡ none
 passed c = accepted-none _ (sym (loaded c .load-sheet .ensures .0) ∙ c .enum-told .given .1)
 
-admitted : (c : tie.After-enum-told)
-    → let l = loaded c in
-    let r = l .load-sheet .result in
-    let a = l .load-sheet .last .1 .1 .1 .1 in
+admitted : (c : tie.After-enum-told) → let l = loaded c in let r = l .load-sheet .result in let a = l .load-sheet .last .1 .1 .1 .1 in
     Admitted (sheetOn l) (tableau l) (r .parties) (r .rows) (r .cols)
     (a .0) (a .1 .0) (a .1 .1 .0) (a .1 .1 .1 .0) (a .1 .1 .1 .1 .0) (a .1 .1 .1 .1 .1 .0)
 admitted c = loaded c .load-sheet .ensures .1 (passed c)
 
-is-finished-requires : tie.Need-is-finished-requires
-is-finished-requires c κs = (_, _, _, _, admitted (c .before .before .before .before .before .before .before) .begun)
-
 -- ---- whether the tableau is finished
 
-abbrev toldAt : tie.After-is-finished → tie.After-enum-told
-toldAt f = f .before .before .before .before .before .before .before .before
+abbrev priced : tie.After-price → tie.After-enum-told
+priced c = c .before .before .before .before .before .before .before
 
-judged : (f : tie.After-is-finished)
-    → let l = loaded (toldAt f) in
-    let S = sheetOn l in
-    let a = l .load-sheet .last .1 .1 .1 .1 in
-    let p = l .load-sheet .result .parties in
-    Judged (problemOf S) (inside S (tableau l)) (a .0) (a .1 .0) (f .is-finished .last .1 .1 .1 .1 .1 .1 .0) (a .1 .1 .1 .1 .1 .0)
-    (p .rows) (p .columns) (f .is-finished .result)
-judged f = f .is-finished .ensures _ _ _ _ (admitted (toldAt f) .begun)
+module _ (f : tie.After-is-finished) where
+  abbrev toldAt : tie.After-enum-told
+  toldAt = priced (f .before)
+
+  abbrev JudgedAs : Bool → Type 0
+  JudgedAs done =
+      let l = loaded toldAt in let S = sheetOn l in let a = l .load-sheet .last .1 .1 .1 .1 in let p = l .load-sheet .result .parties in
+      Judged (problemOf S) (inside S (tableau l)) (a .0) (a .1 .0) (f .is-finished .last .1 .1 .1 .1 .1 .1 .0) (a .1 .1 .1 .1 .1 .0)
+      (p .rows) (p .columns) done
+
+  judged : JudgedAs (f .is-finished .result)
+  judged = f .is-finished .ensures _ _ _ _ (admitted toldAt .begun)
 
 returns-2 : tie.Need-returns-2
 returns-2 c =
@@ -80,15 +75,8 @@ returns-2 c =
 
 -- ---- it is finished
 
-finished : (c : tie.Else1)
-    → let f = c .before in
-    let l = loaded (toldAt f) in
-    let S = sheetOn l in
-    let a = l .load-sheet .last .1 .1 .1 .1 in
-    let p = l .load-sheet .result .parties in
-    Judged (problemOf S) (inside S (tableau l)) (a .0) (a .1 .0) (f .is-finished .last .1 .1 .1 .1 .1 .1 .0) (a .1 .1 .1 .1 .1 .0)
-    (p .rows) (p .columns) true
-finished c = let done : c .before .is-finished .result ≡ true = not-false _ (c .if1 .left) in rw (← done) (judged (c .before))
+finished : (c : tie.Else1) → JudgedAs (c .before) true
+finished c = subst (JudgedAs (c .before)) (not-false _ (c .if1 .left)) (judged (c .before))
 
 -- This holds also where the plan has the columns of the tableau: such a program (must-fail/plan_with_extra_column) fails only where it returns.
 mul-if2 : tie.Need-mul-if2
@@ -110,29 +98,28 @@ returns-3 c =
     settle-refused (sheetOn l) (tableau l) (planRoom l) _ 8
     (short-refuses (sheetOn l) (tableau l) (planRoom l) (passed k) (finished d .done) (omega arith))
 
-settle-board-requires : tie.Need-settle-board-requires
-settle-board-requires c κs =
-    let d = c .before .before .before .before .before in
-    (_, _, _, finished d, admitted (toldAt (d .before)) .begun .costs)
-
 -- ---- the bags are those of the settled plan
 
+abbrev roomOn : tie.After-price2 → tie.Else2
+roomOn c = c .before .before .before .before
+
 abbrev roomAt : tie.After-settle-board → tie.Else2
-roomAt b = b .before .before .before .before .before
+roomAt b = roomOn (b .before)
 
 abbrev toldBefore : tie.After-settle-board → tie.After-enum-told
 toldBefore b = toldAt (roomAt b .before .before)
 
-bags : (b : tie.After-settle-board)
-    → let l = loaded (toldBefore b) in
-    let p = l .load-sheet .result .parties in
+bags : (b : tie.After-settle-board) → let l = loaded (toldBefore b) in let p = l .load-sheet .result .parties in
     SettledBags (problemOf (sheetOn l)) (p .rows) (p .columns) (b .settle-board .last .1 .0)
 bags b = b .settle-board .ensures _ _ _ (finished (roomAt b .before)) (admitted (toldBefore b) .begun .costs)
+
+abbrev settled : tie.After-store-plan-arg → tie.After-settle-board
+settled c = c .before .before .before .before
 
 store-plan-requires : tie.Need-store-plan-requires
 unfolding roasteries cafes
 store-plan-requires c κs =
-    let b = c .before .before .before .before in
+    let b = settled c in
     let w = admitted (toldBefore b) in
     rw (w .parties .rowNumbers, w .parties .cafeNumbers) (settled-storable (w .accepted) (bags b) (omega (arith, roomAt b .if2 .left)))
 
@@ -140,7 +127,7 @@ returns-4 : tie.Need-returns-4
 unfolding roasteries cafes
 returns-4 c =
     let o = c .before .before in
-    let b = o .before .before .before .before .before in
+    let b = settled (o .before) in
     let k = toldBefore b in
     let w = admitted k in
     let l = loaded k in
@@ -154,8 +141,9 @@ returns-4 c =
 
 pub settle-spec : {M : Type 1} → statement M
 settle-spec =
-    tie.close (tie.spec (λ c κs. (refl, refl, refl)) (λ c. search needs) returns (λ c. search needs) is-finished-requires returns-2 mul-if2
-    returns-3 settle-board-requires (λ c. admitted (toldBefore (c .before)) .parties .rowsRoom)
-    (λ c. rows-lent (admitted (toldBefore (c .before .before)) .parties))
+    tie.close (tie.spec (λ c κs. (refl, refl, refl)) (λ c. search needs) returns (λ c. search needs)
+    (λ c κs. (_, _, _, _, admitted (priced c) .begun)) returns-2 mul-if2 returns-3
+    (λ c κs. let d = roomOn c .before in (_, _, _, finished d, admitted (toldAt (d .before)) .begun .costs))
+    (λ c. admitted (toldBefore (c .before)) .parties .rowsRoom) (λ c. rows-lent (admitted (toldBefore (c .before .before)) .parties))
     (λ c. admitted (toldBefore (c .before .before)) .parties .cafesRoom)
     (λ c. cafes-lent (admitted (toldBefore (c .before .before .before)) .parties)) store-plan-requires (λ c. search needs) returns-4)

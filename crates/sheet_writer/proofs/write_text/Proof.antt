@@ -22,45 +22,40 @@ module _ (t : tie.Start) where
   room : length (supplySection (t .args .supply .now) ++ others) ≤ length (t .args .out .now)
   room = rw sections at (t .pre .1)
 
+abbrev start : tie.After-write-section-arg2 → tie.Start
+start c = c .before .before .before .before .before
+
 write-section-requires : tie.Need-write-section-requires
 unfolding bytes
-write-section-requires c κs =
-    let t = c .before .before .before .before .before in
-    first-room (supplySection (t .args .supply .now)) (others t) (t .args .out .now) (room t)
+write-section-requires c κs = let t = start c in first-room (supplySection (t .args .supply .now)) (others t) (t .args .out .now) (room t)
 
-begun : (c : tie.After-write-section) → let t = c .before .before .before .before .before .before in
+begun : (c : tie.After-write-section) → let t = start (c .before) in
     FirstWritten (supplySection (t .args .supply .now)) (others t) (t .args .out .now) (c .write-section .last .1 .1 .1 .0) (c .write-section .result)
 unfolding bytes
-begun c = record {
-  room = room (c .before .before .before .before .before .before);
-  ends = c .write-section .ensures .0;
-  holds = c .write-section .ensures .1;
-}
+begun c = record { room = room (start (c .before)); ends = c .write-section .ensures .0; holds = c .write-section .ensures .1 }
 
-sub-write-after-supply : tie.Need-sub-write-after-supply
-sub-write-after-supply c = second-start (begun (c .before .before))
-
-part-write-after-supply-start : tie.Need-part-write-after-supply-start
-part-write-after-supply-start c = second-start (begun (c .before .before))
+abbrev written : tie.After-write-after-supply-arg → tie.After-write-section
+written c = c .before .before .before
 
 write-after-supply-requires : tie.Need-write-after-supply-requires
 write-after-supply-requires c κs =
-    let t = c .before .before .before .before .before .before .before .before .before in
-    (sinks-some (sheetAt t) (t .pre .0 .limits), second-room (begun (c .before .before .before)))
+    let t = start (written c .before) in
+    (sinks-some (sheetAt t) (t .pre .0 .limits), second-room (begun (written c)))
 
 add-result : tie.Need-add-result
 add-result c =
-    let b = begun (c .before .before .before .before .before .before) in
-    omega (arith, b .room, both-length b _ (c .before .before .write-after-supply .ensures .0))
+    let w = c .before .before in
+    let s = written (w .before) in
+    omega (arith, begun s .room, start (s .before) .good, both-length (begun s) _ (w .write-after-supply .ensures .0))
 
 returns : tie.Need-returns
 returns c =
-    let b = begun (c .before .before .before .before .before .before) in
-    let w = c .before .before .write-after-supply in
-    rw (sections (c .before .before .before .before .before .before .before .before .before .before .before .before))
-    (both-length b _ (w .ensures .0), both-written b _ (w .ensures .1))
+    let w = c .before .before in
+    let s = written (w .before) in
+    let e = w .write-after-supply .ensures in
+    rw (sections (start (s .before))) (both-length (begun s) _ (e .0), both-written (begun s) _ (e .1))
 
 pub write-text-spec : {M : Type 1} → statement M
 write-text-spec =
-    tie.close (tie.spec (λ c. search needs) write-section-requires sub-write-after-supply part-write-after-supply-start (λ c. search needs)
-    write-after-supply-requires add-result (λ c. search needs) returns)
+    tie.close (tie.spec (λ c. search needs) write-section-requires (λ c. second-start (begun (c .before .before)))
+    (λ c. second-start (begun (c .before .before))) (λ c. search needs) write-after-supply-requires add-result (λ c. search needs) returns)

@@ -1,8 +1,8 @@
 -- The loop's invariant: the rule stands at cell k of the start, and the array holds the cells before it.
-use Rattle.prelude.specs.Words.{_+_, _-_, _<_, arith, _≡_, refl, sym, ap, _∙_, needs, length, set}
+use Rattle.prelude.specs.Words.{_+_, _-_, _<_, arith, _≡_, refl, sym, ap, _∙_, needs, length, getD, set}
 use Rattle.transport.specs.Limits.{maxSide, maxCells}
 use Rattle.transport.specs.Problem.{Problem, sources, sinks}
-use Rattle.transport.specs.Tableau.{start}
+use Rattle.transport.specs.Tableau.{start, noCell}
 use Rattle.tree.specs.Layout.{nodeRoom}
 use Rattle.dealing.specs.Corner.{costless, cellOf, next-number, Standing, standing-first, standing-room, standing-cell, standing-next, length-start}
 use Rattle.dealing.specs.Filling.{filled, filled-none, filled-one, filled-all}
@@ -16,32 +16,25 @@ Inv-loop supply demand count t₀ at₀ k₀ t at k = (k ≡ at .row + at .col) 
 abbrev μ-loop : tie.MeasureT-loop
 μ-loop supply demand count t₀ at₀ k₀ t at k = count - k
 
-abbrev sheetAt : (c : tie.At-loop Inv-loop μ-loop) → Problem
-sheetAt c = costless (c .before .before .before .before .before .args .supply .now) (c .before .before .before .before .before .args .demand .now)
+module _ (c : tie.At-loop Inv-loop μ-loop) where
+  abbrev first : tie.Start Inv-loop μ-loop
+  first = c .before .before .before .before .before
 
--- Cell k has its place in the array ..
-room : (c : tie.At-loop Inv-loop μ-loop) → c .loop .k < nodeRoom - 1
-unfolding maxCells maxSide
-room c = rw (c .loop .inv .0) (standing-room (sheetAt c) (c .before .before .before .before .before .pre) (c .loop .at) (c .loop .inv .1))
+  abbrev P : Problem
+  P = costless (first .args .supply .now) (first .args .demand .now)
 
--- .. and is put there.
-stored : (c : tie.At-loop Inv-loop μ-loop) → set (c .loop .t .cells) (c .loop .k) (cellOf (c .loop .at)) ≡ filled (start (sheetAt c)) (c .loop .k + 1)
-unfolding maxCells maxSide
-stored c =
-    rw (c .loop .inv .2)
-    (filled-one (start (sheetAt c)) (c .loop .k) (cellOf (c .loop .at)) (room c)
-    (rw (c .loop .inv .0) (standing-cell (sheetAt c) (c .before .before .before .before .before .pre) (c .loop .at) (c .loop .inv .1))))
+  -- Cell k has its place in the array ..
+  room : c .loop .k < nodeRoom - 1
+  unfolding maxCells maxSide
+  room = rw (c .loop .inv .0) (standing-room P (first .pre) (c .loop .at) (c .loop .inv .1))
 
-add-count : tie.Need-add-count Inv-loop μ-loop
-unfolding sources sinks maxSide
-add-count c = omega (arith, c .before .before .pre .sourcesHigh, c .before .before .pre .sinksHigh)
-
-sub-count : tie.Need-sub-count Inv-loop μ-loop
-unfolding sources
-sub-count c = omega (arith, c .before .before .pre .sourcesLow)
-
-first-corner-requires : tie.Need-first-corner-requires Inv-loop μ-loop
-first-corner-requires c κs = c .before .before .before .pre
+  -- .. and is put there.
+  stored : set (c .loop .t .cells) (c .loop .k) (cellOf (c .loop .at)) ≡ filled (start P) (c .loop .k + 1)
+  unfolding maxCells maxSide
+  stored =
+      let l = c .loop in
+      let cell = ap (λ k. getD (start P) k noCell) (l .inv .0) ∙ standing-cell P (first .pre) (l .at) (l .inv .1) in
+      ap (λ cells. set cells (l .k) (cellOf (l .at))) (l .inv .2) ∙ filled-one (start P) (l .k) (cellOf (l .at)) room cell
 
 loop-holds : tie.Need-loop-holds Inv-loop μ-loop
 loop-holds c =
@@ -49,33 +42,28 @@ loop-holds c =
     let S = costless (a .args .supply .now) (a .args .demand .now) in
     rw (c .before .empty-tableau .ensures, c .first-corner .ensures) (refl, standing-first S (a .pre), filled-none (start S))
 
-next-requires : tie.Need-next-requires Inv-loop μ-loop
-next-requires c κs = (c .before .before .before .before .before .before .before .pre, (c .before .before .loop .inv .1, omega arith))
-
-add-k : tie.Need-add-k Inv-loop μ-loop
-add-k c = omega (arith, room (c .before .before .before))
-
 loop-again : tie.Need-loop-again Inv-loop μ-loop
 unfolding sources sinks
 loop-again c =
-    let a = c .before .before .before .before .before .before .before .before in
-    let S = costless (a .args .supply .now) (a .args .demand .now) in
-    let i = c .before .before .before .loop in
+    let t = c .before .before .before in
+    let at = t .loop .at in
     rw (c .next .ensures, c .before .put .ensures)
-    (omega (arith, next-number S (i .at)), standing-next S (a .pre) (i .at) (i .inv .1) (omega arith), stored (c .before .before .before))
+    (omega (arith, next-number (P t) at), standing-next (P t) (first t .pre) at (t .loop .inv .1) (omega arith), stored t)
 
 returns : tie.Need-returns Inv-loop μ-loop
 unfolding sources sinks
 returns c =
     let l = c .before .before in
-    let a = l .before .before .before .before .before in
-    let T = start (sheetAt l) in
-    let last : l .loop .k + 1 ≡ length (a .args .supply .now) + length (a .args .demand .now) - 1 = omega (arith, l .loop .inv .1 .state .size) in
-    filled-all T _ _ (sym (length-start (sheetAt l) (a .pre))) (rw (c .put2 .ensures) (stored l ∙ ap (filled T) last))
+    let a = first l .args in
+    let last : l .loop .k + 1 ≡ length (a .supply .now) + length (a .demand .now) - 1 = omega (arith, l .loop .inv .1 .state .size) in
+    filled-all (start (P l)) _ _ (sym (length-start (P l) (first l .pre))) (rw (c .put2 .ensures) (stored l ∙ ap (filled (start (P l))) last))
 
 pub first-tableau-spec : {M : Type 1} → statement M
+unfolding sources sinks maxSide
 first-tableau-spec =
-    tie.close (tie.spec Inv-loop μ-loop add-count sub-count (λ c κs. search needs) first-corner-requires loop-holds
+    tie.close (tie.spec Inv-loop μ-loop (λ c. let p = c .before .before .pre in omega (arith, p .sourcesHigh, p .sinksHigh))
+    (λ c. omega (arith, c .before .before .pre .sourcesLow)) (λ c κs. search needs) (λ c κs. c .before .before .before .pre) loop-holds
     (λ c. omega (arith, room c)) (λ c κs. search needs) (λ c. omega (arith, room (c .before .before)))
-    (λ c. omega (arith, room (c .before .before))) next-requires add-k (λ c. search needs) loop-again (λ c κs. search needs)
+    (λ c. omega (arith, room (c .before .before))) (λ c κs. let t = c .before .before in (first t .pre, (t .loop .inv .1, omega arith)))
+    (λ c. omega (arith, room (c .before .before .before))) (λ c. search needs) loop-again (λ c κs. search needs)
     (λ c. omega (arith, room (c .before .before))) (λ c. omega (arith, room (c .before .before))) returns)

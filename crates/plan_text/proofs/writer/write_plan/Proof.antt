@@ -15,22 +15,28 @@ use Rattle.plan_text.specs.Solved.{FoundPlan, found, found-sections, ref
 use Rattle.plan_text.proofs.writer.write_plan.Statement.{statement}
 use Rattle.plan_text.proofs.writer.write_plan.Tie as tie
 
--- From solve to the start, and from each step to the one before it: the answer of solve that was matched, the count of the lanes, the length of the text, and
--- the text.
+-- From solve to the start, and from each step to the one before it: the answer of solve that was matched, the count of the lanes, the length of the
+-- text, and the text.
 abbrev solveStart : tie.After-solve → tie.Start
 solveStart c = c .before .before .before .before .before .before .before
 
+abbrev solved : tie.After-plan2 → tie.After-solve
+solved c = c .before .before .before
+
 abbrev solveOf : tie.After-answer2 → tie.After-solve
-solveOf c = c .before .before .before .before .before
+solveOf c = solved (c .before .before)
 
 abbrev answerOf : tie.After-used-count → tie.After-answer2
 answerOf c = c .before .before .before
 
-abbrev countOf : tie.After-plan-sections-len → tie.After-used-count
-countOf c = c .before .before .before .before
+abbrev lentFor : tie.After-plan4 → tie.After-used-count
+lentFor c = c .before .before .before
 
-abbrev lengthOf : tie.After-write-plan-sections-arg → tie.After-plan-sections-len
-lengthOf c = c .before .before .before .before .before
+abbrev countOf : tie.After-plan-sections-len → tie.After-used-count
+countOf c = lentFor (c .before)
+
+abbrev lengthOf : tie.After-v4 → tie.After-plan-sections-len
+lengthOf c = c .before .before .before
 
 abbrev startOf : tie.After-answer2 → tie.Start
 startOf c = solveStart (solveOf c)
@@ -56,69 +62,34 @@ module _ (c : tie.After-answer2) where
   ok : Accepted (sheetAt (startOf c))
   ok = accepted (sheetAt (startOf c)) (plan-found .passes)
 
-  m-few : length (startOf c .args .supply .now) ≤ 32
-  unfolding roasteries maxSources
-  m-few = ok .limits .roasteriesHigh
-
-  n-few : length (startOf c .args .demand .now) ≤ 32
-  unfolding cafes maxSinks
-  n-few = ok .limits .cafesHigh
-
-  n-some : 1 ≤ length (startOf c .args .demand .now)
-  unfolding cafes
-  n-some = ok .limits .cafesLow
+  few : let a = startOf c .args in let m = length (a .supply .now) in let n = length (a .demand .now) in
+      (m ≤ 32) × (1 ≤ n) × (n ≤ 32) × (m * n ≤ 32 * 32) × (m * m ≤ 32 * 32)
+  unfolding roasteries maxSources cafes maxSinks
+  few = let l = ok .limits in let p = l .roasteriesHigh in (p, l .cafesLow, l .cafesHigh, mul-le-mul p (l .cafesHigh), mul-le-mul p p)
 
 -- The total is passed on as it is.
 total-kept : (c : tie.After-known-told2) → toZ w64 (ofZ w64 (total (c .before))) ≡ total (c .before)
 total-kept c = back w64 (total (c .before)) (search needs)
 
--- The next needs hold whatever two sides the count of lanes is made of, so that a program that leaves out lanes is refused by the contract.
-mul-lanes : tie.Need-mul-lanes
-mul-lanes c =
-    let p = m-few (c .before) in
-    let q = n-few (c .before) in
-    omega (arith, mul-le-mul p q, mul-le-mul p p)
-
-array-share-prefix-plan : tie.Need-array-share-prefix-plan
-array-share-prefix-plan c =
-    let p = m-few (c .before) in
-    let q = n-few (c .before) in
-    omega (arith, mul-le-mul p q, mul-le-mul p p)
-
-slice-aggregate-used-count : tie.Need-slice-aggregate-used-count
-slice-aggregate-used-count c = sym (length-take-le _ _ (array-share-prefix-plan (c .before)))
-
-array-share-prefix-u : tie.Need-array-share-prefix-u
-array-share-prefix-u c = omega (arith, m-few (answerOf c))
-
+-- The needs of the slices hold whatever two sides the count of lanes is made of, so that a program that leaves out lanes is refused by the contract.
 slice-aggregate-plan-sections-len : tie.Need-slice-aggregate-plan-sections-len
-slice-aggregate-plan-sections-len c = sym (length-take-le _ _ (array-share-prefix-u (c .before)))
-
-array-share-prefix-v : tie.Need-array-share-prefix-v
-array-share-prefix-v c = omega (arith, n-few (answerOf (c .before)))
+slice-aggregate-plan-sections-len c = sym (length-take-le _ _ (omega (arith, few (answerOf (c .before)))))
 
 slice-aggregate-plan-sections-len-2 : tie.Need-slice-aggregate-plan-sections-len-2
-slice-aggregate-plan-sections-len-2 c = sym (length-take-le _ _ (array-share-prefix-v (c .before)))
-
-array-share-prefix-plan-2 : tie.Need-array-share-prefix-plan-2
-array-share-prefix-plan-2 c = array-share-prefix-plan (c .before .before .before .before)
+slice-aggregate-plan-sections-len-2 c = sym (length-take-le _ _ (omega (arith, few (answerOf (c .before .before)))))
 
 slice-aggregate-plan-sections-len-3 : tie.Need-slice-aggregate-plan-sections-len-3
-slice-aggregate-plan-sections-len-3 c = slice-aggregate-used-count (c .before .before .before .before)
+slice-aggregate-plan-sections-len-3 c = sym (length-take-le _ _ (omega (arith, few (answerOf (lentFor c)))))
 
 plan-sections-len-requires : tie.Need-plan-sections-len-requires
 unfolding maxSide
 plan-sections-len-requires c κs =
-    let a = answerOf (c .before .before .before) in
     omega (
       arith,
       slice-aggregate-plan-sections-len (c .before .before),
       slice-aggregate-plan-sections-len-2 (c .before),
       slice-aggregate-plan-sections-len-3 c,
-      array-share-prefix-plan-2 (c .before),
-      m-few a,
-      n-few a,
-      n-some a,
+      few (answerOf (lentFor c)),
     )
 
 -- If the lanes are counted in the plan of the sheet, the sections are the plan text.
@@ -147,35 +118,16 @@ returns c =
     wrote-short (sheetAt t) (planText (sheetAt t)) (t .args .out .now) (plan-found (answerOf k) .passes)
     (omega (arith, c .before .plan-sections-len .ensures, ap length (the-text k (k .used-count .ensures))))
 
--- The lists are lent for the text as they were for its length.
-array-share-prefix-u-2 : tie.Need-array-share-prefix-u-2
-array-share-prefix-u-2 c = array-share-prefix-u (countOf (c .before))
-
-slice-aggregate-write-plan-sections : tie.Need-slice-aggregate-write-plan-sections
-slice-aggregate-write-plan-sections c = slice-aggregate-plan-sections-len (c .before .before .before .before .before)
-
-array-share-prefix-v-2 : tie.Need-array-share-prefix-v-2
-array-share-prefix-v-2 c = array-share-prefix-v (c .before .before .before .before .before)
-
-slice-aggregate-write-plan-sections-2 : tie.Need-slice-aggregate-write-plan-sections-2
-slice-aggregate-write-plan-sections-2 c = slice-aggregate-plan-sections-len-2 (c .before .before .before .before .before)
-
-array-share-prefix-plan-3 : tie.Need-array-share-prefix-plan-3
-array-share-prefix-plan-3 c = array-share-prefix-plan-2 (c .before .before .before .before .before)
-
-slice-aggregate-write-plan-sections-3 : tie.Need-slice-aggregate-write-plan-sections-3
-slice-aggregate-write-plan-sections-3 c = slice-aggregate-plan-sections-len-3 (c .before .before .before .before .before)
-
 write-plan-sections-requires : tie.Need-write-plan-sections-requires
 write-plan-sections-requires c κs =
-    let l = lengthOf c in
+    let l = lengthOf (c .before .before) in
     let p = plan-sections-len-requires (l .before) (l .plan-sections-len .lifetimes) in
     (p .2, p .3, search needs)
 
 returns-2 : tie.Need-returns-2
 unfolding writePlanCall maxSide
 returns-2 c =
-    let s = c .before .before .before .before .before .before in
+    let s = solved (c .before .before .before) in
     let S = sheetAt (solveStart s) in
     wrote-check S (planText S) (solveStart s .args .out .now) _ (refused-check S _ (sym (c .before .answer .given .1) ∙ s .solve .ensures .0))
 
@@ -183,19 +135,26 @@ returns-3 : tie.Need-returns-3
 unfolding writePlanCall
 returns-3 c =
     let w = c .before .before in
-    let l = lengthOf (w .before) in
+    let v = w .before .before .before in
+    let l = lengthOf v in
     let k = countOf l in
     let t = startOf (answerOf k) in
     let text = the-text k (k .used-count .ensures) in
     rw (w .write-plan-sections .ensures .0, w .write-plan-sections .ensures .1, ← text)
     (wrote-given (sheetAt t) (planText (sheetAt t)) (t .args .out .now) (plan-found (answerOf k) .passes)
-    (omega (arith, l .plan-sections-len .ensures, ap length text, w .before .before .before .before .before .if1 .left)))
+    (omega (arith, l .plan-sections-len .ensures, ap length text, v .before .before .if1 .left)))
 
 pub write-plan-spec : {M : Type 1} → statement M
 write-plan-spec =
     tie.close (tie.spec (λ c. search needs) (λ c. search needs) (λ c. search needs) (λ c κs. search needs) (λ c. search needs)
-    (λ c. search needs) mul-lanes array-share-prefix-plan slice-aggregate-used-count (λ c κs. search needs) array-share-prefix-u
-    slice-aggregate-plan-sections-len array-share-prefix-v slice-aggregate-plan-sections-len-2 array-share-prefix-plan-2
-    slice-aggregate-plan-sections-len-3 plan-sections-len-requires returns array-share-prefix-u-2 slice-aggregate-write-plan-sections
-    array-share-prefix-v-2 slice-aggregate-write-plan-sections-2 array-share-prefix-plan-3 slice-aggregate-write-plan-sections-3
+    (λ c. search needs) (λ c. omega (arith, few (c .before))) (λ c. omega (arith, few (c .before)))
+    (λ c. sym (length-take-le _ _ (omega (arith, few (c .before .before))))) (λ c κs. search needs) (λ c. omega (arith, few (answerOf c)))
+    slice-aggregate-plan-sections-len (λ c. omega (arith, few (answerOf (c .before)))) slice-aggregate-plan-sections-len-2
+    (λ c. omega (arith, few (answerOf (c .before .before)))) slice-aggregate-plan-sections-len-3 plan-sections-len-requires returns
+    (λ c. omega (arith, few (answerOf (countOf (c .before)))))
+    (λ c. sym (length-take-le _ _ (omega (arith, few (answerOf (countOf (c .before .before)))))))
+    (λ c. omega (arith, few (answerOf (countOf (c .before .before)))))
+    (λ c. sym (length-take-le _ _ (omega (arith, few (answerOf (countOf (lengthOf c)))))))
+    (λ c. omega (arith, few (answerOf (countOf (lengthOf c)))))
+    (λ c. sym (length-take-le _ _ (omega (arith, few (answerOf (countOf (lengthOf (c .before))))))))
     write-plan-sections-requires returns-2 (λ c. search needs) returns-3)

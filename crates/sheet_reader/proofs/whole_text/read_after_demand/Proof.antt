@@ -5,26 +5,24 @@ use Rattle.sheet_reader.specs.SheetAnswer.{CostsRead, costs-read, more-a
 use Rattle.sheet_reader.proofs.whole_text.read_after_demand.Statement.{statement}
 use Rattle.sheet_reader.proofs.whole_text.read_after_demand.Tie as tie
 
+abbrev start : tie.After-read-costs → tie.Start
+start c = c .before .before .before
+
+abbrev read : tie.After-known-told → tie.After-read-costs
+read c = c .before .before .before .before
+
 returns : tie.Need-returns
 returns c =
-    let a = c .before .before .before .before .before .before .before .args in
-    let w = c .before .before .before .before .read-costs in
-    rw (c .not-sheet-text .ensures) (answer-stopped (a .text .now) _ _ (costs-stuck (a .m) (a .n) (drop (a .at) (a .text .now))) _ _ _ (w .ensures .0)
-    (w .ensures .1) (c .before .enum-told .given .1))
+    let r = c .before .before .before .before in let a = start r .args in let e = r .read-costs .ensures in
+    rw (c .not-sheet-text .ensures)
+    (answer-stopped (a .text .now) _ _ (costs-stuck (a .m) (a .n) (drop (a .at) (a .text .now))) _ _ _ (e .0) (e .1) (c .before .enum-told .given .1))
 
-cost-read : (c : tie.After-known-told) → let t = c .before .before .before .before .before .before .before in
-    CostsRead (t .args .m) (t .args .n) (t .args .text .now) (t .args .at) (c .before .before .before .before .read-costs .last .1 .1 .1 .1 .0)
-    (c .before .costs .given .0 .1 .0)
-cost-read c = let w = c .before .before .before .before .read-costs in
-    costs-read (w .ensures .0) (w .ensures .1) (w .ensures .2) (c .before .costs .given .1)
-
-returns-2 : tie.Need-returns-2
-returns-2 c = more-answer (cost-read (c .before)) (c .if1 .taken)
-
-returns-3 : tie.Need-returns-3
-returns-3 c = (end-answer (cost-read (c .before)) (c .if1 .left), (refl, refl))
+cost-read : (c : tie.After-known-told) → let r = read c in let a = start r .args in
+    CostsRead (a .m) (a .n) (a .text .now) (a .at) (r .read-costs .last .1 .1 .1 .1 .0) (c .before .costs .given .0 .1 .0)
+cost-read c = let e = read c .read-costs .ensures in costs-read (e .0) (e .1) (e .2) (c .before .costs .given .1)
 
 pub read-after-demand-spec : {M : Type 1} → statement M
 read-after-demand-spec =
     tie.close (tie.spec (λ c κs. search needs) (λ c. search needs) (λ c. search needs) (λ c κs. search needs) (λ c. search needs) returns
-    (λ c. search needs) returns-2 (λ c. search needs) returns-3)
+    (λ c. search needs) (λ c. more-answer (cost-read (c .before)) (c .if1 .taken)) (λ c. search needs)
+    (λ c. (end-answer (cost-read (c .before)) (c .if1 .left), (refl, refl))))
