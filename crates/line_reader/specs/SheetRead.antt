@@ -20,7 +20,8 @@ module _ {B : Type 0} (text : List ℕ) {first : Reading B} {found : Taken} (g :
 
     -- Where the reader that comes first is stuck, so is the whole.
     pub found-stuck : {A : Type 0} {whole : Reading A} {place : ℕ} (f : ℕ → A) (Value : Taken → Type 0) → Value (Stuck place)
-        → ((u : List ℕ) → first ≡ stuck u → whole ≡ stuck u) → found ≡ Stuck place → (whole ≡ readingOf text f found) × (placeOf found ≤ length text) × Value found
+        → ((u : List ℕ) → first ≡ stuck u → whole ≡ stuck u) → found ≡ Stuck place
+        → (whole ≡ readingOf text f found) × (placeOf found ≤ length text) × Value found
     found-stuck f Value v stop s = (rw s (stop _ (e ∙ ap (readingOf text g) s)), p, subst Value (sym s) v)
 
 -- ---- a list after its head line

@@ -31,10 +31,16 @@ module _ (c : tie.After-known-told) where
       let w = r .read-list in
       list-read (w .ensures .0) (w .ensures .1) (w .ensures .2) (omega (arith, w .kept, start r .pre .0)) (c .before .supplies .given .1)
 
+returns-2 : tie.Need-returns-2
+returns-2 c =
+    let a = c .before .before .before in
+    let w = a .read-after-supply in
+    supplies-answer (supply-read (a .before .before .before)) _ _ (w .result) (w .ensures .0) (w .ensures .1)
+
 pub read-sections-spec : {M : Type 1} → statement M
 unfolding maxSources
 read-sections-spec =
     tie.close (tie.spec (λ c. search needs) (λ c κs. search needs) (λ c. search needs) (λ c. search needs) (λ c κs. search needs)
     (λ c. search needs) returns
-    (λ c κs. let k = c .before .before in let p = start (r k) .pre in (supply-read k .inside, supply-read k .few, p .1, p .2)) (λ c. search needs) (λ c. search needs) (λ c. search needs) (λ c. let a = c .before .before .before in let w = a .read-after-supply in
-    supplies-answer (supply-read (a .before .before .before)) _ _ (w .result) (w .ensures .0) (w .ensures .1)))
+    (λ c κs. let k = c .before .before in let p = start (r k) .pre in (supply-read k .inside, supply-read k .few, p .1, p .2))
+    (λ c. search needs) (λ c. search needs) (λ c. search needs) returns-2)
