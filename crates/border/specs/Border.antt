@@ -1,5 +1,10 @@
 -- What a program in C or Rust sees of each call's answer: the number of the refusal or 0, and the values that were given; where there are none, zeros.
-use Rattle.prelude.specs.Words.{true, false, List, none, some, ℕ, pos, length}
+use mathlib.Core.Bool.{true, false}
+use mathlib.Core.List.{List}
+use mathlib.Core.Option.{none, some}
+use Prim.Native.Nat.{ℕ}
+use lib.IntN.{pos}
+use lib.ListN.{length}
 pub use Rattle.border.specs.declared.StartOut.{StartOut}
 pub use Rattle.border.specs.declared.RoundOut.{RoundOut}
 pub use Rattle.border.specs.declared.RunOut.{RunOut}

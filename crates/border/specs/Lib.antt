@@ -1,2 +1,1 @@
 pub mod Border
-pub mod Crossing

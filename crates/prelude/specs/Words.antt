@@ -1,5 +1,5 @@
 -- The words of the libraries that theory and proofs use, gathered so that a module names them in one place, with those of `Tests`. Nothing is defined here:
--- each word is the library's. The definitions of `transport` do not pass through it; they name the libraries themselves.
+-- each word is the library's. The definitions of `transport`, and those of `border`, do not pass through it; they name the libraries themselves.
 
 -- numbers
 pub use Prim.Native.Nat.{ℕ, zero, suc, _+_, _-_, _*_, _/_, _%_, _^_, _≤_, _<_, min, max}

@@ -49,10 +49,10 @@ use Rattle.border.specs.Border.{runOut}
 use Rattle.border.proofs.RunOut as R
 use Rattle.border.proofs.RunOut.Laws as R′
 use Rattle.exports.proofs.Lending.{Lent, lent-is, listVal, OwnList, OwnCosts, OwnCells, Tok, to-lent, goes-lent}
-use Rattle.border.proofs.run_from as run-from
-use Rattle.border.proofs.run_from.Symbol as run-from-def
-use Rattle.border.proofs.run_from.Symbol.{name as #run-from}
-use Rattle.border.proofs.run_from.Met as run-from-thm
+use Rattle.border_tableaux.proofs.run_from as run-from
+use Rattle.border_tableaux.proofs.run_from.Symbol as run-from-def
+use Rattle.border_tableaux.proofs.run_from.Symbol.{name as #run-from}
+use Rattle.border_tableaux.proofs.run_from.Met as run-from-thm
 use Rattle.exports.proofs.panel_run.Key.{name as #panel-run}
 use Rattle.exports.proofs.panel_run as panel-run
 use Rattle.exports.proofs.panel_run.Statement as stated
@@ -257,4 +257,5 @@ panel-run-spec 𝓤 H 𝓜 𝓖 𝓡 =
     (tables 𝓤 H 𝓜 𝓡 code.env .C) (tables 𝓤 H 𝓜 𝓡 code.env .Λ) #panel-run code.function (code.unfolded 𝓤 H 𝓜 𝓡)
     (meets 𝓤 H (𝓖 .A) (givenOf 𝓤 H 𝓜 𝓖) (𝓜 .mem) (𝓡 .run) (tablesOf 𝓤 H 𝓜 (tables 𝓤 H 𝓜 𝓡 code.env))
     (cited 𝓤 H (Lent 𝓤 H (𝓖 .A) (𝓜 .mem) (𝓡 .run)) 𝓜 𝓡 code.env #lent-tableau lent-def.routine code.calls-cells·lent-tableau (lent-thm.met 𝓤 H 𝓜 𝓖 𝓡))
-    (cited 𝓤 H (From 𝓤 H (𝓖 .A) (𝓜 .mem) (𝓡 .run)) 𝓜 𝓡 code.env #run-from run-from-def.routine code.calls-border·run-from (run-from-thm.met 𝓤 H 𝓜 𝓖 𝓡)))
+    (cited 𝓤 H (From 𝓤 H (𝓖 .A) (𝓜 .mem) (𝓡 .run)) 𝓜 𝓡 code.env #run-from run-from-def.routine code.calls-border-tableaux·run-from
+    (run-from-thm.met 𝓤 H 𝓜 𝓖 𝓡)))

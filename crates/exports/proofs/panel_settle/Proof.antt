@@ -49,10 +49,10 @@ use Rattle.cells.proofs.lent_tableau.Symbol.{name as #lent-tableau}
 use Rattle.cells.proofs.lent_tableau.Met as lent-thm
 use Rattle.border.specs.Border.{numberOf}
 use Rattle.exports.proofs.Lending.{Lent, lent-is, listVal, OwnList, OwnCosts, OwnCells, Tok, to-lent, goes-lent}
-use Rattle.border.proofs.settle_from as settle-from
-use Rattle.border.proofs.settle_from.Symbol as settle-from-def
-use Rattle.border.proofs.settle_from.Symbol.{name as #settle-from}
-use Rattle.border.proofs.settle_from.Met as settle-from-thm
+use Rattle.border_tableaux.proofs.settle_from as settle-from
+use Rattle.border_tableaux.proofs.settle_from.Symbol as settle-from-def
+use Rattle.border_tableaux.proofs.settle_from.Symbol.{name as #settle-from}
+use Rattle.border_tableaux.proofs.settle_from.Met as settle-from-thm
 use Rattle.exports.proofs.panel_settle.Key.{name as #panel-settle}
 use Rattle.exports.proofs.panel_settle as panel-settle
 use Rattle.exports.proofs.panel_settle.Statement as stated
@@ -278,5 +278,5 @@ panel-settle-spec 𝓤 H 𝓜 𝓖 𝓡 =
     (tables 𝓤 H 𝓜 𝓡 code.env .C) (tables 𝓤 H 𝓜 𝓡 code.env .Λ) #panel-settle code.function (code.unfolded 𝓤 H 𝓜 𝓡)
     (meets 𝓤 H (𝓖 .A) (givenOf 𝓤 H 𝓜 𝓖) (𝓜 .mem) (𝓡 .run) (tablesOf 𝓤 H 𝓜 (tables 𝓤 H 𝓜 𝓡 code.env))
     (cited 𝓤 H (Lent 𝓤 H (𝓖 .A) (𝓜 .mem) (𝓡 .run)) 𝓜 𝓡 code.env #lent-tableau lent-def.routine code.calls-cells·lent-tableau (lent-thm.met 𝓤 H 𝓜 𝓖 𝓡))
-    (cited 𝓤 H (From 𝓤 H (𝓖 .A) (𝓜 .mem) (𝓡 .run)) 𝓜 𝓡 code.env #settle-from settle-from-def.routine code.calls-border·settle-from
+    (cited 𝓤 H (From 𝓤 H (𝓖 .A) (𝓜 .mem) (𝓡 .run)) 𝓜 𝓡 code.env #settle-from settle-from-def.routine code.calls-border-tableaux·settle-from
     (settle-from-thm.met 𝓤 H 𝓜 𝓖 𝓡)))
