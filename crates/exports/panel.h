@@ -31,10 +31,11 @@ enum panel_refusal {
     PANEL_ROOM = 8,            /* a lent list or output is too short */
     PANEL_NOT_SHEET_TEXT = 9,  /* the text is not a sheet text */
     PANEL_CROWDED = 10,        /* total supply is greater than total demand, and there are 32 sinks: no room for the extra café */
-    PANEL_IDLE = 11            /* total demand is 0 */
+    PANEL_IDLE = 11,           /* total demand is 0 */
+    PANEL_BAD_EDIT = 12        /* an edit names a roastery or café not on the sheet, or the counter is at its largest value */
 };
 
-enum { PANEL_MAX_SIDE = 32, PANEL_MAX_CELLS = 63 };
+enum { PANEL_MAX_SIDE = 32, PANEL_MAX_LANES = 1024, PANEL_MAX_CELLS = 63 };
 
 /* A paired amount: q bags and e marks. */
 struct panel_pair {
@@ -56,7 +57,25 @@ struct panel_tableau {
     size_t count;
 };
 
-/* In every result `refusal` is 0, or a number of enum panel_refusal; then the other fields are zeros, but for the place with 9. */
+/* A sheet by value: m supplies, n demands, and m × n costs in sheet order, at the fronts of the
+ * arrays. */
+struct panel_sheet {
+    size_t m, n;
+    uint64_t supply[PANEL_MAX_SIDE], demand[PANEL_MAX_SIDE];
+    int64_t cost[PANEL_MAX_LANES];
+};
+
+/* A standing sheet: a sheet with its finished tableau, and the count of accepted edits. The program
+ * keeps it, and may copy and store it. Any bytes may be handed to a call: it checks them first, as
+ * panel_settle checks sheet and tableau. */
+struct panel_standing {
+    struct panel_sheet sheet;
+    struct panel_tableau tableau;
+    uint64_t counter;
+};
+
+/* In every result `refusal` is 0, or a number of enum panel_refusal; then the other fields are zeros,
+ * but for the place with 9, and for the standing sheet of an edit, which is then given back as it was. */
 
 struct panel_start_result {
     uint8_t refusal;
@@ -95,6 +114,19 @@ struct panel_write_result {
     size_t length;
 };
 
+struct panel_set_up_result {
+    uint8_t refusal;
+    struct panel_standing standing;
+};
+
+/* The cost of the plan, the rounds that the edit made, and the standing sheet after it. */
+struct panel_edit_result {
+    uint8_t refusal;
+    int64_t cost;
+    uint64_t rounds;
+    struct panel_standing after;
+};
+
 /* The first tableau. */
 struct panel_start_result panel_start(const uint64_t *supply, size_t m, const uint64_t *demand, size_t n, const int64_t *cost, size_t lanes);
 
@@ -113,6 +145,18 @@ uint8_t panel_settle(const uint64_t *supply, size_t m, const uint64_t *demand, s
 /* The cheapest plan: m and n prices and m × n quantities at the fronts of u, v and plan. */
 struct panel_solve_result panel_solve(const uint64_t *supply, size_t m, const uint64_t *demand, size_t n, const int64_t *cost, size_t lanes, int64_t *u,
                                       size_t u_room, int64_t *v, size_t v_room, uint64_t *plan, size_t plan_room);
+
+/* The standing sheet of a sheet, with its finished tableau; no edit is counted yet. */
+struct panel_set_up_result panel_set_up(const uint64_t *supply, size_t m, const uint64_t *demand, size_t n, const int64_t *cost, size_t lanes);
+
+/* Edits of a standing sheet. One sets the cost of the lane from source `row` to sink `col`, and goes
+ * on from the kept tableau; the other sets the supply of `row` and the demand of `col`, and begins
+ * afresh. Both fill the lists with prices and plan of the edited sheet, as panel_solve does. */
+struct panel_edit_result panel_edit_cost(struct panel_standing standing, size_t row, size_t col, int64_t cost, int64_t *u, size_t u_room, int64_t *v,
+                                         size_t v_room, uint64_t *plan, size_t plan_room);
+
+struct panel_edit_result panel_edit_amounts(struct panel_standing standing, size_t row, size_t col, uint64_t supply, uint64_t demand, int64_t *u,
+                                            size_t u_room, int64_t *v, size_t v_room, uint64_t *plan, size_t plan_room);
 
 /* The sheet of a sheet text, at the fronts of the three lists; 32, 32 and 1,024 places are always enough. */
 struct panel_read_result panel_read_sheet(const uint8_t *text, size_t length, uint64_t *supply, size_t supply_room, uint64_t *demand, size_t demand_room,

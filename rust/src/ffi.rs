@@ -3,7 +3,7 @@
 //! They ask that every pointer and length are those of a list that may be read, and written where the pointer is `*mut`; that the pointer is aligned and
 //! not null; and that no list that is written overlaps another. A slice's pointer and length are such, also when it is empty, and what a `&mut` slice lends
 //! overlaps nothing else.
-use crate::{Cell, Tableau, MAX_SIDE};
+use crate::{Cell, Standing, Tableau, MAX_SIDE};
 
 #[repr(C)]
 pub struct StartResult {
@@ -33,6 +33,20 @@ pub struct SolveResult {
     pub refusal: u8,
     pub cost: i64,
     pub rounds: u64,
+}
+
+#[repr(C)]
+pub struct SetUpResult {
+    pub refusal: u8,
+    pub standing: Standing,
+}
+
+#[repr(C)]
+pub struct EditResult {
+    pub refusal: u8,
+    pub cost: i64,
+    pub rounds: u64,
+    pub after: Standing,
 }
 
 #[repr(C)]
@@ -74,6 +88,20 @@ extern "C" {
         supply: *const u64, m: usize, demand: *const u64, n: usize, cost: *const i64, lanes: usize,
         u: *mut i64, u_room: usize, v: *mut i64, v_room: usize, plan: *mut u64, plan_room: usize,
     ) -> SolveResult;
+
+    pub fn panel_set_up(
+        supply: *const u64, m: usize, demand: *const u64, n: usize, cost: *const i64, lanes: usize,
+    ) -> SetUpResult;
+
+    pub fn panel_edit_cost(
+        standing: Standing, row: usize, col: usize, cost: i64,
+        u: *mut i64, u_room: usize, v: *mut i64, v_room: usize, plan: *mut u64, plan_room: usize,
+    ) -> EditResult;
+
+    pub fn panel_edit_amounts(
+        standing: Standing, row: usize, col: usize, supply: u64, demand: u64,
+        u: *mut i64, u_room: usize, v: *mut i64, v_room: usize, plan: *mut u64, plan_room: usize,
+    ) -> EditResult;
 
     pub fn panel_read_sheet(
         text: *const u8, length: usize,

@@ -1,7 +1,7 @@
 //! The calls of the bag plan panel, safe to use from Rust.
 //!
 //! The functions stand for the C functions of `crates/exports/panel.h`: they work on lent lists and allocate nothing. A call that refuses changes nothing
-//! that was lent to it. The methods of [`Sheet`] are the same calls with results that are owned. `docs/EMBEDDING.md` says more.
+//! that was lent to it. The methods of [`Sheet`] and [`Standing`] are the same calls with results that are owned. `docs/EMBEDDING.md` says more.
 //!
 //! ```
 //! let sheet = panel::Sheet { supply: vec![3, 4], demand: vec![5, 2], cost: vec![4, 1, 2, 6] };
@@ -14,9 +14,11 @@
 
 mod ffi;
 mod refusal;
+mod standing;
 mod tableau;
 
 pub use refusal::Refusal;
+pub use standing::{edit_amounts, edit_cost, set_up, KeptSheet, Standing};
 pub use tableau::{Cell, Pair, Tableau};
 
 /// The most roasteries, and the most cafés, of a sheet.
@@ -57,12 +59,12 @@ pub struct Run {
     pub tableau: Tableau,
 }
 
-/// What solve gives beside the lists that it fills.
+/// What solve, or an edit, gives beside the lists that it fills.
 #[derive(Clone, Copy, Debug, PartialEq, Eq)]
 pub struct Solved {
     /// The cost of the plan, in cents; below 0 where the plan earns money.
     pub cost: i64,
-    /// The rounds from the start to the first finished tableau.
+    /// The rounds to the first finished tableau: from the start, or from where an edit began.
     pub rounds: u64,
 }
 
@@ -183,12 +185,12 @@ pub struct Sheet {
     pub cost: Vec<i64>,
 }
 
-/// What solve gives, owned.
+/// What solve, or an edit, gives, owned.
 #[derive(Clone, Debug, PartialEq, Eq)]
 pub struct Solution {
     /// The cost of the plan, in cents; below 0 where the plan earns money.
     pub cost: i64,
-    /// The rounds from the start to the first finished tableau.
+    /// The rounds to the first finished tableau: from the start, or from where an edit began.
     pub rounds: u64,
     /// The prices of the roasteries.
     pub u: Vec<i64>,
@@ -244,9 +246,24 @@ impl Sheet {
 
     /// The cheapest plan, with its cost and prices.
     pub fn solve(&self) -> Result<Solution, Refusal> {
-        let (mut u, mut v, mut plan) = ([0; MAX_SIDE], [0; MAX_SIDE], [0; MAX_LANES]);
-        let Solved { cost, rounds } = solve(&self.supply, &self.demand, &self.cost, &mut u, &mut v, &mut plan)?;
         let (m, n) = (self.supply.len(), self.demand.len());
+        Solution::owned(m, n, |u, v, plan| solve(&self.supply, &self.demand, &self.cost, u, v, plan))
+    }
+
+    /// The standing sheet, with its finished tableau; no edit is counted yet.
+    pub fn set_up(&self) -> Result<Standing, Refusal> {
+        set_up(&self.supply, &self.demand, &self.cost)
+    }
+}
+
+impl Solution {
+    /// What a call gives for m roasteries and n cafés, with the lists that it fills.
+    fn owned<F>(m: usize, n: usize, call: F) -> Result<Solution, Refusal>
+    where
+        F: FnOnce(&mut [i64], &mut [i64], &mut [u64]) -> Result<Solved, Refusal>,
+    {
+        let (mut u, mut v, mut plan) = ([0; MAX_SIDE], [0; MAX_SIDE], [0; MAX_LANES]);
+        let Solved { cost, rounds } = call(&mut u, &mut v, &mut plan)?;
         Ok(Solution { cost, rounds, u: u[..m].to_vec(), v: v[..n].to_vec(), plan: plan[..m * n].to_vec() })
     }
 }

@@ -29,10 +29,12 @@ pub enum Refusal {
     Crowded,
     /// 11: total demand is 0.
     Idle,
+    /// 12: an edit names a roastery or café not on the sheet, or the counter is at its largest value.
+    BadEdit,
 }
 
 impl Refusal {
-    /// The number of the refusal, 1 to 11.
+    /// The number of the refusal, 1 to 12.
     pub fn number(self) -> u8 {
         match self {
             Refusal::Sides => 1,
@@ -46,6 +48,7 @@ impl Refusal {
             Refusal::NotSheetText { .. } => 9,
             Refusal::Crowded => 10,
             Refusal::Idle => 11,
+            Refusal::BadEdit => 12,
         }
     }
 
@@ -64,6 +67,7 @@ impl Refusal {
             9 => Refusal::NotSheetText { place },
             10 => Refusal::Crowded,
             11 => Refusal::Idle,
+            12 => Refusal::BadEdit,
             _ => unreachable!("no call refuses with {number}"),
         })
     }
@@ -83,6 +87,7 @@ impl fmt::Display for Refusal {
             Refusal::NotSheetText { place } => write!(f, "not a sheet text, at place {place}"),
             Refusal::Crowded => write!(f, "total supply is greater than total demand, with {MAX_SIDE} cafés"),
             Refusal::Idle => write!(f, "total demand is 0"),
+            Refusal::BadEdit => write!(f, "the edit names a party not on the sheet, or the counter is at its largest value"),
         }
     }
 }

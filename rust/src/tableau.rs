@@ -23,9 +23,11 @@ pub struct Cell {
     pub amount: Pair,
 }
 
-/// A tableau that a call gives. It lends its cells, in sheet order, as a slice; two tableaux are equal if their cells are.
+/// A tableau that a call gives. It lends its cells, in sheet order, as a slice, and holds zeros behind
+/// them.
 ///
-/// A call takes a tableau as any slice of cells, so that of a `Tableau` or one's own.
+/// A call takes a tableau as any slice of cells, so that of a `Tableau` or one's own. A standing sheet
+/// has one by value, which may hold anything.
 ///
 /// It covers the parties left, those whose amount is not 0, under their own numbers, with one cell fewer than these are. Where supply is above demand, an extra
 /// café after those of the sheet takes the surplus at cost 0, and is a party left. It is in tableaux alone: prices, plans and texts are of the sheet, and there
@@ -53,17 +55,19 @@ pub struct Cell {
 /// # Ok::<(), panel::Refusal>(())
 /// ```
 #[repr(C)]
-#[derive(Clone, Copy)]
+#[derive(Clone, Copy, PartialEq, Eq)]
 pub struct Tableau {
-    cells: [Cell; MAX_CELLS],
-    count: usize,
+    /// The cells, and room for more.
+    pub cells: [Cell; MAX_CELLS],
+    /// How many of them are the tableau's.
+    pub count: usize,
 }
 
 impl Deref for Tableau {
     type Target = [Cell];
 
     fn deref(&self) -> &[Cell] {
-        &self.cells[..self.count]
+        &self.cells[..self.count.min(MAX_CELLS)]
     }
 }
 
@@ -72,11 +76,3 @@ impl fmt::Debug for Tableau {
         f.debug_tuple("Tableau").field(&&**self).finish()
     }
 }
-
-impl PartialEq for Tableau {
-    fn eq(&self, other: &Tableau) -> bool {
-        **self == **other
-    }
-}
-
-impl Eq for Tableau {}

@@ -6,3 +6,5 @@ pub mod Certificate
 pub mod Says
 pub mod FewLanes
 pub mod NobodyStruck
+pub mod EqualPrices
+pub mod FromNothing

@@ -30,6 +30,12 @@ use Rattle.tableaux.specs.Bases.{joined-on}
 use Rattle.tableaux.specs.Flows.{signs-of}
 use Rattle.tableaux.specs.Potentials.{potential-tight}
 
+-- Belonging looks at amounts alone.
+pub belongs-amounts : (P Q : Problem) (T : List Cell) → P .supply ≡ Q .supply → P .demand ≡ Q .demand
+    → cellsBelong P T ≡ cellsBelong Q T
+unfolding cellsBelong onSheet balanced sources sinks pairedSupply pairedDemand
+belongs-amounts P Q T s d = rw (s, d)
+
 -- ---- each test, and what it says
 
 pub order-true : (n : ℕ) (T : List Cell) → inOrder n T ≡ true → (k : ℕ) → suc k < length T → place n (rowOf T k) (colOf T k)

@@ -20,3 +20,4 @@ pub mod PivotView
 pub mod Pivoting
 pub mod Running
 pub mod Ending
+pub mod EqualPotentials

@@ -19,16 +19,20 @@ pub use Rattle.transport.specs.declared.SettleAnswer.{SettleAnswer}
 use Rattle.transport.specs.declared.SettleAnswer.the-variants as SettleAnswer
 pub use Rattle.transport.specs.declared.SolveAnswer.{SolveAnswer}
 use Rattle.transport.specs.declared.SolveAnswer.the-variants as SolveAnswer
+pub use Rattle.transport.specs.declared.SetUpAnswer.{SetUpAnswer}
+pub use Rattle.transport.specs.declared.EditAnswer.{EditAnswer}
+use Rattle.transport.specs.declared.Standing as Declared
 pub use Rattle.transport.specs.declared.ReadAnswer.{ReadAnswer}
 use Rattle.transport.specs.declared.ReadAnswer.the-variants as ReadAnswer
 pub use Rattle.transport.specs.declared.WriteAnswer.{WriteAnswer}
 use Rattle.transport.specs.declared.WriteAnswer.the-variants as WriteAnswer
 use Rattle.transport.specs.Lists.{padded}
 use Rattle.transport.specs.Limits.{maxSide}
-use Rattle.transport.specs.Sheet.{Sheet, roasteries, cafes}
+use Rattle.transport.specs.Sheet.{Sheet, sheetOf, roasteries, cafes}
 use Rattle.transport.specs.Tableau.{Cell, tableauOf, cellsOf, noTableau}
 use Rattle.transport.specs.Round.{Run}
 use Rattle.transport.specs.Calls.{Answer, refused, given, refusedBy, Round, finished, moved, Solution}
+use Rattle.transport.specs.Standing.{Standing, structOf}
 
 -- ---- start
 
@@ -102,6 +106,19 @@ unfoldable pub solveSays : ℕ → ℕ → SolveAnswer → List ℤ → List ℤ
 solveSays m n (SolveAnswer.Solved cost rounds) u v plan =
     given (record { cost = cost; rounds = rounds; u = take m u; v = take n v; plan = take (m * n) plan })
 solveSays m n (SolveAnswer.Refused k) u v plan = refusedBy k
+
+-- ---- set up and edit: the answers cross to C as they are, so `refusal` is 0 or the number
+
+unfoldable pub setUpAnswer : Answer Standing → SetUpAnswer
+setUpAnswer (refused r) =
+    record { refusal = r .number; standing = record { sheet = structOf (sheetOf [] [] []); tableau = noTableau; counter = 0 } }
+setUpAnswer (given St) =
+    record { refusal = 0; standing = record { sheet = structOf (St .sheet); tableau = St .tableau; counter = St .counter } }
+
+-- A refusal gives the standing sheet back as it was.
+unfoldable pub editAnswer : Answer Solution → Declared.Standing → Declared.Standing → EditAnswer
+editAnswer (refused r) old new = record { refusal = r .number; cost = pos 0; rounds = 0; after = old }
+editAnswer (given s) old new = record { refusal = 0; cost = s .cost; rounds = s .rounds; after = new }
 
 -- ---- read sheet
 

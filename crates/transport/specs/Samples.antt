@@ -1,4 +1,4 @@
--- The samples of paper 01, P1 to P9, its text samples and its worked text, those of paper 02, One to Four, and a sample for each trap that these leave open,
+-- The samples of paper 01, P1 to P9, its text samples and its worked text, those of paper 02, One to Five, and a sample for each trap that these leave open,
 -- as one theorem over the definitions.
 mod Open
 use mathlib.Core.Path.{_≡_, refl}
@@ -16,7 +16,10 @@ use Rattle.transport.specs.Tableau.{Cell, tableauOf, start}
 use Rattle.transport.specs.Potential.{reducedCost}
 use Rattle.transport.specs.Round.{entering, next}
 use Rattle.transport.specs.Plan.{planCost}
-use Rattle.transport.specs.Calls.{Answer, refused, given, refusedBy, startCall, finished, moved, roundCall, runCall, settleCall, solveCall}
+use Rattle.transport.specs.Calls.{Answer, refused, given, refusedBy, unless, startCall, finished, moved, roundCall, runCall, settleCall, solveCall}
+use Rattle.transport.specs.Standing.{Edit, edited, Standing, setUpCall, standingTests, maxCounter, editCall, carriedOut, standsAfter, keptSheet}
+use Rattle.transport.specs.Standing.{spare, structOf, standingOf}
+use Rattle.transport.specs.declared.Change.the-variants as Change
 use Rattle.transport.specs.Text.{bytes, numberLine}
 use Rattle.transport.specs.SheetText.{readSheetCall, writeSheetCall}
 use Rattle.transport.specs.PlanText.{wholeLine, writePlanCall, printed}
@@ -169,6 +172,25 @@ sheetOneLeft = record { supply = 0 ∷ 2 ∷ 0 ∷ []; demand = 0 ∷ 2 ∷ []; 
 abbrev sheetWideClosed : ℕ → Sheet
 sheetWideClosed s = record { supply = s ∷ []; demand = replicate 31 1 ++ (0 ∷ []); cost = replicate 32 (pos 1) }
 
+-- Five: P1's sheet stands with its finished tableau, after k accepted edits ..
+abbrev stands1 : ℕ → Standing
+stands1 k = record { sheet = sheet1; tableau = tableauOf next1; counter = k }
+
+-- .. and sheetDearClosed, which has an extra café and a closed one.
+abbrev standsClosed : Standing
+standsClosed = record {
+  sheet = sheetDearClosed;
+  tableau = tableauOf (cell 1 1 (pos 1) (negsuc 0) ∷ cell 1 3 (pos 2) (pos 2) ∷ cell 2 1 (pos 3) (pos 1) ∷ []);
+  counter = 0;
+}
+
+-- Edits of the lane, or the amounts, of roastery i and café j, counted from 1.
+abbrev setCost : ℕ → ℕ → ℤ → Edit
+setCost i j c = record { row = i - 1; col = j - 1; change = Change.Cost c }
+
+abbrev setAmounts : ℕ → ℕ → ℕ → ℕ → Edit
+setAmounts i j s d = record { row = i - 1; col = j - 1; change = Change.Amounts s d }
+
 abbrev samples : List Sample
 samples =
     -- P1
@@ -301,6 +323,46 @@ samples =
     -- 10 counts closed cafés, and comes before 11
     ∷ (solveCall (sheetWideClosed 40) 1 32 32 is refusedBy 10)
     ∷ (solveCall (record { supply = 1 ∷ []; demand = replicate 32 0; cost = replicate 32 (pos 0) }) 1 32 32 is refusedBy 10)
+    -- Five: what is set up, and its struct and back
+    ∷ (setUpCall sheet1 is given (stands1 0))
+    ∷ (setUpCall sheetDearClosed is given standsClosed)
+    ∷ (setUpCall (oneLane 2 3 (pos 0)) is refusedBy 5)
+    ∷ (setUpCall (oneLane 3 0 (pos 0)) is refusedBy 11)
+    ∷ (keptSheet (structOf sheet1) is sheet1)
+    ∷ (spare (structOf sheet1) .0 is replicate 30 0)
+    -- a cost edit goes on from the kept tableau: one round, where the edited sheet from nothing takes none, and all else is the same
+    ∷ (editCall (stands1 0) (setCost 1 2 (pos 9)) 2 2 4 is given (record { cost = pos 28; rounds = 1; u = pos 0 ∷ negsuc 1 ∷ []; v = pos 4 ∷ pos 8 ∷ []; plan = 3 ∷ 0 ∷ 2 ∷ 2 ∷ [] }))
+    ∷ (solveCall (edited sheet1 (setCost 1 2 (pos 9))) 2 2 4 is given (record { cost = pos 28; rounds = 0; u = pos 0 ∷ negsuc 1 ∷ []; v = pos 4 ∷ pos 8 ∷ []; plan = 3 ∷ 0 ∷ 2 ∷ 2 ∷ [] }))
+    ∷ (carriedOut (stands1 0) (setCost 1 2 (pos 9)) is record { sheet = edited sheet1 (setCost 1 2 (pos 9)); tableau = tableauOf start1; counter = 1 })
+    -- a cost edit that changes nothing is counted
+    ∷ (editCall (stands1 7) (setCost 1 2 (pos 1)) 2 2 4 is given (record { cost = pos 14; rounds = 0; u = pos 0 ∷ negsuc 1 ∷ []; v = pos 4 ∷ pos 1 ∷ []; plan = 1 ∷ 2 ∷ 4 ∷ 0 ∷ [] }))
+    ∷ (carriedOut (stands1 7) (setCost 1 2 (pos 1)) is stands1 8)
+    -- an amount edit begins afresh: with one that makes a surplus, and one that closes a café
+    ∷ (editCall (stands1 0) (setAmounts 1 1 4 6) 2 2 4 is given (record { cost = pos 18; rounds = 1; u = pos 0 ∷ negsuc 1 ∷ []; v = pos 4 ∷ pos 1 ∷ []; plan = 2 ∷ 2 ∷ 4 ∷ 0 ∷ [] }))
+    ∷ (editCall (stands1 0) (setAmounts 2 2 5 2) 2 2 4 is given (record { cost = pos 12; rounds = 2; u = pos 0 ∷ pos 0 ∷ []; v = pos 2 ∷ pos 1 ∷ []; plan = 0 ∷ 2 ∷ 5 ∷ 0 ∷ [] }))
+    ∷ (carriedOut (stands1 0) (setAmounts 2 2 5 2) .tableau is tableauOf (cell 1 2 (pos 2) (pos 0) ∷ cell 1 3 (pos 1) (pos 1) ∷ cell 2 1 (pos 5) (pos 0) ∷ cell 2 3 (pos 0) (pos 1) ∷ []))
+    ∷ (editCall (stands1 0) (setAmounts 1 2 1 0) 2 2 4 is given (record { cost = pos 12; rounds = 0; u = pos 0 ∷ negsuc 1 ∷ []; v = pos 4 ∷ pos 1 ∷ []; plan = 1 ∷ 0 ∷ 4 ∷ 0 ∷ [] }))
+    -- with an extra café and a closed one: a lane of the parties left, one of the closed café, which moves its price alone, and the café opened
+    ∷ (editCall standsClosed (setCost 1 1 (pos 0)) 2 2 4 is given (record { cost = pos 1; rounds = 1; u = pos 0 ∷ pos 1 ∷ []; v = pos 0 ∷ pos 1 ∷ []; plan = 3 ∷ 0 ∷ 1 ∷ 0 ∷ [] }))
+    ∷ (editCall standsClosed (setCost 1 2 (belowZero 9)) 2 2 4 is given (record { cost = pos 8; rounds = 0; u = pos 0 ∷ belowZero 4 ∷ []; v = pos 5 ∷ belowZero 9 ∷ []; plan = 1 ∷ 0 ∷ 3 ∷ 0 ∷ [] }))
+    ∷ (editCall standsClosed (setAmounts 2 2 3 2) 2 2 4 is given (record { cost = pos 12; rounds = 1; u = pos 0 ∷ belowZero 4 ∷ []; v = pos 5 ∷ pos 2 ∷ []; plan = 1 ∷ 2 ∷ 3 ∷ 0 ∷ [] }))
+    -- as solve refuses the edited sheet: 3, 4, 5, 11, and 8 last; a refusal alters nothing
+    ∷ (editCall (stands1 0) (setAmounts 1 1 1_000_001 9) 2 2 3 is refusedBy 3)
+    ∷ (editCall (stands1 0) (setCost 1 1 (pos 1_000_001)) 2 2 3 is refusedBy 4)
+    ∷ (editCall (stands1 0) (setAmounts 1 1 3 6) 2 2 3 is refusedBy 5)
+    ∷ (editCall (record { sheet = oneLane 1 1 (pos 0); tableau = tableauOf (cell 1 1 (pos 1) (pos 1) ∷ []); counter = 0 }) (setAmounts 1 1 1 0) 1 1 1 is refusedBy 11)
+    ∷ (editCall (stands1 0) (setCost 1 1 (pos 1)) 2 2 3 is refusedBy 8)
+    ∷ (standsAfter (editCall (stands1 0) (setCost 1 1 (pos 1)) 2 2 3) (stands1 0) (carriedOut (stands1 0) (setCost 1 1 (pos 1))) is stands1 0)
+    -- 12 before these: a party not on the sheet, the extra café, the counter at its largest value
+    ∷ (editCall (stands1 0) (setCost 3 1 (pos 1_000_001)) 2 2 4 is refusedBy 12)
+    ∷ (editCall (stands1 0) (setAmounts 1 3 1 9) 2 2 4 is refusedBy 12)
+    ∷ (editCall standsClosed (setCost 1 3 (pos 1)) 2 2 4 is refusedBy 12)
+    ∷ (editCall (stands1 maxCounter) (setCost 1 1 (pos 1_000_001)) 2 2 4 is refusedBy 12)
+    ∷ (carriedOut (stands1 (maxCounter - 1)) (setCost 1 2 (pos 1)) is stands1 maxCounter)
+    -- and before that the first check: 7, 6, and 1 for more parties than the arrays have room for
+    ∷ (editCall (record { sheet = sheet1; tableau = tableauOf start1; counter = maxCounter }) (setCost 3 1 (pos 1)) 2 2 4 is refusedBy 7)
+    ∷ (editCall (record { sheet = sheet1; tableau = record { cells = tableauOf next1 .cells; count = 64 }; counter = 0 }) (setCost 3 1 (pos 1)) 2 2 4 is refusedBy 6)
+    ∷ (unless {A = ℕ} (standingTests (standingOf (record { sheet = record { m = 33; n = 2; supply = replicate 32 1; demand = replicate 32 1; cost = [] }; tableau = tableauOf next1; counter = 0 }))) 0 is refusedBy 1)
     -- traps: the least reduced cost enters, and not the first negative one; a count beyond the array does not belong
     ∷ (entering (extended sheet10) (start (extended sheet10)) is lane 1 3)
     ∷ (roundCall sheet1 (record { cells = tableauOf start1 .cells; count = 64 }) is refusedBy 6)
@@ -308,4 +370,4 @@ samples =
 
 pub samples-hold : Hold samples
 unfolding opened
-samples-hold = (refl, (refl, (refl, (refl, (refl, (refl, (refl, (refl, (refl, (refl, (refl, (refl, (refl, (refl, (refl, (refl, (refl, (refl, (refl, (refl, (refl, (refl, (refl, (refl, (refl, (refl, (refl, (refl, (refl, (refl, (refl, (refl, (refl, (refl, (refl, (refl, (refl, (refl, (refl, (refl, (refl, (refl, (refl, (refl, (refl, (refl, (refl, (refl, (refl, (refl, (refl, (refl, (refl, (refl, (refl, (refl, (refl, (refl, (refl, (refl, (refl, (refl, (refl, (refl, (refl, (refl, (refl, (refl, (refl, (refl, (refl, (refl, (refl, (refl, (refl, (refl, (refl, (refl, (refl, (refl, (refl, (refl, (refl, (refl, (refl, (refl, (refl, (refl, (refl, (refl, (refl, (refl, (refl, (refl, (refl, (refl, (refl, (refl, (refl, (refl, (refl, (refl, (refl, (refl, (refl, (refl, (refl, (refl, tt))))))))))))))))))))))))))))))))))))))))))))))))))))))))))))))))))))))))))))))))))))))))))))))))))))))))))))
+samples-hold = (refl, (refl, (refl, (refl, (refl, (refl, (refl, (refl, (refl, (refl, (refl, (refl, (refl, (refl, (refl, (refl, (refl, (refl, (refl, (refl, (refl, (refl, (refl, (refl, (refl, (refl, (refl, (refl, (refl, (refl, (refl, (refl, (refl, (refl, (refl, (refl, (refl, (refl, (refl, (refl, (refl, (refl, (refl, (refl, (refl, (refl, (refl, (refl, (refl, (refl, (refl, (refl, (refl, (refl, (refl, (refl, (refl, (refl, (refl, (refl, (refl, (refl, (refl, (refl, (refl, (refl, (refl, (refl, (refl, (refl, (refl, (refl, (refl, (refl, (refl, (refl, (refl, (refl, (refl, (refl, (refl, (refl, (refl, (refl, (refl, (refl, (refl, (refl, (refl, (refl, (refl, (refl, (refl, (refl, (refl, (refl, (refl, (refl, (refl, (refl, (refl, (refl, (refl, (refl, (refl, (refl, (refl, (refl, (refl, (refl, (refl, (refl, (refl, (refl, (refl, (refl, (refl, (refl, (refl, (refl, (refl, (refl, (refl, (refl, (refl, (refl, (refl, (refl, (refl, (refl, (refl, (refl, (refl, (refl, (refl, (refl, (refl, (refl, (refl, (refl, tt))))))))))))))))))))))))))))))))))))))))))))))))))))))))))))))))))))))))))))))))))))))))))))))))))))))))))))))))))))))))))))))))))))))))))))

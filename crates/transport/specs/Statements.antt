@@ -21,6 +21,9 @@
 --   FromFirstFinished        the definition's solution: demands/Demand3.solution-finished
 --   Bought                   stands in the contract of solve; by demands/Bought.bought
 --   BestExactly              the plan bought for a balanced sheet: demands/Bought.bought-balanced
+--   EqualPrices              of any two finished tableaux: demands/EqualPrices.equal-prices
+--   FromNothing              an accepted edit: demands/FromNothing.from-nothing
+--   Passes (Standing)        what is set up, and what stands after any edit: demands/FromNothing.set-up-stands, edit-stands
 --   SheetTextOf              exactly the texts that the definition reads: grammar/Place.reader-iff
 --   Place                    the place that read sheet gives with 9: grammar/Place.place
 --   Undo                     write sheet and read sheet: grammar/SheetCalls.undo
@@ -38,16 +41,18 @@ use Rattle.transport.specs.Lists.{sumTo, at, atZ, total, within}
 use Rattle.transport.specs.Limits.{maxSources, maxSinks, maxSide, maxAmount, maxCost, maxDigits}
 use Rattle.transport.specs.Problem.{Problem, sources, sinks, Lane, place, laneCost}
 use Rattle.transport.specs.Sheet.{Sheet, roasteries, cafes}
+use Rattle.transport.specs.Extended.{extended}
 use Rattle.transport.specs.Parties.{rowsLeft, columnsLeft, problemOf}
 use Rattle.transport.specs.Amount.{less, nothing, pairedSupply, pairedDemand}
 use Rattle.transport.specs.Tableau.{Cell, noCell, basisSize, laneOf, basisOf, sameLane, start}
 use Rattle.transport.specs.Leaf.{strikes}
 use Rattle.transport.specs.Belonging.{rowTotal, columnTotal}
 use Rattle.transport.specs.Potential.{isFinished}
-use Rattle.transport.specs.OwnNumbers.{roasteryPrices, cafePrices}
+use Rattle.transport.specs.OwnNumbers.{renumbered, roasteryPrices, cafePrices}
 use Rattle.transport.specs.Round.{sign, leaving, next, Run}
 use Rattle.transport.specs.Plan.{planCost}
-use Rattle.transport.specs.Calls.{Answer, given, Solution}
+use Rattle.transport.specs.Calls.{Answer, given, Solution, solution, solveCall}
+use Rattle.transport.specs.Standing.{Edit, edited, Standing, Passes, editFrom, carriedOut}
 use Rattle.transport.specs.SheetText.{sheetText}
 
 -- ---- sheets
@@ -333,6 +338,30 @@ pub record Bought (S : Sheet) (r : SolveAnswer) (u v : List ℤ) (plan : List �
       → (drop (roasteries S) uAfter ≡ drop (roasteries S) u)
       × (drop (cafes S) vAfter ≡ drop (cafes S) v)
       × (drop (roasteries S * cafes S) planAfter ≡ drop (roasteries S * cafes S) plan)
+
+-- ---- phone orders (02, Five; of equal prices also Fourteen)
+
+-- Any two finished tableaux that belong to the sheet have the same prices, however they were reached.
+-- The tableaux are under own numbers, and the prices are those of all parties, struck ones too.
+pub record EqualPrices (S : Sheet) : Type 0 where
+  pub same : (T U : List Cell) → BelongsTo (extended S) T → BelongsTo (extended S) U
+      → isFinished (problemOf S) (renumbered (extended S) T) ≡ true
+      → isFinished (problemOf S) (renumbered (extended S) U) ≡ true
+      → (roasteryPrices S (renumbered (extended S) T) ≡ roasteryPrices S (renumbered (extended S) U))
+      × (cafePrices S (renumbered (extended S) T) ≡ cafePrices S (renumbered (extended S) U))
+
+-- An accepted edit gave s. Solve accepts the edited sheet, and cost, prices and settled plan equal
+-- those of solving it from nothing. The plan is best for the edited sheet. The rounds are those made by
+-- the edit, from where it began to the first finished tableau. What then stands passes the first check.
+pub record FromNothing (St : Standing) (e : Edit) (uRoom vRoom planRoom : ℕ) (s : Solution) : Type 0 where
+  pub solved : solveCall (edited (St .sheet) e) uRoom vRoom planRoom ≡ given (solution (edited (St .sheet) e))
+  pub cost : s .cost ≡ solution (edited (St .sheet) e) .cost
+  pub u : s .u ≡ solution (edited (St .sheet) e) .u
+  pub v : s .v ≡ solution (edited (St .sheet) e) .v
+  pub plan : s .plan ≡ solution (edited (St .sheet) e) .plan
+  pub best : Best (edited (St .sheet) e) (s .plan) (s .cost)
+  pub rounds : FirstFinished (problemOf (edited (St .sheet) e)) (editFrom St e) (s .rounds)
+  pub stands : Passes (carriedOut St e)
 
 -- ---- texts (01, "Texts")
 

@@ -132,6 +132,58 @@ pub enum SolveAnswer {
     Refused(u8),
 }
 
+// A sheet by value. Its m supplies, n demands and m × n costs, in sheet order, stand at the fronts of
+// arrays with room for the largest sheet.
+#[repr(C)]
+pub struct KeptSheet {
+    pub m: usize,
+    pub n: usize,
+    pub supply: [u64; MAX_SOURCES],
+    pub demand: [u64; MAX_SINKS],
+    pub cost: [i64; MAX_LANES],
+}
+
+// A standing sheet: a sheet with its finished tableau. `counter` counts the accepted edits.
+#[repr(C)]
+pub struct Standing {
+    pub sheet: KeptSheet,
+    pub tableau: Tableau,
+    pub counter: u64,
+}
+
+// What an edit sets: the cost of the lane between the roastery and the café that it names, or the
+// supply of the one and the demand of the other.
+pub enum Change {
+    Cost(i64),
+    Amounts { supply: u64, demand: u64 },
+}
+
+// An edit names one roastery, its row, and one café, its column.
+pub struct Edit {
+    pub row: usize,
+    pub col: usize,
+    pub change: Change,
+}
+
+// The answer of set up. It crosses to C as it is: `refusal` is the number of the refusal, or 0. The
+// standing sheet of a refusal is all zeros.
+#[repr(C)]
+pub struct SetUpAnswer {
+    pub refusal: u8,
+    pub standing: Standing,
+}
+
+// The answer of an edit, which crosses to C as it is too: the cost of the plan, the rounds that the
+// edit made, and the standing sheet after it. A refusal has no cost and no rounds, and gives the
+// standing sheet back as it was.
+#[repr(C)]
+pub struct EditAnswer {
+    pub refusal: u8,
+    pub cost: i64,
+    pub rounds: u64,
+    pub after: Standing,
+}
+
 // The answer of read sheet: how many sources and sinks the lent lists now hold; `NotSheetText` is refusal 9 with its place.
 pub enum ReadAnswer {
     Sheet { sources: usize, sinks: usize },

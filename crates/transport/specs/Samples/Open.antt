@@ -1,7 +1,7 @@
 -- `unfolding opened` opens every definition of the specification, to compute with.
 use mathlib.Core.List.{flatMap, flatten, zipWith}
 use Rattle.transport.specs.Lists.{all, keep, leastFrom, firstLeast, table, padded, below, grid, downTo, sumTo, sumZ, at, atZ, total, leastOf, atMost}
-use Rattle.transport.specs.Lists.{within, withinZ}
+use Rattle.transport.specs.Lists.{within, withinZ, firstOf}
 use Rattle.transport.specs.Limits.{maxSources, maxSinks, maxSide, maxAmount, maxBags, maxCost, costBelow, costAbove, maxCells, maxDigits, maxText}
 use Rattle.transport.specs.Limits.{maxPlanText}
 use Rattle.transport.specs.Problem.{sources, sinks, lanes, place, laneCost}
@@ -17,13 +17,15 @@ use Rattle.transport.specs.OwnNumbers.{own, renumbered, covers, belongsT
 use Rattle.transport.specs.Round.{entering, takeFrom, flow, sign, leaving, gain, shift, insert, pivot, next, run, roundBound}
 use Rattle.transport.specs.Plan.{planCost, rowPlans, plansFor, plans, settled}
 use Rattle.transport.specs.Calls.{refusedBy, unless, lentAfter, tableauTests, inside, tooShort, startCall, round, roundCall, runFrom, runCall, settleCall}
-use Rattle.transport.specs.Calls.{solutionFrom, solution, solveCall}
+use Rattle.transport.specs.Calls.{solutionFrom, solution, solveCall, finishedTests, solveTests}
+use Rattle.transport.specs.Standing.{edited, lastTableau, setUpCall, standingTests, maxCounter, badEdit, editTests}
+use Rattle.transport.specs.Standing.{editFrom, editCall, carriedOut, standsAfter, keptSheet, spare, structOf, standingOf}
 use Rattle.transport.specs.Text.{bytes, kindOf, digitsUpTo, digits, wholeDigits, headLine, numberLine, rowLine}
 use Rattle.transport.specs.SheetText.{rowsOf, sheetText, writeSheetCall, _>>=_, _>>_, pure, times, byteThat, word, end, isDigit, digitValue, moreDigits}
 use Rattle.transport.specs.SheetText.{numberFrom, number, minus, whole, side, line, row, sheetReader, readWith, readTests, readSheetCall}
 use Rattle.transport.specs.PlanText.{wholeLine, carried, used, laneLine, planText, writePlanCall, refusedLine, printed, fitting, shown}
 use Rattle.transport.specs.Answers.{startAnswer, startSays, prices, noPrices, roundAnswer, roundSays, runOutcome, runAnswer, runSays, settleAnswer}
-use Rattle.transport.specs.Answers.{settleSays, solveAnswer, solveSays, readAnswer, readSays, writeAnswer, writeSays}
+use Rattle.transport.specs.Answers.{settleSays, solveAnswer, solveSays, setUpAnswer, editAnswer, readAnswer, readSays, writeAnswer, writeSays}
 use Rattle.transport.specs.Statements.{scaled, loopSign, after}
 
 unfoldable pub opened : Unit {0}
@@ -39,5 +41,7 @@ unfolding flatMap flatten zipWith all keep leastFrom firstLeast table padded bel
     rowLine rowsOf sheetText writeSheetCall _>>=_ _>>_ pure times byteThat word end isDigit digitValue moreDigits numberFrom number minus whole side
     line row sheetReader readWith readTests readSheetCall wholeLine carried used laneLine planText writePlanCall refusedLine printed fitting shown
     startAnswer startSays prices noPrices roundAnswer roundSays runOutcome runAnswer runSays settleAnswer settleSays solveAnswer solveSays readAnswer
-    readSays writeAnswer writeSays scaled loopSign after
+    readSays writeAnswer writeSays scaled loopSign after firstOf finishedTests solveTests edited lastTableau setUpCall
+    standingTests maxCounter badEdit editTests editFrom editCall carriedOut standsAfter keptSheet spare structOf
+    standingOf setUpAnswer editAnswer
 opened = tt
