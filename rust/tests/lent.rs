@@ -1,4 +1,5 @@
-//! Lent lists: what a call fills, what it leaves, and every refusal, by its number. `tableaux.rs` has 6.
+//! Lent lists: what a call fills, what it leaves, and every refusal, by its number. `tableaux.rs` has
+//! 6, and `standing.rs` has edits and 12.
 mod common;
 use common::{
     both_signs, both_signs_last, cell, closed, closed_last, dear, dear_last, earns, first_empty, last_closed, p1, p1_last, p3, p4, p5, p6, p7, p8,
@@ -15,6 +16,7 @@ const MARK_BYTE: u8 = 0x5a;
 /// nothing. The tableau is one of no sheet, then P1's: 6 and 8 come after the sheet check.
 fn all_refuse(supply: &[u64], demand: &[u64], cost: &[i64], refusal: Refusal) {
     assert_eq!(start(supply, demand, cost), Err(refusal));
+    assert_eq!(set_up(supply, demand, cost), Err(refusal));
     for (cells, room) in [(&[][..], 0), (&[], 1), (&p1_last(), 1), (&p1_last(), MAX_PLAN_TEXT)] {
         let (mut u, mut v, mut plan, mut out) = (vec![SIGNED_MARK; room], vec![SIGNED_MARK; room], vec![MARK; room], vec![MARK_BYTE; room]);
         assert_eq!(round(supply, demand, cost, cells), Err(refusal));
@@ -258,12 +260,14 @@ fn settle_with_marks() {
 #[test]
 fn refusals_by_number_and_name() {
     use Refusal::*;
-    let all = [Sides, CostCount, Amount, Cost, Lacking, ForeignTableau, Unfinished, Room, NotSheetText { place: 38 }, Crowded, Idle];
-    assert!(all.iter().map(|r| r.number()).eq(1..=11));
+    let first = [Sides, CostCount, Amount, Cost, Lacking, ForeignTableau, Unfinished, Room];
+    let then = [NotSheetText { place: 38 }, Crowded, Idle, BadEdit];
+    assert!(first.iter().chain(&then).map(|r| r.number()).eq(1..=12));
     assert_eq!(Amount.to_string(), "a supply or demand is above 1,000,000");
     assert_eq!(Cost.to_string(), "a cost is outside -1,000,000 to 1,000,000");
     assert_eq!(Lacking.to_string(), "total demand is greater than total supply");
     assert_eq!(NotSheetText { place: 38 }.to_string(), "not a sheet text, at place 38");
     assert_eq!(Crowded.to_string(), "total supply is greater than total demand, with 32 cafés");
     assert_eq!(Idle.to_string(), "total demand is 0");
+    assert_eq!(BadEdit.to_string(), "the edit names a party not on the sheet, or the counter is at its largest value");
 }

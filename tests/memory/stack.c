@@ -17,9 +17,11 @@ static int64_t cost[LANES], u[SIDE], v[SIDE];
 static uint8_t sheet_text[SHEET_TEXT], plan_text[PLAN_TEXT];
 static size_t sheet_length;
 static struct panel_tableau first, last;
+static struct panel_standing standing;
 static int refusal;
 
 #define SHEET supply, SIDE, demand, cafes, cost, SIDE * cafes
+#define SOLVED u, SIDE, v, SIDE, plan, LANES
 
 static void nothing(void) { refusal = 0; }
 
@@ -39,7 +41,21 @@ static void run(void) {
 
 static void settle(void) { refusal = panel_settle(SHEET, last.cells, last.count, plan, LANES); }
 
-static void solve(void) { refusal = panel_solve(SHEET, u, SIDE, v, SIDE, plan, LANES).refusal; }
+static void solve(void) { refusal = panel_solve(SHEET, SOLVED).refusal; }
+
+static void set_up(void) {
+    struct panel_set_up_result r = panel_set_up(SHEET);
+    refusal = r.refusal;
+    standing = r.standing;
+}
+
+/* Both edits are of the standing sheet as it was set up. The first roastery and the first café
+ * always have a bag. */
+static void edit_cost(void) { refusal = panel_edit_cost(standing, 0, 0, -1000000, SOLVED).refusal; }
+
+static void edit_amounts(void) {
+    refusal = panel_edit_amounts(standing, 0, 0, supply[0] - 1, demand[0] - 1, SOLVED).refusal;
+}
 
 static void write_sheet(void) {
     struct panel_write_result r = panel_write_sheet(SHEET, sheet_text, SHEET_TEXT);
@@ -65,9 +81,10 @@ static const struct {
     const char *name;
     void (*make)(void);
 } calls[] = {
-    {"start", start}, {"round", round_},           {"run", run},               {"settle", settle},
-    {"solve", solve}, {"write sheet", write_sheet}, {"read sheet", read_sheet}, {"write plan", write_plan},
-    {"the program", program},
+    {"start", start},           {"round", round_},              {"run", run},
+    {"settle", settle},         {"solve", solve},               {"set up", set_up},
+    {"edit cost", edit_cost},   {"edit amounts", edit_amounts}, {"write sheet", write_sheet},
+    {"read sheet", read_sheet}, {"write plan", write_plan},     {"the program", program},
 };
 enum { CALLS = sizeof calls / sizeof *calls };
 

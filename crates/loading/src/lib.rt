@@ -5,6 +5,7 @@ use cost_grid::spread_costs;
 use numbering::renumber;
 use parties::Parties;
 use parties::number_parties;
+use rounds::round::is_finished;
 use sheet::SheetCheck;
 use transport::MAX_SIDE;
 use transport::Tableau;
@@ -15,7 +16,7 @@ ghost use mathlib.Core.Path.{_≡_};
 ghost use mathlib.Core.Option.{none};
 ghost use lib.ListN.{length};
 ghost use Rattle.transport.specs.Sheet.{sheetOf, refusal};
-ghost use Rattle.transport.specs.Calls.{tableauTests};
+ghost use Rattle.transport.specs.Calls.{tableauTests, inside, finishedTests};
 ghost use Rattle.transport.specs.Statements.{Accepted};
 ghost use Rattle.sheet.specs.Check.{checkAnswer};
 ghost use Rattle.tree.specs.Layout.{nodeRoom};
@@ -51,7 +52,7 @@ fn load_tableau(
         let S = sheetOf (now (supply .entry)) (now (demand .entry)) (now (cost .entry)) in
         ⌜
         (refusal (tableauTests S t) ≡ none
-        → Admitted S t (r .parties) (r .rows) (r .cols) (now (q .exit)) (now (e .exit)) (now (spread .exit))
+        → Admitted S (inside S t) (r .parties) (r .rows) (r .cols) (now (q .exit)) (now (e .exit)) (now (spread .exit))
         (now (leaf .exit)) (now (other .exit)) (now (lane .exit)))
         ⌝ }
 {
@@ -109,7 +110,7 @@ pub fn load_sheet(
         let S = sheetOf (now (supply .entry)) (now (demand .entry)) (now (cost .entry)) in
         ⌜
         (refusal (tableauTests S t) ≡ none
-        → Admitted S t (r .parties) (r .rows) (r .cols) (now (q .exit)) (now (e .exit)) (now (spread .exit))
+        → Admitted S (inside S t) (r .parties) (r .rows) (r .cols) (now (q .exit)) (now (e .exit)) (now (spread .exit))
         (now (leaf .exit)) (now (other .exit)) (now (lane .exit)))
         ⌝ }
 {
@@ -127,4 +128,49 @@ pub fn load_sheet(
         };
     }
     load_tableau(supply, demand, cost, t, q, e, spread, leaf, other, lane)
+}
+
+// The same, and 7 if the tableau is not finished.
+pub fn load_finished(
+    supply: &[u64],
+    demand: &[u64],
+    cost: &[i64],
+    t: Tableau,
+    q: &mut [i64; LANES],
+    e: &mut [i64; LANES],
+    spread: &mut [Price; LANES],
+    leaf: &mut [usize; NODES],
+    other: &mut [usize; NODES],
+    lane: &mut [usize; NODES],
+) -> Loading
+    requires { ⌜ (length (now leaf) ≡ nodeRoom) × (length (now other) ≡ nodeRoom) × (length (now lane) ≡ nodeRoom) ⌝ }
+    ensures { λ r.
+        let S = sheetOf (now (supply .entry)) (now (demand .entry)) (now (cost .entry)) in
+        ⌜ r .check ≡ checkAnswer (refusal (finishedTests S t)) ⌝ }
+    ensures { λ r.
+        let S = sheetOf (now (supply .entry)) (now (demand .entry)) (now (cost .entry)) in
+        ⌜
+        (refusal (finishedTests S t) ≡ none
+        → Admitted S (inside S t) (r .parties) (r .rows) (r .cols) (now (q .exit)) (now (e .exit)) (now (spread .exit))
+        (now (leaf .exit)) (now (other .exit)) (now (lane .exit)))
+        ⌝ }
+{
+    let loading = load_sheet(supply, demand, cost, t, q, e, spread, leaf, other, lane);
+    let check = loading.check;
+    if let SheetCheck::Refused(_) = check {
+        return loading;
+    }
+    let parties = loading.parties;
+    let mut price: [Price; NODES] = [0; NODES];
+    if is_finished(spread, leaf, other, lane, parties.rows, parties.columns, &mut price) {
+        return loading;
+    }
+    let rows = loading.rows;
+    let cols = loading.cols;
+    Loading {
+        check: SheetCheck::Refused(7),
+        parties,
+        rows,
+        cols,
+    }
 }

@@ -1,11 +1,11 @@
 -- The parties left of a sheet, numbered among themselves: their amounts and their own numbers, at the front of lists that have room for any side.
-use Rattle.prelude.specs.Words.{_≡_, refl, sym, ap, _∙_, [], _∷_, _++_, List, map, ℕ, _+_, _≤_, _<_, arith, add-one, length, take, getD, set, length-append}
+use Rattle.prelude.specs.Words.{_≡_, refl, sym, ap, _∙_, [], _∷_, _++_, List, map, ℕ, _+_, _≤_, _<_, arith, add-one, ℤ, length, take, getD, set, length-append}
 use Rattle.prelude.specs.Words.{length-set, length-map, length-take, List·getD-append, ext-getD, getD-at, length-take-le, take-suc-set}
 use mathlib.Core.List.{map-append}
 use lib.Seq.{take-set-le}
 use Rattle.transport.specs.Lists.{at}
 use Rattle.transport.specs.Limits.{maxSide}
-use Rattle.transport.specs.Sheet.{Sheet}
+use Rattle.transport.specs.Sheet.{Sheet, sheetOf}
 use Rattle.transport.specs.Extended.{surplus, wanted, extended}
 use Rattle.transport.specs.Parties.{left, rowsLeft, columnsLeft, struck, problemOf}
 use Rattle.transport.specs.Laws.ListLaws.{getD-map}
@@ -137,6 +137,27 @@ module _ {S : Sheet} {p : Parties} {supplyList demandList rowList columnList : L
 
   pub cafes-lent : p .cafes ≡ length (take (p .cafes) columnList)
   cafes-lent = sym (length-take-le (p .cafes) columnList (h .cafesRoom))
+
+-- Costs play no part.
+pub parties-amounts : {supply demand : List ℕ} {cost other : List ℤ} {p : Parties}
+    {supplyList demandList rowList columnList : List ℕ}
+    → PartiesOf (sheetOf supply demand cost) p supplyList demandList rowList columnList
+    → PartiesOf (sheetOf supply demand other) p supplyList demandList rowList columnList
+unfolding problemOf struck extended wanted surplus rowsLeft columnsLeft
+parties-amounts h = record {
+  rowCount = h .rowCount;
+  columnCount = h .columnCount;
+  suppliesRoom = h .suppliesRoom;
+  demandsRoom = h .demandsRoom;
+  rowsRoom = h .rowsRoom;
+  colsRoom = h .colsRoom;
+  cafesRoom = h .cafesRoom;
+  supplies = h .supplies;
+  demands = h .demands;
+  rowNumbers = h .rowNumbers;
+  columnNumbers = h .columnNumbers;
+  cafeNumbers = h .cafeNumbers;
+}
 
 -- Both sides are numbered: the rows, and the columns, of which the first are the cafés left.
 parties-of : (S : Sheet) {m n k : ℕ} {supplyList demandList rowList columnList : List ℕ}

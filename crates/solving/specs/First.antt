@@ -21,18 +21,19 @@ use Rattle.rounds.specs.Begun.{Begun}
 pub first-sound : {P : Problem} → Sound P → {supplies demands : List ℕ} → supplies ≡ P .supply → demands ≡ P .demand → Sound (costless supplies demands)
 first-sound {P} ok s d = rw (s, d) (sound-costless P ok)
 
--- The lists are those of the problem P, and t is the first tableau of them.
+-- The lists are those of the problem P, of m sources and n sinks, and t is the first tableau of them.
 module _ {P : Problem} (ok : Sound P) {supplies demands : List ℕ} (s : supplies ≡ P .supply) (d : demands ≡ P .demand)
+    {m n : ℕ} (rows : m ≡ sources P) (columns : n ≡ sinks P)
     {t : Tableau} (first : t ≡ tableauOf (start (costless supplies demands))) where
   begins : t ≡ tableauOf (start P)
   begins = first ∙ rw (s, d) (ap tableauOf (start-costless P))
 
   -- Its cells can be laid out over the arrays ..
-  pub first-fits : (t .count ≤ cellRoom) × Sides (length supplies) (length demands) × Inside (length supplies) (length demands) (cellsOf t)
-      × Distinct (cellsOf t)
-  unfolding sources sinks tableauOf
-  first-fits = let b = start-belongs P ok in
-      rw (begins, cells-of (start P), s, d) (
+  pub first-fits : (t .count ≤ cellRoom) × Sides m n × Inside m n (cellsOf t) × Distinct (cellsOf t)
+  unfolding tableauOf
+  first-fits =
+      let b = start-belongs P ok in
+      rw (begins, cells-of (start P), rows, columns) (
         omega (arith, length-start P ok, stride-is, ok .sourcesHigh, ok .sinksHigh),
         sound-sides ok refl refl,
         b .onSheet,
@@ -40,22 +41,25 @@ module _ {P : Problem} (ok : Sound P) {supplies demands : List ℕ} (s : supplie
       )
 
   -- .. which then hold the start. Its lanes span, so that all of them are struck off.
-  pub first-begun : {q e cost : List ℤ} {leaf other lanes : List ℕ} {r : ℕ} → Amounts (length supplies) (length demands) (cellsOf t) q e
-      → length lanes ≡ nodeRoom → Stripped (length supplies) (length demands) (basisOf (cellsOf t)) (strikesOf leaf other lanes r) r
-      → Costed P cost → Begun P (start P) q e cost leaf other lanes (length supplies) (length demands)
-  unfolding sources sinks basisSize
-  first-begun {leaf = leaf} {other} {lanes} {r} a long w c = let b = start-belongs P ok in
-      let w : Stripped (length (P .supply)) (length (P .demand)) (basisOf (start P)) (strikesOf leaf other lanes r) r =
-      rw (begins, cells-of (start P), s, d) at w in let (all, struck) = w .complete (spans-of ok b) in
-      rw (s, d) (record {
+  pub first-begun : {q e cost : List ℤ} {leaf other lanes : List ℕ} {r : ℕ} → Amounts m n (cellsOf t) q e
+      → length lanes ≡ nodeRoom → Stripped m n (basisOf (cellsOf t)) (strikesOf leaf other lanes r) r
+      → Costed P cost → Begun P (start P) q e cost leaf other lanes m n
+  unfolding basisSize
+  first-begun {leaf = leaf} {other} {lanes} {r} a long w c =
+      let b = start-belongs P ok in
+      let w : Stripped (sources P) (sinks P) (basisOf (start P)) (strikesOf leaf other lanes r) r =
+      rw (begins, cells-of (start P), rows, columns) at w in
+      let (all, struck) = w .complete (spans-of ok b) in
+      let StruckBy : ℕ → Type 0 = λ k. Struck (sources P) (sinks P) (basisOf (start P)) (strikesOf leaf other lanes k) in
+      rw (rows, columns) (record {
         sound = ok;
         rows = refl;
         columns = refl;
         belongs = belongs-iff P (start P) (ok .sourcesLow) (ok .sinksLow) .1 b;
         costs = c;
         loaded = record {
-          amounts = rw (begins, cells-of (start P), s, d) at a;
+          amounts = rw (begins, cells-of (start P), rows, columns) at a;
           long = long;
-          struck = subst (λ (k : ℕ). Struck (length (P .supply)) (length (P .demand)) (basisOf (start P)) (strikesOf leaf other lanes k)) all struck;
+          struck = subst StruckBy all struck;
         };
       })

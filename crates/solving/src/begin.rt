@@ -1,0 +1,67 @@
+// The first tableau of a sheet, laid out for rounds.
+use board::spread::lay_out;
+use cost_grid::spread_costs;
+use dealing::corner::first_tableau;
+use loading::Loading;
+use parties::number_parties;
+use sheet::SheetCheck;
+use transport::MAX_SIDE;
+use tree::LANES;
+use tree::NODES;
+use tree::Price;
+ghost use Rattle.transport.specs.Sheet.{sheetOf};
+ghost use Rattle.transport.specs.Parties.{problemOf};
+ghost use Rattle.transport.specs.Tableau.{start};
+ghost use Rattle.transport.specs.Statements.{Accepted};
+ghost use Rattle.loading.specs.Loading.{Admitted};
+
+// Of a sheet that passed its check: numbers the parties, and lays out the first tableau of those left,
+// with the costs of their lanes by column.
+pub fn begin_sheet(
+    supply: &[u64],
+    demand: &[u64],
+    cost: &[i64],
+    q: &mut [i64; LANES],
+    e: &mut [i64; LANES],
+    spread: &mut [Price; LANES],
+    leaf: &mut [usize; NODES],
+    other: &mut [usize; NODES],
+    lane: &mut [usize; NODES],
+) -> Loading
+    requires { ⌜ Accepted (sheetOf (now supply) (now demand) (now cost)) ⌝ }
+    ensures { λ r.
+        let S = sheetOf (now (supply .entry)) (now (demand .entry)) (now (cost .entry)) in
+        ⌜
+        Admitted S (start (problemOf S)) (r .parties) (r .rows) (r .cols) (now (q .exit)) (now (e .exit)) (now (spread .exit))
+        (now (leaf .exit)) (now (other .exit)) (now (lane .exit))
+        ⌝ }
+{
+    let mut supplies = [0u64; MAX_SIDE];
+    let mut demands = [0u64; MAX_SIDE];
+    let mut rows = [0usize; MAX_SIDE];
+    let mut cols = [0usize; MAX_SIDE];
+    let parties = number_parties(
+        supply,
+        demand,
+        &mut supplies,
+        &mut demands,
+        &mut rows,
+        &mut cols,
+    );
+    let m = parties.rows;
+    let n = parties.columns;
+    let served = parties.cafes;
+    spread_costs(cost, demand.len(), &rows[..m], &cols[..served], spread);
+    let first = first_tableau(&supplies[..m], &demands[..n]);
+    // Cleared first: the length of a lent array is known to the prover only once it is stored whole.
+    *leaf = [0; NODES];
+    *other = [0; NODES];
+    *lane = [0; NODES];
+    lay_out(first, m, n, q, e, leaf, other, lane);
+    Loading {
+        check: SheetCheck::Accepted,
+        parties,
+        rows,
+        cols,
+    }
+}
