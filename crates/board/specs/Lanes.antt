@@ -4,7 +4,7 @@ use Rattle.prelude.specs.Words.{⊎-elim, Bool, true, false, true≢false, List
 use Rattle.prelude.specs.Words.{List·Memᴰ·not-nil, List·Memᴰ·cases-cons, ℤ, pos, length, take, drop, getD, set, replicate, length-append, length-map}
 use Rattle.prelude.specs.Words.{length-replicate, getD-take, by-cases}
 use Rattle.transport.specs.Lists.{keep, table, below, padded}
-use Rattle.transport.specs.Laws.ListLaws.{table-zero, table-split, table-first, table-cong, table-getD, fill-one, member-at, keep-member, map-table}
+use Rattle.transport.specs.Laws.ListLaws.{table-zero, table-split, table-first, table-cong, table-getD, fill-one, member-at, keep-member, map-table, drop-replicate}
 use Rattle.transport.specs.Laws.ListLaws.{keep-append, keep-yes, keep-no, keep-none, keep-map, keep-cong, table-member, length-table, getD-table, map-member}
 use Rattle.transport.specs.Laws.ListLaws.{member-map, is-false}
 use Rattle.transport.specs.Problem.{place}
@@ -188,14 +188,9 @@ module _ (lanes : List ℕ) (q e : List ℤ) (count : ℕ) where
   filledTo-all adj m t w p h = let T = map (cellOn q e) (lanesOf adj m) in
       let n : length T ≡ count = length-map (lanesOf adj m) (cellOn q e) ∙ sym (w .many) in
       let cells : t .cells ≡ T ++ replicate (maxCells - length T) noCell = h .filled
-      ∙ rw (listed, drop-replicate count cellRoom noCell p, n, ← cellRoom-is) in let many : t .count ≡ length T = h .many ∙ sym n in
+      ∙ rw (listed, drop-replicate noCell count cellRoom p, n, ← cellRoom-is) in let many : t .count ≡ length T = h .many ∙ sym n in
       λ i. record { cells = cells i; count = many i }
     where
-      drop-replicate : (k n : ℕ) (c : Cell) → k ≤ n → drop k (replicate n c) ≡ replicate (n - k) c
-      drop-replicate zero n c p = let e : n - 0 ≡ n = omega arith in rw e
-      drop-replicate (suc k) zero c p = absurd (omega arith)
-      drop-replicate (suc k) (suc n) c p = let e : suc n - suc k ≡ n - k = omega arith in rw e (drop-replicate k n c (omega arith))
-
       listed : table count (λ i. cellOn q e (getD lanes i 0)) ≡ map (cellOn q e) (lanesOf adj m)
       listed = let all : table count (λ i. getD (lanesOf adj m) i 0) ≡ lanesOf adj m = rw (w .many) (table-getD (lanesOf adj m) 0) in
           table-cong count (λ i. cellOn q e (getD lanes i 0)) (λ i. cellOn q e (getD (lanesOf adj m) i 0))

@@ -1,6 +1,6 @@
 // Edits of a standing sheet, on its lists.
-use dealing::tableau::empty_tableau;
 use cost_grid::spread_costs;
+use dealing::tableau::empty_tableau;
 use loading::Loading;
 use loading::load_finished;
 use runs::run::finish;
@@ -12,6 +12,7 @@ use solving::store::last_tableau;
 use solving::store::store_solution;
 use transport::Change;
 use transport::Edit;
+use transport::MAX_COUNTER;
 use transport::SolveAnswer;
 use transport::Tableau;
 use tree::LANES;
@@ -59,7 +60,7 @@ fn may_edit(m: usize, n: usize, row: usize, col: usize, counter: u64) -> bool
     if col >= n {
         return false;
     }
-    counter != 18_446_744_073_709_551_615
+    counter != MAX_COUNTER
 }
 
 // Sets in the lists of a sheet what the edit says.
@@ -174,7 +175,17 @@ fn resume(
     let rounds = finish(q, e, spread, leaf, other, lane, m, n, &mut price);
     let tableau = last_tableau(begun, lane, q, e);
     store_solution(
-        supply, demand, cost, begun, lane, q, spread, &price, u, v, plan,
+        supply,
+        demand,
+        cost,
+        begun,
+        lane,
+        q,
+        spread,
+        &price,
+        u,
+        v,
+        plan,
     );
     let total = plan_cost(plan, cost);
     Edited {
@@ -226,10 +237,32 @@ fn carry_out(
         return refused(8);
     }
     let begun = begin_edit(
-        supply, demand, cost, change, loaded, q, e, spread, leaf, other, lane,
+        supply,
+        demand,
+        cost,
+        change,
+        loaded,
+        q,
+        e,
+        spread,
+        leaf,
+        other,
+        lane,
     );
     resume(
-        supply, demand, cost, begun, q, e, spread, leaf, other, lane, u, v, plan,
+        supply,
+        demand,
+        cost,
+        begun,
+        q,
+        e,
+        spread,
+        leaf,
+        other,
+        lane,
+        u,
+        v,
+        plan,
     )
 }
 

@@ -162,7 +162,15 @@ pub fn load_finished(
     }
     let parties = loading.parties;
     let mut price: [Price; NODES] = [0; NODES];
-    if is_finished(spread, leaf, other, lane, parties.rows, parties.columns, &mut price) {
+    if is_finished(
+        spread,
+        leaf,
+        other,
+        lane,
+        parties.rows,
+        parties.columns,
+        &mut price,
+    ) {
         return loading;
     }
     let rows = loading.rows;

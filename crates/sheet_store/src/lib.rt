@@ -10,6 +10,7 @@ ghost use Rattle.transport.specs.Calls.{unless, lentAfter};
 ghost use Rattle.transport.specs.Answers.{readAnswer};
 ghost use Rattle.decimals.specs.Front.{front};
 use sheet::SheetCheck;
+use sheet::lists::copy_costs;
 use sheet::lists::copy_list;
 use transport::ReadAnswer;
 
@@ -34,13 +35,8 @@ fn store_costs(from: &[i64], list: &mut [i64], wanted: bool)
         × (wanted ≡ false → now (list .exit) ≡ now (list .entry))
         ⌝ }
 {
-    if !wanted {
-        return;
-    }
-    let mut i: usize = 0;
-    while i < from.len() {
-        list[i] = from[i];
-        i += 1;
+    if wanted {
+        copy_costs(from, list);
     }
 }
 

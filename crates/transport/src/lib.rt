@@ -22,6 +22,9 @@ pub const MAX_AMOUNT: u64 = 1_000_000;
 // The greatest cost of a lane, in cents a bag; the least is as far below 0.
 pub const MAX_COST: i64 = 1_000_000;
 
+// The largest value of a standing sheet's counter.
+pub const MAX_COUNTER: u64 = 18_446_744_073_709_551_615;
+
 // The longest sheet text, in bytes.
 pub const MAX_TEXT: usize = 9756;
 
