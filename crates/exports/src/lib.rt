@@ -1,5 +1,7 @@
-// What programs in C and Rust link: every call of paper 01. A result is a struct by value; its `refusal` is the number of the refusal, or 0, and where it is
-// not 0 the other fields are zeros but for the place with 9, and no lent list is changed.
+// What programs in C and Rust link: every call of paper 01, and set up and edit of paper 02, Five. A
+// result is a struct by value; its `refusal` is the number of the refusal, or 0. If it is not 0, the
+// other fields are zeros, but for the place with 9 and the standing sheet that an edit gives back, and no
+// lent list is changed.
 use border::ReadOut;
 use border::RoundOut;
 use border::RunOut;
@@ -14,12 +16,23 @@ use border_sheets::write_sheet_out;
 use border_tableaux::round_from;
 use border_tableaux::run_from;
 use border_tableaux::settle_from;
+use edit_call::edit;
+use set_up_call::set_up;
 use transport::Cell;
+use transport::Change;
+use transport::Edit;
+use transport::EditAnswer;
+use transport::SetUpAnswer;
+use transport::Standing;
 ghost use mathlib.Core.Path.{_≡_};
 ghost use lib.ListN.{length};
 ghost use Rattle.transport.specs.Sheet.{sheetOf};
 ghost use Rattle.transport.specs.Tableau.{lentTableau};
 ghost use Rattle.transport.specs.Calls.{lentAfter, startCall, roundCall, runCall, settleCall, solveCall};
+ghost use Rattle.transport.specs.Standing.{setUpCall, editCall, carriedOut, standsAfter, spare, standingOf};
+ghost use Rattle.transport.specs.Answers.{setUpAnswer, editAnswer};
+ghost use Rattle.transport.specs.declared.Change.the-variants.{Cost, Amounts};
+ghost use Rattle.transport.specs.declared.Edit.{Edit};
 ghost use Rattle.transport.specs.SheetText.{readSheetCall, writeSheetCall};
 ghost use Rattle.transport.specs.PlanText.{writePlanCall};
 ghost use Rattle.border.specs.Border.{startOut, roundOut, runOut, numberOf, solveOut, readOut, writeOut};
@@ -101,6 +114,80 @@ pub extern "C" fn panel_solve(
         ⌝ }
 {
     solve_out(supply, demand, cost, u, v, plan)
+}
+
+#[no_mangle]
+pub extern "C" fn panel_set_up(supply: &[u64], demand: &[u64], cost: &[i64]) -> SetUpAnswer
+    ensures { λ r.
+        let S = sheetOf (now (supply .entry)) (now (demand .entry)) (now (cost .entry)) in
+        ⌜ r ≡ setUpAnswer (setUpCall S) ⌝ }
+{
+    set_up(supply, demand, cost)
+}
+
+// An edit is two calls, since an enum cannot cross: one sets a cost, the other a supply and a demand.
+
+#[no_mangle]
+pub extern "C" fn panel_edit_cost(
+    standing: Standing,
+    row: usize,
+    col: usize,
+    cost: i64,
+    u: &mut [i64],
+    v: &mut [i64],
+    plan: &mut [u64],
+) -> EditAnswer
+    ensures { λ r.
+        let St = standingOf standing in
+        let e : Edit = record { row = row; col = col; change = Cost cost } in
+        let a = editCall St e (length (now (u .entry))) (length (now (v .entry))) (length (now (plan .entry))) in
+        ⌜
+        (r ≡ editAnswer a standing (r .after))
+        × (standingOf (r .after) ≡ standsAfter a St (carriedOut St e))
+        × (spare (r .after .sheet) ≡ spare (standing .sheet))
+        × (now (u .exit) ≡ lentAfter (λ x. x .u) a (now (u .entry)))
+        × (now (v .exit) ≡ lentAfter (λ x. x .v) a (now (v .entry)))
+        × (now (plan .exit) ≡ lentAfter (λ x. x .plan) a (now (plan .entry)))
+        ⌝ }
+{
+    let e = Edit {
+        row,
+        col,
+        change: Change::Cost(cost),
+    };
+    edit(standing, e, u, v, plan)
+}
+
+#[no_mangle]
+pub extern "C" fn panel_edit_amounts(
+    standing: Standing,
+    row: usize,
+    col: usize,
+    supply: u64,
+    demand: u64,
+    u: &mut [i64],
+    v: &mut [i64],
+    plan: &mut [u64],
+) -> EditAnswer
+    ensures { λ r.
+        let St = standingOf standing in
+        let e : Edit = record { row = row; col = col; change = Amounts supply demand } in
+        let a = editCall St e (length (now (u .entry))) (length (now (v .entry))) (length (now (plan .entry))) in
+        ⌜
+        (r ≡ editAnswer a standing (r .after))
+        × (standingOf (r .after) ≡ standsAfter a St (carriedOut St e))
+        × (spare (r .after .sheet) ≡ spare (standing .sheet))
+        × (now (u .exit) ≡ lentAfter (λ x. x .u) a (now (u .entry)))
+        × (now (v .exit) ≡ lentAfter (λ x. x .v) a (now (v .entry)))
+        × (now (plan .exit) ≡ lentAfter (λ x. x .plan) a (now (plan .entry)))
+        ⌝ }
+{
+    let e = Edit {
+        row,
+        col,
+        change: Change::Amounts { supply, demand },
+    };
+    edit(standing, e, u, v, plan)
 }
 
 #[no_mangle]

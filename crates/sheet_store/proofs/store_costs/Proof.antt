@@ -5,11 +5,11 @@ use Rattle.sheet_store.proofs.store_costs.Statement.{statement}
 use Rattle.sheet_store.proofs.store_costs.Tie as tie
 
 copy-costs-requires : tie.Need-copy-costs-requires
-copy-costs-requires c κs = c .before .before .before .before .pre (c .before .if1 .taken)
+copy-costs-requires c κs = c .before .before .pre (c .before .if1 .taken)
 
 returns : tie.Need-returns
 unfolding front
-returns c = (λ e. c .before .before .copy-costs .ensures, λ e. clash (c .before .before .before .before .if1 .taken) e)
+returns c = (λ e. c .before .copy-costs .ensures, λ e. clash (c .before .before .before .if1 .taken) e)
 
 returns-2 : tie.Need-returns-2
 returns-2 c = (λ e. clash e (c .if1 .left), λ e. refl)
