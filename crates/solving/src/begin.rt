@@ -1,4 +1,4 @@
-// The first tableau of a sheet, laid out for rounds.
+// The first tableau of a sheet, dealt and laid out.
 use board::spread::lay_out;
 use cost_grid::spread_costs;
 use dealing::corner::first_tableau;
@@ -6,17 +6,62 @@ use loading::Loading;
 use parties::number_parties;
 use sheet::SheetCheck;
 use transport::MAX_SIDE;
+use transport::Tableau;
 use tree::LANES;
 use tree::NODES;
 use tree::Price;
+ghost use mathlib.Core.List.{List};
+ghost use lib.IntN.{ℤ};
 ghost use Rattle.transport.specs.Sheet.{sheetOf};
 ghost use Rattle.transport.specs.Parties.{problemOf};
 ghost use Rattle.transport.specs.Tableau.{start};
 ghost use Rattle.transport.specs.Statements.{Accepted};
 ghost use Rattle.loading.specs.Loading.{Admitted};
+ghost use Rattle.solving.specs.First.{Dealt};
 
-// Of a sheet that passed its check: numbers the parties, and lays out the first tableau of those left,
-// with the costs of their lanes by column.
+// The parties of a sheet with the own numbers of rows and columns, and the first tableau of those left.
+pub struct First {
+    pub loading: Loading,
+    pub tableau: Tableau,
+}
+
+// Of a sheet that passed its check: numbers the parties, and deals the first tableau of those left. Costs
+// play no part.
+pub fn deal_sheet(supply: &[u64], demand: &[u64]) -> First
+    requires { ⌜ ((cost : List ℤ) × Accepted (sheetOf (now supply) (now demand) cost)) ⌝ }
+    ensures { λ r. ⌜
+        ((cost : List ℤ) → Accepted (sheetOf (now (supply .entry)) (now (demand .entry)) cost)
+        → Dealt (sheetOf (now (supply .entry)) (now (demand .entry)) cost)
+        (r .loading .parties) (r .loading .rows) (r .loading .cols) (r .tableau))
+        ⌝ }
+{
+    let mut supplies = [0u64; MAX_SIDE];
+    let mut demands = [0u64; MAX_SIDE];
+    let mut rows = [0usize; MAX_SIDE];
+    let mut cols = [0usize; MAX_SIDE];
+    let parties = number_parties(
+        supply,
+        demand,
+        &mut supplies,
+        &mut demands,
+        &mut rows,
+        &mut cols,
+    );
+    let m = parties.rows;
+    let n = parties.columns;
+    let tableau = first_tableau(&supplies[..m], &demands[..n]);
+    First {
+        loading: Loading {
+            check: SheetCheck::Accepted,
+            parties,
+            rows,
+            cols,
+        },
+        tableau,
+    }
+}
+
+// Lays out the first tableau of a sheet that passed its check, with the costs of its lanes by column.
 pub fn begin_sheet(
     supply: &[u64],
     demand: &[u64],
@@ -36,32 +81,19 @@ pub fn begin_sheet(
         (now (leaf .exit)) (now (other .exit)) (now (lane .exit))
         ⌝ }
 {
-    let mut supplies = [0u64; MAX_SIDE];
-    let mut demands = [0u64; MAX_SIDE];
-    let mut rows = [0usize; MAX_SIDE];
-    let mut cols = [0usize; MAX_SIDE];
-    let parties = number_parties(
-        supply,
-        demand,
-        &mut supplies,
-        &mut demands,
-        &mut rows,
-        &mut cols,
-    );
-    let m = parties.rows;
-    let n = parties.columns;
-    let served = parties.cafes;
+    let first = deal_sheet(supply, demand);
+    let begun = first.loading;
+    let rows = begun.rows;
+    let cols = begun.cols;
+    let m = begun.parties.rows;
+    let n = begun.parties.columns;
+    let served = begun.parties.cafes;
     spread_costs(cost, demand.len(), &rows[..m], &cols[..served], spread);
-    let first = first_tableau(&supplies[..m], &demands[..n]);
     // Cleared first: the length of a lent array is known to the prover only once it is stored whole.
     *leaf = [0; NODES];
     *other = [0; NODES];
     *lane = [0; NODES];
-    lay_out(first, m, n, q, e, leaf, other, lane);
-    Loading {
-        check: SheetCheck::Accepted,
-        parties,
-        rows,
-        cols,
-    }
+    let tableau = first.tableau;
+    lay_out(tableau, m, n, q, e, leaf, other, lane);
+    begun
 }

@@ -1,106 +1,54 @@
--- `solving::begin::begin_sheet` meets its contract: the parties are numbered, the costs are spread, and
--- the first tableau of the problem behind the sheet is laid out.
-use Rattle.prelude.specs.Words.{_≡_, refl, sym, _∙_}
-use Rattle.transport.specs.Problem.{sources, sinks}
-use Rattle.transport.specs.Sheet.{Sheet, cafes, sheetOf}
-use Rattle.transport.specs.Extended.{extended}
-use Rattle.transport.specs.Parties.{problemOf}
+-- `solving::begin::begin_sheet` meets its contract: the first tableau is dealt, the costs are spread, and
+-- the tableau is laid out.
+use Rattle.prelude.specs.Words.{refl}
+use Rattle.transport.specs.Sheet.{Sheet, sheetOf, cafes}
 use Rattle.transport.specs.Statements.{Accepted}
-use Rattle.transport.specs.Laws.PartiesLaws.{struck-sources, struck-sinks}
-use Rattle.transport.specs.Laws.Sound.{sound}
-use Rattle.parties.specs.Parties.{PartiesOf, supplies-lent, demands-lent, rows-lent, cafes-lent}
-use Rattle.cost_grid.specs.Costs.{Costed, spreadable, spread-costed}
-use Rattle.solving.specs.First.{first-sound, first-fits, first-begun}
+use Rattle.parties.specs.Parties.{rows-lent, cafes-lent}
+use Rattle.cost_grid.specs.Costs.{spreadable}
+use Rattle.solving.specs.First.{Dealt, first-fits, first-admitted}
 use Rattle.solving.proofs.begin.begin_sheet.Statement.{statement}
 use Rattle.solving.proofs.begin.begin_sheet.Tie as tie
 
-abbrev startBefore : tie.After-cols → tie.Start
-startBefore c = c .before .before .before .before .before .before
+abbrev startOf : tie.After-deal-sheet → tie.Start
+startOf d = d .before .before .before
 
--- ---- the parties are numbered
+abbrev sheetOn : tie.After-deal-sheet → Sheet
+sheetOn d = let a = startOf d .args in sheetOf (a .supply .now) (a .demand .now) (a .cost .now)
 
-abbrev startOf : tie.After-number-parties → tie.Start
-startOf p = startBefore (p .before)
+ok : (d : tie.After-deal-sheet) → Accepted (sheetOn d)
+ok d = startOf d .pre
 
-abbrev sheetOn : tie.After-number-parties → Sheet
-sheetOn p = let a = startOf p .args in sheetOf (a .supply .now) (a .demand .now) (a .cost .now)
+dealt : (d : tie.After-deal-sheet) → let r = d .deal-sheet .result in let l = r .loading in
+    Dealt (sheetOn d) (l .parties) (l .rows) (l .cols) (r .tableau)
+dealt d = d .deal-sheet .ensures (sheetOn d .cost) (ok d)
 
-ok : (p : tie.After-number-parties) → Accepted (sheetOn p)
-ok p = startOf p .pre
-
-parties : (p : tie.After-number-parties) → let l = p .number-parties .last .1 .1 in
-    PartiesOf (sheetOn p) (p .number-parties .result) (l .0) (l .1 .0) (l .1 .1 .0) (l .1 .1 .1 .0)
-parties p = p .number-parties .ensures (sheetOn p .cost)
-
-row-count : (p : tie.After-number-parties) → p .number-parties .result .rows ≡ sources (problemOf (sheetOn p))
-unfolding problemOf
-row-count p = parties p .rowCount ∙ sym (struck-sources (extended (sheetOn p)))
-
-column-count : (p : tie.After-number-parties) → p .number-parties .result .columns ≡ sinks (problemOf (sheetOn p))
-unfolding problemOf
-column-count p = parties p .columnCount ∙ sym (struck-sinks (extended (sheetOn p)))
+abbrev dealtBefore : tie.After-cols → tie.After-deal-sheet
+dealtBefore c = c .before .before .before
 
 spread-costs-requires : tie.Need-spread-costs-requires
 unfolding cafes
 spread-costs-requires c κs =
-    let p = c .before .before .before in
-    rw (parties p .rowNumbers, parties p .cafeNumbers) (spreadable (ok p))
+    let d = dealtBefore (c .before .before .before) in
+    let h = dealt d .parties in
+    rw (h .rowNumbers, h .cafeNumbers) (spreadable (ok d))
 
--- ---- the costs are spread
+abbrev spreadBefore : tie.After-lay-out-arg5 → tie.After-spread-costs
+spreadBefore c = c .before .before .before .before .before .before .before .before .before
 
-abbrev numbered : tie.After-spread-costs → tie.After-number-parties
-numbered c = c .before .before .before .before
-
-costed : (c : tie.After-spread-costs) → Costed (problemOf (sheetOn (numbered c))) (c .spread-costs .last .1 .1 .1 .1 .0)
-unfolding cafes
-costed c =
-    let p = numbered c in
-    spread-costed (ok p) (rw (parties p .rowNumbers, parties p .cafeNumbers) at (c .spread-costs .ensures))
-
-abbrev spreadBefore : tie.After-demands2 → tie.After-spread-costs
-spreadBefore c = c .before .before
-
-first-tableau-requires : tie.Need-first-tableau-requires
-first-tableau-requires c κs =
-    let p = numbered (spreadBefore c) in
-    first-sound (sound (ok p)) (parties p .supplies) (parties p .demands)
-
--- ---- the first tableau is laid out
-
-abbrev partiesAt : tie.After-first-tableau → tie.After-number-parties
-partiesAt f = numbered (spreadBefore (f .before))
-
-abbrev cleared : tie.After-lane → tie.After-first-tableau
-cleared c = c .before .before .before
-
-lay-out-requires : tie.Need-lay-out-requires
-lay-out-requires c κs =
-    let f = cleared (c .before .before .before .before .before) in
-    let p = partiesAt f in
-    let h = parties p in
-    let first = f .first-tableau .ensures in
-    (first-fits (sound (ok p)) (h .supplies) (h .demands) (row-count p) (column-count p) first, (refl, refl, refl))
+abbrev dealtAt : tie.After-spread-costs → tie.After-deal-sheet
+dealtAt x = dealtBefore (x .before .before .before .before)
 
 returns : tie.Need-returns
+unfolding cafes
 returns c =
-    let f = cleared (c .before .before .before .before .before .before) in
-    let p = partiesAt f in
-    let h = parties p in
-    let first = f .first-tableau .ensures in
+    let x = spreadBefore (c .before) in
+    let d = dealtAt x in
     let (amounts, long, stripped) = c .lay-out .ensures in
-    record {
-      accepted = ok p;
-      supplies = _;
-      demands = _;
-      parties = h;
-      begun = first-begun (sound (ok p)) (h .supplies) (h .demands) (row-count p) (column-count p) first amounts long stripped
-          (costed (spreadBefore (f .before)));
-    }
+    first-admitted (ok d) (dealt d) (x .spread-costs .ensures) amounts long stripped
 
 pub begin-sheet-spec : {M : Type 1} → statement M
-begin-sheet-spec = tie.close (tie.spec (λ c κs. (_, startBefore c .pre))
-    (λ c. parties c .rowsRoom) (λ c. rows-lent (parties (c .before)))
-    (λ c. parties (c .before) .cafesRoom) (λ c. cafes-lent (parties (c .before .before))) spread-costs-requires
-    (λ c. parties (numbered c) .suppliesRoom) (λ c. supplies-lent (parties (numbered (c .before))))
-    (λ c. parties (numbered (c .before)) .demandsRoom) (λ c. demands-lent (parties (numbered (c .before .before))))
-    first-tableau-requires lay-out-requires returns)
+begin-sheet-spec = tie.close (tie.spec (λ c κs. (_, c .before .before .pre))
+    (λ c. dealt (dealtBefore c) .parties .rowsRoom) (λ c. rows-lent (dealt (dealtBefore (c .before)) .parties))
+    (λ c. dealt (dealtBefore (c .before)) .parties .cafesRoom)
+    (λ c. cafes-lent (dealt (dealtBefore (c .before .before)) .parties)) spread-costs-requires
+    (λ c κs. let d = dealtAt (spreadBefore c) in (first-fits (ok d) (dealt d), (refl, refl, refl))) returns)
