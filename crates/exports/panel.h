@@ -149,14 +149,22 @@ struct panel_solve_result panel_solve(const uint64_t *supply, size_t m, const ui
 /* The standing sheet of a sheet, with its finished tableau; no edit is counted yet. */
 struct panel_set_up_result panel_set_up(const uint64_t *supply, size_t m, const uint64_t *demand, size_t n, const int64_t *cost, size_t lanes);
 
-/* Edits of a standing sheet. One sets the cost of the lane from source `row` to sink `col`, and goes
- * on from the kept tableau; the other sets the supply of `row` and the demand of `col`, and begins
- * afresh. Both fill the lists with prices and plan of the edited sheet, as panel_solve does. */
-struct panel_edit_result panel_edit_cost(struct panel_standing standing, size_t row, size_t col, int64_t cost, int64_t *u, size_t u_room, int64_t *v,
-                                         size_t v_room, uint64_t *plan, size_t plan_room);
+/* An edit of a standing sheet. If `amounts` is false, it sets the cost of the lane from source `row` to
+ * sink `col`, and goes on from the kept tableau; `supply` and `demand` are not looked at. If it is true,
+ * it sets the supply of `row` and the demand of `col`, and begins afresh; `cost` is not looked at. The
+ * lists are filled with prices and plan of the edited sheet, as by panel_solve. */
+struct panel_edit_result panel_edit(struct panel_standing standing, size_t row, size_t col, bool amounts, int64_t cost, uint64_t supply,
+                                    uint64_t demand, int64_t *u, size_t u_room, int64_t *v, size_t v_room, uint64_t *plan, size_t plan_room);
 
-struct panel_edit_result panel_edit_amounts(struct panel_standing standing, size_t row, size_t col, uint64_t supply, uint64_t demand, int64_t *u,
-                                            size_t u_room, int64_t *v, size_t v_room, uint64_t *plan, size_t plan_room);
+static inline struct panel_edit_result panel_edit_cost(struct panel_standing standing, size_t row, size_t col, int64_t cost, int64_t *u, size_t u_room,
+                                                       int64_t *v, size_t v_room, uint64_t *plan, size_t plan_room) {
+    return panel_edit(standing, row, col, false, cost, 0, 0, u, u_room, v, v_room, plan, plan_room);
+}
+
+static inline struct panel_edit_result panel_edit_amounts(struct panel_standing standing, size_t row, size_t col, uint64_t supply, uint64_t demand,
+                                                          int64_t *u, size_t u_room, int64_t *v, size_t v_room, uint64_t *plan, size_t plan_room) {
+    return panel_edit(standing, row, col, true, 0, supply, demand, u, u_room, v, v_room, plan, plan_room);
+}
 
 /* The sheet of a sheet text, at the fronts of the three lists; 32, 32 and 1,024 places are always enough. */
 struct panel_read_result panel_read_sheet(const uint8_t *text, size_t length, uint64_t *supply, size_t supply_room, uint64_t *demand, size_t demand_room,

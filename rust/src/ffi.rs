@@ -93,13 +93,8 @@ extern "C" {
         supply: *const u64, m: usize, demand: *const u64, n: usize, cost: *const i64, lanes: usize,
     ) -> SetUpResult;
 
-    pub fn panel_edit_cost(
-        standing: Standing, row: usize, col: usize, cost: i64,
-        u: *mut i64, u_room: usize, v: *mut i64, v_room: usize, plan: *mut u64, plan_room: usize,
-    ) -> EditResult;
-
-    pub fn panel_edit_amounts(
-        standing: Standing, row: usize, col: usize, supply: u64, demand: u64,
+    pub fn panel_edit(
+        standing: Standing, row: usize, col: usize, amounts: bool, cost: i64, supply: u64, demand: u64,
         u: *mut i64, u_room: usize, v: *mut i64, v_room: usize, plan: *mut u64, plan_room: usize,
     ) -> EditResult;
 

@@ -140,7 +140,7 @@ pub fn edit_cost(
     let (u_len, v_len, plan_len) = (u.len(), v.len(), plan.len());
     let (u, v, plan) = (u.as_mut_ptr(), v.as_mut_ptr(), plan.as_mut_ptr());
     // SAFETY: slices are what `ffi` asks for, and a standing sheet may hold anything.
-    let r = unsafe { ffi::panel_edit_cost(*standing, row, col, cost, u, u_len, v, v_len, plan, plan_len) };
+    let r = unsafe { ffi::panel_edit(*standing, row, col, false, cost, 0, 0, u, u_len, v, v_len, plan, plan_len) };
     standing.take(&r)
 }
 
@@ -160,6 +160,6 @@ pub fn edit_amounts(
     let (u_len, v_len, plan_len) = (u.len(), v.len(), plan.len());
     let (u, v, plan) = (u.as_mut_ptr(), v.as_mut_ptr(), plan.as_mut_ptr());
     // SAFETY: slices are what `ffi` asks for, and a standing sheet may hold anything.
-    let r = unsafe { ffi::panel_edit_amounts(*standing, row, col, supply, demand, u, u_len, v, v_len, plan, plan_len) };
+    let r = unsafe { ffi::panel_edit(*standing, row, col, true, 0, supply, demand, u, u_len, v, v_len, plan, plan_len) };
     standing.take(&r)
 }

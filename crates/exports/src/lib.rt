@@ -25,6 +25,7 @@ use transport::EditAnswer;
 use transport::SetUpAnswer;
 use transport::Standing;
 ghost use mathlib.Core.Path.{_≡_};
+ghost use mathlib.Core.Bool.{cond};
 ghost use lib.ListN.{length};
 ghost use Rattle.transport.specs.Sheet.{sheetOf};
 ghost use Rattle.transport.specs.Tableau.{lentTableau};
@@ -125,44 +126,24 @@ pub extern "C" fn panel_set_up(supply: &[u64], demand: &[u64], cost: &[i64]) -> 
     set_up(supply, demand, cost)
 }
 
-// An edit is two calls, since an enum cannot cross: one sets a cost, the other a supply and a demand.
-
-#[no_mangle]
-pub extern "C" fn panel_edit_cost(
-    standing: Standing,
-    row: usize,
-    col: usize,
-    cost: i64,
-    u: &mut [i64],
-    v: &mut [i64],
-    plan: &mut [u64],
-) -> EditAnswer
-    ensures { λ r.
-        let St = standingOf standing in
-        let e : Edit = record { row = row; col = col; change = Cost cost } in
-        let a = editCall St e (length (now (u .entry))) (length (now (v .entry))) (length (now (plan .entry))) in
-        ⌜
-        (r ≡ editAnswer a standing (r .after))
-        × (standingOf (r .after) ≡ standsAfter a St (carriedOut St e))
-        × (spare (r .after .sheet) ≡ spare (standing .sheet))
-        × (now (u .exit) ≡ lentAfter (λ x. x .u) a (now (u .entry)))
-        × (now (v .exit) ≡ lentAfter (λ x. x .v) a (now (v .entry)))
-        × (now (plan .exit) ≡ lentAfter (λ x. x .plan) a (now (plan .entry)))
-        ⌝ }
+// What an edit sets, from what crosses: an enum cannot.
+fn change_of(amounts: bool, cost: i64, supply: u64, demand: u64) -> Change
+    ensures { λ r. ⌜ r ≡ cond amounts (Amounts supply demand) (Cost cost) ⌝ }
 {
-    let e = Edit {
-        row,
-        col,
-        change: Change::Cost(cost),
-    };
-    edit(standing, e, u, v, plan)
+    if amounts {
+        return Change::Amounts { supply, demand };
+    }
+    Change::Cost(cost)
 }
 
+// An edit: of the amounts, and `cost` is not looked at; or of the cost, and the amounts are not looked at.
 #[no_mangle]
-pub extern "C" fn panel_edit_amounts(
+pub extern "C" fn panel_edit(
     standing: Standing,
     row: usize,
     col: usize,
+    amounts: bool,
+    cost: i64,
     supply: u64,
     demand: u64,
     u: &mut [i64],
@@ -171,7 +152,7 @@ pub extern "C" fn panel_edit_amounts(
 ) -> EditAnswer
     ensures { λ r.
         let St = standingOf standing in
-        let e : Edit = record { row = row; col = col; change = Amounts supply demand } in
+        let e : Edit = record { row = row; col = col; change = cond amounts (Amounts supply demand) (Cost cost) } in
         let a = editCall St e (length (now (u .entry))) (length (now (v .entry))) (length (now (plan .entry))) in
         ⌜
         (r ≡ editAnswer a standing (r .after))
@@ -182,12 +163,8 @@ pub extern "C" fn panel_edit_amounts(
         × (now (plan .exit) ≡ lentAfter (λ x. x .plan) a (now (plan .entry)))
         ⌝ }
 {
-    let e = Edit {
-        row,
-        col,
-        change: Change::Amounts { supply, demand },
-    };
-    edit(standing, e, u, v, plan)
+    let change = change_of(amounts, cost, supply, demand);
+    edit(standing, Edit { row, col, change }, u, v, plan)
 }
 
 #[no_mangle]
