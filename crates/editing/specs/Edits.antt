@@ -1,12 +1,13 @@
 -- Edits of a standing sheet: where their rounds begin, what they refuse and what they give.
-use Rattle.prelude.specs.Words.{_≡_, refl, sym, ap, subst, _∙_, Bool, true, false, not, _&&_, _||_, List, _∷_, none, some}
-use Rattle.prelude.specs.Words.{ℕ, _+_, _*_, _<_, arith, ltb-true, eqb, ltb, ℤ, length, some≢none, set}
+use Rattle.prelude.specs.Words.{_≡_, refl, sym, ap, subst, _∙_, Bool, true, false, not, _&&_, _||_, List, [], _∷_, none}
+use Rattle.prelude.specs.Words.{some, by-option, ℕ, zero, suc, _+_, _*_, _≤_, _<_, arith, add-one, ltb-true, eqb, ltb, ℤ, pos}
+use Rattle.prelude.specs.Words.{length, some≢none, set, getD}
 use Rattle.transport.specs.declared.Cell.{Cell}
 use Rattle.transport.specs.declared.Change.{Change}
 use Rattle.transport.specs.declared.Change.the-variants as Change
 use Rattle.transport.specs.declared.Edit.{Edit}
 use Rattle.transport.specs.declared.SolveAnswer.{SolveAnswer}
-use Rattle.transport.specs.declared.SolveAnswer.the-variants.{Refused}
+use Rattle.transport.specs.declared.SolveAnswer.the-variants.{Solved, Refused}
 use Rattle.transport.specs.declared.Tableau.{Tableau}
 use Rattle.transport.specs.Problem.{place}
 use Rattle.transport.specs.Sheet.{Sheet, sheetOf, roasteries, cafes, sheetTests, refusal}
@@ -14,10 +15,11 @@ use Rattle.transport.specs.Parties.{problemOf}
 use Rattle.transport.specs.Tableau.{start}
 use Rattle.transport.specs.Calls.{Answer, refusedBy, unless, Solution, inside, solutionFrom, solveTests}
 use Rattle.transport.specs.Standing.{edited, Standing, Passes, lastTableau, standingTests, maxCounter, badEdit, editTests}
-use Rattle.transport.specs.Standing.{editFrom, editCall, carriedOut}
+use Rattle.transport.specs.Standing.{editFrom, editCall, carriedOut, standsAfter}
+use Rattle.transport.specs.Answers.{solveAnswer}
 use Rattle.transport.specs.Laws.ListLaws.{and-left, and-right}
 use Rattle.transport.specs.Laws.SheetLaws.{refusal-yes, refusal-no, refusal-pass, refusal-stands}
-use Rattle.transport.specs.Laws.CallLaws.{unless-refused}
+use Rattle.transport.specs.Laws.CallLaws.{unless-given, unless-refused}
 use Rattle.demands.specs.Says.{refusal-front}
 use Rattle.parties.specs.declared.Parties.{Parties}
 use Rattle.loading.specs.Loading.{Admitted}
@@ -80,6 +82,29 @@ resumable e {supply} {demand} {supply′} {demand′} {cost} same w = λ c is.
 
 -- ---- the edited sheet
 
+-- The edit names a roastery and a café of the lists, which are those of a sheet within the limits.
+pub record Editable (e : Edit) (supply demand : List ℕ) (cost : List ℤ) : Type 0 where
+  pub row : e .row < length supply
+  pub col : e .col < length demand
+  pub lanes : length cost ≡ length supply * length demand
+  pub few : length cost ≤ 1024
+
+-- So it is after an edit, whose lists are as long.
+pub editable-again : {e f : Edit} {supply demand supply′ demand′ : List ℕ} {cost cost′ : List ℤ}
+    → Editable e supply demand cost → f .row ≡ e .row → f .col ≡ e .col → length supply′ ≡ length supply
+    → length demand′ ≡ length demand → length cost′ ≡ length cost → Editable f supply′ demand′ cost′
+editable-again w r c s d l = record {
+  row = omega (arith, w .row);
+  col = omega (arith, w .col);
+  lanes = rw (s, d, l) (w .lanes);
+  few = omega (arith, w .few);
+}
+
+set-back : {A : Type 0} (z y : A) (xs : List A) (i : ℕ) → i < length xs → set (set xs i y) i (getD xs i z) ≡ xs
+set-back z y [] i l = absurd (omega arith)
+set-back z y (x ∷ xs) zero l = refl
+set-back z y (x ∷ xs) (suc i) l = ap (λ (ys : List _). x ∷ ys) (set-back z y xs i (omega arith))
+
 -- What is set in its lists.
 pub set-cost : (S : Sheet) (e : Edit) {c : ℤ} → e .change ≡ Change.Cost c
     → sheetOf (S .supply) (S .demand) (set (S .cost) (e .row * cafes S + e .col) c) ≡ edited S e
@@ -90,6 +115,39 @@ pub set-amounts : (S : Sheet) (e : Edit) {s d : ℕ} → e .change ≡ Change.Am
     → sheetOf (set (S .supply) (e .row) s) (set (S .demand) (e .col) d) (S .cost) ≡ edited S e
 unfolding edited
 set-amounts S e is = rw (is, edited)
+
+-- The edit that sets what was there before takes it back.
+pub cost-back : (S : Sheet) (e f : Edit) {c : ℤ} → e .change ≡ Change.Cost c
+    → e .row * cafes S + e .col < length (S .cost)
+    → f ≡ record { row = e .row; col = e .col; change = Change.Cost (getD (S .cost) (e .row * cafes S + e .col) (pos 0)) }
+    → edited (edited S e) f ≡ S
+unfolding cafes
+cost-back S e f {c} is l back =
+    let p : ℕ = e .row * length (S .demand) + e .col in
+    let S′ : Sheet = sheetOf (S .supply) (S .demand) (set (S .cost) p c) in
+    let undo : Edit = record { row = e .row; col = e .col; change = Change.Cost (getD (S .cost) p (pos 0)) } in
+    ap (λ (R : Sheet). edited R f) (sym (set-cost S e is))
+    ∙ ap (edited S′) back
+    ∙ sym (set-cost S′ undo refl)
+    ∙ ap (sheetOf (S .supply) (S .demand)) (set-back (pos 0) c (S .cost) p l)
+
+pub amounts-back : (S : Sheet) (e f : Edit) {s d : ℕ} → e .change ≡ Change.Amounts s d
+    → e .row < length (S .supply) → e .col < length (S .demand)
+    → f ≡ record { row = e .row; col = e .col; change = Change.Amounts (getD (S .supply) (e .row) 0) (getD (S .demand) (e .col) 0) }
+    → edited (edited S e) f ≡ S
+amounts-back S e f {s} {d} is l h back =
+    let S′ : Sheet = sheetOf (set (S .supply) (e .row) s) (set (S .demand) (e .col) d) (S .cost) in
+    let undo : Edit = record {
+      row = e .row;
+      col = e .col;
+      change = Change.Amounts (getD (S .supply) (e .row) 0) (getD (S .demand) (e .col) 0);
+    } in
+    let supply = set-back 0 s (S .supply) (e .row) l in
+    let demand = set-back 0 d (S .demand) (e .col) h in
+    ap (λ (R : Sheet). edited R f) (sym (set-amounts S e is))
+    ∙ ap (edited S′) back
+    ∙ sym (set-amounts S′ undo refl)
+    ∙ (λ i. sheetOf (supply i) (demand i) (S .cost))
 
 -- It is solved from T on, or refused as solve refuses it: the answer, what the lent lists then hold, and
 -- the last tableau.
@@ -133,18 +191,37 @@ not-and true false false = refl
 not-and false b true = refl
 not-and false b false = refl
 
--- An edit of the standing sheet St: the answer, what the lent lists then hold, and, if nothing is
--- refused, the sheet S′ and the tableau that are then kept.
-pub record EditedAs (St : Standing) (e : Edit) (answer : SolveAnswer) (last : Tableau) (S′ : Sheet) (u u′ v v′ : List ℤ)
+-- An edit of the standing sheet St: the answer, what the lent lists then hold, and the standing sheet
+-- after it, St′.
+pub record EditedAs (St : Standing) (e : Edit) (answer : SolveAnswer) (St′ : Standing) (u u′ v v′ : List ℤ)
     (plan plan′ : List ℕ) : Type 0 where
   pub told : Told (editCall St e (length u) (length v) (length plan)) answer u u′ v v′ plan plan′
-  pub sheet : refusal (editTests St e (length u) (length v) (length plan)) ≡ none → S′ ≡ edited (St .sheet) e
-  pub tableau : refusal (editTests St e (length u) (length v) (length plan)) ≡ none → last ≡ carriedOut St e .tableau
+  pub stands : St′ ≡ standsAfter (editCall St e (length u) (length v) (length plan)) St (carriedOut St e)
 
 -- Two lists of tests that refuse alike.
 unless-alike : {A : Type 0} (ts us : List (Bool × ℕ)) (x : A) → refusal ts ≡ refusal us → unless ts x ≡ unless us x
 unfolding unless
 unless-alike ts us x e = rw (e, unless)
+
+-- An answer shows which of the two it is.
+module _ (tests : List (Bool × ℕ)) (x : Solution) where
+  pub answer-refused : (k : ℕ) → Refused k ≡ solveAnswer (unless tests x) → refusal tests ≡ some k
+  unfolding solveAnswer refusedBy
+  answer-refused k e = by-option (refusal tests)
+      (λ n.
+      let clash = e ∙ ap solveAnswer (unless-given tests x n) in
+      let z : _≡_ {A = ℕ} 0 1 = cc in absurd (omega arith))
+      (λ j h.
+      let same = e ∙ ap solveAnswer (unless-refused tests x j h) in
+      let z : k ≡ j = cc in h ∙ ap some (sym z))
+
+  pub answer-solved : {cost : ℤ} {rounds : ℕ} → Solved cost rounds ≡ solveAnswer (unless tests x) → refusal tests ≡ none
+  unfolding solveAnswer refusedBy
+  answer-solved e = by-option (refusal tests)
+      (λ n. n)
+      (λ j h.
+      let clash = e ∙ ap solveAnswer (unless-refused tests x j h) in
+      let z : _≡_ {A = ℕ} 0 1 = cc in absurd (omega arith))
 
 module _ (St : Standing) (e : Edit) (u v : List ℤ) (plan : List ℕ) where
   abbrev S : Sheet
@@ -157,44 +234,67 @@ module _ (St : Standing) (e : Edit) (u v : List ℤ) (plan : List ℕ) where
   unfolding badEdit
   bad-is = not-and (ltb (e .row) (roasteries S)) (ltb (e .col) (cafes S)) (eqb (St .counter) maxCounter)
 
-  edit-refused : (k : ℕ) {answer : SolveAnswer} (t : Tableau) (S′ : Sheet)
-      → refusal (editTests St e (length u) (length v) (length plan)) ≡ some k → answer ≡ Refused k
-      → EditedAs St e answer t S′ u u v v plan plan
-  unfolding editCall
-  edit-refused k t S′ r is = rw is (record {
-    told = told-refused (unless-refused _ _ k r);
-    sheet = λ n. absurd (some≢none (sym r ∙ n));
-    tableau = λ n. absurd (some≢none (sym r ∙ n));
-  })
+  abbrev tests : List (Bool × ℕ)
+  tests = editTests St e (length u) (length v) (length plan)
+
+  edit-refused : (k : ℕ) → refusal tests ≡ some k → EditedAs St e (Refused k) St u u v v plan plan
+  unfolding editCall standsAfter refusedBy
+  edit-refused k r =
+      let is = unless-refused tests (solutionFrom (edited S e) (editFrom St e)) k r in
+      record { told = told-refused is; stands = rw is refl }
 
   -- The first check ..
-  pub edit-early : (k : ℕ) {answer : SolveAnswer} (t : Tableau) (S′ : Sheet) → refusal (standingTests St) ≡ some k
-      → answer ≡ Refused k → EditedAs St e answer t S′ u u v v plan plan
+  pub edit-early : (k : ℕ) → refusal (standingTests St) ≡ some k → EditedAs St e (Refused k) St u u v v plan plan
   unfolding editTests
-  edit-early k t S′ f = edit-refused k t S′ (refusal-stands (standingTests St) _ k f)
+  edit-early k f = edit-refused k (refusal-stands (standingTests St) _ k f)
 
   module _ (w : Passes St) where
     -- .. then 12 ..
-    pub edit-unknown : {answer : SolveAnswer} (t : Tableau) (S′ : Sheet) → known ≡ false → answer ≡ Refused 12
-        → EditedAs St e answer t S′ u u v v plan plan
+    pub edit-unknown : known ≡ false → EditedAs St e (Refused 12) St u u v v plan plan
     unfolding editTests badEdit
-    edit-unknown t S′ f = edit-refused 12 t S′
-        (refusal-pass (standingTests St) _ w ∙ refusal-yes (badEdit St e) _ (bad-is ∙ ap not f))
+    edit-unknown f =
+        edit-refused 12 (refusal-pass (standingTests St) _ w ∙ refusal-yes (badEdit St e) _ (bad-is ∙ ap not f))
 
     -- .. and then it is as solve says of the edited sheet.
-    pub edit-solved : known ≡ true → (S′ : Sheet) → S′ ≡ edited S e
-        → {answer : SolveAnswer} {last : Tableau} {u′ v′ : List ℤ} {plan′ : List ℕ}
-        → SolvedAs S′ (beginning (e .change) S′ (inside S (St .tableau))) answer last u u′ v v′ plan plan′
-        → EditedAs St e answer last S′ u u′ v v′ plan plan′
-    unfolding editTests editCall editFrom beginning carriedOut
-    edit-solved f S′ same {answer} {last} {u′} {v′} {plan′} done =
-        let T : List Cell = inside S (St .tableau) in
-        let d = subst (λ (R : Sheet). SolvedAs R (beginning (e .change) R T) answer last u u′ v v′ plan plan′) same done in
-        let tests = solveTests (edited S e) (length u) (length v) (length plan) in
-        let alike : refusal (editTests St e (length u) (length v) (length plan)) ≡ refusal tests =
-        refusal-pass (standingTests St) _ w ∙ refusal-no (badEdit St e) tests (bad-is ∙ ap not f) in
-        record {
-          told = told-by (unless-alike (editTests St e (length u) (length v) (length plan)) tests _ alike) (d .told);
-          sheet = λ n. same;
-          tableau = λ n. d .tableau (sym alike ∙ n);
-        }
+    module _ (f : known ≡ true) {S′ : Sheet} (same : S′ ≡ edited S e) {answer : SolveAnswer} {last : Tableau} {u′ v′ : List ℤ}
+        {plan′ : List ℕ} (done : SolvedAs S′ (beginning (e .change) S′ (inside S (St .tableau))) answer last u u′ v v′ plan plan′) where
+      solved : SolvedAs (edited S e) (editFrom St e) answer last u u′ v v′ plan plan′
+      unfolding editFrom beginning
+      solved =
+          let T : List Cell = inside S (St .tableau) in
+          subst (λ (R : Sheet). SolvedAs R (beginning (e .change) R T) answer last u u′ v v′ plan plan′) same done
+
+      abbrev late : List (Bool × ℕ)
+      late = solveTests (edited S e) (length u) (length v) (length plan)
+
+      alike : refusal tests ≡ refusal late
+      unfolding editTests
+      alike = refusal-pass (standingTests St) _ w ∙ refusal-no (badEdit St e) late (bad-is ∙ ap not f)
+
+      told : Told (editCall St e (length u) (length v) (length plan)) answer u u′ v v′ plan plan′
+      unfolding editCall
+      told = told-by (unless-alike tests late _ alike) (solved .told)
+
+      pub edit-late : {k : ℕ} → answer ≡ Refused k → (S″ : Sheet) → S″ ≡ S
+          → EditedAs St e (Refused k) (record { sheet = S″; tableau = St .tableau; counter = St .counter }) u u′ v v′ plan plan′
+      unfolding editCall standsAfter refusedBy
+      edit-late {k} is S″ back =
+          let r = answer-refused tests (solutionFrom (edited S e) (editFrom St e)) k (sym is ∙ told .answer) in
+          let refuses = unless-refused tests (solutionFrom (edited S e) (editFrom St e)) k r in
+          let a = editCall St e (length u) (length v) (length plan) in
+          record {
+            told = subst (λ (r : SolveAnswer). Told a r u u′ v v′ plan plan′) is told;
+            stands = rw refuses (λ i. record { sheet = back i; tableau = St .tableau; counter = St .counter });
+          }
+
+      pub edit-solved : {cost : ℤ} {rounds : ℕ} → answer ≡ Solved cost rounds
+          → EditedAs St e answer (record { sheet = S′; tableau = last; counter = St .counter + 1 }) u u′ v v′ plan plan′
+      unfolding editCall standsAfter carriedOut
+      edit-solved is =
+          let n = answer-solved tests (solutionFrom (edited S e) (editFrom St e)) (sym is ∙ told .answer) in
+          let gives = unless-given tests (solutionFrom (edited S e) (editFrom St e)) n in
+          let tableau = solved .tableau (sym alike ∙ n) in
+          record {
+            told = told;
+            stands = rw gives (λ i. record { sheet = same i; tableau = tableau i; counter = add-one (St .counter) i });
+          }

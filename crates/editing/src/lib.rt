@@ -27,32 +27,39 @@ ghost use lib.ListN.{length};
 ghost use Rattle.transport.specs.Sheet.{sheetOf};
 ghost use Rattle.transport.specs.Calls.{given, Solution, solutionFrom, inside};
 ghost use Rattle.transport.specs.Standing.{edited, lastTableau, maxCounter, editCall, carriedOut};
-ghost use Rattle.transport.specs.Statements.{WithinLimits, Accepted};
+ghost use Rattle.transport.specs.Statements.{Accepted};
 ghost use Rattle.transport.specs.declared.Cell.{Cell};
 ghost use Rattle.transport.specs.declared.SolveAnswer.the-variants.{Refused};
 ghost use Rattle.loading.specs.Loading.{Admitted};
 ghost use Rattle.solving.specs.Told.{Told};
-ghost use Rattle.editing.specs.Edits.{beginning, Resumable, SolvedAs, EditedAs};
+ghost use Rattle.editing.specs.Edits.{Editable, beginning, Resumable, SolvedAs, EditedAs};
 
-// What came of an edit: what solve answers for the edited sheet, with the rounds made by the edit, and
-// the tableau that is then kept.
-pub struct Edited {
-    pub answer: SolveAnswer,
-    pub tableau: Tableau,
+// What solve answers for an edited sheet, with the rounds made by the edit; and the finished tableau.
+struct Solved {
+    answer: SolveAnswer,
+    tableau: Tableau,
 }
 
-fn refused(number: u8) -> Edited
+fn refused(number: u8) -> Solved
     ensures { λ r. ⌜ r .answer ≡ Refused number ⌝ }
 {
-    Edited {
+    Solved {
         answer: SolveAnswer::Refused(number),
         tableau: empty_tableau(),
     }
 }
 
+// What came of an edit: its answer, and the tableau and the counter that then stand.
+pub struct Edited {
+    pub answer: SolveAnswer,
+    pub tableau: Tableau,
+    pub counter: u64,
+}
+
 // Whether an edit names a roastery and a café of a sheet of m and n, and can be counted.
 fn may_edit(m: usize, n: usize, row: usize, col: usize, counter: u64) -> bool
     ensures { λ r. ⌜ r ≡ ltb row m && ltb col n && not (eqb counter maxCounter) ⌝ }
+    ensures { λ r. ⌜ (r ≡ true → counter + 1 < 2 ^ 64) ⌝ }
 {
     if row >= m {
         return false;
@@ -63,13 +70,16 @@ fn may_edit(m: usize, n: usize, row: usize, col: usize, counter: u64) -> bool
     counter != MAX_COUNTER
 }
 
-// Sets in the lists of a sheet what the edit says.
-fn set_lists(e: Edit, supply: &mut [u64], demand: &mut [u64], cost: &mut [i64])
-    requires { ⌜ WithinLimits (sheetOf (now supply) (now demand) (now cost)) ⌝ }
-    requires { ⌜ (e .row < length (now supply)) × (e .col < length (now demand)) ⌝ }
-    ensures { λ _. ⌜
-        sheetOf (now (supply .exit)) (now (demand .exit)) (now (cost .exit))
-        ≡ edited (sheetOf (now (supply .entry)) (now (demand .entry)) (now (cost .entry))) e
+// Sets in the lists of a sheet what the edit says. Gives the edit that takes it back.
+fn set_lists(e: Edit, supply: &mut [u64], demand: &mut [u64], cost: &mut [i64]) -> Edit
+    requires { ⌜ Editable e (now supply) (now demand) (now cost) ⌝ }
+    ensures { λ r.
+        let S = sheetOf (now (supply .entry)) (now (demand .entry)) (now (cost .entry)) in
+        ⌜
+        (sheetOf (now (supply .exit)) (now (demand .exit)) (now (cost .exit)) ≡ edited S e)
+        × (edited (edited S e) r ≡ S)
+        × (r .row ≡ e .row)
+        × (r .col ≡ e .col)
         ⌝ }
 {
     let row = e.row;
@@ -77,14 +87,31 @@ fn set_lists(e: Edit, supply: &mut [u64], demand: &mut [u64], cost: &mut [i64])
     let change = e.change;
     match change {
         Change::Cost(c) => {
-            cost[row * demand.len() + col] = c;
+            let l = row * demand.len() + col;
+            let old = cost[l];
+            cost[l] = c;
+            Edit {
+                row,
+                col,
+                change: Change::Cost(old),
+            }
         }
         Change::Amounts {
             supply: s,
             demand: d,
         } => {
+            let old_supply = supply[row];
+            let old_demand = demand[col];
             supply[row] = s;
             demand[col] = d;
+            Edit {
+                row,
+                col,
+                change: Change::Amounts {
+                    supply: old_supply,
+                    demand: old_demand,
+                },
+            }
         }
     }
 }
@@ -147,7 +174,7 @@ fn resume(
     u: &mut [i64],
     v: &mut [i64],
     plan: &mut [u64],
-) -> Edited
+) -> Solved
     requires { ⌜
         ((T : List Cell)
         × Admitted (sheetOf (now supply) (now demand) (now cost)) T (begun .parties) (begun .rows) (begun .cols) (now q) (now e)
@@ -188,7 +215,7 @@ fn resume(
         plan,
     );
     let total = plan_cost(plan, cost);
-    Edited {
+    Solved {
         answer: SolveAnswer::Solved {
             cost: total,
             rounds,
@@ -213,7 +240,7 @@ fn carry_out(
     u: &mut [i64],
     v: &mut [i64],
     plan: &mut [u64],
-) -> Edited
+) -> Solved
     requires { ⌜
         ((T : List Cell)
         × Resumable change (now supply) (now demand) T (loaded .parties) (loaded .rows) (loaded .cols) (now q) (now e)
@@ -267,7 +294,7 @@ fn carry_out(
 }
 
 // An edit of the standing sheet of these lists, this tableau and this counter. The lists then hold the
-// edited sheet, unless the edit is refused.
+// edited sheet. An edit that is refused leaves them as they were, or is taken back.
 pub fn edit_lists(
     supply: &mut [u64],
     demand: &mut [u64],
@@ -281,7 +308,12 @@ pub fn edit_lists(
 ) -> Edited
     ensures { λ r. ⌜
         EditedAs (record { sheet = sheetOf (now (supply .entry)) (now (demand .entry)) (now (cost .entry)); tableau = t; counter = counter })
-        edit (r .answer) (r .tableau) (sheetOf (now (supply .exit)) (now (demand .exit)) (now (cost .exit)))
+        edit (r .answer)
+        (record {
+          sheet = sheetOf (now (supply .exit)) (now (demand .exit)) (now (cost .exit));
+          tableau = r .tableau;
+          counter = r .counter;
+        })
         (now (u .entry)) (now (u .exit)) (now (v .entry)) (now (v .exit)) (now (plan .entry)) (now (plan .exit))
         ⌝ }
 {
@@ -305,14 +337,22 @@ pub fn edit_lists(
     );
     let check = loaded.check;
     if let SheetCheck::Refused(number) = check {
-        return refused(number);
+        return Edited {
+            answer: SolveAnswer::Refused(number),
+            tableau: t,
+            counter,
+        };
     }
     if !may_edit(supply.len(), demand.len(), edit.row, edit.col, counter) {
-        return refused(12);
+        return Edited {
+            answer: SolveAnswer::Refused(12),
+            tableau: t,
+            counter,
+        };
     }
-    set_lists(edit, supply, demand, cost);
+    let back = set_lists(edit, supply, demand, cost);
     let change = edit.change;
-    carry_out(
+    let done = carry_out(
         supply,
         demand,
         cost,
@@ -327,5 +367,20 @@ pub fn edit_lists(
         u,
         v,
         plan,
-    )
+    );
+    let answer = done.answer;
+    if let SolveAnswer::Refused(number) = answer {
+        set_lists(back, supply, demand, cost);
+        return Edited {
+            answer: SolveAnswer::Refused(number),
+            tableau: t,
+            counter,
+        };
+    }
+    let tableau = done.tableau;
+    Edited {
+        answer,
+        tableau,
+        counter: counter + 1,
+    }
 }
