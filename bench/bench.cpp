@@ -156,10 +156,18 @@ struct Bench {
         return count;
     }
 
+    // The k-th edit of a pass: the edits of a sheet come in a row, as at a desk, or the sheets take turns, so
+    // that each edit meets a sheet that was not touched for long.
+    size_t edit_at(size_t k, bool in_a_row) const {
+        const size_t each = edits.size() / all.size();
+        return in_a_row ? k % each * all.size() + k / each : k;
+    }
+
     // One pass over all edits each, always of the standing sheets that were set up.
-    Sum edit_costs() {
+    Sum edit_costs(bool in_a_row) {
         Sum sum;
-        for (size_t k = 0; k < edits.size(); k++) {
+        for (size_t n = 0; n < edits.size(); n++) {
+            const size_t k = edit_at(n, in_a_row);
             const Edit& e = edits[k];
             sum.add(panel_edit_cost(standing[k % all.size()], e.row, e.col, e.cost, u.data(), side, v.data(), side,
                                     plan.data(), plan.size()));
@@ -167,9 +175,10 @@ struct Bench {
         return sum;
     }
 
-    Sum edit_amounts() {
+    Sum edit_amounts(bool in_a_row) {
         Sum sum;
-        for (size_t k = 0; k < edits.size(); k++) {
+        for (size_t n = 0; n < edits.size(); n++) {
+            const size_t k = edit_at(n, in_a_row);
             const Edit& e = edits[k];
             sum.add(panel_edit_amounts(standing[k % all.size()], e.row, e.col, e.supply, e.demand, u.data(), side,
                                        v.data(), side, plan.data(), plan.size()));
@@ -177,7 +186,7 @@ struct Bench {
         return sum;
     }
 
-    // Solve of the edited sheets.
+    // Solve of the edited sheets, in turn.
     Sum solve_edited(Exchange exchange) {
         Sum sum;
         for (size_t k = 0; k < edits.size(); k++) {
@@ -225,22 +234,24 @@ struct Timed {
     double rounds() const { return (double)sum.rounds / (sheets * edits_each); }
 };
 
-// Edits of one kind, and solve of the edited sheets.
+// Edits of one kind, in a row and in turn, and solve of the edited sheets.
 struct Edits {
     const char* name;
     double goal;
-    Timed edit = {}, solve = {};
+    Timed row = {}, edit = {}, solve = {};
 
-    void print() const {
-        const double ratio = edit.least / solve.least;
-        std::printf("   %s %5.1f us, rounds %5.1f; solve %5.1f us, rounds %5.1f; ratio %.2f", name, edit.each(),
-                    edit.rounds(), solve.each(), solve.rounds(), ratio);
+    // The goal is for edits in a row, beside solve of the sheets.
+    void print(double solve_each) const {
+        const double ratio = row.each() / solve_each;
+        std::printf("   %s %5.1f us, rounds %5.1f, ratio %.2f", name, row.each(), edit.rounds(), ratio);
         if (ratio > goal) std::printf(", above the goal of %.2f", goal);
+        std::printf("; in turn %5.1f us, solve %5.1f us, rounds %5.1f, ratio %.2f", edit.each(), solve.each(),
+                    solve.rounds(), edit.least / solve.least);
     }
 
     void print_faults() const {
-        if (edit.sum.refused + solve.sum.refused > 0) std::printf("%s: some are refused\n", name);
-        if (edit.sum.cost != solve.sum.cost) std::printf("%s: the costs differ\n", name);
+        if (row.sum.refused + edit.sum.refused + solve.sum.refused > 0) std::printf("%s: some are refused\n", name);
+        if (row.sum.cost != solve.sum.cost || edit.sum.cost != solve.sum.cost) std::printf("%s: the costs differ\n", name);
     }
 };
 
@@ -252,15 +263,17 @@ static void compare_edits(const Kind& kind) {
     for (size_t p = 0; p < passes; p++) {
         set_ups = std::min(set_ups, microseconds([&] { count = b.set_up(); }));
         solves = std::min(solves, microseconds([&] { b.solve(); }));
-        costs.edit.pass([&] { return b.edit_costs(); });
+        costs.row.pass([&] { return b.edit_costs(true); });
+        costs.edit.pass([&] { return b.edit_costs(false); });
         costs.solve.pass([&] { return b.solve_edited(&Edit::exchange_cost); });
-        amounts.edit.pass([&] { return b.edit_amounts(); });
+        amounts.row.pass([&] { return b.edit_amounts(true); });
+        amounts.edit.pass([&] { return b.edit_amounts(false); });
         amounts.solve.pass([&] { return b.solve_edited(&Edit::exchange_amounts); });
     }
     std::printf("%-24s set up %5.1f us; solve %5.1f us; ratio %.2f", kind.name, set_ups / sheets, solves / sheets,
                 set_ups / solves);
-    costs.print();
-    amounts.print();
+    costs.print(solves / sheets);
+    amounts.print(solves / sheets);
     std::puts("");
     if (count != sheets) std::puts("set up: some are refused");
     costs.print_faults();
@@ -273,8 +286,8 @@ extern "C" __attribute__((noinline)) int64_t counted(Bench& b, const std::string
     if (who == "lemon") return b.lemon();
     if (who == "run") return b.run();
     if (who == "set-up") return (int64_t)b.set_up();
-    if (who == "edit-cost") return b.edit_costs().cost;
-    if (who == "edit-amounts") return b.edit_amounts().cost;
+    if (who == "edit-cost") return b.edit_costs(false).cost;
+    if (who == "edit-amounts") return b.edit_amounts(false).cost;
     if (who == "solve-cost") return b.solve_edited(&Edit::exchange_cost).cost;
     if (who == "solve-amounts") return b.solve_edited(&Edit::exchange_amounts).cost;
     return b.solve();

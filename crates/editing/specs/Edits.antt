@@ -9,8 +9,11 @@ use Rattle.transport.specs.declared.Edit.{Edit}
 use Rattle.transport.specs.declared.SolveAnswer.{SolveAnswer}
 use Rattle.transport.specs.declared.SolveAnswer.the-variants.{Solved, Refused}
 use Rattle.transport.specs.declared.Tableau.{Tableau}
+use Rattle.transport.specs.Lists.{all}
 use Rattle.transport.specs.Problem.{place}
-use Rattle.transport.specs.Sheet.{Sheet, sheetOf, roasteries, cafes, sheetTests, refusal}
+use Rattle.transport.specs.Sheet.{Sheet, sheetOf, roasteries, cafes, badSides, badLength, badAmount, badCost, lacking, crowded}
+use Rattle.transport.specs.Sheet.{idle, numberTests, sheetTests, refusal}
+use Rattle.transport.specs.Statements.{Accepted}
 use Rattle.transport.specs.Parties.{problemOf}
 use Rattle.transport.specs.Tableau.{start}
 use Rattle.transport.specs.Calls.{Answer, refusedBy, unless, Solution, inside, solutionFrom, solveTests}
@@ -18,7 +21,7 @@ use Rattle.transport.specs.Standing.{edited, Standing, Passes, lastTableau, sta
 use Rattle.transport.specs.Standing.{editFrom, editCall, carriedOut, standsAfter}
 use Rattle.transport.specs.Answers.{solveAnswer}
 use Rattle.transport.specs.Laws.ListLaws.{and-left, and-right}
-use Rattle.transport.specs.Laws.SheetLaws.{refusal-yes, refusal-no, refusal-pass, refusal-stands}
+use Rattle.transport.specs.Laws.SheetLaws.{refusal-yes, refusal-no, refusal-clear, refusal-pass, refusal-stands, passes}
 use Rattle.transport.specs.Laws.CallLaws.{unless-given, unless-refused}
 use Rattle.demands.specs.Says.{refusal-front}
 use Rattle.parties.specs.declared.Parties.{Parties}
@@ -148,6 +151,39 @@ amounts-back S e f {s} {d} is l h back =
     ∙ ap (edited S′) back
     ∙ sym (set-amounts S′ undo refl)
     ∙ (λ i. sheetOf (supply i) (demand i) (S .cost))
+
+-- For new amounts, the costs are those of an accepted sheet with as many parties.
+abbrev pub Passed : Change → (supply demand : List ℕ) → (cost : List ℤ) → Type 0
+Passed change supply demand cost =
+    (s d : ℕ) → change ≡ Change.Amounts s d
+    → (before : List ℕ) × (wanted : List ℕ) × Accepted (sheetOf before wanted cost) × (length supply ≡ length before)
+    × (length demand ≡ length wanted)
+
+-- So sides and costs pass their tests again.
+pub amounts-tests : {before wanted : List ℕ} (supply demand : List ℕ) {cost : List ℤ} → Accepted (sheetOf before wanted cost)
+    → length supply ≡ length before → length demand ≡ length wanted
+    → refusal (sheetTests (sheetOf supply demand cost)) ≡ refusal (numberTests (sheetOf supply demand []))
+unfolding sheetTests numberTests badSides badLength badCost lacking crowded idle badAmount roasteries cafes all
+amounts-tests {before} {wanted} supply demand {cost} ok m n =
+    let S : Sheet = sheetOf before wanted cost in
+    let S′ : Sheet = sheetOf supply demand cost in
+    let (sides, r) = refusal-clear (badSides S) _ (passes ok) in
+    let (long, r) = refusal-clear (badLength S) _ r in
+    let (amounts, r) = refusal-clear (badAmount S) _ r in
+    let (costs, r) = refusal-clear (badCost S) _ r in
+    refusal-no (badSides S′) _ (rw (m, n) sides) ∙ refusal-no (badLength S′) _ (rw (m, n) long) ∙ rw costs
+
+same-costs : (S : Sheet) (e : Edit) {s d : ℕ} → e .change ≡ Change.Amounts s d → edited S e .cost ≡ S .cost
+unfolding edited
+same-costs S e is = rw (is, edited)
+
+-- The lists of an edited sheet are such.
+pub passed : (e : Edit) {supply demand supply′ demand′ : List ℕ} {cost cost′ : List ℤ}
+    → sheetOf supply′ demand′ cost′ ≡ edited (sheetOf supply demand cost) e → Accepted (sheetOf supply demand cost)
+    → length supply′ ≡ length supply → length demand′ ≡ length demand → Passed (e .change) supply′ demand′ cost′
+passed e {supply} {demand} {cost = cost} same ok m n = λ s d is.
+    let costs = ap (λ (S : Sheet). S .cost) same ∙ same-costs (sheetOf supply demand cost) e is in
+    (supply, demand, subst (λ (c : List ℤ). Accepted (sheetOf supply demand c)) (sym costs) ok, m, n)
 
 -- It is solved from T on, or refused as solve refuses it: the answer, what the lent lists then hold, and
 -- the last tableau.

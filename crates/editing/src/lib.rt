@@ -21,18 +21,19 @@ use tree::Price;
 ghost use mathlib.Core.Path.{_≡_};
 ghost use mathlib.Core.Bool.{true, not, _&&_};
 ghost use mathlib.Core.List.{List};
-ghost use Prim.Native.Nat.{ℕ, _+_, _*_, _^_, _≤_, _<_};
+ghost use Prim.Native.Nat.{_+_, _*_, _^_, _≤_, _<_};
 ghost use lib.Dec.{eqb, ltb};
 ghost use lib.ListN.{length};
-ghost use Rattle.transport.specs.Sheet.{sheetOf};
-ghost use Rattle.transport.specs.Calls.{given, Solution, solutionFrom, inside};
-ghost use Rattle.transport.specs.Standing.{edited, lastTableau, maxCounter, editCall, carriedOut};
+ghost use Rattle.transport.specs.Sheet.{sheetOf, sheetTests, refusal};
+ghost use Rattle.transport.specs.Calls.{given, solutionFrom};
+ghost use Rattle.transport.specs.Standing.{edited, lastTableau, maxCounter};
 ghost use Rattle.transport.specs.Statements.{Accepted};
 ghost use Rattle.transport.specs.declared.Cell.{Cell};
 ghost use Rattle.transport.specs.declared.SolveAnswer.the-variants.{Refused};
+ghost use Rattle.sheet.specs.Check.{checkAnswer};
 ghost use Rattle.loading.specs.Loading.{Admitted};
 ghost use Rattle.solving.specs.Told.{Told};
-ghost use Rattle.editing.specs.Edits.{Editable, beginning, Resumable, SolvedAs, EditedAs};
+ghost use Rattle.editing.specs.Edits.{Editable, beginning, Passed, Resumable, SolvedAs, EditedAs};
 
 // What solve answers for an edited sheet, with the rounds made by the edit; and the finished tableau.
 struct Solved {
@@ -224,6 +225,20 @@ fn resume(
     }
 }
 
+// The sheet check of an edited sheet. New amounts leave sides and costs as they were, and these passed.
+fn check_edited(supply: &[u64], demand: &[u64], cost: &[i64], change: Change) -> SheetCheck
+    requires { ⌜ Passed change (now supply) (now demand) (now cost) ⌝ }
+    ensures { λ r.
+        let S = sheetOf (now (supply .entry)) (now (demand .entry)) (now (cost .entry)) in
+        ⌜ r ≡ checkAnswer (refusal (sheetTests S)) ⌝ }
+{
+    if let Change::Cost(_) = change {
+        return sheet::check_sheet(supply, demand, cost);
+    }
+    let untested = 0;
+    sheet::check_numbers(supply, demand, &cost[..untested])
+}
+
 // Solves the edited sheet from where its edit begins, unless solve refuses it.
 fn carry_out(
     supply: &[u64],
@@ -241,6 +256,7 @@ fn carry_out(
     v: &mut [i64],
     plan: &mut [u64],
 ) -> Solved
+    requires { ⌜ Passed change (now supply) (now demand) (now cost) ⌝ }
     requires { ⌜
         ((T : List Cell)
         × Resumable change (now supply) (now demand) T (loaded .parties) (loaded .rows) (loaded .cols) (now q) (now e)
@@ -256,7 +272,7 @@ fn carry_out(
         (now (v .exit)) (now (plan .entry)) (now (plan .exit)))
         ⌝ }
 {
-    let check = sheet::check_sheet(supply, demand, cost);
+    let check = check_edited(supply, demand, cost, change);
     if let SheetCheck::Refused(number) = check {
         return refused(number);
     }

@@ -12,7 +12,7 @@ use Rattle.editing.specs.Edits.{sheet-refused, room-refused}
 use Rattle.editing.proofs.carry_out.Statement.{statement}
 use Rattle.editing.proofs.carry_out.Tie as tie
 
-abbrev startOf : tie.After-check-sheet → tie.Start
+abbrev startOf : tie.After-check-edited → tie.Start
 startOf k = k .before .before .before .before
 
 abbrev sheetAt : tie.Start → Sheet
@@ -21,7 +21,7 @@ sheetAt s = let a = s .args in sheetOf (a .supply .now) (a .demand .now) (a .cos
 returns : tie.Need-returns
 returns c = λ T r.
     let k = c .before .before .before .before in
-    let refuses = refused-some _ _ (sym (k .check-sheet .ensures) ∙ c .before .before .check .given .1) in
+    let refuses = refused-some _ _ (sym (k .check-edited .ensures) ∙ c .before .before .check .given .1) in
     sheet-refused (sheetAt (startOf k)) _ _ _ _ _ _ refuses (c .refused .ensures)
 
 -- ---- the sheet passed its check
@@ -30,7 +30,7 @@ abbrev start : tie.After-enum-told → tie.Start
 start a = startOf (a .before .before)
 
 passed : (a : tie.After-enum-told) → refusal (sheetTests (sheetAt (start a))) ≡ none
-passed a = accepted-none _ (sym (a .before .before .check-sheet .ensures) ∙ a .enum-told .given .1)
+passed a = accepted-none _ (sym (a .before .before .check-edited .ensures) ∙ a .enum-told .given .1)
 
 missing-room-requires : tie.Need-missing-room-requires
 unfolding roasteries cafes
@@ -59,7 +59,7 @@ begin-edit-requires : tie.Need-begin-edit-requires
 begin-edit-requires c κs =
     let a = told (c .before .before .before .before .before .before) in
     let s = start a in
-    (accepted (sheetAt s) (passed a), s .pre)
+    (accepted (sheetAt s) (passed a), s .pre .1)
 
 abbrev fits : tie.After-begin-edit → tie.Else1
 fits b = b .before .before .before .before .before .before .before
@@ -68,7 +68,7 @@ resume-requires : tie.Need-resume-requires
 resume-requires c κs =
     let b = c .before .before .before .before .before .before .before .before .before in
     let s = start (told (fits b)) in
-    ((_, b .begin-edit .ensures _ (s .pre .1)), rooms (fits b))
+    ((_, b .begin-edit .ensures _ (s .pre .1 .1)), rooms (fits b))
 
 returns-3 : tie.Need-returns-3
 unfolding roasteries cafes
@@ -83,5 +83,5 @@ returns-3 c = λ T r.
     }
 
 pub carry-out-spec : {M : Type 1} → statement M
-carry-out-spec = tie.close (tie.spec (λ c κs. tt) (λ c. search needs) (λ c κs. tt) returns (λ c. search needs) missing-room-requires
+carry-out-spec = tie.close (tie.spec (λ c κs. c .before .before .before .pre .0) (λ c. search needs) (λ c κs. tt) returns (λ c. search needs) missing-room-requires
     (λ c κs. tt) returns-2 begin-edit-requires resume-requires (λ c. search needs) (λ c. search needs) (λ c. search needs) returns-3)

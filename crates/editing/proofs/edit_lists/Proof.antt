@@ -7,7 +7,7 @@ use Rattle.transport.specs.Standing.{edited, Standing, Passes, standingTests}
 use Rattle.sheet.specs.Check.{accepted-none, refused-some}
 use Rattle.demands.specs.FromNothing.{stands}
 use Rattle.loading.specs.Loading.{Admitted}
-use Rattle.editing.specs.Edits.{Editable, editable-again, resumable, may, may-names}
+use Rattle.editing.specs.Edits.{Editable, editable-again, passed, resumable, may, may-names}
 use Rattle.editing.specs.Edits.{edit-early, edit-unknown, edit-late, edit-solved}
 use Rattle.editing.proofs.edit_lists.Statement.{statement}
 use Rattle.editing.proofs.edit_lists.Tie as tie
@@ -89,7 +89,10 @@ carry-out-requires : tie.Need-carry-out-requires
 carry-out-requires c κs =
     let x = setBefore c in
     let a = told (fits x) in
-    (_, resumable (start a .args .edit) (x .set-lists .ensures .0) (admitted a))
+    let e = start a .args .edit in
+    let kept = x .set-lists .kept in
+    let same = x .set-lists .ensures .0 in
+    (passed e same (admitted a .accepted) (kept .1 .0) (kept .1 .1 .0), (_, resumable e same (admitted a)))
 
 abbrev setAt : tie.After-carry-out → tie.After-set-lists
 setAt o = setBefore (o .before)
