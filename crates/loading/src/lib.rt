@@ -5,7 +5,7 @@ use cost_grid::spread_costs;
 use numbering::renumber;
 use parties::Parties;
 use parties::number_parties;
-use rounds::round::is_finished;
+use rounds::round::test_finished;
 use sheet::SheetCheck;
 use transport::MAX_SIDE;
 use transport::Tableau;
@@ -161,16 +161,7 @@ pub fn load_finished(
         return loading;
     }
     let parties = loading.parties;
-    let mut price: [Price; NODES] = [0; NODES];
-    if is_finished(
-        spread,
-        leaf,
-        other,
-        lane,
-        parties.rows,
-        parties.columns,
-        &mut price,
-    ) {
+    if test_finished(spread, leaf, other, lane, parties.rows, parties.columns) {
         return loading;
     }
     let rows = loading.rows;

@@ -19,8 +19,8 @@ use Rattle.tree.specs.Strikes.{strikes-room}
 use Rattle.cuts.specs.Planting.{Tree}
 use Rattle.board.specs.Arrays.{Sides, sound-sides, Loaded, Board}
 use Rattle.cost_grid.specs.Costs.{Costed}
-use Rattle.pricing.specs.Slacks.{InRange, Slacks}
-use Rattle.rounds.specs.Kept.{Prices, Kept, in-range}
+use Rattle.pricing.specs.Slacks.{Slacks}
+use Rattle.rounds.specs.Kept.{Prices, Priced, Kept}
 
 -- The tableau T of the problem P is laid out over the arrays: its amounts, the strikes of its basis, and the costs of P by column.
 pub record Begun (P : Problem) (T : List Cell) (q e cost : List ℤ) (leaf other tree : List ℕ) (m n : ℕ) : Type 0 where
@@ -69,10 +69,17 @@ module _ {P : Problem} {T : List Cell} {q e cost : List ℤ} {leaf other tree : 
         none k l r = by k r ∙ potential-off (costOf cost) (strikesOf leaf other tree (m + n - 1)) k
             (λ t h s. let (later, st) = step-of (d .loaded .struck .peels) t h in omega (arith, leaf-below st))
 
-    module _ {sub path : List ℕ} (grown : Tree m n (basisOf T) sub path tree) where
-      pub begun-range : InRange cost price m n
-      begun-range = in-range (begun-board grown) (d .costs) begun-prices
+    pub begun-priced : Priced P T cost price m n
+    begun-priced = record {
+      sound = d .sound;
+      rows = d .rows;
+      columns = d .columns;
+      belongs = d .belongs;
+      costs = d .costs;
+      prices = begun-prices;
+    }
 
+    module _ {sub path : List ℕ} (grown : Tree m n (basisOf T) sub path tree) where
       pub begun-kept : {slack : List ℤ} → Slacks cost price m n slack → Kept P T q e cost price slack sub path tree m n
       begun-kept s = record { board = begun-board grown; costs = d .costs; prices = begun-prices; slacks = s }
 

@@ -17,7 +17,10 @@ use Rattle.transport.specs.Potential.{potential, reducedCost, isFinished}
 use Rattle.transport.specs.Round.{entering, pivot, next}
 use Rattle.transport.specs.declared.Cell.{Cell}
 use Rattle.tableaux.specs.Potentials.{price-size, price-limit}
-use Rattle.tableaux.specs.Belonging.{fits-of, spans-of}
+use Rattle.transport.specs.Belonging.{cellsBelong}
+use Rattle.transport.specs.Laws.Sound.{Sound}
+use Rattle.transport.specs.Statements.{Belongs}
+use Rattle.tableaux.specs.Belonging.{belongs-iff, fits-of, spans-of}
 use Rattle.tableaux.specs.Entering.{entering-inside, entering-new}
 use Rattle.tree.specs.Layout.{stride, nodeRoom, maxPotential, reducedAt}
 use Rattle.tree.specs.Mask.{has}
@@ -35,6 +38,15 @@ pub record Prices (P : Problem) (T : List Cell) (price : List ℤ) (m n : ℕ) :
   pub long : length price ≡ nodeRoom
   pub are : (k : ℕ) → k < m + n → getD price k (pos 0) ≡ potential P T k
   pub none : (k : ℕ) → m + n ≤ k → k < nodeRoom → getD price k (pos 0) ≡ pos 0
+
+-- The prices of a tableau T that belongs to P, beside the costs of P by column.
+pub record Priced (P : Problem) (T : List Cell) (cost price : List ℤ) (m n : ℕ) : Type 0 where
+  pub sound : Sound P
+  pub rows : m ≡ sources P
+  pub columns : n ≡ sinks P
+  pub belongs : cellsBelong P T ≡ true
+  pub costs : Costed P cost
+  pub prices : Prices P T price m n
 
 -- The arrays hold the tableau T of the problem P, whose costs lie by column: its board, its prices and the least slacks of its rows.
 pub record Kept (P : Problem) (T : List Cell) (q e cost price slack : List ℤ) (sub path tree : List ℕ) (m n : ℕ) : Type 0 where
@@ -68,43 +80,33 @@ sign-is z p = rw (back w32 z p) (go z)
 
 -- ---- ranges
 
-module _ {P : Problem} {T : List Cell} {q e cost price : List ℤ} {sub path tree : List ℕ} {m n : ℕ} (b : Board P T q e sub path tree m n)
-    (costs : Costed P cost) (prices : Prices P T price m n) where
+module _ {P : Problem} {T : List Cell} {cost price : List ℤ} {m n : ℕ} (b : Priced P T cost price m n) where
+  own : Belongs P T
+  own = belongs-iff P T (b .sound .sourcesLow) (b .sound .sinksLow) .0 (b .belongs)
+
   price-small : (k : ℕ) → k < nodeRoom → natAbs (getD price k (pos 0)) ≤ maxPotential
   unfolding costAbove maxCost
   price-small k r = by-cases (decLt k (m + n))
-      (λ l. rw (prices .are k l) (omega (
+      (λ l. rw (b .prices .are k l) (omega (
         arith,
         price-limit,
-        price-size P (b .sound) T (fits-of (b .sound) (board-belongs b)) (spans-of (b .sound) (board-belongs b)) k,
+        price-size P (b .sound) T (fits-of (b .sound) own) (spans-of (b .sound) own) k,
       )))
-      (λ l. rw (prices .none k (omega arith) r) (omega arith))
+      (λ l. rw (b .prices .none k (omega arith) r) (omega arith))
+
+  priced-sides : Sides m n
+  priced-sides = sound-sides (b .sound) (b .rows) (b .columns)
 
   pub in-range : InRange cost price m n
-  in-range = let s = sound-sides (b .sound) (b .rows) (b .columns) in
-      record { rows = s .rowsHigh; some = s .colsLow; columns = s .colsHigh; costs = costs .small; prices = price-small }
-
-module _ {P : Problem} {T : List Cell} {bags marks cost price slack : List ℤ} {sub path tree : List ℕ} {m n : ℕ}
-    (h : Kept P T bags marks cost price slack sub path tree m n) where
-  b : Board P T bags marks sub path tree m n
-  b = h .board
-
-  pub kept-range : InRange cost price m n
-  kept-range = in-range b (h .costs) (h .prices)
-
-  pub kept-sides : Sides m n
-  kept-sides = sound-sides (b .sound) (b .rows) (b .columns)
-
-  pub kept-prices : (k : ℕ) → k < nodeRoom → natAbs (getD price k (pos 0)) ≤ 2 ^ 29
-  unfolding costAbove maxCost
-  kept-prices k l = omega (arith, kept-range .prices k l)
+  in-range = let s = priced-sides in
+      record { rows = s .rowsHigh; some = s .colsLow; columns = s .colsHigh; costs = b .costs .small; prices = price-small }
 
   reduced-are : (i j : ℕ) → i < m → j < n → reducedAt cost price m i j ≡ reducedCost P T (lane i j)
   unfolding reducedCost
   reduced-are i j x y = rw (
-    h .costs .lanes i j (omega (arith, b .rows)) (omega (arith, b .columns)),
-    h .prices .are i (omega arith),
-    h .prices .are (m + j) (omega arith),
+    b .costs .lanes i j (omega (arith, b .rows)) (omega (arith, b .columns)),
+    b .prices .are i (omega arith),
+    b .prices .are (m + j) (omega arith),
     b .rows,
   )
 
@@ -140,7 +142,7 @@ module _ {P : Problem} {T : List Cell} {bags marks cost price slack : List ℤ} 
                 (λ i j x y r. rw (is-reduced, ← reduced-are i j x y) (found .least i j x y));
             first = λ k l. at-place k (omega (arith, below, length-lanes M N)) (λ t. ltZ (reducedCost P T (lane row col)) (reducedCost P T t) ≡ true)
                 (λ i j x y r. rw (is-reduced, ← reduced-are i j x y)
-                (found .first i j x y (place-order N i j row col (omega (arith, b .columns)) (on-sheet .1) (omega (arith, b .columns, kept-sides .colsHigh))
+                (found .first i j x y (place-order N i j row col (omega (arith, b .columns)) (on-sheet .1) (omega (arith, b .columns, priced-sides .colsHigh))
                 (omega arith))));
           })
 
@@ -156,29 +158,60 @@ module _ {P : Problem} {T : List Cell} {bags marks cost price slack : List ℤ} 
         (λ i j x y. not-negative (reducedCost P T (lane i j)) (rw (← reduced-are i j (omega (arith, b .rows)) (omega (arith, b .columns)))
         (w .finished s i j (omega (arith, b .rows)) (omega (arith, b .columns)))))))
 
+-- ---- what is kept
+
+module _ {P : Problem} {T : List Cell} {bags marks cost price slack : List ℤ} {sub path tree : List ℕ} {m n : ℕ}
+    (h : Kept P T bags marks cost price slack sub path tree m n) where
+  b : Board P T bags marks sub path tree m n
+  b = h .board
+
+  pub kept-priced : Priced P T cost price m n
+  kept-priced = record {
+    sound = b .sound;
+    rows = b .rows;
+    columns = b .columns;
+    belongs = b .belongs;
+    costs = h .costs;
+    prices = h .prices;
+  }
+
+  pub kept-range : InRange cost price m n
+  kept-range = in-range kept-priced
+
+  pub kept-sides : Sides m n
+  kept-sides = priced-sides kept-priced
+
+  pub kept-prices : (k : ℕ) → k < nodeRoom → natAbs (getD price k (pos 0)) ≤ 2 ^ 29
+  unfolding costAbove maxCost
+  kept-prices k l = omega (arith, kept-range .prices k l)
+
+  module _ {row col : ℕ} {reduced : ℤ} (w : Scanned cost price m n row col reduced) where
+    done : isFinished P T ≡ not (ltZ reduced (pos 0))
+    done = scanned-done kept-priced w
+
     -- ---- one round
 
     pub advanced-stays : ltZ reduced (pos 0) ≡ false → Advanced P T bags marks cost price slack sub path tree m n true
-    advanced-stays t = record { done = scanned-done ∙ ap not t; kept = h }
+    advanced-stays t = record { done = done ∙ ap not t; kept = h }
 
     module _ (t : ltZ reduced (pos 0) ≡ true) where
       unfinished : isFinished P T ≡ false
-      unfinished = scanned-done ∙ ap not t
+      unfinished = done ∙ ap not t
 
       pub lane-enters : Enters P T row col
-      lane-enters = let inside = rw (scanned-enters t) at (entering-inside (b .sound) T) in
-          record { inRow = inside .0; inCol = inside .1; new = rw (scanned-enters t) at (entering-new (b .sound) T unfinished (board-belongs b)) }
+      lane-enters = let inside = rw (scanned-enters kept-priced w t) at (entering-inside (b .sound) T) in
+          record { inRow = inside .0; inCol = inside .1; new = rw (scanned-enters kept-priced w t) at (entering-new (b .sound) T unfinished (board-belongs b)) }
 
       reduced-small : natAbs reduced ≤ costAbove + 2 * maxPotential
       reduced-small = let c = getD cost (col * stride + row) (pos 0) in
           let u = getD price row (pos 0) in let v = getD price (m + col) (pos 0) in
-          rw (← found t .is) (omega (
+          rw (← w .found t .is) (omega (
             arith,
             abs-diff (c -ℤ u) v,
             abs-diff c u,
             kept-range .costs (col * stride + row),
-            kept-range .prices row (omega (arith, found t .rowIn, kept-sides .rowsHigh)),
-            kept-range .prices (m + col) (omega (arith, found t .colIn, kept-sides .rowsHigh, kept-sides .colsHigh)),
+            kept-range .prices row (omega (arith, w .found t .rowIn, kept-sides .rowsHigh)),
+            kept-range .prices (m + col) (omega (arith, w .found t .colIn, kept-sides .rowsHigh, kept-sides .colsHigh)),
           ))
 
       pub reduced-room : natAbs reduced ≤ 2 ^ 29
@@ -200,8 +233,8 @@ module _ {P : Problem} {T : List Cell} {bags marks cost price slack : List ℤ} 
         }
           where
             toward : (v : Bool) → toZ (cond v reduced (negℤ reduced)) ≈ (let r = toZ (reducedCost P T (lane row col)) in cond v r (neg r))
-            toward true = rw (is-reduced t) (omega arith)
-            toward false = rw (is-reduced t) (z-neg reduced)
+            toward true = rw (is-reduced kept-priced w t) (omega arith)
+            toward false = rw (is-reduced kept-priced w t) (z-neg reduced)
 
             up : (i : ℕ) → i < m → (v : Bool) → getD price′ i (pos 0) ≡ cond v (getD price i (pos 0) +ℤ cond (ltb i m) x (negℤ x)) (getD price i (pos 0))
                 → toZ (getD price′ i (pos 0)) ≈ toZ (potential P T i) ⊕ cond v (toZ x) (nat 0)
@@ -217,7 +250,7 @@ module _ {P : Problem} {T : List Cell} {bags marks cost price slack : List ℤ} 
 
         next-is : pivot m n T (lane row col) ≡ next P T
         unfolding next
-        next-is = rw (b .rows, b .columns, scanned-enters t)
+        next-is = rw (b .rows, b .columns, scanned-enters kept-priced w t)
 
         board-next : Board P (next P T) bags′ marks′ sub′ path′ tree′ m n
         board-next = rw (← next-is) (v .board)
@@ -230,7 +263,14 @@ module _ {P : Problem} {T : List Cell} {bags marks cost price slack : List ℤ} 
         }
 
         pub range-next : InRange cost price′ m n
-        range-next = in-range board-next (h .costs) prices-next
+        range-next = in-range (record {
+          sound = board-next .sound;
+          rows = board-next .rows;
+          columns = board-next .columns;
+          belongs = board-next .belongs;
+          costs = h .costs;
+          prices = prices-next;
+        })
 
         pub slacks-stale : Stale cost price price′ m n far row reduced slack
         slacks-stale = record {

@@ -10,9 +10,11 @@ use tree::NODES;
 use tree::Price;
 use tree::potential::potentials;
 use tree::potential::reprice;
+ghost use mathlib.Core.Path.{_≡_};
 ghost use mathlib.Core.List.{List};
 ghost use lib.IntN.{ℤ};
 ghost use Rattle.transport.specs.Problem.{Problem};
+ghost use Rattle.transport.specs.Potential.{isFinished};
 ghost use Rattle.transport.specs.declared.Cell.{Cell};
 ghost use Rattle.rounds.specs.Kept.{Kept, Advanced};
 ghost use Rattle.rounds.specs.Begun.{Begun, Judged, Rounded};
@@ -62,6 +64,29 @@ pub fn is_finished(
     let mut sub = [0u64; NODES];
     let slack = begin(cost, leaf, other, lane, m, n, &mut path, &mut sub, price);
     let enter = entering(cost, price, &slack, m, n);
+    enter.reduced >= 0
+}
+
+// The same, and nothing else: no tree is built and no prices are given.
+pub fn test_finished(
+    cost: &[Price; LANES],
+    leaf: &[usize; NODES],
+    other: &[usize; NODES],
+    lane: &[usize; NODES],
+    m: usize,
+    n: usize,
+) -> bool
+    requires { ⌜ ((P : Problem) × (T : List Cell) × (q : List ℤ) × (e : List ℤ) × Begun P T q e (now cost) (now leaf) (now other) (now lane) m n) ⌝ }
+    ensures { λ r. ⌜
+        ((P : Problem) (T : List Cell) (q e : List ℤ)
+        → Begun P T q e (now (cost .entry)) (now (leaf .entry)) (now (other .entry)) (now (lane .entry)) m n
+        → isFinished P T ≡ r)
+        ⌝ }
+{
+    let mut price: [Price; NODES] = [0; NODES];
+    potentials(cost, leaf, other, lane, m + n - 1, &mut price);
+    let slack = scan_slacks(cost, &price, m, n);
+    let enter = entering(cost, &price, &slack, m, n);
     enter.reduced >= 0
 }
 

@@ -28,22 +28,22 @@ returns c =
 
 -- ---- sheet and tableau pass
 
-abbrev loaded : tie.After-price → tie.After-load-sheet
-loaded c = c .before .before .before .before .before .before .before .before
+abbrev loaded : tie.After-test-finished-arg4 → tie.After-load-sheet
+loaded c = c .before .before .before .before .before .before .before
 
-passed : (c : tie.After-price) → refusal (tableauTests (S (loaded c)) (tableau (loaded c))) ≡ none
+passed : (c : tie.After-test-finished-arg4) → refusal (tableauTests (S (loaded c)) (tableau (loaded c))) ≡ none
 passed c =
-    let told = c .before .before .before .before .before .before in
+    let told = c .before .before .before .before .before in
     accepted-none _ (sym (loaded c .load-sheet .ensures .0) ∙ told .enum-told2 .given .1)
 
-admitted : (c : tie.After-price) → let l = loaded c in let r = l .load-sheet .result in let a = l .load-sheet .last .1 .1 .1 .1 in
+admitted : (c : tie.After-test-finished-arg4) → let l = loaded c in let r = l .load-sheet .result in let a = l .load-sheet .last .1 .1 .1 .1 in
     Admitted (S l) (inside (S l) (tableau l)) (r .parties) (r .rows) (r .cols)
     (a .0) (a .1 .0) (a .1 .1 .0) (a .1 .1 .1 .0) (a .1 .1 .1 .1 .0) (a .1 .1 .1 .1 .1 .0)
 admitted c = loaded c .load-sheet .ensures .1 (passed c)
 
-verdict : (f : tie.After-is-finished) → let l = loaded (f .before) in
-    isFinished (problemOf (S l)) (inside (S l) (tableau l)) ≡ f .is-finished .result
-verdict f = f .is-finished .ensures _ _ _ _ (admitted (f .before) .begun) .done
+verdict : (f : tie.After-test-finished) → let l = loaded (f .before) in
+    isFinished (problemOf (S l)) (inside (S l) (tableau l)) ≡ f .test-finished .result
+verdict f = f .test-finished .ensures _ _ _ _ (admitted (f .before) .begun)
 
 returns-2 : tie.Need-returns-2
 returns-2 c =

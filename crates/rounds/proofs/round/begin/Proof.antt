@@ -1,6 +1,7 @@
 -- `rounds::round::begin` meets its contract: the potentials by the strikes are the prices, and the strikes plant the tree (`begun-kept`).
 use Rattle.prelude.specs.Words.{arith}
-use Rattle.rounds.specs.Begun.{begun-sides, begun-room, begun-range, begun-kept}
+use Rattle.rounds.specs.Kept.{in-range}
+use Rattle.rounds.specs.Begun.{begun-sides, begun-room, begun-priced, begun-kept}
 use Rattle.rounds.proofs.round.begin.Statement.{statement}
 use Rattle.rounds.proofs.round.begin.Tie as tie
 
@@ -16,7 +17,7 @@ plant-requires c κs = let d = c .before .before .before .before .pre .4 in let 
 
 scan-slacks-requires : tie.Need-scan-slacks-requires
 scan-slacks-requires c κs = let p = c .before in let d = start p .pre .4 in let v = priced p .potentials .ensures in
-    begun-range d (v .0) (v .1) (p .plant .ensures _ (d .loaded .struck))
+    in-range (begun-priced d (v .0) (v .1))
 
 returns : tie.Need-returns
 returns c P T q e d = let p = c .before .before in let v = priced p .potentials .ensures in

@@ -3,7 +3,7 @@
 use Rattle.prelude.specs.Words.{_+_, _-_, _^_, _<_, arith, _≡_, refl, sym, _∙_, List, needs, mag}
 use Rattle.transport.specs.Problem.{Problem}
 use Rattle.transport.specs.declared.Cell.{Cell}
-use Rattle.rounds.specs.Kept.{sign-is, kept-range, scanned-done, kept-still, kept-next}
+use Rattle.rounds.specs.Kept.{sign-is, kept-priced, kept-range, scanned-done, kept-still, kept-next}
 use Rattle.rounds.specs.Begun.{Begun}
 use Rattle.runs.specs.Runs.{Going, going-start, going-next, ran-done, ran-out}
 use Rattle.runs.proofs.run.rounds.Statement.{statement}
@@ -49,7 +49,7 @@ entering-requires c κs = let l = c .before .before .before in let (P, T, d) = s
 returns-2 : tie.Need-returns-2 Inv-loop μ-loop
 returns-2 c P T d = let g = c .before .before .before .before .before .before .loop .inv .1 P T d in let w = c .before .before .entering in
     let fits : mag (w .result .reduced) < 2 ^ 31 = search needs in
-    ran-out g (g .kept) (omega arith) (scanned-done (g .kept) (w .ensures) ∙ sym (sign-is (w .result .reduced) fits))
+    ran-out g (g .kept) (omega arith) (scanned-done (kept-priced (g .kept)) (w .ensures) ∙ sym (sign-is (w .result .reduced) fits))
 
 pub rounds-spec : {M : Type 1} → statement M
 rounds-spec = tie.close (tie.spec Inv-loop μ-loop (λ c κs. let (P, T, d) = c .before .before .before .before .pre in (P, T, _, _, d)) loop-holds
