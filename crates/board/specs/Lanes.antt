@@ -4,7 +4,8 @@ use Rattle.prelude.specs.Words.{⊎-elim, Bool, true, false, true≢false, List
 use Rattle.prelude.specs.Words.{List·Memᴰ·not-nil, List·Memᴰ·cases-cons, ℤ, pos, length, take, drop, getD, set, replicate, length-append, length-map}
 use Rattle.prelude.specs.Words.{length-replicate, getD-take, by-cases}
 use Rattle.transport.specs.Lists.{keep, table, below, padded}
-use Rattle.transport.specs.Laws.ListLaws.{table-zero, table-split, table-first, table-cong, table-getD, fill-one, member-at, keep-member, map-table, drop-replicate}
+use Rattle.transport.specs.Laws.ListLaws.{table-zero, table-split, table-first, table-cong, table-getD, fill-one, member-at, keep-member, map-table}
+use Rattle.transport.specs.Laws.ListLaws.{drop-replicate}
 use Rattle.transport.specs.Laws.ListLaws.{keep-append, keep-yes, keep-no, keep-none, keep-map, keep-cong, table-member, length-table, getD-table, map-member}
 use Rattle.transport.specs.Laws.ListLaws.{member-map, is-false}
 use Rattle.transport.specs.Problem.{place}
@@ -188,7 +189,7 @@ module _ (lanes : List ℕ) (q e : List ℤ) (count : ℕ) where
   filledTo-all adj m t w p h = let T = map (cellOn q e) (lanesOf adj m) in
       let n : length T ≡ count = length-map (lanesOf adj m) (cellOn q e) ∙ sym (w .many) in
       let cells : t .cells ≡ T ++ replicate (maxCells - length T) noCell = h .filled
-      ∙ rw (listed, drop-replicate noCell count cellRoom p, n, ← cellRoom-is) in let many : t .count ≡ length T = h .many ∙ sym n in
+      ∙ rw (listed, drop-replicate noCell count cellRoom, n, ← cellRoom-is) in let many : t .count ≡ length T = h .many ∙ sym n in
       λ i. record { cells = cells i; count = many i }
     where
       listed : table count (λ i. cellOn q e (getD lanes i 0)) ≡ map (cellOn q e) (lanesOf adj m)

@@ -1,16 +1,11 @@
 -- A tableau's array that is filled cell by cell.
-use Rattle.prelude.specs.Words.{ℕ, zero, suc, _+_, _-_, _<_, arith, sub-zero, _≡_, List, _++_, length, drop, getD, set, replicate, length-replicate}
-use native.Mathlib.Nat.{zero-sub, suc-sub-suc}
+use Rattle.prelude.specs.Words.{ℕ, _+_, _<_, arith, sub-zero, _≡_, List, _++_, length, drop, getD, set, replicate}
+use Rattle.prelude.specs.Words.{length-replicate}
 use Rattle.transport.specs.Lists.{table, padded}
-use Rattle.transport.specs.Laws.ListLaws.{table-zero, length-table, table-getD, fill-one}
+use Rattle.transport.specs.Laws.ListLaws.{table-zero, length-table, table-getD, fill-one, drop-replicate}
 use Rattle.transport.specs.Limits.{maxCells}
 use Rattle.transport.specs.Tableau.{noCell, tableauOf, noTableau}
 use Rattle.transport.specs.declared.Cell.{Cell}
-
-drop-replicate : {A : Type 0} (k n : ℕ) (x : A) → drop k (replicate n x) ≡ replicate (n - k) x
-drop-replicate zero n x = rw sub-zero
-drop-replicate (suc k) zero x = rw zero-sub
-drop-replicate (suc k) (suc n) x = rw suc-sub-suc (drop-replicate k n x)
 
 -- The array that holds the first k cells of T.
 unfoldable pub filled : List Cell → ℕ → List Cell
@@ -28,9 +23,9 @@ module _ (T : List Cell) where
   -- All of T is in it.
   pub filled-all : (xs : List Cell) (n : ℕ) → n ≡ length T → xs ≡ filled T n → record { cells = xs; count = n } ≡ tableauOf T
   unfolding filled tableauOf padded
-  filled-all xs n e f = rw (f, e, table-getD T noCell, drop-replicate (length T) maxCells noCell)
+  filled-all xs n e f = rw (f, e, table-getD T noCell, drop-replicate noCell (length T) maxCells)
 
 -- An array of one number, of which the first n are written.
 pub padded-fill : {A : Type 0} (f : ℕ → A) (n size : ℕ) (d : A) → table n f ++ drop n (replicate size d) ≡ padded size d (table n f)
 unfolding padded
-padded-fill f n size d = rw (drop-replicate n size d, length-table f n)
+padded-fill f n size d = rw (drop-replicate d n size, length-table f n)

@@ -1,6 +1,6 @@
--- Phone orders (02, Five): an accepted edit gives what solving the edited sheet from nothing gives, but
--- for the rounds, and the standing sheet after it passes its first check again.
-use Rattle.prelude.specs.Words.{_≡_, refl, sym, ap, _∙_, Bool, true, _&&_, List, _++_, _∷_, none, some, subst, by-option, ℕ}
+-- Phone orders (02, Five): an accepted edit gives what solving the edited sheet from nothing gives,
+-- but for the rounds, and the standing sheet after it passes its first check again.
+use Rattle.prelude.specs.Words.{_≡_, refl, sym, ap, _∙_, Bool, true, _&&_, List, none, subst, by-option, ℕ}
 use Rattle.prelude.specs.Words.{eqb, eq-eqb, not-false}
 use Rattle.transport.specs.declared.Cell.{Cell}
 use Rattle.transport.specs.declared.Change.{Change}
@@ -21,7 +21,7 @@ use Rattle.transport.specs.Calls.{given, refusedBy, Solution, tableauTests, ins
 use Rattle.transport.specs.Calls.{solutionFrom, solution, solveTests, solveCall}
 use Rattle.transport.specs.Standing.{edited, Standing, Passes, lastTableau, setUpCall, standingTests, badEdit}
 use Rattle.transport.specs.Standing.{editTests, editFrom, carriedOut, editCall, standsAfter}
-use Rattle.transport.specs.Statements.{Accepted, Belongs, Best, FirstFinished, FromNothing}
+use Rattle.transport.specs.Statements.{Accepted, Belongs, FirstFinished, FromNothing}
 use Rattle.transport.specs.Laws.ListLaws.{and-right}
 use Rattle.transport.specs.Laws.SheetLaws.{refusal-clear, refusal-pass, accepted, passes}
 use Rattle.transport.specs.Laws.CallLaws.{unless-given, unless-refused, unless-given-iff, refusal-last}
@@ -104,8 +104,8 @@ module _ (St : Standing) where
   go row col (Change.Amounts s d) w ok =
       start-belongs (problemOf (edited S (record { row = row; col = col; change = Change.Amounts s d }))) (sound ok)
 
-  -- The tableau on which its rounds begin belongs to the problem of the edited sheet: belonging looks
-  -- at amounts alone, so a cost edit may go on from the kept tableau.
+  -- The tableau on which its rounds begin belongs to the problem of the edited sheet: belonging
+  -- looks at amounts alone, so a cost edit may go on from the kept tableau.
   pub edit-begins : (e : Edit) → Passes St → Accepted (edited S e) → Belongs (problemOf (edited S e)) (editFrom St e)
   edit-begins e w ok = go (e .row) (e .col) (e .change) w ok
 
@@ -136,8 +136,8 @@ module _ (St : Standing) where
         let (h, l, r) = run-done-iff P (roundBound P) (editFrom St e) .0 ends in
         rw (run-reached P h (roundBound P) (editFrom St e) l r) r
 
-    -- The tableaux to which the rounds of the edit and the rounds from the start lead both belong and are
-    -- finished, so that they have the same prices. Plan and cost are the sheet's.
+    -- The tableaux to which the rounds of the edit and the rounds from the start lead both belong
+    -- and are finished, so that they have the same prices. Plan and cost are the sheet's.
     same-solution : let s = solution (edited S e) in let r = solutionFrom (edited S e) (editFrom St e) in
         (r .cost ≡ s .cost) × (r .u ≡ s .u) × (r .v ≡ s .v) × (r .plan ≡ s .plan)
     unfolding solution solutionFrom

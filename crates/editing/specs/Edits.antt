@@ -1,6 +1,7 @@
 -- Edits of a standing sheet: where their rounds begin, what they refuse and what they give.
 use Rattle.prelude.specs.Words.{_≡_, refl, sym, ap, subst, _∙_, Bool, true, false, not, _&&_, _||_, List, [], _∷_, none}
-use Rattle.prelude.specs.Words.{some, by-option, ℕ, zero, suc, _+_, _*_, _≤_, _<_, arith, add-one, ltb-true, eqb, ltb, ℤ, pos}
+use Rattle.prelude.specs.Words.{some, by-option, ℕ, zero, suc, _+_, _*_, _≤_, _<_, arith, add-one, ltb-true, eqb, ltb}
+use Rattle.prelude.specs.Words.{ℤ, pos}
 use Rattle.prelude.specs.Words.{length, some≢none, set, getD}
 use Rattle.transport.specs.declared.Cell.{Cell}
 use Rattle.transport.specs.declared.Change.{Change}
@@ -11,13 +12,15 @@ use Rattle.transport.specs.declared.SolveAnswer.the-variants.{Solved, Refused}
 use Rattle.transport.specs.declared.Tableau.{Tableau}
 use Rattle.transport.specs.Lists.{all}
 use Rattle.transport.specs.Problem.{place}
-use Rattle.transport.specs.Sheet.{Sheet, sheetOf, roasteries, cafes, badSides, badLength, badAmount, badCost, lacking, crowded}
+use Rattle.transport.specs.Sheet.{Sheet, sheetOf, roasteries, cafes, badSides, badLength, badAmount, badCost, lacking}
+use Rattle.transport.specs.Sheet.{crowded}
 use Rattle.transport.specs.Sheet.{idle, numberTests, sheetTests, refusal}
 use Rattle.transport.specs.Statements.{Accepted}
 use Rattle.transport.specs.Parties.{problemOf}
 use Rattle.transport.specs.Tableau.{start}
-use Rattle.transport.specs.Calls.{Answer, refusedBy, unless, Solution, inside, solutionFrom, solveTests}
-use Rattle.transport.specs.Standing.{edited, Standing, Passes, lastTableau, standingTests, maxCounter, badEdit, editTests}
+use Rattle.transport.specs.Calls.{refusedBy, unless, Solution, inside, solutionFrom, solveTests}
+use Rattle.transport.specs.Standing.{edited, Standing, Passes, lastTableau, standingTests, maxCounter, badEdit}
+use Rattle.transport.specs.Standing.{editTests}
 use Rattle.transport.specs.Standing.{editFrom, editCall, carriedOut, standsAfter}
 use Rattle.transport.specs.Answers.{solveAnswer}
 use Rattle.transport.specs.Laws.ListLaws.{and-left, and-right}
@@ -185,8 +188,8 @@ passed e {supply} {demand} {cost = cost} same ok m n = λ s d is.
     let costs = ap (λ (S : Sheet). S .cost) same ∙ same-costs (sheetOf supply demand cost) e is in
     (supply, demand, subst (λ (c : List ℤ). Accepted (sheetOf supply demand c)) (sym costs) ok, m, n)
 
--- It is solved from T on, or refused as solve refuses it: the answer, what the lent lists then hold, and
--- the last tableau.
+-- It is solved from T on, or refused as solve refuses it: the answer, what the lent lists then
+-- hold, and the last tableau.
 pub record SolvedAs (S : Sheet) (T : List Cell) (answer : SolveAnswer) (last : Tableau) (u u′ v v′ : List ℤ)
     (plan plan′ : List ℕ) : Type 0 where
   pub told : Told (unless (solveTests S (length u) (length v) (length plan)) (solutionFrom S T)) answer u u′ v v′ plan plan′
@@ -227,8 +230,8 @@ not-and true false false = refl
 not-and false b true = refl
 not-and false b false = refl
 
--- An edit of the standing sheet St: the answer, what the lent lists then hold, and the standing sheet
--- after it, St′.
+-- An edit of the standing sheet St: the answer, what the lent lists then hold, and the standing
+-- sheet after it, St′.
 pub record EditedAs (St : Standing) (e : Edit) (answer : SolveAnswer) (St′ : Standing) (u u′ v v′ : List ℤ)
     (plan plan′ : List ℕ) : Type 0 where
   pub told : Told (editCall St e (length u) (length v) (length plan)) answer u u′ v v′ plan plan′

@@ -35,7 +35,8 @@ ghost use Rattle.loading.specs.Loading.{Admitted};
 ghost use Rattle.solving.specs.Told.{Told};
 ghost use Rattle.editing.specs.Edits.{Editable, beginning, Passed, Resumable, SolvedAs, EditedAs};
 
-// What solve answers for an edited sheet, with the rounds made by the edit; and the finished tableau.
+// What solve answers for an edited sheet, with the rounds made by the edit; and the finished
+// tableau.
 struct Solved {
     answer: SolveAnswer,
     tableau: Tableau,
@@ -117,9 +118,9 @@ fn set_lists(e: Edit, supply: &mut [u64], demand: &mut [u64], cost: &mut [i64]) 
     }
 }
 
-// Lays out the tableau on which the rounds of an edit begin. The lists are those of the edited sheet. A
-// new cost goes on from the tableau that is laid out, which needs the new costs; new amounts begin
-// afresh.
+// Lays out the tableau on which the rounds of an edit begin. The lists are those of the edited
+// sheet. A new cost goes on from the tableau that is laid out, which needs the new costs; new
+// amounts begin afresh.
 fn begin_edit(
     supply: &[u64],
     demand: &[u64],
@@ -225,7 +226,8 @@ fn resume(
     }
 }
 
-// The sheet check of an edited sheet. New amounts leave sides and costs as they were, and these passed.
+// The sheet check of an edited sheet. New amounts leave sides and costs as they were, and these
+// passed.
 fn check_edited(supply: &[u64], demand: &[u64], cost: &[i64], change: Change) -> SheetCheck
     requires { ⌜ Passed change (now supply) (now demand) (now cost) ⌝ }
     ensures { λ r.
@@ -309,8 +311,8 @@ fn carry_out(
     )
 }
 
-// An edit of the standing sheet of these lists, this tableau and this counter. The lists then hold the
-// edited sheet. An edit that is refused leaves them as they were, or is taken back.
+// An edit of the standing sheet of these lists, this tableau and this counter. The lists then hold
+// the edited sheet. An edit that is refused leaves them as they were, or is taken back.
 pub fn edit_lists(
     supply: &mut [u64],
     demand: &mut [u64],

@@ -1,7 +1,7 @@
-// What programs in C and Rust link: every call of paper 01, and set up and edit of paper 02, Five. A
-// result is a struct by value; its `refusal` is the number of the refusal, or 0. If it is not 0, the
-// other fields are zeros, but for the place with 9 and the standing sheet that an edit gives back, and no
-// lent list is changed.
+// What programs in C and Rust link: every call of paper 01, and set up and edit of paper 02, Five.
+// A result is a struct by value; its `refusal` is the number of the refusal, or 0. If it is not 0,
+// the other fields are zeros, but for the place with 9 and the standing sheet that an edit gives
+// back, and no lent list is changed.
 use border::ReadOut;
 use border::RoundOut;
 use border::RunOut;
@@ -136,7 +136,8 @@ fn change_of(amounts: bool, cost: i64, supply: u64, demand: u64) -> Change
     Change::Cost(cost)
 }
 
-// An edit: of the amounts, and `cost` is not looked at; or of the cost, and the amounts are not looked at.
+// An edit: of the amounts, and `cost` is not looked at; or of the cost, and the amounts are not
+// looked at.
 #[no_mangle]
 pub extern "C" fn panel_edit(
     standing: Standing,

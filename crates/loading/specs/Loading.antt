@@ -1,5 +1,6 @@
 -- The front of a call that takes a tableau: what its tests refuse, and what rounds begin with if they refuse nothing.
-use Rattle.prelude.specs.Words.{_≡_, refl, sym, _∙_, true, false, not, List, [], _∷_, none, some, ℕ, eqb, ℤ, length, take}
+use Rattle.prelude.specs.Words.{_≡_, refl, sym, _∙_, true, false, not, List, [], _∷_, none, some, ℕ, eqb, ℤ, length}
+use Rattle.prelude.specs.Words.{take}
 use Rattle.transport.specs.Problem.{sources, sinks}
 use Rattle.transport.specs.Sheet.{Sheet, sheetOf, cafes, sheetTests, refusal}
 use Rattle.transport.specs.Extended.{surplus, wanted, extended}
@@ -63,8 +64,8 @@ module _ (S : Sheet) (t : Tableau) where
 
 -- ---- what is loaded
 
--- What rounds begin with: the own numbers of the parties left stand in the lists, and a tableau T of
--- these is laid out with the costs of their lanes.
+-- What rounds begin with: the own numbers of the parties left stand in the lists, and a tableau T
+-- of these is laid out with the costs of their lanes.
 pub record Admitted (S : Sheet) (T : List Cell) (p : Parties) (rows cols : List ℕ) (q e cost : List ℤ)
     (leaf other tree : List ℕ) : Type 0 where
   pub accepted : Accepted S
@@ -92,8 +93,8 @@ module _ {S : Sheet} (ok : Accepted S) {p : Parties} {supplies demands rows cols
         loaded = rw (supplies-lent h, demands-lent h, ← same) l;
       }
 
--- With other costs rounds begin with the same tableau, once these costs are spread: belonging looks at
--- amounts alone.
+-- With other costs rounds begin with the same tableau, once these costs are spread: belonging looks
+-- at amounts alone.
 pub admitted-respread : {supply demand : List ℕ} {old new : List ℤ} → Accepted (sheetOf supply demand new)
     → {T : List Cell} {p : Parties} {rows cols : List ℕ} {q e cost cost′ : List ℤ} {leaf other tree : List ℕ}
     → Admitted (sheetOf supply demand old) T p rows cols q e cost leaf other tree

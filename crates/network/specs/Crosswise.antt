@@ -1,5 +1,5 @@
--- Two tableaux with the same margins, each with prices that are feasible everywhere: the cells of the
--- one are tight for the prices of the other (02, Five and Fourteen).
+-- Two tableaux with the same margins, each with prices that are feasible everywhere: the cells of
+-- the one are tight for the prices of the other (02, Five and Fourteen).
 use Rattle.prelude.specs.Words.{by-cases, ℕ, suc, _+_, _*_, _<_, arith}
 use Rattle.integers.specs.Integer.{Z, _≈_, ≈-dec, _⊕_, _⊗_, nat}
 use Rattle.integers.specs.IntegerLaws.{⊗-cong}
@@ -40,8 +40,9 @@ value-flow {m} {n} {K} {z} {r} {c} {q} {e} {a} {b} t = record {
 
 -- Bags alone do not say it, since a basic cell may have none. Values do: those of basic cells are
 -- positive, and those of both tableaux are flows with the same margins. Each flow lies on the tight
--- cells of its own prices, so by duality it costs no more than the other. Hence both cost the same. A
--- flow that costs the least lies on the tight cells of any feasible prices, so of the other's too.
+-- cells of its own prices, so by duality it costs no more than the other. Hence both cost the same.
+-- The other's prices prove this cost the least, and a flow of the cost that prices prove the least
+-- lies on their tight cells.
 module _ {m n K z : ℕ} {r c r′ c′ : ℕ → ℕ} {q e q′ e′ : ℕ → ℕ → Z} {a b : ℕ → Z} (hz : z < n)
     (t : Tableau m n K r c q e a b z) (t′ : Tableau m n K r′ c′ q′ e′ a b z) (f : ℕ → ℕ → Z) (u v u′ v′ : ℕ → Z)
     (h : (k : ℕ) → k < suc K → Tight f u v (r k) (c k)) (h′ : (k : ℕ) → k < suc K → Tight f u′ v′ (r′ k) (c′ k))

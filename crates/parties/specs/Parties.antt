@@ -1,5 +1,6 @@
 -- The parties left of a sheet, numbered among themselves: their amounts and their own numbers, at the front of lists that have room for any side.
-use Rattle.prelude.specs.Words.{_≡_, refl, sym, ap, _∙_, [], _∷_, _++_, List, map, ℕ, _+_, _≤_, _<_, arith, add-one, ℤ, length, take, getD, set, length-append}
+use Rattle.prelude.specs.Words.{_≡_, refl, sym, ap, _∙_, [], _∷_, _++_, List, map, ℕ, _+_, _≤_, _<_, arith, add-one, ℤ}
+use Rattle.prelude.specs.Words.{length, take, getD, set, length-append}
 use Rattle.prelude.specs.Words.{length-set, length-map, length-take, List·getD-append, ext-getD, getD-at, length-take-le, take-suc-set}
 use mathlib.Core.List.{map-append}
 use lib.Seq.{take-set-le}

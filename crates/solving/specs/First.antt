@@ -75,8 +75,8 @@ module _ {S : Sheet} (accepted : Accepted S) {p : Parties} {rows cols : List ℕ
         distinct-of ok b,
       )
 
-  -- .. which then hold the start, with the costs once these are spread. Its lanes span, so that all of
-  -- them are struck off.
+  -- .. which then hold the start, with the costs once these are spread. Its lanes span, so that all
+  -- of them are struck off.
   pub first-admitted : {q e cost : List ℤ} {leaf other lanes : List ℕ} {r : ℕ}
       → Spread (S .cost) (cafes S) (take (p .rows) rows) (take (p .cafes) cols) cost
       → Amounts (p .rows) (p .columns) (cellsOf t) q e → length lanes ≡ nodeRoom

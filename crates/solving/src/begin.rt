@@ -19,14 +19,15 @@ ghost use Rattle.transport.specs.Statements.{Accepted};
 ghost use Rattle.loading.specs.Loading.{Admitted};
 ghost use Rattle.solving.specs.First.{Dealt};
 
-// The parties of a sheet with the own numbers of rows and columns, and the first tableau of those left.
+// The parties of a sheet with the own numbers of rows and columns, and the first tableau of those
+// left.
 pub struct First {
     pub loading: Loading,
     pub tableau: Tableau,
 }
 
-// Of a sheet that passed its check: numbers the parties, and deals the first tableau of those left. Costs
-// play no part.
+// Of a sheet that passed its check: numbers the parties, and deals the first tableau of those left.
+// Costs play no part.
 pub fn deal_sheet(supply: &[u64], demand: &[u64]) -> First
     requires { ⌜ ((cost : List ℤ) × Accepted (sheetOf (now supply) (now demand) cost)) ⌝ }
     ensures { λ r. ⌜
@@ -61,7 +62,8 @@ pub fn deal_sheet(supply: &[u64], demand: &[u64]) -> First
     }
 }
 
-// Lays out the first tableau of a sheet that passed its check, with the costs of its lanes by column.
+// Lays out the first tableau of a sheet that passed its check, with the costs of its lanes by
+// column.
 pub fn begin_sheet(
     supply: &[u64],
     demand: &[u64],
@@ -89,7 +91,8 @@ pub fn begin_sheet(
     let n = begun.parties.columns;
     let served = begun.parties.cafes;
     spread_costs(cost, demand.len(), &rows[..m], &cols[..served], spread);
-    // Cleared first: the length of a lent array is known to the prover only once it is stored whole.
+    // Cleared first: the length of a lent array is known to the prover only once it is stored
+    // whole.
     *leaf = [0; NODES];
     *other = [0; NODES];
     *lane = [0; NODES];

@@ -27,8 +27,8 @@ module _ {P : Problem} (ok : Sound P) where
 
   module _ {T U : List Cell} (w : Belongs P T) (x : Belongs P U) (done : isFinished P T ≡ true)
       (also : isFinished P U ≡ true) where
-    -- Every basic cell of T is tight for the prices of U. So the prices of U satisfy the equations that
-    -- determine those of T.
+    -- Every basic cell of T is tight for the prices of U. So the prices of U satisfy the equations
+    -- that determine those of T.
     tight-for-other : (i j : ℕ) → Basic T i j → Tight (costs P) (rowPotential P U) (columnPotential P U) i j
     tight-for-other i j b =
         in-cells (λ i j. Tight (costs P) (rowPotential P U) (columnPotential P U) i j)

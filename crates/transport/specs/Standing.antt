@@ -1,8 +1,8 @@
--- Phone orders (paper 02, Five): a standing sheet is a sheet that is kept with its finished tableau,
--- and edits change it.
+-- Phone orders (paper 02, Five): a standing sheet is a sheet that is kept with its finished
+-- tableau, and edits change it.
 use mathlib.Core.Path.{_≡_}
 use mathlib.Core.Bool.{Bool, not, _&&_, _||_}
-use mathlib.Core.List.{List, [], _∷_, _++_}
+use mathlib.Core.List.{List, _∷_, _++_}
 use mathlib.Core.Option.{none}
 use Prim.Native.Nat.{ℕ, suc, _*_, _-_, _^_}
 use lib.Dec.{eqb, ltb}
@@ -45,8 +45,8 @@ pub record Standing : Type 0 where
 unfoldable pub lastTableau : Sheet → List Cell → Tableau
 lastTableau S T = tableauOf (runFrom S (roundBound (problemOf S)) T .tableau)
 
--- The set-up: from a sheet that solve accepts, refused as solve would refuse it. There are no lists to
--- be too short.
+-- The set-up: from a sheet that solve accepts, refused as solve would refuse it. There are no lists
+-- to be too short.
 unfoldable pub setUpCall : Sheet → Answer Standing
 setUpCall S = unless (sheetTests S) (record { sheet = S; tableau = lastTableau S (start (problemOf S)); counter = 0 })
 
@@ -100,7 +100,8 @@ standsAfter (given a) old new = new
 
 -- ---- the structs that calls take and give
 
--- The sheet of a struct: it has m roasteries and n cafés, even if the arrays have not so many places.
+-- The sheet of a struct: it has m roasteries and n cafés, even if the arrays have not so many
+-- places.
 unfoldable pub keptSheet : KeptSheet → Sheet
 keptSheet k =
     sheetOf (firstOf 0 (k .m) (k .supply)) (firstOf 0 (k .n) (k .demand)) (firstOf (pos 0) (k .m * k .n) (k .cost))

@@ -341,8 +341,9 @@ pub record Bought (S : Sheet) (r : SolveAnswer) (u v : List ℤ) (plan : List �
 
 -- ---- phone orders (02, Five; of equal prices also Fourteen)
 
--- Any two finished tableaux that belong to the sheet have the same prices, however they were reached.
--- The tableaux are under own numbers, and the prices are those of all parties, struck ones too.
+-- Any two finished tableaux that belong to the sheet have the same prices, however they were
+-- reached. The tableaux are under own numbers, and the prices are those of all parties, struck ones
+-- too.
 pub record EqualPrices (S : Sheet) : Type 0 where
   pub same : (T U : List Cell) → BelongsTo (extended S) T → BelongsTo (extended S) U
       → isFinished (problemOf S) (renumbered (extended S) T) ≡ true
@@ -351,8 +352,9 @@ pub record EqualPrices (S : Sheet) : Type 0 where
       × (cafePrices S (renumbered (extended S) T) ≡ cafePrices S (renumbered (extended S) U))
 
 -- An accepted edit gave s. Solve accepts the edited sheet, and cost, prices and settled plan equal
--- those of solving it from nothing. The plan is best for the edited sheet. The rounds are those made by
--- the edit, from where it began to the first finished tableau. What then stands passes the first check.
+-- those of solving it from nothing. The plan is best for the edited sheet. The rounds are those
+-- made by the edit, from where it began to the first finished tableau. What then stands passes the
+-- first check.
 pub record FromNothing (St : Standing) (e : Edit) (uRoom vRoom planRoom : ℕ) (s : Solution) : Type 0 where
   pub solved : solveCall (edited (St .sheet) e) uRoom vRoom planRoom ≡ given (solution (edited (St .sheet) e))
   pub cost : s .cost ≡ solution (edited (St .sheet) e) .cost

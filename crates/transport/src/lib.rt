@@ -135,8 +135,8 @@ pub enum SolveAnswer {
     Refused(u8),
 }
 
-// A sheet by value. Its m supplies, n demands and m × n costs, in sheet order, stand at the fronts of
-// arrays with room for the largest sheet.
+// A sheet by value. Its m supplies, n demands and m × n costs, in sheet order, stand at the fronts
+// of arrays with room for the largest sheet.
 #[repr(C)]
 pub struct KeptSheet {
     pub m: usize,

@@ -1,4 +1,5 @@
--- `editing::begin_edit` meets its contract: the costs are spread anew, or the first tableau is laid out.
+-- `editing::begin_edit` meets its contract: the costs are spread anew, or the first tableau is laid
+-- out.
 use Rattle.prelude.specs.Words.{ℤ, List, needs}
 use Rattle.transport.specs.Sheet.{Sheet, sheetOf, cafes}
 use Rattle.transport.specs.declared.Cell.{Cell}

@@ -1,6 +1,6 @@
--- `editing::carry_out` meets its contract: the edited sheet is refused, or solved from where the edit
--- begins.
-use Rattle.prelude.specs.Words.{_≡_, sym, _∙_, none, List, _*_, _≤_, arith, length, needs}
+-- `editing::carry_out` meets its contract: the edited sheet is refused, or solved from where the
+-- edit begins.
+use Rattle.prelude.specs.Words.{_≡_, sym, _∙_, none, _*_, _≤_, arith, length, needs}
 use Rattle.transport.specs.Sheet.{Sheet, sheetOf, roasteries, cafes, refusal, sheetTests}
 use Rattle.transport.specs.Laws.SheetLaws.{accepted}
 use Rattle.transport.specs.Laws.Sound.{sources-room, sinks-room}
@@ -83,5 +83,6 @@ returns-3 c = λ T r.
     }
 
 pub carry-out-spec : {M : Type 1} → statement M
-carry-out-spec = tie.close (tie.spec (λ c κs. c .before .before .before .pre .0) (λ c. search needs) (λ c κs. tt) returns (λ c. search needs) missing-room-requires
+carry-out-spec = tie.close (tie.spec (λ c κs. c .before .before .before .pre .0) (λ c. search needs) (λ c κs. tt) returns
+    (λ c. search needs) missing-room-requires
     (λ c κs. tt) returns-2 begin-edit-requires resume-requires (λ c. search needs) (λ c. search needs) (λ c. search needs) returns-3)

@@ -1,7 +1,6 @@
 -- `editing::check_edited` meets its contract: the whole check, or that of the amounts.
-use Rattle.prelude.specs.Words.{List, ℕ, sym, ap, _∙_, arith, length, needs}
-use Rattle.transport.specs.Sheet.{sheetOf, roasteries, cafes}
-use Rattle.transport.specs.Statements.{Accepted}
+use Rattle.prelude.specs.Words.{sym, ap, _∙_, arith, needs}
+use Rattle.transport.specs.Sheet.{roasteries, cafes}
 use Rattle.transport.specs.Laws.Sound.{sources-room, sinks-room}
 use Rattle.sheet.specs.Check.{checkAnswer}
 use Rattle.editing.specs.Edits.{amounts-tests}

@@ -1,5 +1,5 @@
 -- `editing::edit_lists` meets its contract: each way out is a case of the call.
-use Rattle.prelude.specs.Words.{_≡_, sym, ap, _∙_, true, none, arith, length, needs, mul-le-mul, not-true, not-false}
+use Rattle.prelude.specs.Words.{_≡_, sym, ap, _∙_, true, none, arith, needs, mul-le-mul, not-true, not-false}
 use Rattle.transport.specs.Limits.{maxSources, maxSinks}
 use Rattle.transport.specs.Sheet.{Sheet, sheetOf, roasteries, cafes, refusal}
 use Rattle.transport.specs.Calls.{inside, finishedTests}

@@ -1,5 +1,5 @@
--- `editing::resume` meets its contract: the rounds come to the finished tableau, which is given under
--- own numbers; its prices and the settled plan are written, and the cost is that of the plan.
+-- `editing::resume` meets its contract: the rounds come to the finished tableau, which is given
+-- under own numbers; its prices and the settled plan are written, and the cost is that of the plan.
 use Rattle.prelude.specs.Words.{List, _∙_, needs}
 use mir.Syntax.{w64}
 use Rattle.transport.specs.Sheet.{Sheet, sheetOf}

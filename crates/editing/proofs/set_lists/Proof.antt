@@ -1,6 +1,6 @@
--- `editing::set_lists` meets its contract: the lane, or the two parties, that the edit names are in the
--- lists; what is stored there is what the edit says, and what stood there before takes it back.
-use Rattle.prelude.specs.Words.{_≡_, refl, ap, _∙_, _+_, _*_, _≤_, _<_, ℤ, pos, arith, length, set, getD, needs}
+-- `editing::set_lists` meets its contract: the lane, or the two parties, that the edit names are in
+-- the lists; what is stored there is what the edit says, and what stood there before takes it back.
+use Rattle.prelude.specs.Words.{refl, ap, _∙_, _+_, _*_, _≤_, _<_, ℤ, pos, arith, length, set, getD, needs}
 use mir.Syntax.{w64}
 use Rattle.transport.specs.declared.Change.the-variants as Change
 use Rattle.transport.specs.declared.Edit.{Edit}

@@ -1,5 +1,5 @@
--- `set_up_call::finished_tableau` meets its contract: the rounds come from the start to the finished
--- tableau.
+-- `set_up_call::finished_tableau` meets its contract: the rounds come from the start to the
+-- finished tableau.
 use Rattle.transport.specs.Sheet.{Sheet, sheetOf}
 use Rattle.transport.specs.Parties.{problemOf}
 use Rattle.transport.specs.Tableau.{start}

@@ -1,4 +1,5 @@
--- `rounds::round::test_finished` meets its contract: what the scan finds on the prices of the tableau.
+-- `rounds::round::test_finished` meets its contract: what the scan finds on the prices of the
+-- tableau.
 use Rattle.prelude.specs.Words.{_^_, _<_, sym, _∙_, arith, needs, mag}
 use Rattle.rounds.specs.Kept.{sign-is, in-range, scanned-done}
 use Rattle.rounds.specs.Begun.{begun-sides, begun-room, begun-priced}

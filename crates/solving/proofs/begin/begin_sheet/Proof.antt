@@ -1,5 +1,5 @@
--- `solving::begin::begin_sheet` meets its contract: the first tableau is dealt, the costs are spread, and
--- the tableau is laid out.
+-- `solving::begin::begin_sheet` meets its contract: the first tableau is dealt, the costs are
+-- spread, and the tableau is laid out.
 use Rattle.prelude.specs.Words.{refl}
 use Rattle.transport.specs.Sheet.{Sheet, sheetOf, cafes}
 use Rattle.transport.specs.Statements.{Accepted}

@@ -1,5 +1,5 @@
--- `solving::begin::deal_sheet` meets its contract: the amounts of those left are those of the problem
--- behind the sheet, whatever its costs are.
+-- `solving::begin::deal_sheet` meets its contract: the amounts of those left are those of the
+-- problem behind the sheet, whatever its costs are.
 use Rattle.prelude.specs.Words.{List, ℤ}
 use Rattle.transport.specs.Sheet.{Sheet, sheetOf}
 use Rattle.transport.specs.Laws.Sound.{sound}
