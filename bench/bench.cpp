@@ -156,8 +156,8 @@ struct Bench {
         return count;
     }
 
-    // The k-th edit of a pass: the edits of a sheet come in a row, as at a desk, or the sheets take turns, so
-    // that each edit meets a sheet that was not touched for long.
+    // The k-th edit of a pass: the edits of a sheet come in a row, as at a desk, or the sheets take
+    // turns, so that each edit meets a sheet that was not touched for long.
     size_t edit_at(size_t k, bool in_a_row) const {
         const size_t each = edits.size() / all.size();
         return in_a_row ? k % each * all.size() + k / each : k;

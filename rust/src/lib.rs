@@ -1,7 +1,8 @@
 //! The calls of the bag plan panel, safe to use from Rust.
 //!
 //! The functions stand for the C functions of `crates/exports/panel.h`: they work on lent lists and allocate nothing. A call that refuses changes nothing
-//! that was lent to it. The methods of [`Sheet`] and [`Standing`] are the same calls with results that are owned. `docs/EMBEDDING.md` says more.
+//! that was lent to it. The methods of [`Sheet`] and [`Standing`] are the same calls with results
+//! that are owned. `docs/EMBEDDING.md` says more.
 //!
 //! ```
 //! let sheet = panel::Sheet { supply: vec![3, 4], demand: vec![5, 2], cost: vec![4, 1, 2, 6] };

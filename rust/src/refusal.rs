@@ -29,7 +29,8 @@ pub enum Refusal {
     Crowded,
     /// 11: total demand is 0.
     Idle,
-    /// 12: an edit names a roastery or café not on the sheet, or the counter is at its largest value.
+    /// 12: an edit names a roastery or café not on the sheet, or the counter is at its largest
+    /// value.
     BadEdit,
 }
 

@@ -23,11 +23,11 @@ pub struct Cell {
     pub amount: Pair,
 }
 
-/// A tableau that a call gives. It lends its cells, in sheet order, as a slice, and holds zeros behind
-/// them.
+/// A tableau that a call gives. It lends its cells, in sheet order, as a slice, and holds zeros
+/// behind them.
 ///
-/// A call takes a tableau as any slice of cells, so that of a `Tableau` or one's own. A standing sheet
-/// has one by value, which may hold anything.
+/// A call takes a tableau as any slice of cells, so that of a `Tableau` or one's own. A standing
+/// sheet has one by value, which may hold anything.
 ///
 /// It covers the parties left, those whose amount is not 0, under their own numbers, with one cell fewer than these are. Where supply is above demand, an extra
 /// café after those of the sheet takes the surplus at cost 0, and is a party left. It is in tableaux alone: prices, plans and texts are of the sheet, and there

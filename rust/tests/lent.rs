@@ -1,5 +1,5 @@
-//! Lent lists: what a call fills, what it leaves, and every refusal, by its number. `tableaux.rs` has
-//! 6, and `standing.rs` has edits and 12.
+//! Lent lists: what a call fills, what it leaves, and every refusal, by its number. `tableaux.rs`
+//! has 6, and `standing.rs` has edits and 12.
 mod common;
 use common::{
     both_signs, both_signs_last, cell, closed, closed_last, dear, dear_last, earns, first_empty, last_closed, p1, p1_last, p3, p4, p5, p6, p7, p8,

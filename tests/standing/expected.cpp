@@ -117,7 +117,8 @@ static Numbers joined(const Grid &plan) {
 
 static void put_front(Bytes &list, const Bytes &front) { list.replace(0, front.size(), front); }
 
-// An accepted edit: cost, prices and plan are those of solving from nothing; rounds and tableau are those reached from where the edit begins.
+// An accepted edit: cost, prices and plan are those of solving from nothing; rounds and tableau are
+// those reached from where the edit begins.
 static void carry_out(const panel_standing &standing, const Edit &edit, Owed &owed) {
     Sheet sheet = sheet_of(edited(lists_of(standing.sheet), edit)), extended = ::extended(sheet);
     Path from_nothing(extended, start(extended)), from_kept(extended, edit.of_cost ? tableau_of(standing) : start(extended));

@@ -1,4 +1,5 @@
-// What set up and edits have to give (paper 02, Five), found with the plain solver of tests/hostile. All that stands is kept here as the structs hold it.
+// What set up and edits have to give (paper 02, Five), found with the plain solver of
+// tests/hostile. All that stands is kept here as the structs hold it.
 #ifndef STANDING_EXPECTED_H
 #define STANDING_EXPECTED_H
 
@@ -6,7 +7,8 @@
 
 const uint64_t largest_counter = UINT64_MAX;
 
-// The lists and the cells that stand at the fronts. m and n are 1 to 32, and there are at most 63 cells.
+// The lists and the cells that stand at the fronts. m and n are 1 to 32, and there are at most 63
+// cells.
 Lists lists_of(const panel_sheet &sheet);
 Cells cells_of(const panel_tableau &tableau);
 // With zeros behind.
@@ -16,7 +18,8 @@ panel_standing standing_struct(const Lists &lists, const Tableau &tableau, uint6
 // The first of the first check, which takes any bytes.
 int refusal_of(const panel_standing &standing);
 
-// Of one on which the first check passes: its sheet, the sheet that its tableau is of, and its prices.
+// Of one on which the first check passes: its sheet, the sheet that its tableau is of, and its
+// prices.
 Sheet sheet_of(const panel_standing &standing);
 Sheet extended_of(const panel_standing &standing);
 Prices prices_of(const panel_standing &standing);

@@ -21,7 +21,8 @@ static Lane cost_lane(Dice &dice, const panel_standing &standing) {
     return dice.once_in(3) && cell.col < standing.sheet.n ? Lane{cell.row, cell.col} : lane;
 }
 
-// So that the kept tableau may not be finished any more: a lane at or below the sum of its prices gets dearer, and another cheaper than that sum.
+// So that the kept tableau may not be finished any more: a lane at or below the sum of its prices
+// gets dearer, and another cheaper than that sum.
 static Whole unsettling_cost(Dice &dice, Whole had, Whole tight) {
     Whole by = dice.between(1, dice.one_of({1, 3, 1'000, most}));
     return had <= tight ? had + by : tight - by;
@@ -51,7 +52,8 @@ static Whole balancing_difference(const Sheet &sheet, Lane lane) {
     return (total(sheet.demand) - sheet.demand[lane.second]) - (total(sheet.supply) - sheet.supply[lane.first]);
 }
 
-// Both so that the totals are equal, or with so much of a surplus. The demand is up to `top` more than it has to be.
+// Both so that the totals are equal, or with so much of a surplus. The demand is up to `top` more
+// than it has to be.
 static Edit fitting_edit(Dice &dice, const Sheet &sheet, Lane lane, Whole top, Whole surplus) {
     Whole more = balancing_difference(sheet, lane), demand = std::max<Whole>(0, -more - surplus) + dice.between(0, top);
     return amount_edit(lane.first, lane.second, (uint64_t)std::max<Whole>(0, more + demand + surplus), (uint64_t)demand);

@@ -1,5 +1,7 @@
-// Holds set up and the edits to the reference: the samples, and COUNT cases that are made from a seed, of each kind in turn. A case is a sheet that is set up,
-// and several edits. A kind of case is one test. A call that differs is told in full; with the number of its case as FIRST and a count of 1 it runs again.
+// Holds set up and the edits to the reference: the samples, and COUNT cases that are made from a
+// seed, of each kind in turn. A case is a sheet that is set up, and several edits. A kind of case
+// is one test. A call that differs is told in full; with the number of its case as FIRST and a
+// count of 1 it runs again.
 #include "../hostile/random_lists.h"
 #include "../hostile/report.h"
 #include "random_edits.h"
@@ -31,7 +33,8 @@ class Holder {
 public:
     Dice &dice;
     Holder(const std::string &name, Tally &tally, Dice &dice) : name(name), tally(tally), dice(dice) {}
-    // Both give what has to come of the call. That is what came of it too, or else the difference is told.
+    // Both give what has to come of the call. That is what came of it too, or else the difference
+    // is told.
     panel_standing hold_set_up(const Lists &lists);
     panel_standing hold_set_up(const Sheet &sheet) { return hold_set_up(lists_of(sheet)); }
     Step hold_edit(const panel_standing &standing, const Edit &edit, const Rooms &rooms);
@@ -75,7 +78,8 @@ panel_standing Holder::hold_set_up(const Lists &lists) {
     return owed.standing;
 }
 
-// Solve on the edited lists refuses as the edit does, or gives the same cost, prices and plan; and the same rounds, if the edit began afresh.
+// Solve on the edited lists refuses as the edit does, or gives the same cost, prices and plan; and
+// the same rounds, if the edit began afresh.
 std::string Holder::difference_from_solve(const panel_standing &standing, const Step &step, const Owed &owed) {
     Outcome solved = outcome_of_solve(edited(lists_of(standing.sheet), step.edit), step.rooms, step.lending);
     std::string difference = solved.rounds == owed.rounds_from_nothing ? "" : "  solve makes other rounds than the reference\n";
@@ -215,7 +219,8 @@ static void stored_case(Holder &holder) {
 
 // ---- standing sheets that were tampered with
 
-// An edit of the sheet as it became. It fits that, if the first check passes, or the sheet as it was.
+// An edit of the sheet as it became. It fits that, if the first check passes, or the sheet as it
+// was.
 static void hold_tampered(Holder &holder, const panel_standing &standing, const panel_standing &tampered) {
     Dice &dice = holder.dice;
     const panel_standing &fitting = dice.once_in(2) && refusal_of(tampered) == no_refusal ? tampered : standing;

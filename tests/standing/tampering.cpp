@@ -42,7 +42,8 @@ void tamper_with_sides(Dice &dice, panel_standing &standing) {
     }
 }
 
-// A place at the front, where the struct says that so many are. These may be none, or more than there is room for.
+// A place at the front, where the struct says that so many are. These may be none, or more than
+// there is room for.
 static size_t any_place(Dice &dice, size_t count, size_t room) { return dice.below(std::max<size_t>(1, std::min(count, room))); }
 
 // One of them becomes odd; or one gets more and another as much less, perhaps modulo 2^64.

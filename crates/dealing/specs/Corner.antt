@@ -124,11 +124,11 @@ corner-next P left p = by-test (less (p .demand) (p .supply))
     (λ e. rw (next-right P p e, smaller-column (p .supply) (p .demand) e) (corner-right P left (p .row) (p .col) (p .supply) (p .demand) e))
     (λ e. rw (next-down P p e, smaller-row (p .supply) (p .demand) e) (corner-down P left (p .row) (p .col) (p .supply) (p .demand) e))
 
--- ---- where the rule stands
+-- ---- how far the rule has dealt
 
--- The rule stands at p: the cells of the start from number row + col on are those that it puts from p on. Each step so far added at most maxBags to the sizes
--- of the two pairs.
-pub record Standing (P : Problem) (p : Corner) : Type 0 where
+-- The rule has dealt up to p: the cells of the start from number row + col on are those that it puts
+-- from p on. Each step so far added at most maxBags to the sizes of the two pairs.
+pub record DealtTo (P : Problem) (p : Corner) : Type 0 where
   pub left : ℕ
   pub state : State P left (p .row) (p .col) (p .supply) (p .demand)
   pub cells : drop (p .row + p .col) (start P) ≡ corner P (suc left) (p .row) (p .col) (p .supply) (p .demand)
@@ -148,9 +148,9 @@ module _ (P : Problem) (ok : Sound P) where
       go true = omega (arith, ok .sourcesHigh)
       go false = omega arith
 
-  pub standing-first : Standing P (firstCorner P)
+  pub dealt-to-first : DealtTo P (firstCorner P)
   unfolding start
-  standing-first = record {
+  dealt-to-first = record {
     left = basisSize (sources P) (sinks P) - 1;
     state = begin P ok _ (size-suc P ok);
     cells = rw (← size-suc P ok) refl;
@@ -162,16 +162,16 @@ module _ (P : Problem) (ok : Sound P) where
   unfolding basisSize
   length-start = start-belongs P ok .count
 
-  module _ (p : Corner) (st : Standing P p) where
+  module _ (p : Corner) (st : DealtTo P p) where
     -- The two pairs can be taken from each other.
-    pub standing-fit : Fit (p .supply) (p .demand) × Fit (p .demand) (p .supply)
+    pub dealt-to-fit : Fit (p .supply) (p .demand) × Fit (p .demand) (p .supply)
     unfolding maxSide maxBags maxAmount
-    standing-fit = omega (arith, st .bags, st .marks, st .state .size, ok .sourcesHigh, ok .sinksHigh)
+    dealt-to-fit = omega (arith, st .bags, st .marks, st .state .size, ok .sourcesHigh, ok .sinksHigh)
 
     -- Its cell has a place in the array.
-    pub standing-room : p .row + p .col < maxCells
+    pub dealt-to-room : p .row + p .col < maxCells
     unfolding maxCells maxSide
-    standing-room = omega (arith, st .state .size, ok .sourcesHigh, ok .sinksHigh)
+    dealt-to-room = omega (arith, st .state .size, ok .sourcesHigh, ok .sinksHigh)
 
     cut : drop (p .row + p .col) (start P) ≡ getD (start P) (p .row + p .col) noCell ∷ drop (suc (p .row + p .col)) (start P)
     cut = drop-cons (start P) (p .row + p .col) noCell (omega (arith, length-start, st .state .size))
@@ -179,8 +179,8 @@ module _ (P : Problem) (ok : Sound P) where
     put : drop (p .row + p .col) (start P) ≡ cellOf p ∷ cornerFrom P (st .left) (nextCorner P p)
     put = st .cells ∙ corner-next P (st .left) p
 
-    pub standing-cell : getD (start P) (p .row + p .col) noCell ≡ cellOf p
-    standing-cell = cc (cut, put)
+    pub dealt-to-cell : getD (start P) (p .row + p .col) noCell ≡ cellOf p
+    dealt-to-cell = cc (cut, put)
 
     -- The cells after it.
     rest : drop (suc (p .row + p .col)) (start P) ≡ cornerFrom P (st .left) (nextCorner P p)
@@ -201,9 +201,9 @@ module _ (P : Problem) (ok : Sound P) where
         pub right-inside : p .col + 1 < sinks P
         right-inside = omega (arith, right .column)
 
-        standing-right : Standing P (toRight P p)
+        dealt-to-right : DealtTo P (toRight P p)
         unfolding subtract
-        standing-right = record {
+        dealt-to-right = record {
           left = st .left - 1;
           state = right;
           cells = rw (← later, add-suc) (rest ∙ ap (cornerFrom P (st .left)) (next-right P p e));
@@ -218,9 +218,9 @@ module _ (P : Problem) (ok : Sound P) where
         pub down-inside : p .row + 1 < sources P
         down-inside = omega (arith, down .row)
 
-        standing-down : Standing P (toDown P p)
+        dealt-to-down : DealtTo P (toDown P p)
         unfolding subtract
-        standing-down = record {
+        dealt-to-down = record {
           left = st .left - 1;
           state = down;
           cells = rw (← later, suc-add) (rest ∙ ap (cornerFrom P (st .left)) (next-down P p e));
@@ -228,7 +228,7 @@ module _ (P : Problem) (ok : Sound P) where
           marks = omega (arith, st .marks, abs-diff (p .demand .e) (p .supply .e), supply-size (suc (p .row)) .e);
         }
 
-      pub standing-next : Standing P (nextCorner P p)
-      standing-next = by-test (less (p .demand) (p .supply))
-          (λ e. rw (next-right P p e) (standing-right e))
-          (λ e. rw (next-down P p e) (standing-down e))
+      pub dealt-to-next : DealtTo P (nextCorner P p)
+      dealt-to-next = by-test (less (p .demand) (p .supply))
+          (λ e. rw (next-right P p e) (dealt-to-right e))
+          (λ e. rw (next-down P p e) (dealt-to-down e))

@@ -8,7 +8,7 @@ ghost use Rattle.transport.specs.Problem.{Problem, sources};
 ghost use Rattle.transport.specs.Laws.Sound.{Sound};
 ghost use Rattle.transport.specs.Amount.{smaller, pairedSupply, pairedDemand};
 ghost use Rattle.transport.specs.Tableau.{tableauOf, start};
-ghost use Rattle.dealing.specs.Corner.{costless, firstCorner, nextCorner, cellOf, Standing};
+ghost use Rattle.dealing.specs.Corner.{costless, firstCorner, nextCorner, cellOf, DealtTo};
 use crate::tableau;
 use transport::Cell;
 use transport::Pair;
@@ -82,7 +82,7 @@ impl Corner {
     // Takes the smaller pair from both. A row with more than its column goes on in the next column; else it is empty, and the next row follows.
     fn next(self, supply: &[u64], demand: &[u64]) -> Corner
         requires { ⌜ Sound (costless (now supply) (now demand)) ⌝ }
-        requires { ⌜ Standing (costless (now supply) (now demand)) self ⌝ }
+        requires { ⌜ DealtTo (costless (now supply) (now demand)) self ⌝ }
         requires { ⌜ self .row + self .col + 2 < length (now supply) + length (now demand) ⌝ }
         ensures { λ r. ⌜ r ≡ nextCorner (costless (now (supply .entry)) (now (demand .entry))) self ⌝ }
     {

@@ -51,19 +51,22 @@ unfolding beginning
 begins-afresh S T e = rw (e, beginning)
 
 -- Rounds begin there.
-pub admitted-kept : {change : Change} {c : ℤ} {S : Sheet} {T : List Cell} {p : Parties} {rows cols : List ℕ} {q e cost : List ℤ}
+pub admitted-kept : {change : Change} {c : ℤ} {S : Sheet} {T : List Cell} {p : Parties} {rows cols : List ℕ}
+    {q e cost : List ℤ}
     {leaf other tree : List ℕ} → change ≡ Change.Cost c → Admitted S T p rows cols q e cost leaf other tree
     → Admitted S (beginning change S T) p rows cols q e cost leaf other tree
 admitted-kept {S = S} {T} e w = rw (begins-kept S T e) w
 
-pub admitted-afresh : {change : Change} {s d : ℕ} {S : Sheet} (T : List Cell) {p : Parties} {rows cols : List ℕ} {q e cost : List ℤ}
+pub admitted-afresh : {change : Change} {s d : ℕ} {S : Sheet} (T : List Cell) {p : Parties} {rows cols : List ℕ}
+    {q e cost : List ℤ}
     {leaf other tree : List ℕ} → change ≡ Change.Amounts s d
     → Admitted S (start (problemOf S)) p rows cols q e cost leaf other tree
     → Admitted S (beginning change S T) p rows cols q e cost leaf other tree
 admitted-afresh {S = S} T e w = rw (begins-afresh S T e) w
 
 -- For a new cost T is laid out, as the tableau of a sheet with the same amounts.
-abbrev pub Resumable : Change → (supply demand : List ℕ) → List Cell → Parties → (rows cols : List ℕ) → (q e cost : List ℤ)
+abbrev pub Resumable : Change → (supply demand : List ℕ) → List Cell → Parties → (rows cols : List ℕ)
+    → (q e cost : List ℤ)
     → (leaf other tree : List ℕ) → Type 0
 Resumable change supply demand T p rows cols q e cost leaf other tree =
     (c : ℤ) → change ≡ Change.Cost c
@@ -125,7 +128,11 @@ set-amounts S e is = rw (is, edited)
 -- The edit that sets what was there before takes it back.
 pub cost-back : (S : Sheet) (e f : Edit) {c : ℤ} → e .change ≡ Change.Cost c
     → e .row * cafes S + e .col < length (S .cost)
-    → f ≡ record { row = e .row; col = e .col; change = Change.Cost (getD (S .cost) (e .row * cafes S + e .col) (pos 0)) }
+    → f ≡ record {
+      row = e .row;
+      col = e .col;
+      change = Change.Cost (getD (S .cost) (e .row * cafes S + e .col) (pos 0));
+    }
     → edited (edited S e) f ≡ S
 unfolding cafes
 cost-back S e f {c} is l back =
@@ -139,7 +146,12 @@ cost-back S e f {c} is l back =
 
 pub amounts-back : (S : Sheet) (e f : Edit) {s d : ℕ} → e .change ≡ Change.Amounts s d
     → e .row < length (S .supply) → e .col < length (S .demand)
-    → f ≡ record { row = e .row; col = e .col; change = Change.Amounts (getD (S .supply) (e .row) 0) (getD (S .demand) (e .col) 0) }
+    → f ≡ record {
+      row = e .row;
+      col = e .col;
+      change = Change.Amounts (getD (S .supply) (e .row) 0)
+          (getD (S .demand) (e .col) 0);
+    }
     → edited (edited S e) f ≡ S
 amounts-back S e f {s} {d} is l h back =
     let S′ : Sheet = sheetOf (set (S .supply) (e .row) s) (set (S .demand) (e .col) d) (S .cost) in
@@ -163,7 +175,8 @@ Passed change supply demand cost =
     × (length demand ≡ length wanted)
 
 -- So sides and costs pass their tests again.
-pub amounts-tests : {before wanted : List ℕ} (supply demand : List ℕ) {cost : List ℤ} → Accepted (sheetOf before wanted cost)
+pub amounts-tests : {before wanted : List ℕ} (supply demand : List ℕ) {cost : List ℤ}
+    → Accepted (sheetOf before wanted cost)
     → length supply ≡ length before → length demand ≡ length wanted
     → refusal (sheetTests (sheetOf supply demand cost)) ≡ refusal (numberTests (sheetOf supply demand []))
 unfolding sheetTests numberTests badSides badLength badCost lacking crowded idle badAmount roasteries cafes all
@@ -192,10 +205,12 @@ passed e {supply} {demand} {cost = cost} same ok m n = λ s d is.
 -- hold, and the last tableau.
 pub record SolvedAs (S : Sheet) (T : List Cell) (answer : SolveAnswer) (last : Tableau) (u u′ v v′ : List ℤ)
     (plan plan′ : List ℕ) : Type 0 where
-  pub told : Told (unless (solveTests S (length u) (length v) (length plan)) (solutionFrom S T)) answer u u′ v v′ plan plan′
+  pub told :
+      Told (unless (solveTests S (length u) (length v) (length plan)) (solutionFrom S T)) answer u u′ v v′ plan plan′
   pub tableau : refusal (solveTests S (length u) (length v) (length plan)) ≡ none → last ≡ lastTableau S T
 
-pub sheet-refused : (S : Sheet) (T : List Cell) (k : ℕ) {answer : SolveAnswer} (t : Tableau) (u v : List ℤ) (plan : List ℕ)
+pub sheet-refused : (S : Sheet) (T : List Cell) (k : ℕ) {answer : SolveAnswer} (t : Tableau) (u v : List ℤ)
+    (plan : List ℕ)
     → refusal (sheetTests S) ≡ some k → answer ≡ Refused k → SolvedAs S T answer t u u v v plan plan
 unfolding solveTests
 sheet-refused S T k t u v plan e is = rw is (record {
@@ -295,8 +310,10 @@ module _ (St : Standing) (e : Edit) (u v : List ℤ) (plan : List ℕ) where
         edit-refused 12 (refusal-pass (standingTests St) _ w ∙ refusal-yes (badEdit St e) _ (bad-is ∙ ap not f))
 
     -- .. and then it is as solve says of the edited sheet.
-    module _ (f : known ≡ true) {S′ : Sheet} (same : S′ ≡ edited S e) {answer : SolveAnswer} {last : Tableau} {u′ v′ : List ℤ}
-        {plan′ : List ℕ} (done : SolvedAs S′ (beginning (e .change) S′ (inside S (St .tableau))) answer last u u′ v v′ plan plan′) where
+    module _ (f : known ≡ true) {S′ : Sheet} (same : S′ ≡ edited S e) {answer : SolveAnswer} {last : Tableau}
+        {u′ v′ : List ℤ}
+        {plan′ : List ℕ}
+        (done : SolvedAs S′ (beginning (e .change) S′ (inside S (St .tableau))) answer last u u′ v v′ plan plan′) where
       solved : SolvedAs (edited S e) (editFrom St e) answer last u u′ v v′ plan plan′
       unfolding editFrom beginning
       solved =
@@ -315,7 +332,8 @@ module _ (St : Standing) (e : Edit) (u v : List ℤ) (plan : List ℕ) where
       told = told-by (unless-alike tests late _ alike) (solved .told)
 
       pub edit-late : {k : ℕ} → answer ≡ Refused k → (S″ : Sheet) → S″ ≡ S
-          → EditedAs St e (Refused k) (record { sheet = S″; tableau = St .tableau; counter = St .counter }) u u′ v v′ plan plan′
+          → EditedAs St e (Refused k)
+          (record { sheet = S″; tableau = St .tableau; counter = St .counter }) u u′ v v′ plan plan′
       unfolding editCall standsAfter refusedBy
       edit-late {k} is S″ back =
           let r = answer-refused tests (solutionFrom (edited S e) (editFrom St e)) k (sym is ∙ told .answer) in

@@ -47,7 +47,8 @@ first-dealt {S} {supplies = supplies} {demands} h first = record {
   first = first ∙ rw (h .supplies, h .demands) (ap tableauOf (start-costless (problemOf S)));
 }
 
-module _ {S : Sheet} (accepted : Accepted S) {p : Parties} {rows cols : List ℕ} {t : Tableau} (w : Dealt S p rows cols t) where
+module _ {S : Sheet} (accepted : Accepted S) {p : Parties} {rows cols : List ℕ} {t : Tableau}
+    (w : Dealt S p rows cols t) where
   abbrev P : Problem
   P = problemOf S
 
@@ -89,7 +90,8 @@ module _ {S : Sheet} (accepted : Accepted S) {p : Parties} {rows cols : List ℕ
       let x : Stripped (sources P) (sinks P) (basisOf (start P)) (strikesOf leaf other lanes r) r =
       rw (w .first, cells-of (start P), row-count, column-count) at x in
       let (all, struck) = x .complete (spans-of ok b) in
-      let StruckBy : ℕ → Type 0 = λ k. Struck (sources P) (sinks P) (basisOf (start P)) (strikesOf leaf other lanes k) in
+      let StruckBy : ℕ → Type 0 = λ k. Struck (sources P) (sinks P) (basisOf (start P))
+      (strikesOf leaf other lanes k) in
       let begun : Begun P (start P) q e cost leaf other lanes (sources P) (sinks P) = record {
         sound = ok;
         rows = refl;

@@ -20,7 +20,8 @@ sheetAt s = let a = s .args in sheetOf (a .supply .now) (a .demand .now) (a .cos
 abbrev KeptAs : tie.Start → List Cell → List ℤ → Type 0
 KeptAs s T old =
     let a = s .args in let l = a .loaded in
-    Admitted (sheetOf (a .supply .now) (a .demand .now) old) T (l .parties) (l .rows) (l .cols) (a .q .now) (a .e .now) (a .spread .now)
+    Admitted (sheetOf (a .supply .now) (a .demand .now) old) T (l .parties) (l .rows) (l .cols) (a .q .now)
+    (a .e .now) (a .spread .now)
     (a .leaf .now) (a .other .now) (a .lane .now)
 
 kept : (a : tie.After-enum-told) → (T : List Cell) × (old : List ℤ) × KeptAs (startOf a) T old
@@ -52,6 +53,7 @@ returns-2 c = λ T r.
 pub begin-edit-spec : {M : Type 1} → statement M
 begin-edit-spec = tie.close (tie.spec (λ c. search needs)
     (λ c. kept (told c) .2 .parties .rowsRoom) (λ c. rows-lent (kept (told (c .before)) .2 .parties))
-    (λ c. kept (told (c .before)) .2 .parties .cafesRoom) (λ c. cafes-lent (kept (told (c .before .before)) .2 .parties))
+    (λ c. kept (told (c .before)) .2 .parties .cafesRoom)
+    (λ c. cafes-lent (kept (told (c .before .before)) .2 .parties))
     spread-costs-requires returns (λ c. search needs)
     (λ c κs. c .before .before .before .before .before .before .before .before .before .before .pre .0) returns-2)

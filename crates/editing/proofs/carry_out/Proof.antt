@@ -35,8 +35,10 @@ passed a = accepted-none _ (sym (a .before .before .check-edited .ensures) ∙ a
 missing-room-requires : tie.Need-missing-room-requires
 unfolding roasteries cafes
 missing-room-requires c κs =
-    let limits = accepted (sheetAt (start c)) (passed c) .limits in
-    (omega (arith, stride-is, limits .roasteriesHigh, sources-room), omega (arith, stride-is, limits .cafesHigh, sinks-room))
+    let limits = accepted (sheetAt (start c)) (passed c) .limits in (
+      omega (arith, stride-is, limits .roasteriesHigh, sources-room),
+      omega (arith, stride-is, limits .cafesHigh, sinks-room),
+    )
 
 returns-2 : tie.Need-returns-2
 unfolding roasteries cafes
@@ -83,6 +85,8 @@ returns-3 c = λ T r.
     }
 
 pub carry-out-spec : {M : Type 1} → statement M
-carry-out-spec = tie.close (tie.spec (λ c κs. c .before .before .before .pre .0) (λ c. search needs) (λ c κs. tt) returns
+carry-out-spec = tie.close
+    (tie.spec (λ c κs. c .before .before .before .pre .0) (λ c. search needs) (λ c κs. tt) returns
     (λ c. search needs) missing-room-requires
-    (λ c κs. tt) returns-2 begin-edit-requires resume-requires (λ c. search needs) (λ c. search needs) (λ c. search needs) returns-3)
+    (λ c κs. tt) returns-2 begin-edit-requires resume-requires (λ c. search needs) (λ c. search needs)
+    (λ c. search needs) returns-3)

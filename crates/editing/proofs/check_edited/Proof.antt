@@ -23,8 +23,10 @@ returns-2 c =
     let a = c .before .before in
     let s = startOf a in
     let (before, wanted, ok, m, n) = s .pre _ _ (a .enum-told2 .given .1) in
-    c .check-numbers .ensures ∙ ap checkAnswer (sym (amounts-tests (s .args .supply .now) (s .args .demand .now) ok m n))
+    c .check-numbers .ensures
+    ∙ ap checkAnswer (sym (amounts-tests (s .args .supply .now) (s .args .demand .now) ok m n))
 
 pub check-edited-spec : {M : Type 1} → statement M
-check-edited-spec = tie.close (tie.spec (λ c. search needs) (λ c κs. tt) (λ c. c .check-sheet .ensures) (λ c. search needs)
+check-edited-spec = tie.close
+    (tie.spec (λ c. search needs) (λ c κs. tt) (λ c. c .check-sheet .ensures) (λ c. search needs)
     (λ c. search needs) check-numbers-requires returns-2)

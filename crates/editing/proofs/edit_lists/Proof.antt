@@ -41,7 +41,8 @@ passes : (a : tie.After-enum-told) → Passes (standing (start a))
 unfolding standingTests
 passes a = clear a
 
-admitted : (a : tie.After-enum-told) → let s = start a in let l = a .before .before .load-finished in let r = l .result in
+admitted : (a : tie.After-enum-told) → let s = start a in let l = a .before .before .load-finished in
+    let r = l .result in
     let x = l .last .1 .1 .1 .1 in
     Admitted (sheetAt s) (inside (sheetAt s) (s .args .t)) (r .parties) (r .rows) (r .cols)
     (x .0) (x .1 .0) (x .1 .1 .0) (x .1 .1 .1 .0) (x .1 .1 .1 .1 .0) (x .1 .1 .1 .1 .1 .0)
@@ -52,7 +53,8 @@ unfolding roasteries cafes
 returns-2 c =
     let m = c .before in
     let s = start (m .before) in
-    edit-unknown (standing s) (s .args .edit) _ _ _ (passes (m .before)) (sym (m .may-edit .ensures .0) ∙ not-true _ (c .if1 .taken))
+    edit-unknown (standing s) (s .args .edit) _ _ _ (passes (m .before))
+    (sym (m .may-edit .ensures .0) ∙ not-true _ (c .if1 .taken))
 
 -- ---- the edit may be carried out
 
@@ -67,7 +69,8 @@ known : (d : tie.Else1) → let s = start (told d) in let e = s .args .edit in
 unfolding roasteries cafes
 known d = sym (d .before .may-edit .ensures .0) ∙ may-be d
 
-editable : (d : tie.Else1) → let a = start (told d) .args in Editable (a .edit) (a .supply .now) (a .demand .now) (a .cost .now)
+editable : (d : tie.Else1)
+    → let a = start (told d) .args in Editable (a .edit) (a .supply .now) (a .demand .now) (a .cost .now)
 unfolding roasteries cafes maxSources maxSinks
 editable d =
     let s = start (told d) in
@@ -162,4 +165,5 @@ edit-lists-spec = tie.close (tie.spec (λ c κs. (search needs, search needs, se
     (λ c. let y = setBack c in y .set-lists2 .kept .1 .1 .0 ∙ setOf y .set-lists .kept .1 .1 .0)
     (λ c. let y = setBack c in y .set-lists2 .kept .1 .1 .1 .0 ∙ setOf y .set-lists .kept .1 .1 .1 .0)
     (λ c. search needs) (λ c. search needs) (λ c. search needs) returns-3 (λ c. search needs) add-t75
-    (λ c. search needs) (λ c. search needs) (λ c. search needs) (λ c. search needs) (λ c. search needs) (λ c. search needs) returns-4)
+    (λ c. search needs) (λ c. search needs) (λ c. search needs) (λ c. search needs) (λ c. search needs)
+    (λ c. search needs) returns-4)

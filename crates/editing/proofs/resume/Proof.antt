@@ -18,7 +18,8 @@ sheetAt s = let a = s .args in sheetOf (a .supply .now) (a .demand .now) (a .cos
 abbrev Begins : tie.Start → List Cell → Type 0
 Begins s T =
     let a = s .args in let l = a .begun in
-    Admitted (sheetAt s) T (l .parties) (l .rows) (l .cols) (a .q .now) (a .e .now) (a .spread .now) (a .leaf .now) (a .other .now)
+    Admitted (sheetAt s) T (l .parties) (l .rows) (l .cols) (a .q .now) (a .e .now) (a .spread .now) (a .leaf .now)
+    (a .other .now)
     (a .lane .now)
 
 abbrev startBefore : tie.After-price → tie.Start
@@ -27,8 +28,10 @@ startBefore c = c .before .before .before .before .before .before .before
 abbrev start : tie.After-finish → tie.Start
 start f = startBefore (f .before)
 
-finished : (f : tie.After-finish) {T : List Cell} → Begins (start f) T → let s = start f in let l = s .args .begun in let a = f .finish .last in
-    SheetFinished (sheetAt s) T (f .finish .result) (l .parties) (l .rows) (l .cols) (a .0) (a .1 .0) (s .args .spread .now)
+finished : (f : tie.After-finish) {T : List Cell} → Begins (start f) T → let s = start f in let l = s .args .begun in
+    let a = f .finish .last in
+    SheetFinished (sheetAt s) T (f .finish .result) (l .parties) (l .rows) (l .cols) (a .0) (a .1 .0)
+    (s .args .spread .now)
     (a .1 .1 .1 .1 .1 .1 .1 .1 .0) (a .1 .1 .1 .1 .1 .0)
 finished f w = sheet-finished w (f .finish .ensures _ _ (w .begun))
 

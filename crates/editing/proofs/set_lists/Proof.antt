@@ -25,7 +25,8 @@ unfolding place
 placed s =
     let a = s .args in
     let w = s .pre in
-    let inside = place-below (length (a .supply .now)) (length (a .demand .now)) (a .e .row) (a .e .col) (w .row) (w .col) in
+    let inside = place-below (length (a .supply .now)) (length (a .demand .now)) (a .e .row) (a .e .col) (w .row)
+    (w .col) in
     (omega (arith, inside, w .lanes), w .few)
 
 -- The sheet with this cost stored, and the edit that sets it.
@@ -42,7 +43,8 @@ unfolding cafes
 returns c =
     let s = startOf (c .before) in
     let told = c .before .before .change .given in
-    let old : ℤ = getD (s .args .cost .now) (s .args .e .row * length (s .args .demand .now) + s .args .e .col) (pos 0) in (
+    let old : ℤ = getD (s .args .cost .now) (s .args .e .row * length (s .args .demand .now) + s .args .e .col)
+    (pos 0) in (
       ap (stored s) (back w64 (told .0 .0) (search needs)) ∙ set-cost (sheetAt s) (s .args .e) (told .1),
       cost-back (sheetAt s) (s .args .e) _ (told .1) (placed s .0) (ap (sets s) (back w64 old (search needs))),
       refl,
@@ -61,8 +63,11 @@ returns-2 c =
 
 pub set-lists-spec : {M : Type 1} → statement M
 set-lists-spec = tie.close (tie.spec (λ c. search needs)
-    (λ c. omega (arith, placed (startOf c))) (λ c. omega (arith, placed (startOf c))) (λ c. omega (arith, placed (startOf c)))
-    (λ c. placed (startOf c) .0) (λ c. omega (arith, placed (startOf (c .before)))) (λ c. placed (startOf (c .before)) .0)
-    (λ c. search needs) (λ c. search needs) (λ c. search needs) (λ c. search needs) (λ c. search needs) (λ c. search needs)
+    (λ c. omega (arith, placed (startOf c))) (λ c. omega (arith, placed (startOf c)))
+    (λ c. omega (arith, placed (startOf c)))
+    (λ c. placed (startOf c) .0) (λ c. omega (arith, placed (startOf (c .before))))
+    (λ c. placed (startOf (c .before)) .0)
+    (λ c. search needs) (λ c. search needs) (λ c. search needs) (λ c. search needs) (λ c. search needs)
+    (λ c. search needs)
     (λ c. search needs) (λ c. search needs) (λ c. search needs)
     (λ c. search needs) returns (λ c. search needs) (λ c. search needs) returns-2)

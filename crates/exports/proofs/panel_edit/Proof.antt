@@ -16,7 +16,8 @@ returns c =
     let x = o .edit .last .1 .1 in
     let says : Change → Type 0 = λ change. Says (a .standing) (record { row = a .row; col = a .col; change = change })
     (a .u .now) (a .v .now) (a .plan .now) (o .edit .result) (x .0) (x .1 .0) (x .1 .1 .0) in
-    let crossed = ap (λ (cost : ℤ). cond (a .amounts) (Amounts (a .supply) (a .demand)) (Cost cost)) (back w64 (a .cost) (search needs)) in
+    let crossed = ap (λ (cost : ℤ). cond (a .amounts) (Amounts (a .supply) (a .demand)) (Cost cost))
+    (back w64 (a .cost) (search needs)) in
     subst says (m .change-of .ensures ∙ crossed) (o .edit .ensures)
 
 pub panel-edit-spec : {M : Type 1} → statement M

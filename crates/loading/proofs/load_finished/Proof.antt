@@ -36,7 +36,8 @@ passed c =
     let told = c .before .before .before .before .before in
     accepted-none _ (sym (loaded c .load-sheet .ensures .0) ∙ told .enum-told2 .given .1)
 
-admitted : (c : tie.After-test-finished-arg4) → let l = loaded c in let r = l .load-sheet .result in let a = l .load-sheet .last .1 .1 .1 .1 in
+admitted : (c : tie.After-test-finished-arg4) → let l = loaded c in let r = l .load-sheet .result in
+    let a = l .load-sheet .last .1 .1 .1 .1 in
     Admitted (S l) (inside (S l) (tableau l)) (r .parties) (r .rows) (r .cols)
     (a .0) (a .1 .0) (a .1 .1 .0) (a .1 .1 .1 .0) (a .1 .1 .1 .1 .0) (a .1 .1 .1 .1 .1 .0)
 admitted c = loaded c .load-sheet .ensures .1 (passed c)

@@ -23,6 +23,7 @@ finished : (f : tie.After-finish) → let b = begun (f .before) in let S = sheet
 finished f = let w = begun (f .before) .begin-sheet .ensures in sheet-finished w (f .finish .ensures _ _ (w .begun))
 
 pub finished-tableau-spec : {M : Type 1} → statement M
-finished-tableau-spec = tie.close (tie.spec (λ c κs. startBefore c .pre) (λ c κs. (_, _, begun c .begin-sheet .ensures .begun))
+finished-tableau-spec = tie.close
+    (tie.spec (λ c κs. startBefore c .pre) (λ c κs. (_, _, begun c .begin-sheet .ensures .begun))
     (λ c κs. (_, _, _, _, _, finished (c .before .before .before)))
     (λ c. c .last-tableau .ensures _ _ _ _ _ (finished (c .before .before .before .before))))

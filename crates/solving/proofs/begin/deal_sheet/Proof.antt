@@ -23,7 +23,8 @@ parties p cost = p .number-parties .ensures cost
 
 -- Those of a sheet that is accepted.
 some : (p : tie.After-number-parties) → let l = p .number-parties .last .1 .1 in
-    PartiesOf (sheetWith (startOf p) (startOf p .pre .0)) (p .number-parties .result) (l .0) (l .1 .0) (l .1 .1 .0) (l .1 .1 .1 .0)
+    PartiesOf (sheetWith (startOf p) (startOf p .pre .0)) (p .number-parties .result) (l .0) (l .1 .0) (l .1 .1 .0)
+    (l .1 .1 .1 .0)
 some p = parties p (startOf p .pre .0)
 
 first-tableau-requires : tie.Need-first-tableau-requires

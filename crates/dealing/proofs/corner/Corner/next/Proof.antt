@@ -4,7 +4,7 @@ use Rattle.transport.specs.Laws.Sound.{supply-most, demand-most}
 use Rattle.transport.specs.Limits.{maxSide, maxAmount, maxBags}
 use Rattle.transport.specs.Problem.{sources, sinks}
 use Rattle.transport.specs.Amount.{less}
-use Rattle.dealing.specs.Corner.{costless, next-right, next-down, standing-fit, right-inside, down-inside}
+use Rattle.dealing.specs.Corner.{costless, next-right, next-down, dealt-to-fit, right-inside, down-inside}
 use Rattle.dealing.proofs.corner.Corner.next.Statement.{statement}
 use Rattle.dealing.proofs.corner.Corner.next.Tie as tie
 
@@ -20,7 +20,7 @@ fewer c = sym (c .before .before .less .ensures) ∙ c .before .if1 .left
 subtract-requires : tie.Need-subtract-requires
 subtract-requires c κs =
     let s = c .before .before .before .before .before .before in
-    standing-fit _ (s .pre .0) _ (s .pre .1 .0) .0
+    dealt-to-fit _ (s .pre .0) _ (s .pre .1 .0) .0
 
 paired-demand-requires : tie.Need-paired-demand-requires
 unfolding sources sinks maxSide maxBags maxAmount
@@ -39,7 +39,7 @@ returns c =
 subtract-requires-2 : tie.Need-subtract-requires-2
 subtract-requires-2 c κs =
     let s = c .before .before .before .before .before .before in
-    standing-fit _ (s .pre .0) _ (s .pre .1 .0) .1
+    dealt-to-fit _ (s .pre .0) _ (s .pre .1 .0) .1
 
 paired-supply-requires : tie.Need-paired-supply-requires
 unfolding sources sinks
