@@ -19,6 +19,7 @@ ghost use Rattle.transport.specs.declared.Cell.{Cell};
 ghost use Rattle.transport.specs.Laws.ProblemLaws.{problem};
 ghost use Rattle.tree.specs.Layout.{nodeRoom};
 ghost use Rattle.board.specs.Arrays.{Loaded};
+ghost use Rattle.board.specs.Held.{Empty};
 ghost use Rattle.belonging.specs.Spread.{Balancing};
 
 // Whether the amounts on the basic lanes, which the strikes strike off, add up to the paired supplies and demands: they are then one flow of the bags and one
@@ -67,7 +68,12 @@ pub fn load(
     lane: &mut [usize; NODES],
 ) -> bool
     requires { ⌜ ((cost : List ℤ) × Sound (problem (now supply) (now demand) cost)) ⌝ }
-    requires { ⌜ (length (now leaf) ≡ nodeRoom) × (length (now other) ≡ nodeRoom) × (length (now lane) ≡ nodeRoom) ⌝ }
+    requires { ⌜
+        (length (now leaf) ≡ nodeRoom)
+        × (length (now other) ≡ nodeRoom)
+        × (length (now lane) ≡ nodeRoom)
+        × Empty (now q) (now e)
+        ⌝ }
     ensures { λ r. ⌜ ((cost : List ℤ) → r ≡ belongs (problem (now (supply .entry)) (now (demand .entry)) cost) t) ⌝ }
     ensures { λ r. ⌜
         (r ≡ true

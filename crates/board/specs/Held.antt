@@ -1,7 +1,9 @@
 -- How the flat arrays of a run hold a list of cells: a mask of basic lanes for each node, and an amount for each lane.
 use Rattle.prelude.specs.Words.{ℕ, zero, suc, _+_, _*_, _<_, _≤_, arith, _≡_, refl, sym, ap, _∙_, Bool, true, false, _&&_, _||_, cond, false≢true, or-true}
-use Rattle.prelude.specs.Words.{and-comm, List, [], _∷_, _↔_, _≢_, eqb, ℤ, pos, length, getD, set, length-set, length-map, lt-length-set, getD-set-same}
-use Rattle.prelude.specs.Words.{getD-set-other, eqb-true, eqb-false, eq-eqb, ne-eqb, by-test, ⊎-elim, and-eq-true-iff}
+use Rattle.prelude.specs.Words.{and-comm, List, [], _∷_, _↔_, _≢_, eqb, ℤ, pos, length, getD, set, replicate}
+use Rattle.prelude.specs.Words.{length-set}
+use Rattle.prelude.specs.Words.{length-map, length-replicate, lt-length-set, getD-set-same, getD-set-other, eqb-true}
+use Rattle.prelude.specs.Words.{eqb-false, eq-eqb, ne-eqb, by-test, ⊎-elim, and-eq-true-iff}
 use lib.ListN.{List·getD-map}
 use Rattle.transport.specs.Problem.{Lane}
 use Rattle.transport.specs.Laws.ProblemLaws.{lane}
@@ -12,7 +14,7 @@ use Rattle.transport.specs.declared.Pair.{Pair}
 use Rattle.transport.specs.declared.Cell.{Cell}
 use Rattle.tableaux.specs.View.{Distinct, Inside, rowOf, colOf, amountAt, basic-later}
 use Rattle.tableaux.specs.Lanes.{Has, has-basic}
-use Rattle.tree.specs.Layout.{stride, nodeRoom, laneRoom, getD-set}
+use Rattle.tree.specs.Layout.{stride, nodeRoom, laneRoom, getD-set, getD-all}
 use Rattle.tree.specs.Mask.{has, put, has-put, has-zero}
 use Rattle.tree.specs.Bits.{or-cases}
 
@@ -164,24 +166,19 @@ held-more {m} {n} {T} {adj} {q} {e} c h mLow nLow p r = record {
 
 -- ---- arrays of zeros
 
--- The arrays are all zeros.
-pub record Cleared (adj : List ℕ) (q e : List ℤ) : Type 0 where
-  pub adjLong : length adj ≡ nodeRoom
-  pub qLong : length q ≡ laneRoom
-  pub eLong : length e ≡ laneRoom
-  pub noBits : (k : ℕ) → getD adj k 0 ≡ 0
-  pub noBags : (k : ℕ) → getD q k (pos 0) ≡ pos 0
-  pub noMarks : (k : ℕ) → getD e k (pos 0) ≡ pos 0
+-- No amount lies on any lane.
+abbrev pub Empty : List ℤ → List ℤ → Type 0
+Empty q e = (q ≡ replicate laneRoom (pos 0)) × (e ≡ replicate laneRoom (pos 0))
 
--- They hold no cells.
-pub held-none : {m n : ℕ} {adj : List ℕ} {q e : List ℤ} → Cleared adj q e → Held m n [] adj q e
+-- Such arrays, with masks of zeros, hold no cells.
+pub held-none : {m n : ℕ} {adj : List ℕ} {q e : List ℤ} → adj ≡ replicate nodeRoom 0 → Empty q e → Held m n [] adj q e
 unfolding isBasic amountAt nothing
-held-none {m} z = record {
-  adjLong = z .adjLong;
-  qLong = z .qLong;
-  eLong = z .eLong;
-  rows = λ i j a. rw (z .noBits i) (has-zero j);
-  columns = λ i j a. rw (z .noBits (m + j)) (has-zero i);
-  bags = λ i j a b. z .noBags (i * stride + j);
-  marks = λ i j a b. z .noMarks (i * stride + j);
+held-none {m} noBits (noBags, noMarks) = record {
+  adjLong = rw noBits (length-replicate {A = ℕ} nodeRoom 0);
+  qLong = rw noBags (length-replicate laneRoom (pos 0));
+  eLong = rw noMarks (length-replicate laneRoom (pos 0));
+  rows = λ i j a. rw (noBits, getD-all {A = ℕ} nodeRoom i 0) (has-zero j);
+  columns = λ i j a. rw (noBits, getD-all {A = ℕ} nodeRoom (m + j) 0) (has-zero i);
+  bags = λ i j a b. rw noBags (getD-all laneRoom (i * stride + j) (pos 0));
+  marks = λ i j a b. rw noMarks (getD-all laneRoom (i * stride + j) (pos 0));
 }

@@ -189,7 +189,8 @@ module _ (lanes : List ℕ) (q e : List ℤ) (count : ℕ) where
   filledTo-all adj m t w p h = let T = map (cellOn q e) (lanesOf adj m) in
       let n : length T ≡ count = length-map (lanesOf adj m) (cellOn q e) ∙ sym (w .many) in
       let cells : t .cells ≡ T ++ replicate (maxCells - length T) noCell = h .filled
-      ∙ rw (listed, drop-replicate noCell count cellRoom, n, ← cellRoom-is) in let many : t .count ≡ length T = h .many ∙ sym n in
+      ∙ rw (listed, drop-replicate noCell count cellRoom, n, ← cellRoom-is) in
+      let many : t .count ≡ length T = h .many ∙ sym n in
       λ i. record { cells = cells i; count = many i }
     where
       listed : table count (λ i. cellOn q e (getD lanes i 0)) ≡ map (cellOn q e) (lanesOf adj m)

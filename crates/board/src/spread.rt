@@ -9,14 +9,14 @@ use tree::mask;
 use tree::strike::strike;
 ghost use mathlib.Core.Path.{_≡_};
 ghost use Prim.Native.Nat.{ℕ, _+_, _*_, _<_, _≤_};
-ghost use lib.ListN.{length, set};
+ghost use lib.ListN.{length, set, replicate};
 ghost use Rattle.transport.specs.Tableau.{cellsOf, basisOf};
 ghost use Rattle.tableaux.specs.View.{Inside, Distinct};
 ghost use Rattle.tree.specs.Layout.{stride, nodeRoom, strikesOf};
 ghost use Rattle.tree.specs.Strip.{Stripped};
 ghost use Rattle.board.specs.Arrays.{Sides, Amounts};
 ghost use Rattle.board.specs.Cells.{cellRoom};
-ghost use Rattle.board.specs.Held.{Held, linked, Cleared};
+ghost use Rattle.board.specs.Held.{Empty, Held, linked};
 
 // The lane from `row` to `col` becomes basic: a bit in its row's mask, and one in its column's.
 pub(crate) fn link(adj: &mut [u64; NODES], m: usize, row: usize, col: usize)
@@ -26,15 +26,6 @@ pub(crate) fn link(adj: &mut [u64; NODES], m: usize, row: usize, col: usize)
     adj[row] = mask::set_bit(adj[row], col);
     let sink = m + col;
     adj[sink] = mask::set_bit(adj[sink], row);
-}
-
-// No lane is basic, and no amount lies anywhere.
-fn clear(adj: &mut [u64; NODES], q: &mut [i64; LANES], e: &mut [i64; LANES])
-    ensures { λ _. ⌜ Cleared (now (adj .exit)) (now (q .exit)) (now (e .exit)) ⌝ }
-{
-    *adj = [0; NODES];
-    *q = [0; LANES];
-    *e = [0; LANES];
 }
 
 // A cell: its lane becomes basic, and its amount lies on the lane.
@@ -52,12 +43,17 @@ fn put_cell(c: Cell, m: usize, adj: &mut [u64; NODES], q: &mut [i64; LANES], e: 
     put_pair(q, e, row * MAX_SIDE + col, c.amount);
 }
 
-// All cells of the tableau, from the last to the first.
+// All cells of the tableau, from the last to the first, over arrays of zeros.
 fn spread(t: Tableau, m: usize, adj: &mut [u64; NODES], q: &mut [i64; LANES], e: &mut [i64; LANES])
-    requires { ⌜ (t .count ≤ cellRoom) × (m ≤ stride) × Inside m stride (cellsOf t) ⌝ }
+    requires { ⌜
+        (t .count ≤ cellRoom)
+        × (m ≤ stride)
+        × Inside m stride (cellsOf t)
+        × (now adj ≡ replicate nodeRoom 0)
+        × Empty (now q) (now e)
+        ⌝ }
     ensures { λ _. ⌜ ((n : ℕ) → n ≤ stride → Held m n (cellsOf t) (now (adj .exit)) (now (q .exit)) (now (e .exit))) ⌝ }
 {
-    clear(adj, q, e);
     let mut k = t.count;
     while k > 0 {
         k -= 1;
@@ -66,7 +62,8 @@ fn spread(t: Tableau, m: usize, adj: &mut [u64; NODES], q: &mut [i64; LANES], e:
     }
 }
 
-// Lays the tableau out over the arrays and strikes off its basis: how many of its lanes were struck.
+// Lays the tableau out over the arrays, which hold no amount yet, and strikes off its basis: how
+// many of its lanes were struck.
 pub fn lay_out(
     t: Tableau,
     m: usize,
@@ -78,7 +75,12 @@ pub fn lay_out(
     lane: &mut [usize; NODES],
 ) -> usize
     requires { ⌜ (t .count ≤ cellRoom) × Sides m n × Inside m n (cellsOf t) × Distinct (cellsOf t) ⌝ }
-    requires { ⌜ (length (now leaf) ≡ nodeRoom) × (length (now other) ≡ nodeRoom) × (length (now lane) ≡ nodeRoom) ⌝ }
+    requires { ⌜
+        (length (now leaf) ≡ nodeRoom)
+        × (length (now other) ≡ nodeRoom)
+        × (length (now lane) ≡ nodeRoom)
+        × Empty (now q) (now e)
+        ⌝ }
     ensures { λ r. ⌜
         Amounts m n (cellsOf t) (now (q .exit)) (now (e .exit))
         × (length (now (lane .exit)) ≡ nodeRoom)

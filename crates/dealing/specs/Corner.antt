@@ -126,8 +126,8 @@ corner-next P left p = by-test (less (p .demand) (p .supply))
 
 -- ---- how far the rule has dealt
 
--- The rule has dealt up to p: the cells of the start from number row + col on are those that it puts
--- from p on. Each step so far added at most maxBags to the sizes of the two pairs.
+-- The rule has dealt up to p: the cells of the start from number row + col on are those that it
+-- puts from p on. Each step so far added at most maxBags to the sizes of the two pairs.
 pub record DealtTo (P : Problem) (p : Corner) : Type 0 where
   pub left : ℕ
   pub state : State P left (p .row) (p .col) (p .supply) (p .demand)

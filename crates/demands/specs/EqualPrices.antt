@@ -64,7 +64,8 @@ module _ (E : Problem) (ok : Sound (struck E)) {T U : List Cell} (w : Belongs (s
       ∙ sym (roastery-struck E U i e))
 
 -- Of tableaux of the parties left ..
-pub given-equal : (S : Sheet) → Sound (problemOf S) → {T U : List Cell} → Belongs (problemOf S) T → Belongs (problemOf S) U
+pub given-equal : (S : Sheet) → Sound (problemOf S) → {T U : List Cell} → Belongs (problemOf S) T
+    → Belongs (problemOf S) U
     → isFinished (problemOf S) T ≡ true → isFinished (problemOf S) U ≡ true
     → (roasteryPrices S T ≡ roasteryPrices S U) × (cafePrices S T ≡ cafePrices S U)
 unfolding roasteryPrices cafePrices problemOf

@@ -51,12 +51,12 @@ passes-belongs S t e =
     belongs-iff (problemOf S) (inside S t) (ok .sourcesLow) (ok .sinksLow) .0 cells
 
 -- What is known of a sheet and a tableau that pass the first check.
-pub record Stands (S : Sheet) (t : Tableau) : Type 1 where
+record Stands (S : Sheet) (t : Tableau) : Type 1 where
   pub accepted : Accepted S
   pub belongs : Belongs (problemOf S) (inside S t)
   pub finished : isFinished (problemOf S) (inside S t) ≡ true
 
-pub stands : (S : Sheet) (t : Tableau) → refusal (finishedTests S t) ≡ none → Stands S t
+stands : (S : Sheet) (t : Tableau) → refusal (finishedTests S t) ≡ none → Stands S t
 unfolding finishedTests tableauTests
 stands S t e =
     let (front, done) = refusal-last (tableauTests S t) _ .0 e in
@@ -152,7 +152,8 @@ pub from-nothing : (St : Standing) (e : Edit) (uRoom vRoom planRoom : ℕ) (s : 
 unfolding editCall editTests solveTests solveCall
 from-nothing St e uRoom vRoom planRoom s given-s =
     let S′ : Sheet = edited (St .sheet) e in
-    let (clear, is) = unless-given-iff (editTests St e uRoom vRoom planRoom) (solutionFrom S′ (editFrom St e)) s .0 given-s in
+    let (clear, is) = unless-given-iff (editTests St e uRoom vRoom planRoom) (solutionFrom S′ (editFrom St e)) s .0
+    given-s in
     let front = refusal-front (standingTests St) _ clear in
     let later = sym (refusal-pass (standingTests St) _ front) ∙ clear in
     let (known, rest) = refusal-clear (badEdit St e) (solveTests S′ uRoom vRoom planRoom) later in
@@ -168,7 +169,8 @@ from-nothing St e uRoom vRoom planRoom s given-s =
       v = ap (λ (r : Solution). r .v) is ∙ v;
       plan = is-plan;
       best = rw (is-cost, is-plan) (solution-best S′ (sound ok));
-      rounds = subst (λ (k : ℕ). FirstFinished (problemOf S′) (editFrom St e) k) (sym is-rounds) (its-rounds St e front ok);
+      rounds = subst (λ (k : ℕ). FirstFinished (problemOf S′) (editFrom St e) k) (sym is-rounds)
+          (its-rounds St e front ok);
       stands = stays St e front ok;
     }
 

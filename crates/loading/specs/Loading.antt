@@ -72,6 +72,7 @@ pub record Admitted (S : Sheet) (T : List Cell) (p : Parties) (rows cols : List 
   pub supplies : List ℕ
   pub demands : List ℕ
   pub parties : PartiesOf S p supplies demands rows cols
+  pub spread : Spread (S .cost) (cafes S) (take (p .rows) rows) (take (p .cafes) cols) cost
   pub begun : Begun (problemOf S) T q e cost leaf other tree (p .rows) (p .columns)
 
 module _ {S : Sheet} (ok : Accepted S) {p : Parties} {supplies demands rows cols : List ℕ} (h : PartiesOf S p supplies demands rows cols) where
@@ -111,6 +112,7 @@ admitted-respread {supply} {demand} {old} {new} ok {T} w spread =
       supplies = w .supplies;
       demands = w .demands;
       parties = parties;
+      spread = spread;
       begun = record {
         sound = sound ok;
         rows = b .rows;

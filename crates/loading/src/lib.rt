@@ -20,6 +20,7 @@ ghost use Rattle.transport.specs.Calls.{tableauTests, inside, finishedTests};
 ghost use Rattle.transport.specs.Statements.{Accepted};
 ghost use Rattle.sheet.specs.Check.{checkAnswer};
 ghost use Rattle.tree.specs.Layout.{nodeRoom};
+ghost use Rattle.board.specs.Held.{Empty};
 ghost use Rattle.loading.specs.Loading.{Admitted};
 
 // What the tests say of sheet and tableau; if they refuse nothing, the parties of the sheet's tableaux, with the own numbers of rows and columns.
@@ -44,7 +45,12 @@ fn load_tableau(
     lane: &mut [usize; NODES],
 ) -> Loading
     requires { ⌜ Accepted (sheetOf (now supply) (now demand) (now cost)) ⌝ }
-    requires { ⌜ (length (now leaf) ≡ nodeRoom) × (length (now other) ≡ nodeRoom) × (length (now lane) ≡ nodeRoom) ⌝ }
+    requires { ⌜
+        (length (now leaf) ≡ nodeRoom)
+        × (length (now other) ≡ nodeRoom)
+        × (length (now lane) ≡ nodeRoom)
+        × Empty (now q) (now e)
+        ⌝ }
     ensures { λ r.
         let S = sheetOf (now (supply .entry)) (now (demand .entry)) (now (cost .entry)) in
         ⌜ r .check ≡ checkAnswer (refusal (tableauTests S t)) ⌝ }
@@ -102,7 +108,12 @@ pub fn load_sheet(
     other: &mut [usize; NODES],
     lane: &mut [usize; NODES],
 ) -> Loading
-    requires { ⌜ (length (now leaf) ≡ nodeRoom) × (length (now other) ≡ nodeRoom) × (length (now lane) ≡ nodeRoom) ⌝ }
+    requires { ⌜
+        (length (now leaf) ≡ nodeRoom)
+        × (length (now other) ≡ nodeRoom)
+        × (length (now lane) ≡ nodeRoom)
+        × Empty (now q) (now e)
+        ⌝ }
     ensures { λ r.
         let S = sheetOf (now (supply .entry)) (now (demand .entry)) (now (cost .entry)) in
         ⌜ r .check ≡ checkAnswer (refusal (tableauTests S t)) ⌝ }
@@ -143,7 +154,12 @@ pub fn load_finished(
     other: &mut [usize; NODES],
     lane: &mut [usize; NODES],
 ) -> Loading
-    requires { ⌜ (length (now leaf) ≡ nodeRoom) × (length (now other) ≡ nodeRoom) × (length (now lane) ≡ nodeRoom) ⌝ }
+    requires { ⌜
+        (length (now leaf) ≡ nodeRoom)
+        × (length (now other) ≡ nodeRoom)
+        × (length (now lane) ≡ nodeRoom)
+        × Empty (now q) (now e)
+        ⌝ }
     ensures { λ r.
         let S = sheetOf (now (supply .entry)) (now (demand .entry)) (now (cost .entry)) in
         ⌜ r .check ≡ checkAnswer (refusal (finishedTests S t)) ⌝ }

@@ -66,6 +66,22 @@ pub numberIn-none : (ks : List ℕ) (k : ℕ) → ((h : ℕ) → h < length ks �
 unfolding numberIn
 numberIn-none ks k other = number-none ks (length ks) k other
 
+-- A number other than maxSide is that of a party in the list.
+pub numberIn-found : (ks : List ℕ) (k : ℕ) → ¬ (numberIn ks k ≡ maxSide)
+    → (numberIn ks k < length ks) × (at ks (numberIn ks k) ≡ k)
+unfolding numberIn numberBefore
+numberIn-found ks k found = go (length ks) found
+  where
+    go : (n : ℕ) → ¬ (numberBefore ks n k ≡ maxSide)
+        → (numberBefore ks n k < n) × (at ks (numberBefore ks n k) ≡ k)
+    go zero found = absurd (found refl)
+    go (suc n) found = by-cases (ℕ-discrete (at ks n) k)
+        (λ e. rw (number-yes ks n k e) (omega arith, e))
+        (λ e.
+        let same = number-no ks n k e in
+        let (l, is) = go n (λ none. found (same ∙ none)) in
+        rw same (omega (arith, l), is))
+
 -- ---- a list with the number of each own number
 
 pub record Numbering (ks : List ℕ) (among : List ℕ) : Type 0 where

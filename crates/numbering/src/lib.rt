@@ -65,6 +65,16 @@ fn number_of(among: &[usize; MAX_SIDE], own: usize) -> usize
     if own < MAX_SIDE { among[own] } else { MAX_SIDE }
 }
 
+// The number of one party among those left, whose own numbers are given in their order; MAX_SIDE if
+// it is not among them.
+pub fn number_in(own: &[usize], party: usize) -> usize
+    requires { ⌜ Growing (now own) ⌝ }
+    ensures { λ r. ⌜ r ≡ numberIn (now (own .entry)) party ⌝ }
+{
+    let among = numbers(own);
+    number_of(&among, party)
+}
+
 // A cell under the numbers of those left, which the two lists have.
 fn cell_among(c: Cell, row_number: &[usize; MAX_SIDE], col_number: &[usize; MAX_SIDE]) -> Cell
     ensures { λ r. ⌜

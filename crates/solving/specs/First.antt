@@ -109,5 +109,6 @@ module _ {S : Sheet} (accepted : Accepted S) {p : Parties} {rows cols : List ℕ
         supplies = w .supplies;
         demands = w .demands;
         parties = h;
+        spread = spread;
         begun = rw (row-count, column-count) begun;
       }

@@ -10,12 +10,16 @@ use transport::Tableau;
 use tree::LANES;
 use tree::NODES;
 use tree::Price;
+ghost use mathlib.Core.Path.{_≡_};
 ghost use mathlib.Core.List.{List};
 ghost use lib.IntN.{ℤ};
+ghost use lib.ListN.{length};
 ghost use Rattle.transport.specs.Sheet.{sheetOf};
 ghost use Rattle.transport.specs.Parties.{problemOf};
 ghost use Rattle.transport.specs.Tableau.{start};
 ghost use Rattle.transport.specs.Statements.{Accepted};
+ghost use Rattle.tree.specs.Layout.{nodeRoom};
+ghost use Rattle.board.specs.Held.{Empty};
 ghost use Rattle.loading.specs.Loading.{Admitted};
 ghost use Rattle.solving.specs.First.{Dealt};
 
@@ -62,8 +66,8 @@ pub fn deal_sheet(supply: &[u64], demand: &[u64]) -> First
     }
 }
 
-// Lays out the first tableau of a sheet that passed its check, with the costs of its lanes by
-// column.
+// Lays out the first tableau of a sheet that passed its check over arrays that hold no amount yet,
+// with the costs of its lanes by column.
 pub fn begin_sheet(
     supply: &[u64],
     demand: &[u64],
@@ -76,10 +80,17 @@ pub fn begin_sheet(
     lane: &mut [usize; NODES],
 ) -> Loading
     requires { ⌜ Accepted (sheetOf (now supply) (now demand) (now cost)) ⌝ }
+    requires { ⌜
+        (length (now leaf) ≡ nodeRoom)
+        × (length (now other) ≡ nodeRoom)
+        × (length (now lane) ≡ nodeRoom)
+        × Empty (now q) (now e)
+        ⌝ }
     ensures { λ r.
         let S = sheetOf (now (supply .entry)) (now (demand .entry)) (now (cost .entry)) in
         ⌜
-        Admitted S (start (problemOf S)) (r .parties) (r .rows) (r .cols) (now (q .exit)) (now (e .exit)) (now (spread .exit))
+        Admitted S (start (problemOf S)) (r .parties) (r .rows) (r .cols) (now (q .exit)) (now (e .exit))
+        (now (spread .exit))
         (now (leaf .exit)) (now (other .exit)) (now (lane .exit))
         ⌝ }
 {
@@ -91,11 +102,6 @@ pub fn begin_sheet(
     let n = begun.parties.columns;
     let served = begun.parties.cafes;
     spread_costs(cost, demand.len(), &rows[..m], &cols[..served], spread);
-    // Cleared first: the length of a lent array is known to the prover only once it is stored
-    // whole.
-    *leaf = [0; NODES];
-    *other = [0; NODES];
-    *lane = [0; NODES];
     let tableau = first.tableau;
     lay_out(tableau, m, n, q, e, leaf, other, lane);
     begun

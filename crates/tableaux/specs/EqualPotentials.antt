@@ -39,6 +39,7 @@ module _ {P : Problem} (ok : Sound P) where
 
     pub equal-potentials : (k : ℕ) → k < sources P + sinks P → potential P T k ≡ potential P U k
     unfolding potential
-    equal-potentials k l = sym (potential-only (ok .sourcesLow) (fits-of ok w) (spans-of ok w) (laneCost P) (potential P U)
+    equal-potentials k l = sym
+        (potential-only (ok .sourcesLow) (fits-of ok w) (spans-of ok w) (laneCost P) (potential P U)
         (potential-root (ok .sourcesLow) (fits-of ok x) (spans-of ok x) (laneCost P))
         (λ l q. tight-for-other (l .row) (l .col) (has-basic T (l .row) (l .col) .0 q)) k l)

@@ -125,6 +125,7 @@ returns-2 c =
         supplies = _;
         demands = _;
         parties = parties p;
+        spread = c .spread-costs .ensures;
         begun = begun-loaded (ok p) (parties p) (tableau r) (r .renumber .result) (c .spread-costs .ensures) (sym (loaded-is a) ∙ belonged) (inside-is d)
             (a .load .ensures .1 belonged);
       },

@@ -132,7 +132,8 @@ returns-3 c =
 
 pub round-spec : {M : Type 1} → statement M
 round-spec =
-    tie.close (tie.spec (λ c κs. (refl, refl, refl)) (λ c. search needs) (λ c κs. tt) returns (λ c. search needs) make-round-requires
+    tie.close (tie.spec (λ c κs. (refl, refl, refl, (refl, refl))) (λ c. search needs) (λ c κs. tt) returns
+    (λ c. search needs) make-round-requires
     (λ c. admitted (toldAt (doneAt c)) .parties .rowsRoom) (λ c. rows-lent (admitted (toldAt (doneAt (c .before))) .parties))
     (λ c. admitted (toldAt (doneAt (c .before))) .parties .colsRoom)
     (λ c. columns-lent (admitted (toldAt (doneAt (c .before .before))) .parties)) finished-round-requires returns-2 gather-requires

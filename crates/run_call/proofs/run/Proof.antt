@@ -90,7 +90,8 @@ returns-2 c =
 
 pub run-spec : {M : Type 1} → statement M
 run-spec =
-    tie.close (tie.spec (λ c κs. (refl, refl, refl)) (λ c. search needs) (λ c κs. tt) returns (λ c. search needs) make-run-requires
+    tie.close (tie.spec (λ c κs. (refl, refl, refl, (refl, refl))) (λ c. search needs) (λ c κs. tt) returns
+    (λ c. search needs) make-run-requires
     gather-requires (λ c. admitted (toldAt (ranBefore c)) .parties .rowsRoom)
     (λ c. rows-lent (admitted (toldAt (ranBefore (c .before))) .parties))
     (λ c. admitted (toldAt (ranBefore (c .before))) .parties .colsRoom)

@@ -1,5 +1,6 @@
 -- `set_up_call::finished_tableau` meets its contract: the rounds come from the start to the
 -- finished tableau.
+use Rattle.prelude.specs.Words.{refl}
 use Rattle.transport.specs.Sheet.{Sheet, sheetOf}
 use Rattle.transport.specs.Parties.{problemOf}
 use Rattle.transport.specs.Tableau.{start}
@@ -24,6 +25,7 @@ finished f = let w = begun (f .before) .begin-sheet .ensures in sheet-finished w
 
 pub finished-tableau-spec : {M : Type 1} → statement M
 finished-tableau-spec = tie.close
-    (tie.spec (λ c κs. startBefore c .pre) (λ c κs. (_, _, begun c .begin-sheet .ensures .begun))
+    (tie.spec (λ c κs. (startBefore c .pre, (refl, refl, refl, (refl, refl))))
+    (λ c κs. (_, _, begun c .begin-sheet .ensures .begun))
     (λ c κs. (_, _, _, _, _, finished (c .before .before .before)))
     (λ c. c .last-tableau .ensures _ _ _ _ _ (finished (c .before .before .before .before))))

@@ -141,7 +141,7 @@ returns-4 c =
 
 pub settle-spec : {M : Type 1} → statement M
 settle-spec =
-    tie.close (tie.spec (λ c κs. (refl, refl, refl)) (λ c. search needs) returns (λ c. search needs)
+    tie.close (tie.spec (λ c κs. (refl, refl, refl, (refl, refl))) (λ c. search needs) returns (λ c. search needs)
     (λ c κs. (_, _, _, _, admitted (priced c) .begun)) returns-2 mul-if2 returns-3
     (λ c κs. let d = roomOn c .before in (_, _, _, finished d, admitted (toldAt (d .before)) .begun .costs))
     (λ c. admitted (toldBefore (c .before)) .parties .rowsRoom) (λ c. rows-lent (admitted (toldBefore (c .before .before)) .parties))

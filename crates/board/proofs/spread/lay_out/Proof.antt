@@ -1,5 +1,5 @@
 -- `board::spread::lay_out` meets its contract: the arrays hold the cells, so that the masks are those of their lanes.
-use Rattle.prelude.specs.Words.{arith}
+use Rattle.prelude.specs.Words.{refl, arith}
 use Rattle.transport.specs.Tableau.{cellsOf}
 use Rattle.board.specs.Arrays.{basis-links, basis-masks, held-amounts}
 use Rattle.board.specs.Held.{Held}
@@ -10,8 +10,8 @@ abbrev start : tie.After-spread → tie.Start
 start c = c .before .before .before .before
 
 spread-requires : tie.Need-spread-requires
-spread-requires c κs = let (few, sides, inside, distinct) = c .before .before .before .pre .0 in
-    (few, sides .rowsHigh, λ k l. let (i, j) = inside k l in (i, omega (arith, sides .colsHigh)))
+spread-requires c κs = let p = c .before .before .before .pre in let (few, sides, inside, distinct) = p .0 in
+    (few, sides .rowsHigh, (λ k l. let (i, j) = inside k l in (i, omega (arith, sides .colsHigh))), refl, p .1 .3)
 
 held : (c : tie.After-spread) → let a = start c .args in let x = c .spread .last .1 .1 in Held (a .m) (a .n) (cellsOf (a .t)) (x .0) (x .1 .0) (x .1 .1 .0)
 held c = c .spread .ensures _ (start c .pre .0 .1 .colsHigh)

@@ -16,14 +16,16 @@ abbrev μ-loop : tie.MeasureT-loop
 μ-loop m adj₀ q₀ e₀ t k₀ adj q e k = k
 
 loop-holds : tie.Need-loop-holds Inv-loop μ-loop
-loop-holds c = let t = c .before .before .before .before .args .t1 in
+loop-holds c = let t = c .args .t1 in
     let l : length (t .cells) ≡ cellRoom = search (needs, length-mapped) in
-    (omega arith, rw (drop-of-length-le (cellsOf t) {i = t .count} (omega (arith, length-cells t (omega arith)))) (held-none (c .clear .ensures)))
+    let (_, _, _, noBits, empty) = c .pre in
+    let past = drop-of-length-le (cellsOf t) {i = t .count} (omega (arith, length-cells t (omega arith))) in
+    (omega arith, rw past (held-none noBits empty))
 
 -- The cell is on the sheet.
-inside : (c : tie.In-loop Inv-loop μ-loop) → let a = c .before .before .before .before .before .before .args in
+inside : (c : tie.In-loop Inv-loop μ-loop) → let a = c .before .before .args in
     let d = getD (a .t1 .cells) (c .before .loop .k - 1) noCell in (d .row < a .m) × (d .col < stride)
-inside c = let s = c .before .before .before .before .before .before in
+inside c = let s = c .before .before in
     let l : length (s .args .t1 .cells) ≡ cellRoom = search (needs, length-mapped) in
     cell-inside (s .args .t1) (s .pre .2) (c .before .loop .k - 1) (omega arith) (omega arith)
 
@@ -33,7 +35,7 @@ put-cell-requires c κs = let h = inside (c .before .before .before .before) in 
 
 loop-again : tie.Need-loop-again Inv-loop μ-loop
 unfolding noCell nothing
-loop-again c = let s = c .before .before .before .before .before .before .before .before .before .before .before in
+loop-again c = let s = c .before .before .before .before .before .before .before in
     let i = c .before .before .before .before .before .before .loop in let t = s .args .t1 in
     let l : length (t .cells) ≡ cellRoom = search (needs, length-mapped) in let h = inside (c .before .before .before .before .before) in
     let r : suc (i .k - 1) ≡ i .k = omega arith in
@@ -47,5 +49,5 @@ returns : tie.Need-returns Inv-loop μ-loop
 returns c = let e : c .before .loop .k ≡ 0 = omega arith in λ n p. held-fewer p (rw e at (c .before .loop .inv .1))
 
 pub spread-spec : {M : Type 1} → statement M
-spread-spec = tie.close (tie.spec Inv-loop μ-loop (λ c κs. tt) loop-holds (λ c. omega arith) (λ c. omega arith) (λ c. omega arith) put-cell-requires
-    (λ c. omega arith) loop-again returns)
+spread-spec = tie.close (tie.spec Inv-loop μ-loop loop-holds (λ c. omega arith) (λ c. omega arith) (λ c. omega arith)
+    put-cell-requires (λ c. omega arith) loop-again returns)

@@ -41,15 +41,19 @@ loop-holds : tie.Need-loop-holds Inv-loop μ-loop
 loop-holds c =
     let a = c .before .before .before .before in
     let S = costless (a .args .supply .now) (a .args .demand .now) in
-    rw (c .before .empty-tableau .ensures, c .first-corner .ensures) (refl, dealt-to-first S (a .pre), filled-none (start S))
+    rw (c .before .empty-tableau .ensures, c .first-corner .ensures)
+    (refl, dealt-to-first S (a .pre), filled-none (start S))
 
 loop-again : tie.Need-loop-again Inv-loop μ-loop
 unfolding sources sinks
 loop-again c =
     let t = c .before .before .before in
     let at = t .loop .at in
-    rw (c .next .ensures, c .before .put .ensures)
-    (omega (arith, next-number (P t) at), dealt-to-next (P t) (first t .pre) at (t .loop .inv .1) (omega arith), stored t)
+    rw (c .next .ensures, c .before .put .ensures) (
+      omega (arith, next-number (P t) at),
+      dealt-to-next (P t) (first t .pre) at (t .loop .inv .1) (omega arith),
+      stored t,
+    )
 
 returns : tie.Need-returns Inv-loop μ-loop
 unfolding sources sinks

@@ -27,6 +27,8 @@ returns c P T q e d =
     scanned-done (begun-priced d (v .0) (v .1)) (w .ensures) ∙ sym (sign-is (w .result .reduced) fits)
 
 pub test-finished-spec : {M : Type 1} → statement M
-test-finished-spec = tie.close (tie.spec (λ c. let s = begun-sides (c .pre .4) in omega (arith, s .rowsHigh, s .colsHigh))
-    (λ c. omega (arith, begun-sides (c .pre .4) .rowsLow)) (λ c κs. let d = c .before .pre .4 in (begun-room d, d .costs .small))
+test-finished-spec = tie.close
+    (tie.spec (λ c. let s = begun-sides (c .pre .4) in omega (arith, s .rowsHigh, s .colsHigh))
+    (λ c. omega (arith, begun-sides (c .pre .4) .rowsLow))
+    (λ c κs. let d = c .before .pre .4 in (begun-room d, d .costs .small))
     scan-slacks-requires entering-requires returns)

@@ -49,7 +49,8 @@ entering-requires c κs = let l = c .before .before .before in let (P, T, d) = s
 returns-2 : tie.Need-returns-2 Inv-loop μ-loop
 returns-2 c P T d = let g = c .before .before .before .before .before .before .loop .inv .1 P T d in let w = c .before .before .entering in
     let fits : mag (w .result .reduced) < 2 ^ 31 = search needs in
-    ran-out g (g .kept) (omega arith) (scanned-done (kept-priced (g .kept)) (w .ensures) ∙ sym (sign-is (w .result .reduced) fits))
+    ran-out g (g .kept) (omega arith)
+    (scanned-done (kept-priced (g .kept)) (w .ensures) ∙ sym (sign-is (w .result .reduced) fits))
 
 pub rounds-spec : {M : Type 1} → statement M
 rounds-spec = tie.close (tie.spec Inv-loop μ-loop (λ c κs. let (P, T, d) = c .before .before .before .before .pre in (P, T, _, _, d)) loop-holds

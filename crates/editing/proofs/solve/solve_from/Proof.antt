@@ -1,5 +1,6 @@
--- `editing::resume` meets its contract: the rounds come to the finished tableau, which is given
--- under own numbers; its prices and the settled plan are written, and the cost is that of the plan.
+-- `editing::solve::solve_from` meets its contract: the rounds come to the finished tableau, which
+-- is given under own numbers; its prices and the settled plan are written, and the cost is that of
+-- the plan.
 use Rattle.prelude.specs.Words.{List, _∙_, needs}
 use mir.Syntax.{w64}
 use Rattle.transport.specs.Sheet.{Sheet, sheetOf}
@@ -8,8 +9,8 @@ use Rattle.transport.specs.Laws.RangeLaws.{back}
 use Rattle.loading.specs.Loading.{Admitted}
 use Rattle.solving.specs.Stored.{SheetFinished, sheet-finished}
 use Rattle.solving.specs.Told.{stored-summable, told-stored}
-use Rattle.editing.proofs.resume.Statement.{statement}
-use Rattle.editing.proofs.resume.Tie as tie
+use Rattle.editing.proofs.solve.solve_from.Statement.{statement}
+use Rattle.editing.proofs.solve.solve_from.Tie as tie
 
 abbrev sheetAt : tie.Start → Sheet
 sheetAt s = let a = s .args in sheetOf (a .supply .now) (a .demand .now) (a .cost .now)
@@ -63,7 +64,7 @@ returns c = λ T w.
       l .last-tableau .ensures _ _ _ _ _ (finished f w),
     )
 
-pub resume-spec : {M : Type 1} → statement M
-resume-spec = tie.close (tie.spec (λ c κs. (_, _, startBefore c .pre .0 .1 .begun))
+pub solve-from-spec : {M : Type 1} → statement M
+solve-from-spec = tie.close (tie.spec (λ c κs. (_, _, startBefore c .pre .0 .1 .begun))
     (λ c κs. let f = c .before .before .before in (_, _, _, _, _, finished f (start f .pre .0 .1)))
     store-solution-requires plan-cost-requires (λ c. search needs) (λ c. search needs) (λ c. search needs) returns)

@@ -1,5 +1,6 @@
--- `editing::set_lists` meets its contract: the lane, or the two parties, that the edit names are in
--- the lists; what is stored there is what the edit says, and what stood there before takes it back.
+-- `edit_steps::lists::set_lists` meets its contract: the lane, or the two parties, that the edit
+-- names are in the lists; what is stored there is what the edit says, and what stood there before
+-- takes it back.
 use Rattle.prelude.specs.Words.{refl, ap, _∙_, _+_, _*_, _≤_, _<_, ℤ, pos, arith, length, set, getD, needs}
 use mir.Syntax.{w64}
 use Rattle.transport.specs.declared.Change.the-variants as Change
@@ -8,9 +9,9 @@ use Rattle.transport.specs.Problem.{place}
 use Rattle.transport.specs.Sheet.{Sheet, sheetOf, cafes}
 use Rattle.transport.specs.Laws.ProblemLaws.{place-below}
 use Rattle.transport.specs.Laws.RangeLaws.{back}
-use Rattle.editing.specs.Edits.{set-cost, set-amounts, cost-back, amounts-back}
-use Rattle.editing.proofs.set_lists.Statement.{statement}
-use Rattle.editing.proofs.set_lists.Tie as tie
+use Rattle.edit_steps.specs.Edits.{set-cost, set-amounts, cost-back, amounts-back}
+use Rattle.edit_steps.proofs.lists.set_lists.Statement.{statement}
+use Rattle.edit_steps.proofs.lists.set_lists.Tie as tie
 
 abbrev sheetAt : tie.Start → Sheet
 sheetAt s = let a = s .args in sheetOf (a .supply .now) (a .demand .now) (a .cost .now)
