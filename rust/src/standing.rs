@@ -108,13 +108,6 @@ impl Standing {
         let (m, n) = (self.sheet.m, self.sheet.n);
         Solution::owned(m, n, |u, v, plan| edit_amounts(self, row, col, supply, demand, u, v, plan))
     }
-
-    /// Takes over what an edit gives: a refusal leaves the standing sheet as it is.
-    fn take(&mut self, r: &ffi::EditResult) -> Result<Solved, Refusal> {
-        Refusal::check(r.refusal, 0)?;
-        *self = r.after;
-        Ok(Solved { cost: r.cost, rounds: r.rounds })
-    }
 }
 
 /// The standing sheet of a sheet, with its finished tableau; no edit is counted yet.
@@ -137,11 +130,7 @@ pub fn edit_cost(
     v: &mut [i64],
     plan: &mut [u64],
 ) -> Result<Solved, Refusal> {
-    let (u_len, v_len, plan_len) = (u.len(), v.len(), plan.len());
-    let (u, v, plan) = (u.as_mut_ptr(), v.as_mut_ptr(), plan.as_mut_ptr());
-    // SAFETY: slices are what `ffi` asks for, and a standing sheet may hold anything.
-    let r = unsafe { ffi::panel_edit(*standing, row, col, false, cost, 0, 0, u, u_len, v, v_len, plan, plan_len) };
-    standing.take(&r)
+    edit(standing, row, col, Change::Cost(cost), u, v, plan)
 }
 
 /// Sets the supply of roastery `row` and the demand of café `col`, and begins afresh. The lists get
@@ -157,9 +146,36 @@ pub fn edit_amounts(
     v: &mut [i64],
     plan: &mut [u64],
 ) -> Result<Solved, Refusal> {
+    edit(standing, row, col, Change::Amounts { supply, demand }, u, v, plan)
+}
+
+/// What an edit sets at the roastery and the café that it names.
+enum Change {
+    Cost(i64),
+    Amounts { supply: u64, demand: u64 },
+}
+
+/// An edit: a refusal leaves the standing sheet and the lists as they are.
+fn edit(
+    standing: &mut Standing,
+    row: usize,
+    col: usize,
+    change: Change,
+    u: &mut [i64],
+    v: &mut [i64],
+    plan: &mut [u64],
+) -> Result<Solved, Refusal> {
+    let (amounts, cost, supply, demand) = match change {
+        Change::Cost(cost) => (false, cost, 0, 0),
+        Change::Amounts { supply, demand } => (true, 0, supply, demand),
+    };
     let (u_len, v_len, plan_len) = (u.len(), v.len(), plan.len());
     let (u, v, plan) = (u.as_mut_ptr(), v.as_mut_ptr(), plan.as_mut_ptr());
     // SAFETY: slices are what `ffi` asks for, and a standing sheet may hold anything.
-    let r = unsafe { ffi::panel_edit(*standing, row, col, true, 0, supply, demand, u, u_len, v, v_len, plan, plan_len) };
-    standing.take(&r)
+    let r = unsafe {
+        ffi::panel_edit(*standing, row, col, amounts, cost, supply, demand, u, u_len, v, v_len, plan, plan_len)
+    };
+    Refusal::check(r.refusal, 0)?;
+    *standing = r.after;
+    Ok(Solved { cost: r.cost, rounds: r.rounds })
 }
