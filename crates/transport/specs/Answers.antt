@@ -110,10 +110,14 @@ solveSays m n (SolveAnswer.Refused k) u v plan = refusedBy k
 -- ---- set up and edit: the answers cross to C as they are, so `refusal` is 0 or the number
 
 unfoldable pub setUpAnswer : Answer Standing → SetUpAnswer
-setUpAnswer (refused r) =
-    record { refusal = r .number; standing = record { sheet = structOf (sheetOf [] [] []); tableau = noTableau; counter = 0 } }
-setUpAnswer (given St) =
-    record { refusal = 0; standing = record { sheet = structOf (St .sheet); tableau = St .tableau; counter = St .counter } }
+setUpAnswer (refused r) = record {
+  refusal = r .number;
+  standing = record { sheet = structOf (sheetOf [] [] []); tableau = noTableau; counter = 0 };
+}
+setUpAnswer (given St) = record {
+  refusal = 0;
+  standing = record { sheet = structOf (St .sheet); tableau = St .tableau; counter = St .counter };
+}
 
 -- A refusal gives the standing sheet back as it was.
 unfoldable pub editAnswer : Answer Solution → Declared.Standing → Declared.Standing → EditAnswer

@@ -66,7 +66,8 @@ maxCounter = 2 ^ 64 - 1
 -- 12: the edit names a roastery or café not on the sheet, or the counter is at its largest value.
 unfoldable pub badEdit : Standing → Edit → Bool × ℕ
 badEdit St e =
-    (not (ltb (e .row) (roasteries (St .sheet)) && ltb (e .col) (cafes (St .sheet))) || eqb (St .counter) maxCounter, 12)
+    let S = St .sheet in
+    (not (ltb (e .row) (roasteries S) && ltb (e .col) (cafes S)) || eqb (St .counter) maxCounter, 12)
 
 -- The first check, then 12, then solve's refusals for the edited sheet, of which 8 is the last.
 unfoldable pub editTests : Standing → Edit → ℕ → ℕ → ℕ → List (Bool × ℕ)

@@ -23,7 +23,8 @@
 --   BestExactly              the plan bought for a balanced sheet: demands/Bought.bought-balanced
 --   EqualPrices              of any two finished tableaux: demands/EqualPrices.equal-prices
 --   FromNothing              an accepted edit: demands/FromNothing.from-nothing
---   Passes (Standing)        what is set up, and what stands after any edit: demands/FromNothing.set-up-stands, edit-stands
+--   Passes (Standing)        what is set up, and what stands after any edit:
+--                            demands/FromNothing.set-up-stands, edit-stands
 --   SheetTextOf              exactly the texts that the definition reads: grammar/Place.reader-iff
 --   Place                    the place that read sheet gives with 9: grammar/Place.place
 --   Undo                     write sheet and read sheet: grammar/SheetCalls.undo
