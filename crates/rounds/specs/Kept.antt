@@ -99,7 +99,13 @@ module _ {P : Problem} {T : List Cell} {cost price : List ℤ} {m n : ℕ} (b : 
 
   pub in-range : InRange cost price m n
   in-range = let s = priced-sides in
-      record { rows = s .rowsHigh; some = s .colsLow; columns = s .colsHigh; costs = b .costs .small; prices = price-small }
+      record {
+        rows = s .rowsHigh;
+        some = s .colsLow;
+        columns = s .colsHigh;
+        costs = b .costs .small;
+        prices = price-small;
+      }
 
   reduced-are : (i j : ℕ) → i < m → j < n → reducedAt cost price m i j ≡ reducedCost P T (lane i j)
   unfolding reducedCost
@@ -142,7 +148,8 @@ module _ {P : Problem} {T : List Cell} {cost price : List ℤ} {m n : ℕ} (b : 
                 (λ i j x y r. rw (is-reduced, ← reduced-are i j x y) (found .least i j x y));
             first = λ k l. at-place k (omega (arith, below, length-lanes M N)) (λ t. ltZ (reducedCost P T (lane row col)) (reducedCost P T t) ≡ true)
                 (λ i j x y r. rw (is-reduced, ← reduced-are i j x y)
-                (found .first i j x y (place-order N i j row col (omega (arith, b .columns)) (on-sheet .1) (omega (arith, b .columns, priced-sides .colsHigh))
+                (found .first i j x y (place-order N i j row col (omega (arith, b .columns)) (on-sheet .1)
+                (omega (arith, b .columns, priced-sides .colsHigh))
                 (omega arith))));
           })
 
@@ -200,7 +207,8 @@ module _ {P : Problem} {T : List Cell} {bags marks cost price slack : List ℤ} 
 
       pub lane-enters : Enters P T row col
       lane-enters = let inside = rw (scanned-enters kept-priced w t) at (entering-inside (b .sound) T) in
-          record { inRow = inside .0; inCol = inside .1; new = rw (scanned-enters kept-priced w t) at (entering-new (b .sound) T unfinished (board-belongs b)) }
+          let new = entering-new (b .sound) T unfinished (board-belongs b) in
+          record { inRow = inside .0; inCol = inside .1; new = rw (scanned-enters kept-priced w t) at new }
 
       reduced-small : natAbs reduced ≤ costAbove + 2 * maxPotential
       reduced-small = let c = getD cost (col * stride + row) (pos 0) in

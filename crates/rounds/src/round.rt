@@ -76,7 +76,10 @@ pub fn test_finished(
     m: usize,
     n: usize,
 ) -> bool
-    requires { ⌜ ((P : Problem) × (T : List Cell) × (q : List ℤ) × (e : List ℤ) × Begun P T q e (now cost) (now leaf) (now other) (now lane) m n) ⌝ }
+    requires { ⌜
+        ((P : Problem) × (T : List Cell) × (q : List ℤ) × (e : List ℤ)
+        × Begun P T q e (now cost) (now leaf) (now other) (now lane) m n)
+        ⌝ }
     ensures { λ r. ⌜
         ((P : Problem) (T : List Cell) (q e : List ℤ)
         → Begun P T q e (now (cost .entry)) (now (leaf .entry)) (now (other .entry)) (now (lane .entry)) m n
