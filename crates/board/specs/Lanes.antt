@@ -4,7 +4,8 @@ use Rattle.prelude.specs.Words.{⊎-elim, Bool, true, false, true≢false, List
 use Rattle.prelude.specs.Words.{List·Memᴰ·not-nil, List·Memᴰ·cases-cons, ℤ, pos, length, take, drop, getD, set, replicate, length-append, length-map}
 use Rattle.prelude.specs.Words.{length-replicate, getD-take, by-cases}
 use Rattle.transport.specs.Lists.{keep, table, below, padded}
-use Rattle.transport.specs.Laws.ListLaws.{table-zero, table-split, table-first, table-cong, table-getD, fill-one, member-at, keep-member, map-table}
+use Rattle.transport.specs.Laws.ListLaws.{table-zero, table-split, table-first, table-cong, table-getD, fill-one}
+use Rattle.transport.specs.Laws.ListLaws.{member-at, keep-member, map-table}
 use Rattle.transport.specs.Laws.ListLaws.{drop-replicate}
 use Rattle.transport.specs.Laws.ListLaws.{keep-append, keep-yes, keep-no, keep-none, keep-map, keep-cong, table-member, length-table, getD-table, map-member}
 use Rattle.transport.specs.Laws.ListLaws.{member-map, is-false}

@@ -47,7 +47,7 @@ module _ {cost : List ℤ} {cafes : ℕ} {rows cols : List ℕ} {row col : ℕ} 
       (λ e. other (place-injective cafes (at rows i) (at cols j) row col (g .columns j l) (g .onSheet) e))
 
   -- If one of the two parties is struck, nothing changes.
-  pub respread-struck : ((i j : ℕ) → i < length rows → j < length cols → ¬ ((at rows i ≡ row) × (at cols j ≡ col)))
+  respread-struck : ((i j : ℕ) → i < length rows → j < length cols → ¬ ((at rows i ≡ row) × (at cols j ≡ col)))
       → Spread new cafes rows cols out
   respread-struck none = record {
     long = w .long;
@@ -57,7 +57,7 @@ module _ {cost : List ℤ} {cafes : ℕ} {rows cols : List ℕ} {row col : ℕ} 
   }
 
   -- Else the lane's place is stored.
-  pub respread-lane : (i j : ℕ) → i < length rows → j < length cols → at rows i ≡ row → at cols j ≡ col
+  respread-lane : (i j : ℕ) → i < length rows → j < length cols → at rows i ≡ row → at cols j ≡ col
       → Spread new cafes rows cols (set out (j * stride + i) c)
   unfolding atZ
   respread-lane i j l h is-row is-col = record {
