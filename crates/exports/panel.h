@@ -32,8 +32,7 @@ enum panel_refusal {
     PANEL_NOT_SHEET_TEXT = 9,  /* the text is not a sheet text */
     PANEL_CROWDED = 10,        /* total supply is greater than total demand, and there are 32 sinks: no room for the extra café */
     PANEL_IDLE = 11,           /* total demand is 0 */
-    PANEL_BAD_EDIT = 12,       /* an edit names a party not on the sheet, or the counter is at its largest value */
-    PANEL_LATE = 13            /* a roastery has no open quote, or the counter has moved since its quote */
+    PANEL_BAD_EDIT = 12        /* an edit names a roastery or café not on the sheet, or the counter is at its largest value */
 };
 
 enum { PANEL_MAX_SIDE = 32, PANEL_MAX_LANES = 1024, PANEL_MAX_CELLS = 63 };
@@ -66,41 +65,17 @@ struct panel_sheet {
     int64_t cost[PANEL_MAX_LANES];
 };
 
-/* A standing sheet: a sheet with its finished tableau, and the count of accepted edits. Any bytes
- * may be handed to a call: it checks them first, as panel_settle checks sheet and tableau. */
+/* A standing sheet: a sheet with its finished tableau, and the count of accepted edits. The program
+ * keeps it, and may copy and store it. Any bytes may be handed to a call: it checks them first, as
+ * panel_settle checks sheet and tableau. */
 struct panel_standing {
     struct panel_sheet sheet;
     struct panel_tableau tableau;
     uint64_t counter;
 };
 
-/* The kinds of a quote that a call gives. Any greater kind counts as PANEL_AMOUNTS_QUOTE. */
-enum { PANEL_NO_QUOTE = 0, PANEL_COST_QUOTE = 1, PANEL_AMOUNTS_QUOTE = 2 };
-
-/* The open quote of a roastery, whose number is the quote's place in the list: an edit, which names
- * the café `col`; the difference that was quoted; and where the counter stood. If `kind` is
- * PANEL_NO_QUOTE, no quote is open and the other fields have no meaning. Of a new cost, `supply`
- * and `demand` have no meaning, and of new amounts `cost` has none. A call writes 0 in such fields,
- * and does not look at them. */
-struct panel_open_quote {
-    uint64_t kind;
-    size_t col;
-    int64_t cost;
-    uint64_t supply, demand;
-    int64_t difference;
-    uint64_t counter;
-};
-
-/* A desk: a standing sheet, and the open quotes of its roasteries, of which the first m have a
- * meaning. The program keeps it, and may copy and store it. It has no padding. */
-struct panel_desk {
-    struct panel_standing standing;
-    struct panel_open_quote quotes[PANEL_MAX_SIDE];
-};
-
 /* In every result `refusal` is 0, or a number of enum panel_refusal; then the other fields are zeros,
- * but for the place with 9, and for the desk after a quote or a confirm. A refused quote gives the
- * desk back as it was, and a refused confirm gives it back without the quote. */
+ * but for the place with 9, and for the standing sheet of an edit, which is then given back as it was. */
 
 struct panel_start_result {
     uint8_t refusal;
@@ -141,22 +116,15 @@ struct panel_write_result {
 
 struct panel_set_up_result {
     uint8_t refusal;
-    struct panel_desk desk;
+    struct panel_standing standing;
 };
 
-/* The new total minus the old, and the desk after the quote. */
-struct panel_quote_result {
-    uint8_t refusal;
-    int64_t difference;
-    struct panel_desk after;
-};
-
-/* The cost of the plan, the rounds that the edit made, and the desk after the confirm. */
-struct panel_confirm_result {
+/* The cost of the plan, the rounds that the edit made, and the standing sheet after it. */
+struct panel_edit_result {
     uint8_t refusal;
     int64_t cost;
     uint64_t rounds;
-    struct panel_desk after;
+    struct panel_standing after;
 };
 
 /* The first tableau. */
@@ -178,31 +146,25 @@ uint8_t panel_settle(const uint64_t *supply, size_t m, const uint64_t *demand, s
 struct panel_solve_result panel_solve(const uint64_t *supply, size_t m, const uint64_t *demand, size_t n, const int64_t *cost, size_t lanes, int64_t *u,
                                       size_t u_room, int64_t *v, size_t v_room, uint64_t *plan, size_t plan_room);
 
-/* The desk of a sheet: it stands with its finished tableau, no edit is counted, and no quote is
- * open. */
+/* The standing sheet of a sheet, with its finished tableau; no edit is counted yet. */
 struct panel_set_up_result panel_set_up(const uint64_t *supply, size_t m, const uint64_t *demand, size_t n, const int64_t *cost, size_t lanes);
 
-/* A quote: what an edit does to the total. It is then the open quote of source `row`, in place of
- * one that was open before, and nothing else changes. If `amounts` is false, the edit sets the cost
- * of the lane from source `row` to sink `col`; `supply` and `demand` are not looked at. If it is
- * true, the edit sets the supply of `row` and the demand of `col`; `cost` is not looked at. */
-struct panel_quote_result panel_quote(struct panel_desk desk, size_t row, size_t col, bool amounts, int64_t cost,
-                                      uint64_t supply, uint64_t demand);
+/* An edit of a standing sheet. If `amounts` is false, it sets the cost of the lane from source `row` to
+ * sink `col`, and goes on from the kept tableau; `supply` and `demand` are not looked at. If it is true,
+ * it sets the supply of `row` and the demand of `col`, and begins afresh; `cost` is not looked at. The
+ * lists are filled with prices and plan of the edited sheet, as by panel_solve. */
+struct panel_edit_result panel_edit(struct panel_standing standing, size_t row, size_t col, bool amounts, int64_t cost, uint64_t supply,
+                                    uint64_t demand, int64_t *u, size_t u_room, int64_t *v, size_t v_room, uint64_t *plan, size_t plan_room);
 
-static inline struct panel_quote_result panel_quote_cost(struct panel_desk desk, size_t row, size_t col, int64_t cost) {
-    return panel_quote(desk, row, col, false, cost, 0, 0);
+static inline struct panel_edit_result panel_edit_cost(struct panel_standing standing, size_t row, size_t col, int64_t cost, int64_t *u, size_t u_room,
+                                                       int64_t *v, size_t v_room, uint64_t *plan, size_t plan_room) {
+    return panel_edit(standing, row, col, false, cost, 0, 0, u, u_room, v, v_room, plan, plan_room);
 }
 
-static inline struct panel_quote_result panel_quote_amounts(struct panel_desk desk, size_t row, size_t col,
-                                                            uint64_t supply, uint64_t demand) {
-    return panel_quote(desk, row, col, true, 0, supply, demand);
+static inline struct panel_edit_result panel_edit_amounts(struct panel_standing standing, size_t row, size_t col, uint64_t supply, uint64_t demand,
+                                                          int64_t *u, size_t u_room, int64_t *v, size_t v_room, uint64_t *plan, size_t plan_room) {
+    return panel_edit(standing, row, col, true, 0, supply, demand, u, u_room, v, v_room, plan, plan_room);
 }
-
-/* A confirm: carries out the open quote of source `row`, and uses it up, also if it is refused. A
- * new cost goes on from the kept tableau, and new amounts begin afresh. The lists are filled with
- * prices and plan of the edited sheet, as by panel_solve. */
-struct panel_confirm_result panel_confirm(struct panel_desk desk, size_t row, int64_t *u, size_t u_room, int64_t *v,
-                                          size_t v_room, uint64_t *plan, size_t plan_room);
 
 /* The sheet of a sheet text, at the fronts of the three lists; 32, 32 and 1,024 places are always enough. */
 struct panel_read_result panel_read_sheet(const uint8_t *text, size_t length, uint64_t *supply, size_t supply_room, uint64_t *demand, size_t demand_room,

@@ -3,7 +3,7 @@
 //! They ask that every pointer and length are those of a list that may be read, and written where the pointer is `*mut`; that the pointer is aligned and
 //! not null; and that no list that is written overlaps another. A slice's pointer and length are such, also when it is empty, and what a `&mut` slice lends
 //! overlaps nothing else.
-use crate::{Cell, Desk, Tableau, MAX_SIDE};
+use crate::{Cell, Standing, Tableau, MAX_SIDE};
 
 #[repr(C)]
 pub struct StartResult {
@@ -38,22 +38,15 @@ pub struct SolveResult {
 #[repr(C)]
 pub struct SetUpResult {
     pub refusal: u8,
-    pub desk: Desk,
+    pub standing: Standing,
 }
 
 #[repr(C)]
-pub struct QuoteResult {
-    pub refusal: u8,
-    pub difference: i64,
-    pub after: Desk,
-}
-
-#[repr(C)]
-pub struct ConfirmResult {
+pub struct EditResult {
     pub refusal: u8,
     pub cost: i64,
     pub rounds: u64,
-    pub after: Desk,
+    pub after: Standing,
 }
 
 #[repr(C)]
@@ -100,14 +93,10 @@ extern "C" {
         supply: *const u64, m: usize, demand: *const u64, n: usize, cost: *const i64, lanes: usize,
     ) -> SetUpResult;
 
-    pub fn panel_quote(
-        desk: Desk, row: usize, col: usize, amounts: bool, cost: i64, supply: u64, demand: u64,
-    ) -> QuoteResult;
-
-    pub fn panel_confirm(
-        desk: Desk, row: usize,
+    pub fn panel_edit(
+        standing: Standing, row: usize, col: usize, amounts: bool, cost: i64, supply: u64, demand: u64,
         u: *mut i64, u_room: usize, v: *mut i64, v_room: usize, plan: *mut u64, plan_room: usize,
-    ) -> ConfirmResult;
+    ) -> EditResult;
 
     pub fn panel_read_sheet(
         text: *const u8, length: usize,

@@ -1,8 +1,7 @@
 //! The calls of the bag plan panel, safe to use from Rust.
 //!
-//! The functions stand for the C functions of `crates/exports/panel.h`: they work on lent lists
-//! and allocate nothing. A call that refuses changes nothing that was lent to it, but for the quote
-//! that a confirm uses up. The methods of [`Sheet`] and [`Desk`] are the same calls with results
+//! The functions stand for the C functions of `crates/exports/panel.h`: they work on lent lists and allocate nothing. A call that refuses changes nothing
+//! that was lent to it. The methods of [`Sheet`] and [`Standing`] are the same calls with results
 //! that are owned. `docs/EMBEDDING.md` says more.
 //!
 //! ```
@@ -14,15 +13,13 @@
 //! ```
 #![deny(unsafe_op_in_unsafe_fn, missing_docs)]
 
-mod desk;
 mod ffi;
 mod refusal;
 mod standing;
 mod tableau;
 
-pub use desk::{confirm, quote_amounts, quote_cost, set_up, Change, Desk, KeptQuote, Quote};
 pub use refusal::Refusal;
-pub use standing::{KeptSheet, Standing};
+pub use standing::{edit_amounts, edit_cost, set_up, KeptSheet, Standing};
 pub use tableau::{Cell, Pair, Tableau};
 
 /// The most roasteries, and the most cafés, of a sheet.
@@ -63,12 +60,12 @@ pub struct Run {
     pub tableau: Tableau,
 }
 
-/// What solve, or a confirm, gives beside the lists that it fills.
+/// What solve, or an edit, gives beside the lists that it fills.
 #[derive(Clone, Copy, Debug, PartialEq, Eq)]
 pub struct Solved {
     /// The cost of the plan, in cents; below 0 where the plan earns money.
     pub cost: i64,
-    /// The rounds to the first finished tableau: from the start, or from where the edit began.
+    /// The rounds to the first finished tableau: from the start, or from where an edit began.
     pub rounds: u64,
 }
 
@@ -189,12 +186,12 @@ pub struct Sheet {
     pub cost: Vec<i64>,
 }
 
-/// What solve, or a confirm, gives, owned.
+/// What solve, or an edit, gives, owned.
 #[derive(Clone, Debug, PartialEq, Eq)]
 pub struct Solution {
     /// The cost of the plan, in cents; below 0 where the plan earns money.
     pub cost: i64,
-    /// The rounds to the first finished tableau: from the start, or from where the edit began.
+    /// The rounds to the first finished tableau: from the start, or from where an edit began.
     pub rounds: u64,
     /// The prices of the roasteries.
     pub u: Vec<i64>,
@@ -254,8 +251,8 @@ impl Sheet {
         Solution::owned(m, n, |u, v, plan| solve(&self.supply, &self.demand, &self.cost, u, v, plan))
     }
 
-    /// The desk of the sheet; no edit is counted, and no quote is open.
-    pub fn set_up(&self) -> Result<Desk, Refusal> {
+    /// The standing sheet, with its finished tableau; no edit is counted yet.
+    pub fn set_up(&self) -> Result<Standing, Refusal> {
         set_up(&self.supply, &self.demand, &self.cost)
     }
 }

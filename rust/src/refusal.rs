@@ -32,12 +32,10 @@ pub enum Refusal {
     /// 12: an edit names a roastery or café not on the sheet, or the counter is at its largest
     /// value.
     BadEdit,
-    /// 13: a roastery has no open quote, or the counter has moved since its quote.
-    Late,
 }
 
 impl Refusal {
-    /// The number of the refusal, 1 to 13.
+    /// The number of the refusal, 1 to 12.
     pub fn number(self) -> u8 {
         match self {
             Refusal::Sides => 1,
@@ -52,7 +50,6 @@ impl Refusal {
             Refusal::Crowded => 10,
             Refusal::Idle => 11,
             Refusal::BadEdit => 12,
-            Refusal::Late => 13,
         }
     }
 
@@ -72,7 +69,6 @@ impl Refusal {
             10 => Refusal::Crowded,
             11 => Refusal::Idle,
             12 => Refusal::BadEdit,
-            13 => Refusal::Late,
             _ => unreachable!("no call refuses with {number}"),
         })
     }
@@ -93,7 +89,6 @@ impl fmt::Display for Refusal {
             Refusal::Crowded => write!(f, "total supply is greater than total demand, with {MAX_SIDE} cafés"),
             Refusal::Idle => write!(f, "total demand is 0"),
             Refusal::BadEdit => write!(f, "the edit names a party not on the sheet, or the counter is at its largest value"),
-            Refusal::Late => write!(f, "the roastery has no open quote, or the counter has moved since"),
         }
     }
 }

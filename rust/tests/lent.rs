@@ -1,5 +1,5 @@
 //! Lent lists: what a call fills, what it leaves, and every refusal, by its number. `tableaux.rs`
-//! has 6, and `standing.rs` has quotes, confirms, 12 and 13.
+//! has 6, and `standing.rs` has edits and 12.
 mod common;
 use common::{
     both_signs, both_signs_last, cell, closed, closed_last, dear, dear_last, earns, first_empty, last_closed, p1, p1_last, p3, p4, p5, p6, p7, p8,
@@ -261,8 +261,8 @@ fn settle_with_marks() {
 fn refusals_by_number_and_name() {
     use Refusal::*;
     let first = [Sides, CostCount, Amount, Cost, Lacking, ForeignTableau, Unfinished, Room];
-    let then = [NotSheetText { place: 38 }, Crowded, Idle, BadEdit, Late];
-    assert!(first.iter().chain(&then).map(|r| r.number()).eq(1..=13));
+    let then = [NotSheetText { place: 38 }, Crowded, Idle, BadEdit];
+    assert!(first.iter().chain(&then).map(|r| r.number()).eq(1..=12));
     assert_eq!(Amount.to_string(), "a supply or demand is above 1,000,000");
     assert_eq!(Cost.to_string(), "a cost is outside -1,000,000 to 1,000,000");
     assert_eq!(Lacking.to_string(), "total demand is greater than total supply");
@@ -270,5 +270,4 @@ fn refusals_by_number_and_name() {
     assert_eq!(Crowded.to_string(), "total supply is greater than total demand, with 32 cafés");
     assert_eq!(Idle.to_string(), "total demand is 0");
     assert_eq!(BadEdit.to_string(), "the edit names a party not on the sheet, or the counter is at its largest value");
-    assert_eq!(Late.to_string(), "the roastery has no open quote, or the counter has moved since");
 }

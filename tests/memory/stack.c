@@ -17,7 +17,7 @@ static int64_t cost[LANES], u[SIDE], v[SIDE];
 static uint8_t sheet_text[SHEET_TEXT], plan_text[PLAN_TEXT];
 static size_t sheet_length;
 static struct panel_tableau first, last;
-static struct panel_desk desk, cost_quoted, amounts_quoted;
+static struct panel_standing standing;
 static int refusal;
 
 #define SHEET supply, SIDE, demand, cafes, cost, SIDE * cafes
@@ -46,26 +46,16 @@ static void solve(void) { refusal = panel_solve(SHEET, SOLVED).refusal; }
 static void set_up(void) {
     struct panel_set_up_result r = panel_set_up(SHEET);
     refusal = r.refusal;
-    desk = r.desk;
+    standing = r.standing;
 }
 
-/* Both quotes are at the desk as it was set up. The first roastery and the first café always have a
- * bag. */
-static void quote_cost(void) {
-    struct panel_quote_result r = panel_quote_cost(desk, 0, 0, -1000000);
-    refusal = r.refusal;
-    cost_quoted = r.after;
+/* Both edits are of the standing sheet as it was set up. The first roastery and the first café
+ * always have a bag. */
+static void edit_cost(void) { refusal = panel_edit_cost(standing, 0, 0, -1000000, SOLVED).refusal; }
+
+static void edit_amounts(void) {
+    refusal = panel_edit_amounts(standing, 0, 0, supply[0] - 1, demand[0] - 1, SOLVED).refusal;
 }
-
-static void quote_amounts(void) {
-    struct panel_quote_result r = panel_quote_amounts(desk, 0, 0, supply[0] - 1, demand[0] - 1);
-    refusal = r.refusal;
-    amounts_quoted = r.after;
-}
-
-static void confirm_cost(void) { refusal = panel_confirm(cost_quoted, 0, SOLVED).refusal; }
-
-static void confirm_amounts(void) { refusal = panel_confirm(amounts_quoted, 0, SOLVED).refusal; }
 
 static void write_sheet(void) {
     struct panel_write_result r = panel_write_sheet(SHEET, sheet_text, SHEET_TEXT);
@@ -91,20 +81,10 @@ static const struct {
     const char *name;
     void (*make)(void);
 } calls[] = {
-    {"start", start},
-    {"round", round_},
-    {"run", run},
-    {"settle", settle},
-    {"solve", solve},
-    {"set up", set_up},
-    {"quote cost", quote_cost},
-    {"quote amounts", quote_amounts},
-    {"confirm cost", confirm_cost},
-    {"confirm amounts", confirm_amounts},
-    {"write sheet", write_sheet},
-    {"read sheet", read_sheet},
-    {"write plan", write_plan},
-    {"the program", program},
+    {"start", start},           {"round", round_},              {"run", run},
+    {"settle", settle},         {"solve", solve},               {"set up", set_up},
+    {"edit cost", edit_cost},   {"edit amounts", edit_amounts}, {"write sheet", write_sheet},
+    {"read sheet", read_sheet}, {"write plan", write_plan},     {"the program", program},
 };
 enum { CALLS = sizeof calls / sizeof *calls };
 

@@ -6,19 +6,10 @@
 #include <sstream>
 
 // All of it is numbers of 64 bits, without gaps, so that it may be compared number by number.
-static const size_t cell_words = 4, quote_words = 7;
-static const size_t sheet_words = 2 + 2 * PANEL_MAX_SIDE + PANEL_MAX_LANES, cells_words = cell_words * PANEL_MAX_CELLS;
-static const size_t standing_words = sheet_words + cells_words + 2;
-static const size_t desk_words = standing_words + quote_words * PANEL_MAX_SIDE;
-static_assert(sizeof(panel_standing) == 8 * standing_words && sizeof(panel_standing) == 10'752,
-              "a standing sheet has no gaps");
-static_assert(sizeof(Quote) == 8 * quote_words && sizeof(Quote) == 56, "a quote has no gaps");
-static_assert(sizeof(panel_desk) == 8 * desk_words && sizeof(panel_desk) == 12'544, "a desk has no gaps");
+static const size_t cell_words = 4, standing_words = 2 + 2 * PANEL_MAX_SIDE + PANEL_MAX_LANES + cell_words * PANEL_MAX_CELLS + 2;
+static_assert(sizeof(panel_standing) == 8 * standing_words, "a standing sheet has no gaps");
 
-Lending any_lending(Dice &dice) {
-    return {(unsigned)dice.below(256), dice.once_in(4), dice.once_in(2), (unsigned char)dice.below(256),
-            dice.once_in(2)};
-}
+Lending any_lending(Dice &dice) { return {(unsigned)dice.below(256), dice.once_in(4), dice.once_in(2), (unsigned char)dice.below(256)}; }
 
 // ---- what is lent to a call
 
@@ -125,43 +116,25 @@ Outcome outcome_of_set_up(const Lists &lists, const Lending &lending) {
     Outcome outcome;
     Loans loans(lending);
     LentSheet lent = lend(loans, lists, lending);
-    const size_t m = lists.supply.size(), n = lists.demand.size();
-    auto call = [&] { return panel_set_up(lent.supply, m, lent.demand, n, lent.cost, lists.cost.size()); };
-    outcome.desk = result_of<panel_set_up_result>(loans, outcome, call).desk;
+    auto call = [&] { return panel_set_up(lent.supply, lists.supply.size(), lent.demand, lists.demand.size(), lent.cost, lists.cost.size()); };
+    outcome.standing = result_of<panel_set_up_result>(loans, outcome, call).standing;
     return outcome;
 }
 
-static Outcome outcome_of_quote(const panel_desk &desk, const Edit &edit, const Lending &lending) {
-    Outcome outcome;
-    Loans loans(lending);
-    auto call = [&] {
-        if (lending.outright)
-            return panel_quote(desk, edit.row, edit.col, !edit.of_cost, edit.cost, edit.supply, edit.demand);
-        if (edit.of_cost) return panel_quote_cost(desk, edit.row, edit.col, edit.cost);
-        return panel_quote_amounts(desk, edit.row, edit.col, edit.supply, edit.demand);
-    };
-    auto result = result_of<panel_quote_result>(loans, outcome, call);
-    outcome.difference = result.difference;
-    outcome.desk = result.after;
-    return outcome;
-}
-
-static Outcome outcome_of_confirm(const panel_desk &desk, size_t row, const Rooms &rooms, const Lending &lending) {
+Outcome outcome_of_edit(const panel_standing &standing, const Edit &edit, const Rooms &rooms, const Lending &lending) {
     Outcome outcome;
     Loans loans(lending);
     LentRooms lent = lend(loans, rooms);
-    auto call = [&] { return panel_confirm(desk, row, lent.u, rooms[0], lent.v, rooms[1], lent.plan, rooms[2]); };
-    auto result = result_of<panel_confirm_result>(loans, outcome, call);
+    auto call = [&] {
+        if (edit.of_cost) return panel_edit_cost(standing, edit.row, edit.col, edit.cost, lent.u, rooms[0], lent.v, rooms[1], lent.plan, rooms[2]);
+        return panel_edit_amounts(standing, edit.row, edit.col, edit.supply, edit.demand, lent.u, rooms[0], lent.v, rooms[1], lent.plan, rooms[2]);
+    };
+    auto result = result_of<panel_edit_result>(loans, outcome, call);
     outcome.cost = result.cost;
     outcome.rounds = result.rounds;
-    outcome.desk = result.after;
+    outcome.standing = result.after;
     outcome.filled = filled(loans);
     return outcome;
-}
-
-Outcome outcome_of_act(const panel_desk &desk, const Act &act, const Lending &lending) {
-    return act.is_quote ? outcome_of_quote(desk, act.edit, lending)
-                        : outcome_of_confirm(desk, act.row, act.rooms, lending);
 }
 
 Outcome outcome_of_solve(const Lists &lists, const Rooms &rooms, const Lending &lending) {
@@ -169,10 +142,9 @@ Outcome outcome_of_solve(const Lists &lists, const Rooms &rooms, const Lending &
     Loans loans(lending);
     LentSheet sheet = lend(loans, lists, lending);
     LentRooms lent = lend(loans, rooms);
-    const size_t m = lists.supply.size(), n = lists.demand.size(), lanes = lists.cost.size();
     auto call = [&] {
-        return panel_solve(sheet.supply, m, sheet.demand, n, sheet.cost, lanes, lent.u, rooms[0], lent.v, rooms[1],
-                           lent.plan, rooms[2]);
+        return panel_solve(sheet.supply, lists.supply.size(), sheet.demand, lists.demand.size(), sheet.cost, lists.cost.size(), lent.u, rooms[0], lent.v,
+                           rooms[1], lent.plan, rooms[2]);
     };
     auto result = result_of<panel_solve_result>(loans, outcome, call);
     outcome.cost = result.cost;
@@ -183,12 +155,12 @@ Outcome outcome_of_solve(const Lists &lists, const Rooms &rooms, const Lending &
 
 // ---- storing
 
-Bytes stored(const panel_desk &desk) { return Bytes((const char *)&desk, sizeof desk); }
+Bytes stored(const panel_standing &standing) { return Bytes((const char *)&standing, sizeof standing); }
 
-panel_desk restored(const Bytes &bytes) {
-    panel_desk desk;
-    std::memcpy(&desk, bytes.data(), sizeof desk);
-    return desk;
+panel_standing restored(const Bytes &bytes) {
+    panel_standing standing;
+    std::memcpy(&standing, bytes.data(), sizeof standing);
+    return standing;
 }
 
 // ---- telling: numbers are shown as signed ones
@@ -201,20 +173,19 @@ template <class Numbers> static void show(std::ostream &text, const char *name, 
 
 std::string shown(const Lists &lists) {
     std::ostringstream text;
-    text << "  panel_set_up, " << lists.supply.size() << " supplies, " << lists.demand.size() << " demands, "
-         << lists.cost.size() << " costs\n";
+    text << "  panel_set_up, " << lists.supply.size() << " supplies, " << lists.demand.size() << " demands, " << lists.cost.size() << " costs\n";
     show(text, "supply", lists.supply, lists.supply.size());
     show(text, "demand", lists.demand, lists.demand.size());
     show(text, "cost", lists.cost, lists.cost.size());
     return text.str();
 }
 
-static void show(std::ostream &text, const panel_standing &standing) {
+std::string shown(const panel_standing &standing) {
     const panel_sheet &sheet = standing.sheet;
     const panel_tableau &tableau = standing.tableau;
     size_t m = std::min<size_t>(sheet.m, PANEL_MAX_SIDE), n = std::min<size_t>(sheet.n, PANEL_MAX_SIDE);
-    text << "  standing: m " << sheet.m << ", n " << sheet.n << ", count " << tableau.count << ", counter "
-         << standing.counter << "\n";
+    std::ostringstream text;
+    text << "  standing: m " << sheet.m << ", n " << sheet.n << ", count " << tableau.count << ", counter " << standing.counter << "\n";
     show(text, "supply", sheet.supply, m);
     show(text, "demand", sheet.demand, n);
     show(text, "cost", sheet.cost, m * n);
@@ -224,69 +195,33 @@ static void show(std::ostream &text, const panel_standing &standing) {
         text << " (" << cell.row << "," << cell.col << ")=(" << cell.amount.q << "," << cell.amount.e << ")";
     }
     text << "\n";
-}
-
-// Quotes that are all zeros are left out.
-static void show(std::ostream &text, const Quote &quote, size_t row) {
-    static const Quote none = {};
-    if (std::memcmp(&quote, &none, sizeof quote) == 0) return;
-    text << "  quote " << row << ": kind " << quote.kind << ", col " << quote.col << ", cost " << quote.cost
-         << ", supply " << quote.supply << ", demand " << quote.demand << ", difference " << quote.difference
-         << ", counter " << quote.counter << "\n";
-}
-
-std::string shown(const panel_desk &desk) {
-    std::ostringstream text;
-    show(text, desk.standing);
-    for (size_t row = 0; row < PANEL_MAX_SIDE; row++) show(text, desk.quotes[row], row);
     return text.str();
 }
 
-static void show_quote(std::ostream &text, const Edit &edit, const Lending &lending) {
-    text << "  panel_quote"
-         << (lending.outright ? ""
-             : edit.of_cost   ? "_cost"
-                              : "_amounts")
-         << ", row " << edit.row << ", col " << edit.col;
-    if (lending.outright) text << ", amounts " << !edit.of_cost;
-    if (edit.of_cost || lending.outright) text << ", cost " << edit.cost;
-    if (!edit.of_cost || lending.outright) text << ", supply " << edit.supply << ", demand " << edit.demand;
-}
-
-std::string shown(const Act &act, const Lending &lending) {
+std::string shown(const Edit &edit, const Rooms &rooms, const Lending &lending) {
     std::ostringstream text;
-    if (act.is_quote) show_quote(text, act.edit, lending);
-    else
-        text << "  panel_confirm, row " << act.row << ", rooms " << act.rooms[0] << " " << act.rooms[1] << " "
-             << act.rooms[2];
-    text << ", lists at the end of their pages " << lending.at_end << ", first byte " << (int)lending.first_byte
-         << "\n";
+    text << "  panel_edit_" << (edit.of_cost ? "cost" : "amounts") << ", row " << edit.row << ", col " << edit.col;
+    if (edit.of_cost) text << ", cost " << edit.cost;
+    else text << ", supply " << edit.supply << ", demand " << edit.demand;
+    text << ", rooms " << rooms[0] << " " << rooms[1] << " " << rooms[2] << ", lists at the end of their pages " << lending.at_end << ", first byte "
+         << (int)lending.first_byte << "\n";
     return text.str();
 }
 
-// What the number at this place of a desk is.
+// What the number at this place of a standing sheet is.
 static std::string name_of_word(size_t place) {
     struct Part {
         const char *name;
         size_t count;
     };
-    static const Part parts[] = {
-        {"m", 1}, {"n", 1}, {"supply", PANEL_MAX_SIDE}, {"demand", PANEL_MAX_SIDE}, {"cost", PANEL_MAX_LANES}};
+    static const Part parts[] = {{"m", 1}, {"n", 1}, {"supply", PANEL_MAX_SIDE}, {"demand", PANEL_MAX_SIDE}, {"cost", PANEL_MAX_LANES}};
     static const char *const of_cell[cell_words] = {"row", "col", "q", "e"};
-    static const char *const of_quote[quote_words] = {"kind",   "col",        "cost",   "supply",
-                                                      "demand", "difference", "counter"};
-    auto part_of = [&](const char *const *names, size_t words, const char *whole) {
-        return names[place % words] + (" of " + (whole + std::to_string(place / words)));
-    };
     for (const Part &part : parts) {
         if (place < part.count) return part.name + (part.count > 1 ? " " + std::to_string(place) : "");
         place -= part.count;
     }
-    if (place < cells_words) return part_of(of_cell, cell_words, "cell ");
-    place -= cells_words;
-    if (place < 2) return place == 0 ? "count" : "counter";
-    place -= 2;
-    return part_of(of_quote, quote_words, "quote ");
+    if (place < cell_words * PANEL_MAX_CELLS) return std::string(of_cell[place % cell_words]) + " of cell " + std::to_string(place / cell_words);
+    return place == cell_words * PANEL_MAX_CELLS ? "count" : "counter";
 }
 
 static void compare(std::ostream &text, const std::string &name, Whole expected, Whole seen) {
@@ -299,13 +234,10 @@ static Whole number_at(const Bytes &list, size_t place) {
     return number;
 }
 
-static void compare(std::ostream &text, const Bytes &expected, const Bytes &seen,
-                    const std::function<std::string(size_t)> &name_of) {
-    if (expected.size() != seen.size())
-        text << "  " << name_of(0) << ": expected " << expected.size() << " bytes, seen " << seen.size() << "\n";
+static void compare(std::ostream &text, const Bytes &expected, const Bytes &seen, const std::function<std::string(size_t)> &name_of) {
+    if (expected.size() != seen.size()) text << "  " << name_of(0) << ": expected " << expected.size() << " bytes, seen " << seen.size() << "\n";
     if (expected == seen || expected.size() != seen.size()) return;
-    for (size_t place = 0; place < expected.size() / 8; place++)
-        compare(text, name_of(place), number_at(expected, place), number_at(seen, place));
+    for (size_t place = 0; place < expected.size() / 8; place++) compare(text, name_of(place), number_at(expected, place), number_at(seen, place));
 }
 
 std::string difference_of(const Outcome &expected, const Outcome &seen) {
@@ -313,13 +245,11 @@ std::string difference_of(const Outcome &expected, const Outcome &seen) {
     std::ostringstream text;
     for (const std::string &damage : seen.damage) text << "  " << damage << "\n";
     compare(text, "refusal", expected.refusal, seen.refusal);
-    compare(text, "difference", expected.difference, seen.difference);
     compare(text, "cost of the plan", expected.cost, seen.cost);
     compare(text, "rounds", (Whole)expected.rounds, (Whole)seen.rounds);
-    compare(text, stored(expected.desk), stored(seen.desk), name_of_word);
+    compare(text, stored(expected.standing), stored(seen.standing), name_of_word);
     for (size_t k = 0; k < std::min(expected.filled.size(), seen.filled.size()); k++)
-        compare(text, expected.filled[k], seen.filled[k],
-                [&](size_t place) { return "place " + std::to_string(place) + " of " + lists[k]; });
+        compare(text, expected.filled[k], seen.filled[k], [&](size_t place) { return "place " + std::to_string(place) + " of " + lists[k]; });
     if (expected.filled.size() != seen.filled.size()) text << "  other lists are filled\n";
     return text.str();
 }

@@ -1,5 +1,5 @@
-// What set up, quotes and confirms have to give (paper 02, Five and Six), found with the plain
-// solver of tests/hostile. All that stands is kept here as the structs hold it.
+// What set up and edits have to give (paper 02, Five), found with the plain solver of
+// tests/hostile. All that stands is kept here as the structs hold it.
 #ifndef STANDING_EXPECTED_H
 #define STANDING_EXPECTED_H
 
@@ -14,10 +14,6 @@ Cells cells_of(const panel_tableau &tableau);
 // With zeros behind.
 panel_tableau tableau_struct(const Tableau &tableau);
 panel_standing standing_struct(const Lists &lists, const Tableau &tableau, uint64_t counter);
-// With zeros where there is no meaning.
-Quote quote_struct(const Edit &edit, Whole difference, uint64_t counter);
-// No quote is open.
-panel_desk desk_struct(const panel_standing &standing);
 
 // The first of the first check, which takes any bytes.
 int refusal_of(const panel_standing &standing);
@@ -33,23 +29,14 @@ Lists edited(Lists lists, const Edit &edit);
 // How many places the lists for prices and plan need.
 Rooms needs_of(const panel_standing &standing);
 
-// Whether a roastery, which may be any number, has an open quote at a desk of any bytes; whether
-// the counter is then where it was; and the edit that is quoted.
-bool has_open_quote(const panel_desk &desk, size_t row);
-bool is_in_time(const panel_desk &desk, size_t row);
-Edit quoted_edit(const panel_desk &desk, size_t row);
-
 Outcome expected_set_up(const Lists &lists);
 
 struct Owed {
     Outcome outcome;
-    // The act passes all that comes before the check of the edited sheet: it is refused, or not, as
-    // solve on that sheet is. A quote has no lists that could be too short.
-    bool as_solve;
-    Edit edit;                    // that the act is of, if it is as solve
-    uint64_t rounds_from_nothing; // those of solve, if the act is accepted
+    bool as_solve;                // the edit passes the first check and 12: it is refused, or not, as solve on the edited sheet is
+    uint64_t rounds_from_nothing; // those of solve, if the edit is accepted
 };
 
-Owed expected_act(const panel_desk &desk, const Act &act, const Lending &lending);
+Owed expected_edit(const panel_standing &standing, const Edit &edit, const Rooms &rooms, const Lending &lending);
 
 #endif

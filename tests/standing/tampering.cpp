@@ -1,7 +1,7 @@
 #include "tampering.h"
 #include "../hostile/random_sheets.h"
 #include "../hostile/random_tableaux.h"
-#include "random_acts.h"
+#include "random_edits.h"
 
 #include <algorithm>
 #include <cstring>
@@ -10,27 +10,25 @@ static const uint64_t bit32 = uint64_t{1} << 32, bit63 = uint64_t{1} << 63;
 
 // Near the number, far from it, or with the same last bits.
 static uint64_t odd_number(Dice &dice, uint64_t number) {
-    return dice.one_of<uint64_t>({0, 1, 31, 32, 33, 62, 63, 64, 65, 1'024, number + 1, number - 1, -number, number + 32,
-                                  number + 256, bit32, bit32 + number, bit63 - 1, bit63, bit63 + number, UINT64_MAX,
-                                  UINT64_MAX - 1, dice.any()});
+    return dice.one_of<uint64_t>({0, 1, 31, 32, 33, 62, 63, 64, 65, 1'024, number + 1, number - 1, -number, number + 32, number + 256, bit32, bit32 + number,
+                                  bit63 - 1, bit63, bit63 + number, UINT64_MAX, UINT64_MAX - 1, dice.any()});
 }
 
 static uint64_t odd_amount(Dice &dice, uint64_t amount) {
-    return dice.one_of<uint64_t>({0, 0, 1, amount + 1, amount - 1, most, most + 1, -amount, bit32 + amount, bit63,
-                                  bit63 + amount, UINT64_MAX, dice.any()});
+    return dice.one_of<uint64_t>({0, 0, 1, amount + 1, amount - 1, most, most + 1, -amount, bit32 + amount, bit63, bit63 + amount, UINT64_MAX, dice.any()});
 }
 
 static Whole odd_signed(Dice &dice, Whole number) {
     uint64_t bits = (uint64_t)number;
     auto at = [](uint64_t bits) { return (Whole)bits; };
-    return dice.one_of({0, 1, -1, most, -most, most + 1, -most - 1, at(bits + 1), at(bits - 1), at(-bits),
-                        at(bit32 + bits), at(bit63 + bits), at(bit63), INT64_MAX, INT64_MIN + 1, at(dice.any())});
+    return dice.one_of({0, 1, -1, most, -most, most + 1, -most - 1, at(bits + 1), at(bits - 1), at(-bits), at(bit32 + bits), at(bit63 + bits), at(bit63),
+                        INT64_MAX, INT64_MIN + 1, at(dice.any())});
 }
 
 // ---- the sheet
 
-void tamper_with_sides(Dice &dice, panel_desk &desk) {
-    panel_sheet &sheet = desk.standing.sheet;
+void tamper_with_sides(Dice &dice, panel_standing &standing) {
+    panel_sheet &sheet = standing.sheet;
     size_t one = (size_t)dice.one_of({1, -1});
     switch (dice.below(6)) {
     case 0: return std::swap(sheet.m, sheet.n);
@@ -46,17 +44,13 @@ void tamper_with_sides(Dice &dice, panel_desk &desk) {
 
 // A place at the front, where the struct says that so many are. These may be none, or more than
 // there is room for.
-static size_t any_place(Dice &dice, size_t count, size_t room) {
-    return dice.below(std::max<size_t>(1, std::min(count, room)));
-}
+static size_t any_place(Dice &dice, size_t count, size_t room) { return dice.below(std::max<size_t>(1, std::min(count, room))); }
 
 // One of them becomes odd; or one gets more and another as much less, perhaps modulo 2^64.
-void tamper_with_amounts(Dice &dice, panel_desk &desk) {
-    panel_sheet &sheet = desk.standing.sheet;
-    uint64_t &supply = sheet.supply[any_place(dice, sheet.m, PANEL_MAX_SIDE)];
-    uint64_t &demand = sheet.demand[any_place(dice, sheet.n, PANEL_MAX_SIDE)];
-    uint64_t &other = sheet.supply[any_place(dice, sheet.m, PANEL_MAX_SIDE)];
-    uint64_t &other_demand = sheet.demand[any_place(dice, sheet.n, PANEL_MAX_SIDE)];
+void tamper_with_amounts(Dice &dice, panel_standing &standing) {
+    panel_sheet &sheet = standing.sheet;
+    uint64_t &supply = sheet.supply[any_place(dice, sheet.m, PANEL_MAX_SIDE)], &demand = sheet.demand[any_place(dice, sheet.n, PANEL_MAX_SIDE)];
+    uint64_t &other = sheet.supply[any_place(dice, sheet.m, PANEL_MAX_SIDE)], &other_demand = sheet.demand[any_place(dice, sheet.n, PANEL_MAX_SIDE)];
     uint64_t step = dice.one_of<uint64_t>({1, bit32, bit63, dice.any()});
     switch (dice.below(6)) {
     case 0:
@@ -74,62 +68,48 @@ void tamper_with_amounts(Dice &dice, panel_desk &desk) {
 }
 
 // The last one often.
-void tamper_with_costs(Dice &dice, panel_desk &desk) {
-    panel_sheet &sheet = desk.standing.sheet;
-    size_t lanes = std::min<size_t>(sheet.m, PANEL_MAX_SIDE) * std::min<size_t>(sheet.n, PANEL_MAX_SIDE);
-    size_t place = any_place(dice, lanes, PANEL_MAX_LANES);
+void tamper_with_costs(Dice &dice, panel_standing &standing) {
+    panel_sheet &sheet = standing.sheet;
+    size_t lanes = std::min<size_t>(sheet.m, PANEL_MAX_SIDE) * std::min<size_t>(sheet.n, PANEL_MAX_SIDE), place = any_place(dice, lanes, PANEL_MAX_LANES);
     int64_t &cost = sheet.cost[dice.once_in(4) && lanes > 0 ? lanes - 1 : place];
     cost = odd_signed(dice, cost);
 }
 
 // ---- tableau and counter
 
-void tamper_with_count(Dice &dice, panel_desk &desk) {
-    size_t &count = desk.standing.tableau.count;
-    count = odd_number(dice, count);
-}
+void tamper_with_count(Dice &dice, panel_standing &standing) { standing.tableau.count = odd_number(dice, standing.tableau.count); }
 
-void tamper_with_cells(Dice &dice, panel_desk &desk) {
-    panel_tableau &tableau = desk.standing.tableau;
-    panel_cell &cell = tableau.cells[any_place(dice, tableau.count, PANEL_MAX_CELLS)];
+void tamper_with_cells(Dice &dice, panel_standing &standing) {
+    panel_cell &cell = standing.tableau.cells[any_place(dice, standing.tableau.count, PANEL_MAX_CELLS)];
     switch (dice.below(5)) {
     case 0: cell.row = odd_number(dice, cell.row); return;
     case 1: cell.col = odd_number(dice, cell.col); return;
     case 2: cell.amount.q = odd_signed(dice, cell.amount.q); return;
     case 3: cell.amount.e = odd_signed(dice, cell.amount.e); return;
-    default: std::swap(cell, tableau.cells[any_place(dice, tableau.count, PANEL_MAX_CELLS)]);
+    default: std::swap(cell, standing.tableau.cells[any_place(dice, standing.tableau.count, PANEL_MAX_CELLS)]);
     }
 }
 
-// The quotes in time may stay so.
-void tamper_with_counter(Dice &dice, panel_desk &desk) {
-    const uint64_t before = desk.standing.counter;
-    uint64_t &now = desk.standing.counter;
-    now = dice.one_of<uint64_t>(
-        {0, 1, bit32 - 1, bit32, bit63 - 1, bit63, largest_counter - 1, largest_counter, dice.any()});
-    if (dice.once_in(2)) return;
-    for (Quote &quote : desk.quotes)
-        if (quote.counter == before) quote.counter = now;
+void tamper_with_counter(Dice &dice, panel_standing &standing) {
+    standing.counter = dice.one_of<uint64_t>({0, 1, bit32 - 1, bit32, bit63 - 1, bit63, largest_counter - 1, largest_counter, dice.any()});
 }
 
 // As many cells as there is room for. The count is that of all.
-static void put(panel_tableau &tableau, const Cells &cells) {
+static void put(panel_standing &standing, const Cells &cells) {
     for (size_t k = 0; k < std::min<size_t>(cells.size(), PANEL_MAX_CELLS); k++)
-        tableau.cells[k] = {cells[k].row, cells[k].col, {cells[k].amount.first, cells[k].amount.second}};
-    tableau.count = cells.size();
+        standing.tableau.cells[k] = {cells[k].row, cells[k].col, {cells[k].amount.first, cells[k].amount.second}};
+    standing.tableau.count = cells.size();
 }
 
-void take_false_tableau(Dice &dice, panel_desk &desk) {
+void take_false_tableau(Dice &dice, panel_standing &standing) {
     static const std::vector<Change> changes = {change_count,       put_off_sheet,  change_order, change_amounts,
                                                 change_last_column, change_parties, shift_pairs,  put_noise};
-    Cells cells = cells_of(desk.standing.tableau);
-    dice.one_of(changes)(dice, extended_of(desk.standing), cells);
-    put(desk.standing.tableau, cells);
+    Cells cells = cells_of(standing.tableau);
+    dice.one_of(changes)(dice, extended_of(standing), cells);
+    put(standing, cells);
 }
 
-static bool is_on_sheet(const panel_standing &standing, const Edit &edit) {
-    return edit.row < standing.sheet.m && edit.col < standing.sheet.n;
-}
+static bool is_on_sheet(const panel_standing &standing, const Edit &edit) { return edit.row < standing.sheet.m && edit.col < standing.sheet.n; }
 
 // An edit away.
 static Lists nearby_lists(Dice &dice, const panel_standing &standing) {
@@ -145,148 +125,71 @@ static Lists other_lists(Dice &dice, const panel_standing &standing) {
     return lists_of(filled(dice, blank(m, n)));
 }
 
-void take_other_tableau(Dice &dice, panel_desk &desk) {
-    Lists lists = nearby_lists(dice, desk.standing);
-    if (refusal_of(lists) != no_refusal || dice.once_in(3)) lists = other_lists(dice, desk.standing);
-    desk.standing.tableau = expected_set_up(lists).desk.standing.tableau;
+void take_other_tableau(Dice &dice, panel_standing &standing) {
+    Lists lists = nearby_lists(dice, standing);
+    if (refusal_of(lists) != no_refusal || dice.once_in(3)) lists = other_lists(dice, standing);
+    standing.tableau = expected_set_up(lists).standing.tableau;
 }
 
 static Tableau tableau_in(const panel_standing &standing) { return tableau_of(cells_of(standing.tableau)); }
 
 // On the way to the finished one, or off it.
-void take_unfinished_tableau(Dice &dice, panel_desk &desk) {
-    Sheet extended = extended_of(desk.standing);
+void take_unfinished_tableau(Dice &dice, panel_standing &standing) {
+    Sheet extended = extended_of(standing);
     Path path(extended, start(extended));
     Tableau tableau = path.after(0).tableau;
     switch (dice.below(4)) {
     case 0: break;
     case 1: tableau = path.after(dice.below(path.end().rounds + 1)).tableau; break;
     case 2: tableau = path.after(path.end().rounds - std::min<uint64_t>(1, path.end().rounds)).tableau; break;
-    default: tableau = wandered(dice, extended, tableau_in(desk.standing), 1 + dice.below(3));
+    default: tableau = wandered(dice, extended, tableau_in(standing), 1 + dice.below(3));
     }
-    put(desk.standing.tableau, cells_of(tableau));
+    put(standing, cells_of(tableau));
 }
 
-void take_other_finished_tableau(Dice &dice, panel_desk &desk) {
-    Sheet extended = extended_of(desk.standing);
-    Tableau finished = tableau_in(desk.standing);
-    finished = wandered_among_finished(dice, extended, prices_of(desk.standing), finished, 1 + dice.below(5));
-    put(desk.standing.tableau, cells_of(finished));
+void take_other_finished_tableau(Dice &dice, panel_standing &standing) {
+    Sheet extended = extended_of(standing);
+    put(standing, cells_of(wandered_among_finished(dice, extended, prices_of(standing), tableau_in(standing), 1 + dice.below(5))));
 }
-
-// ---- quotes
-
-// Of a roastery, or behind these.
-static Quote &any_quote(Dice &dice, panel_desk &desk) {
-    size_t row = any_place(dice, desk.standing.sheet.m, PANEL_MAX_SIDE);
-    return desk.quotes[dice.once_in(8) ? dice.below(PANEL_MAX_SIDE) : row];
-}
-
-// Open ones become closed, closed ones open, and some get a kind that no call gives.
-void tamper_with_kinds(Dice &dice, panel_desk &desk) {
-    for (size_t count = 1 + dice.below(4); count > 0; count--) {
-        Quote &quote = any_quote(dice, desk);
-        quote.kind = dice.once_in(3) ? odd_number(dice, quote.kind) : dice.below(4);
-    }
-}
-
-void tamper_with_quoted_edits(Dice &dice, panel_desk &desk) {
-    for (size_t count = 1 + dice.below(4); count > 0; count--) {
-        Quote &quote = any_quote(dice, desk);
-        switch (dice.below(4)) {
-        case 0: quote.col = odd_number(dice, quote.col); break;
-        case 1: quote.cost = odd_signed(dice, quote.cost); break;
-        case 2: quote.supply = odd_amount(dice, quote.supply); break;
-        default: quote.demand = odd_amount(dice, quote.demand);
-        }
-    }
-}
-
-// Late, in time, or too early.
-void tamper_with_quoted_counters(Dice &dice, panel_desk &desk) {
-    const uint64_t now = desk.standing.counter;
-    for (size_t count = 1 + dice.below(4); count > 0; count--)
-        any_quote(dice, desk).counter = dice.once_in(3) ? now : odd_number(dice, now);
-}
-
-void tamper_with_differences(Dice &dice, panel_desk &desk) {
-    for (Quote &quote : desk.quotes) quote.difference = odd_signed(dice, quote.difference);
-}
-
-// With the same kind, and the same numbers where they have a meaning.
-static void litter(Dice &dice, Quote &quote) {
-    bool is_open = quote.kind != PANEL_NO_QUOTE, of_cost = quote.kind == PANEL_COST_QUOTE;
-    if (!is_open || !of_cost) quote.cost = (Whole)dice.any();
-    if (!is_open || of_cost) quote.supply = dice.any() >> dice.below(64);
-    if (!is_open || of_cost) quote.demand = dice.any() >> dice.below(64);
-    quote.difference = (Whole)dice.any();
-    if (is_open) return;
-    quote.col = dice.any() >> dice.below(64);
-    quote.counter = dice.any();
-}
-
-void litter_quotes(Dice &dice, panel_desk &desk) {
-    for (size_t row = 0; row < PANEL_MAX_SIDE; row++) {
-        Quote &quote = desk.quotes[row];
-        if (row >= desk.standing.sheet.m) quote.kind = dice.below(4);
-        litter(dice, quote);
-        if (dice.once_in(4) && quote.kind == PANEL_NO_QUOTE) quote.counter = desk.standing.counter;
-    }
-}
-
-static void forge(Dice &dice, panel_desk &desk, const Edit &edit) {
-    const uint64_t now = desk.standing.counter;
-    if (edit.row >= PANEL_MAX_SIDE) return;
-    uint64_t counter = dice.once_in(5) ? now - dice.below(3) : now;
-    desk.quotes[edit.row] = quote_struct(edit, dice.between(-most, most), counter);
-}
-
-void forge_quotes(Dice &dice, panel_desk &desk) {
-    for (size_t count = 1 + dice.below(4); count > 0; count--) forge(dice, desk, any_edit(dice, desk.standing));
-}
-
-void forge_refusable_quote(Dice &dice, panel_desk &desk) { forge(dice, desk, refusable_edit(dice, desk.standing)); }
 
 // ---- anywhere
 
-// The desk as the numbers that it is.
-using Words = std::array<uint64_t, sizeof(panel_desk) / 8>;
+// The standing sheet as the numbers that it is.
+using Words = std::array<uint64_t, sizeof(panel_standing) / 8>;
 
-static Words words_of(const panel_desk &desk) {
+static Words words_of(const panel_standing &standing) {
     Words words;
-    std::memcpy(words.data(), &desk, sizeof desk);
+    std::memcpy(words.data(), &standing, sizeof standing);
     return words;
 }
 
-static void put(panel_desk &desk, const Words &words) { std::memcpy((void *)&desk, words.data(), sizeof desk); }
+static void put(panel_standing &standing, const Words &words) { std::memcpy((void *)&standing, words.data(), sizeof standing); }
 
-// The places of the numbers that the first check, or the look at a quote, may meet.
-static std::vector<size_t> places_in_use(const panel_desk &desk) {
+// The places of the numbers that the first check may look at.
+static std::vector<size_t> places_in_use(const panel_standing &standing) {
     std::vector<size_t> places;
     auto add = [&](const void *from, size_t count) {
-        size_t first = (size_t)((const char *)from - (const char *)&desk) / 8;
+        size_t first = (size_t)((const char *)from - (const char *)&standing) / 8;
         for (size_t k = 0; k < count; k++) places.push_back(first + k);
     };
-    const panel_sheet &sheet = desk.standing.sheet;
-    const panel_tableau &tableau = desk.standing.tableau;
+    const panel_sheet &sheet = standing.sheet;
     add(&sheet, 2);
     add(sheet.supply, sheet.m);
     add(sheet.demand, sheet.n);
     add(sheet.cost, std::min<size_t>(sheet.m * sheet.n, 20));
-    add(tableau.cells, 4 * tableau.count);
-    add(&tableau.count, 2);
-    add(desk.quotes, std::min<size_t>(sheet.m, 3) * sizeof(Quote) / 8);
+    add(standing.tableau.cells, 4 * standing.tableau.count);
+    add(&standing.tableau.count, 2);
     return places;
 }
 
-void flip_bits(Dice &dice, panel_desk &desk) {
-    Words words = words_of(desk);
-    std::vector<size_t> places = places_in_use(desk);
+void flip_bits(Dice &dice, panel_standing &standing) {
+    Words words = words_of(standing);
+    std::vector<size_t> places = places_in_use(standing);
     for (size_t flips = 1 + dice.below(3); flips > 0; flips--) {
         size_t place = dice.once_in(3) ? dice.below(words.size()) : dice.one_of(places);
         words[place] ^= uint64_t{1} << (dice.once_in(2) ? dice.below(64) : dice.below(6));
     }
-    put(desk, words);
+    put(standing, words);
 }
 
 static uint64_t noise(Dice &dice, size_t way, size_t shift) {
@@ -300,17 +203,15 @@ static uint64_t noise(Dice &dice, size_t way, size_t shift) {
 }
 
 // Random numbers, of 64 bits or of fewer, or all bits alike.
-void take_noise(Dice &dice, panel_desk &desk) {
-    const panel_standing standing = desk.standing;
-    const panel_sheet &sheet = standing.sheet;
-    size_t way = dice.below(6), shift = dice.below(64), kept = dice.below(5);
+void take_noise(Dice &dice, panel_standing &standing) {
+    const panel_sheet sheet = standing.sheet;
+    size_t way = dice.below(6), shift = dice.below(64), kept = dice.below(4);
     Words words;
     for (uint64_t &word : words) word = noise(dice, way, shift);
-    put(desk, words);
-    if (kept == 0) desk.standing.sheet = sheet;
-    if (kept == 1) desk.standing.sheet.m = sheet.m;
-    if (kept == 1) desk.standing.sheet.n = sheet.n;
-    if (kept == 2) desk.standing = standing;
+    put(standing, words);
+    if (kept == 0) standing.sheet = sheet;
+    if (kept == 1) standing.sheet.m = sheet.m;
+    if (kept == 1) standing.sheet.n = sheet.n;
 }
 
 // ---- spare places
@@ -318,19 +219,17 @@ void take_noise(Dice &dice, panel_desk &desk) {
 template <class Number> static void fill_with_noise(Dice &dice, Number *from, Number *end) {
     uint64_t any = dice.any();
     size_t way = dice.below(4);
-    for (; from < end; from++)
-        *from = (Number)(way == 0 ? any : way == 1 ? UINT64_MAX : way == 2 ? dice.below(4) : dice.any());
+    for (; from < end; from++) *from = (Number)(way == 0 ? any : way == 1 ? UINT64_MAX : way == 2 ? dice.below(4) : dice.any());
 }
 
-void fill_spare(Dice &dice, panel_desk &desk) {
-    panel_sheet &sheet = desk.standing.sheet;
-    panel_tableau &tableau = desk.standing.tableau;
+void fill_spare(Dice &dice, panel_standing &standing) {
+    panel_sheet &sheet = standing.sheet;
     fill_with_noise(dice, sheet.supply + sheet.m, sheet.supply + PANEL_MAX_SIDE);
     fill_with_noise(dice, sheet.demand + sheet.n, sheet.demand + PANEL_MAX_SIDE);
     fill_with_noise(dice, sheet.cost + sheet.m * sheet.n, sheet.cost + PANEL_MAX_LANES);
     if (dice.once_in(3)) return;
-    for (size_t k = tableau.count; k < PANEL_MAX_CELLS; k++) {
+    for (size_t k = standing.tableau.count; k < PANEL_MAX_CELLS; k++) {
         size_t row = dice.any() >> dice.below(64), col = dice.any() >> dice.below(64);
-        tableau.cells[k] = {row, col, {(Whole)dice.any(), (Whole)dice.any()}};
+        standing.tableau.cells[k] = {row, col, {(Whole)dice.any(), (Whole)dice.any()}};
     }
 }

@@ -13,7 +13,7 @@ use tree::mask::{clear_bit, first_bit, rest, set_bit, without};
 
 // What is sought: bags for lane (row, col). `later` are the rows after it, `goal` the later columns where the row has bags, and `dead` columns from which
 // earlier searches for the row came to no goal.
-#[derive(Drop)]
+#[derive(Clone, Copy)]
 pub struct Target {
     pub row: usize,
     pub col: usize,
@@ -23,7 +23,7 @@ pub struct Target {
 }
 
 // A position and a goal to which its row has a tight lane; or the columns from which no goal is reached.
-#[derive(Drop)]
+#[derive(Clone, Copy)]
 pub enum Reached {
     Goal(usize, usize),
     Nothing(u64),

@@ -1,4 +1,6 @@
 // Whether a tableau belongs to a problem.
+#![tactic(auto)]
+
 pub mod flows;
 pub mod weights;
 

@@ -1,9 +1,11 @@
 // The structs that cross the border to programs in C and Rust.
+#![tactic(auto)]
+
 use transport::{MAX_SIDE, Tableau};
 
 // The first tableau.
 #[repr(C)]
-#[derive(Drop)]
+#[derive(Clone, Copy)]
 pub struct StartOut {
     pub refusal: u8,
     pub tableau: Tableau,
@@ -11,7 +13,7 @@ pub struct StartOut {
 
 // The next tableau, or, if the one given is finished, its prices.
 #[repr(C)]
-#[derive(Drop)]
+#[derive(Clone, Copy)]
 pub struct RoundOut {
     pub refusal: u8,
     pub finished: bool,
@@ -22,7 +24,7 @@ pub struct RoundOut {
 
 // The last tableau, whether it is finished, and the rounds made.
 #[repr(C)]
-#[derive(Drop)]
+#[derive(Clone, Copy)]
 pub struct RunOut {
     pub refusal: u8,
     pub finished: bool,
@@ -32,7 +34,7 @@ pub struct RunOut {
 
 // The cost of the plan, and the rounds made.
 #[repr(C)]
-#[derive(Drop)]
+#[derive(Clone, Copy)]
 pub struct SolveOut {
     pub refusal: u8,
     pub cost: i64,
@@ -41,7 +43,7 @@ pub struct SolveOut {
 
 // The counts of sources and sinks; with refusal 9, the place.
 #[repr(C)]
-#[derive(Drop)]
+#[derive(Clone, Copy)]
 pub struct ReadOut {
     pub refusal: u8,
     pub sources: usize,
@@ -51,7 +53,7 @@ pub struct ReadOut {
 
 // The length of the text.
 #[repr(C)]
-#[derive(Drop)]
+#[derive(Clone, Copy)]
 pub struct WriteOut {
     pub refusal: u8,
     pub length: usize,

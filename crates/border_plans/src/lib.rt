@@ -1,4 +1,6 @@
 // The exported calls that solve: solve, and write plan. Each gives a struct that crosses the border.
+#![tactic(auto)]
+
 ghost use Rattle.std.specs.Prelude.{◌≡◌, length};
 ghost use Rattle.transport.specs.Sheet.{sheet_of};
 ghost use Rattle.transport.specs.Calls.{lent_after, solve_call};

@@ -1,4 +1,6 @@
 // The exported calls on tableaux, of a tableau by value: round, run and settle. Each gives a struct that crosses the border.
+#![tactic(auto)]
+
 ghost use Rattle.std.specs.Prelude.{◌≡◌, length};
 ghost use Rattle.transport.specs.Sheet.{sheet_of};
 ghost use Rattle.transport.specs.Calls.{lent_after, round_call, run_call, settle_call};

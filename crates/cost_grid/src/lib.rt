@@ -1,4 +1,6 @@
 // The costs of a sheet's lanes between parties left, spread by column: that of row i and column j lies at j * MAX_SIDE + i.
+#![tactic(auto)]
+
 ghost use Rattle.cost_grid.specs.Costs.{Spreadable, Spread};
 
 use parties::own_number;

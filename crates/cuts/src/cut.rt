@@ -74,7 +74,7 @@ pub fn plant(
 }
 
 // The slots of a loop: those whose lane loses the step, and those whose lane gains it.
-#[derive(Drop)]
+#[derive(Clone, Copy)]
 pub struct Loop {
     pub minus: u64,
     pub plus: u64,

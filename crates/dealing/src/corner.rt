@@ -12,7 +12,7 @@ use crate::tableau;
 use transport::{Cell, Pair, Tableau};
 
 // Where the corner rule stands: a row and a column, with what remains of the row's supply and of the column's demand.
-#[derive(Drop)]
+#[derive(Clone, Copy)]
 struct Corner {
     row: usize,
     col: usize,

@@ -1,4 +1,6 @@
 // Numbers in decimal, with no leading 0 except 0 itself.
+#![tactic(auto)]
+
 ghost use Rattle.std.specs.Prelude.{◌≡◌, ◌≤◌, length, nat_abs};
 ghost use Rattle.transport.specs.Text.{digits, whole_digits};
 ghost use Rattle.decimals.specs.Front.{front};

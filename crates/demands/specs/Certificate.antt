@@ -24,7 +24,7 @@ use Rattle.tableaux.specs.PlanView.{costs}
 use Rattle.tableaux.specs.ProblemPlans.{flow_cost, Optimal}
 use Rattle.tableaux.specs.Least.{bags_for, row_potential, column_potential, reduced-parts, OnTight}
 use Rattle.tableaux.specs.Ending.{start-finished, start-last}
-use Rattle.optimality.specs.Finished.{finished-least_exactly, optimal-cost}
+use Rattle.optimality.specs.Finished.{finished-fulfils, finished-least, finished-least_exactly}
 use Rattle.optimality.specs.Settling.{finished-optimal}
 use Rattle.reduction.specs.SheetLanes.{width_of, width_is}
 use Rattle.reduction.specs.StruckPlans.{same_at, own_plan, own_plan-same, struck-optimal}
@@ -57,10 +57,10 @@ module _ (S : Sheet) (ok : Sound (problem_of S)) where
     -- An optimal plan costs what the tableau's own bags do, so it lies on lanes of reduced cost 0.
     on-tight : OnTight P last x
     on-tight =
-        let alike = z-eq (optimal-cost P ok last (start-last ok) (start-finished ok) x b) in
-        let same : flow_cost P x ≡ (pos 1 *ℤ flow_cost P (bags_for P last)) =
-        eq-z (flow_cost P x) (pos 1 *ℤ flow_cost P (bags_for P last))
-        (omega (arith, z-mul (pos 1) (flow_cost P (bags_for P last)))) in
+        let ours = z-le (b.least 1 (bags_for P last) (omega arith) (finished-fulfils P ok last (start-last ok))) in
+        let theirs = z-le (finished-least P ok last (start-last ok) (start-finished ok) 1 x b.fulfils) in
+        let same : flow_cost P x ≡ (pos 1 *ℤ flow_cost P (bags_for P last)) = eq-z (flow_cost P x) (pos 1 *ℤ flow_cost P (bags_for P last))
+        (omega (arith, z-mul (pos 1) (flow_cost P (bags_for P last)), z-mul (pos 1) (flow_cost P x))) in
         (finished-least_exactly P ok last (start-last ok) (start-finished ok) 1 x b.fulfils).0 same
 
     left-tight : (i j : ℕ) → i < sources P → j < sinks P → 1 ≤ at x (place (sinks P) i j) → Tight (costs P) (row_potential P last) (column_potential P last) i j

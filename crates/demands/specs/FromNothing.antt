@@ -12,18 +12,18 @@ use Rattle.transport.specs.Problem.{Problem, sources, sinks}
 use Rattle.transport.specs.Sheet.{Sheet, sheet_tests, refusal}
 use Rattle.transport.specs.Extended.{surplus, wanted, extended}
 use Rattle.transport.specs.Parties.{rows_left_of, columns_left, struck, problem_of}
-use Rattle.transport.specs.Tableau.{cells_of, tableau_of, basis_size}
+use Rattle.transport.specs.Tableau.{cells_of, tableau_of, basis_size, start}
 use Rattle.transport.specs.Belonging.{cells_belong}
 use Rattle.transport.specs.Potential.{is_finished_of}
 use Rattle.transport.specs.OwnNumbers.{own, renumbered, covers, belongs_to}
 use Rattle.transport.specs.Round.{run, round_bound}
 use Rattle.transport.specs.Calls.{given, refused_by, Solution, tableau_tests, inside, finished_tests, run_from}
 use Rattle.transport.specs.Calls.{solution_from, solution, solve_tests, solve_call}
-use Rattle.transport.specs.Standing.{edited, Standing, Passes, last_tableau_of, set_up_of, standing_tests, bad_edit}
+use Rattle.transport.specs.Standing.{edited, Standing, Passes, last_tableau_of, set_up_call, standing_tests, bad_edit}
 use Rattle.transport.specs.Standing.{edit_tests, edit_from, carried_out, edit_call, stands_after}
 use Rattle.transport.specs.Statements.{Accepted, Belongs, FirstFinished, FromNothing}
 use Rattle.transport.specs.Laws.ListLaws.{and_right}
-use Rattle.transport.specs.Laws.SheetLaws.{refusal-clear, accepted, passes}
+use Rattle.transport.specs.Laws.SheetLaws.{refusal-clear, refusal-pass, accepted, passes}
 use Rattle.transport.specs.Laws.CallLaws.{unless-given, unless-refused, unless-given_iff, refusal-last}
 use Rattle.transport.specs.Laws.OwnLaws.{length-own, renumbered-own}
 use Rattle.transport.specs.Laws.Sound.{sound, rows_left, columns-left}
@@ -34,7 +34,6 @@ use Rattle.tableaux.specs.Ending.{run_ends, run-belongs, start-finished, start-l
 use Rattle.reduction.specs.OwnBelonging.{belongs_to_iff, own-belongs}
 use Rattle.demands.specs.Demand3.{solution-best}
 use Rattle.demands.specs.Says.{refusal-front, cells_for}
-use Rattle.demands.specs.TestLists.{refusal-both}
 use Rattle.demands.specs.EqualPrices.{given-equal}
 
 -- ---- the first check
@@ -52,12 +51,12 @@ passes-belongs S t e =
     (belongs_iff (problem_of S) (inside S t) ok.sources_low ok.sinks_low).0 cells
 
 -- What is known of a sheet and a tableau that pass the first check.
-pub record Stands (S : Sheet) (t : Tableau) : Type 1 where
+record Stands (S : Sheet) (t : Tableau) : Type 1 where
   pub accepted : Accepted S
   pub belongs : Belongs (problem_of S) (inside S t)
   pub finished : is_finished_of (problem_of S) (inside S t) ≡ true
 
-pub stands : (S : Sheet) (t : Tableau) → refusal (finished_tests S t) ≡ none → Stands S t
+stands : (S : Sheet) (t : Tableau) → refusal (finished_tests S t) ≡ none → Stands S t
 unfolding finished_tests tableau_tests
 stands S t e =
     let (front, done) = (refusal-last (tableau_tests S t) _).0 e in
@@ -155,7 +154,8 @@ from_nothing St e uRoom vRoom plan_room s given-s =
     let S' : Sheet = edited St.sheet e in
     let (clear, is) = (unless-given_iff (edit_tests St e uRoom vRoom plan_room) (solution_from S' (edit_from St e)) s).0
     given-s in
-    let (front, later) = refusal-both (standing_tests St) _ clear in
+    let front = refusal-front (standing_tests St) _ clear in
+    let later = sym (refusal-pass (standing_tests St) _ front) ∙ clear in
     let (known, rest) = refusal-clear (bad_edit St e) (solve_tests S' uRoom vRoom plan_room) later in
     let ok = accepted S' (refusal-front (sheet_tests S') _ rest) in
     let (cost, u, v, plan) = same-solution St e front ok in
@@ -175,9 +175,12 @@ from_nothing St e uRoom vRoom plan_room s given-s =
     }
 
 -- What is set up passes the first check.
-pub set-up-stands : {S : Sheet} → Accepted S → Passes (set_up_of S)
-unfolding set_up_of standing_tests last_tableau_of run_from
-set-up-stands ok = own-stands ok (start-last (sound ok)) (start-finished (sound ok))
+pub set-up-stands : (S : Sheet) (St : Standing) → set_up_call S ≡ given St → Passes St
+unfolding set_up_call standing_tests last_tableau_of run_from
+set-up-stands S St e =
+    let (clear, is) = (unless-given_iff (sheet_tests S) _ St).0 e in
+    let ok = accepted S clear in
+    rw is (own-stands ok (start-last (sound ok)) (start-finished (sound ok)))
 
 -- Whatever an edit answers, the sheet that then stands passes the first check.
 module _ (St : Standing) (e : Edit) (uRoom vRoom plan_room : ℕ) where

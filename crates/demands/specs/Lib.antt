@@ -4,12 +4,7 @@ pub mod Bought
 pub mod GivenPrices
 pub mod Certificate
 pub mod Says
-pub mod TestLists
 pub mod FewLanes
 pub mod NobodyStruck
 pub mod EqualPrices
 pub mod FromNothing
-pub mod Totals
-pub mod Quoting
-pub mod Confirming
-pub mod Histories

@@ -1,4 +1,6 @@
 // What the program shows for what stands on its input.
+#![tactic(auto)]
+
 ghost use Rattle.std.specs.Prelude.{◌≡◌, ◌++◌, suc, min, ◌≤◌, length, drop};
 ghost use Rattle.transport.specs.Limits.{max_text};
 ghost use Rattle.transport.specs.Sheet.{sheet_of};

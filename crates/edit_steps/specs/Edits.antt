@@ -1,7 +1,7 @@
 -- The steps of an edit: what is set in the lists, what the edited sheet is refused by, and where
 -- its rounds begin.
 use Rattle.prelude.specs.Words.{◌≡◌, refl, sym, ap, ◌∙◌, Bool, true, false, not, ◌&&◌, List, [], ◌∷◌, ℕ}
-use Rattle.prelude.specs.Words.{zero, suc, ◌+◌, ◌*◌, ◌≤◌, ◌<◌, arith, eqb, ltb, ℤ, pos, length}
+use Rattle.prelude.specs.Words.{zero, suc, ◌+◌, ◌*◌, ◌≤◌, ◌<◌, arith, ltb-true, eqb, ltb, ℤ, pos, length}
 use Rattle.prelude.specs.Words.{set, get_or, take, drop, length-set, not-false, mul-le-mul}
 use Rattle.transport.specs.declared.Cell.{Cell}
 use Rattle.transport.specs.declared.Change.{Change}
@@ -230,3 +230,8 @@ begins_afresh S T e = rw (e, beginning)
 -- What may_edit tells.
 abbrev pub may : ℕ → ℕ → ℕ → ℕ → ℕ → Bool
 may row m col n counter = ltb row m && ltb col n && not (eqb counter max_counter)
+
+pub may_names : (row m col n counter : ℕ) → may row m col n counter ≡ true → (row < m) × (col < n)
+may_names row m col n counter e =
+    let both = and_left (ltb row m && ltb col n) _ e in
+    (ltb-true row m (and_left (ltb row m) (ltb col n) both), ltb-true col n (and_right (ltb row m) (ltb col n) both))

@@ -1,4 +1,3 @@
-pub mod Admitting
 pub mod Beginning
 pub mod Edits
 pub mod Respread

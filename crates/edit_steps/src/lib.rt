@@ -1,4 +1,5 @@
-// The steps of an edit of a standing sheet: its tests, its lists, and where its rounds begin.
-pub mod admit;
+// The steps of an edit of a standing sheet: its lists, and where its rounds begin.
+#![tactic(auto)]
+
 pub mod begin;
 pub mod lists;

@@ -1,19 +1,20 @@
 // Edits of a standing sheet, on its lists.
+#![tactic(auto)]
+
 pub mod solve;
 
 ghost use Rattle.transport.specs.Sheet.{sheet_of};
 ghost use Rattle.editing.specs.EditedAs.{EditedAs};
 
 use crate::solve::{Edited, carry_out, refused};
-use edit_steps::admit::admit_edit;
-use edit_steps::lists::set_lists;
+use edit_steps::lists::{may_edit, set_lists};
+use loading::load_finished;
 use sheet::SheetCheck;
 use transport::{Edit, SolveAnswer, Tableau};
 use tree::{LANES, NODES, Price};
 
-// An edit of the standing sheet of these lists, this tableau and this counter, which may come too
-// late. The lists then hold the edited sheet. An edit that is refused leaves them as they were, or
-// is taken back.
+// An edit of the standing sheet of these lists, this tableau and this counter. The lists then hold
+// the edited sheet. An edit that is refused leaves them as they were, or is taken back.
 pub fn edit_lists(
     supply: &mut [u64],
     demand: &mut [u64],
@@ -21,14 +22,13 @@ pub fn edit_lists(
     t: Tableau,
     counter: u64,
     edit: Edit,
-    late: bool,
     u: &mut [i64],
     v: &mut [i64],
     plan: &mut [u64],
 ) -> Edited
     ensures { let S = sheet_of supply.old demand.old cost.old in
         let S' = sheet_of supply.new demand.new cost.new in
-        EditedAs (record { sheet = S; tableau = t; counter = counter }) late edit result.answer S' result.tableau
+        EditedAs (record { sheet = S; tableau = t; counter = counter }) edit result.answer S' result.tableau
         u.old u.new v.old v.new plan.old plan.new }
 {
     let mut q = [0i64; LANES];
@@ -37,14 +37,11 @@ pub fn edit_lists(
     let mut leaf = [0usize; NODES];
     let mut other = [0usize; NODES];
     let mut lane = [0usize; NODES];
-    let loaded = admit_edit(
+    let loaded = load_finished(
         supply,
         demand,
         cost,
         t,
-        counter,
-        edit,
-        late,
         &mut q,
         &mut e,
         &mut spread,
@@ -55,6 +52,9 @@ pub fn edit_lists(
     let check = loaded.check;
     if let SheetCheck::Refused(number) = check {
         return refused(number, t);
+    }
+    if !may_edit(supply.len(), demand.len(), edit.row, edit.col, counter) {
+        return refused(12, t);
     }
     let back = set_lists(edit, supply, demand, cost);
     let done = carry_out(

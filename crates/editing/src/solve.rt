@@ -24,7 +24,7 @@ use tree::{LANES, NODES, Price};
 
 // What came of an edit: what solve answers for the edited sheet, with the rounds made by the edit;
 // and the tableau that then stands.
-#[derive(Drop)]
+#[derive(Clone, Copy)]
 pub struct Edited {
     pub answer: SolveAnswer,
     pub tableau: Tableau,

@@ -1,14 +1,15 @@
-// What programs in C and Rust link: every call of paper 01, and set up, quote and confirm of paper
-// 02, Five and Six. A result is a struct by value; its `refusal` is the number of the refusal, or
-// 0. If it is not 0, the other fields are zeros, but for the place with 9 and the desk that a quote
-// or a confirm gives back, and no lent list is changed.
+// What programs in C and Rust link: every call of paper 01, and set up and edit of paper 02, Five.
+// A result is a struct by value; its `refusal` is the number of the refusal, or 0. If it is not 0,
+// the other fields are zeros, but for the place with 9 and the standing sheet that an edit gives
+// back, and no lent list is changed.
+#![tactic(auto)]
+
 ghost use Rattle.std.specs.Prelude.{◌≡◌, cond, length};
 ghost use Rattle.transport.specs.Sheet.{sheet_of};
 ghost use Rattle.transport.specs.Tableau.{lent_tableau_of};
 ghost use Rattle.transport.specs.Calls.{lent_after, start_call, round_call, run_call, settle_call, solve_call};
-ghost use Rattle.transport.specs.Standing.{spare};
-ghost use Rattle.transport.specs.Quotes.{set_up_call, quote_call, confirm_call, desk_of, used_up};
-ghost use Rattle.transport.specs.Answers.{set_up_answer, quote_answer, confirm_answer};
+ghost use Rattle.transport.specs.Standing.{set_up_call, edit_call, carried_out, stands_after, spare, standing_of};
+ghost use Rattle.transport.specs.Answers.{set_up_answer, edit_answer};
 ghost use Rattle.transport.specs.declared.Change.TheVariants.{Cost, Amounts};
 ghost use Rattle.transport.specs.declared.Edit.{Edit};
 ghost use Rattle.transport.specs.SheetText.{read_sheet_call, write_sheet_call};
@@ -19,10 +20,9 @@ use border::{ReadOut, RoundOut, RunOut, SolveOut, StartOut, WriteOut};
 use border_plans::{solve_out, write_plan_out};
 use border_sheets::{read_out, start_out, write_sheet_out};
 use border_tableaux::{round_from, run_from, settle_from};
-use confirm_call::confirm;
-use quote_call::quote;
+use edit_call::edit;
 use set_up_call::set_up;
-use transport::{Cell, Change, ConfirmAnswer, Desk, Edit, QuoteAnswer, SetUpAnswer};
+use transport::{Cell, Change, Edit, EditAnswer, SetUpAnswer, Standing};
 
 #[unsafe(no_mangle)]
 pub extern "C" fn panel_start(supply: &[u64], demand: &[u64], cost: &[i64]) -> StartOut
@@ -114,45 +114,33 @@ fn change_of(amounts: bool, cost: i64, supply: u64, demand: u64) -> Change
     Change::Cost(cost)
 }
 
-// A quote of an edit: of the amounts, and `cost` is not looked at; or of the cost, and the amounts
-// are not looked at.
+// An edit: of the amounts, and `cost` is not looked at; or of the cost, and the amounts are not
+// looked at.
 #[unsafe(no_mangle)]
-pub extern "C" fn panel_quote(
-    desk: Desk,
+pub extern "C" fn panel_edit(
+    standing: Standing,
     row: usize,
     col: usize,
     amounts: bool,
     cost: i64,
     supply: u64,
     demand: u64,
-) -> QuoteAnswer
-    ensures { let e : Edit = record { row = row; col = col; change = cond amounts (Amounts supply demand) (Cost cost) } in
-        let a = quote_call (desk_of desk) e in
-        (result ≡ quote_answer a.answer desk e) × (desk_of result.after ≡ a.after) }
-{
-    let change = change_of(amounts, cost, supply, demand);
-    quote(desk, Edit { row, col, change })
-}
-
-#[unsafe(no_mangle)]
-pub extern "C" fn panel_confirm(
-    desk: Desk,
-    row: usize,
     u: &mut [i64],
     v: &mut [i64],
     plan: &mut [u64],
-) -> ConfirmAnswer
-    ensures { let a = confirm_call (desk_of desk) row (length u.old) (length v.old)
-        (length plan.old) in
-        (result ≡ confirm_answer a.answer (used_up desk row) result.after)
-        × (desk_of result.after ≡ a.after)
-        × (spare result.after.standing.sheet ≡ spare desk.standing.sheet)
-        × (result.after.quotes ≡ (used_up desk row).quotes)
-        × (u.new ≡ lent_after (λ x. x.u) a.answer u.old)
-        × (v.new ≡ lent_after (λ x. x.v) a.answer v.old)
-        × (plan.new ≡ lent_after (λ x. x.plan) a.answer plan.old) }
+) -> EditAnswer
+    ensures { let St = standing_of standing in
+        let e : Edit = record { row = row; col = col; change = cond amounts (Amounts supply demand) (Cost cost) } in
+        let a = edit_call St e (length u.old) (length v.old) (length plan.old) in
+        (result ≡ edit_answer a standing result.after)
+        × (standing_of result.after ≡ stands_after a St (carried_out St e))
+        × (spare result.after.sheet ≡ spare standing.sheet)
+        × (u.new ≡ lent_after (λ x. x.u) a u.old)
+        × (v.new ≡ lent_after (λ x. x.v) a v.old)
+        × (plan.new ≡ lent_after (λ x. x.plan) a plan.old) }
 {
-    confirm(desk, row, u, v, plan)
+    let change = change_of(amounts, cost, supply, demand);
+    edit(standing, Edit { row, col, change }, u, v, plan)
 }
 
 #[unsafe(no_mangle)]

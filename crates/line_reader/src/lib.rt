@@ -1,4 +1,6 @@
 // Lists of numbers: lines, and sections with their head lines.
+#![tactic(auto)]
+
 ghost use Rattle.std.specs.Prelude.{◌≡◌, ◌*◌, ◌≤◌, length, take, drop};
 ghost use Rattle.transport.specs.Limits.{max_sources, max_sinks};
 ghost use Rattle.transport.specs.SheetText.{number, whole};

@@ -1,5 +1,7 @@
 // The front of a call that takes a tableau: the sheet check, then 6 if the tableau does not belong to the sheet; and if nothing is refused, the tableau laid
 // out for rounds.
+#![tactic(auto)]
+
 ghost use Rattle.std.specs.Prelude.{◌≡◌, length};
 ghost use Rattle.std.proofs.Math.Option.{none};
 ghost use Rattle.transport.specs.Sheet.{sheet_of, refusal};
@@ -20,7 +22,7 @@ use transport::{MAX_SIDE, Tableau};
 use tree::{LANES, NODES, Price};
 
 // What the tests say of sheet and tableau; if they refuse nothing, the parties of the sheet's tableaux, with the own numbers of rows and columns.
-#[derive(Drop)]
+#[derive(Clone, Copy)]
 pub struct Loading {
     pub check: SheetCheck,
     pub parties: Parties,

@@ -1,4 +1,6 @@
 // Numbers, and the bytes that end them.
+#![tactic(auto)]
+
 ghost use Rattle.std.specs.Prelude.{◌≡◌, ◌-◌, ◌≤◌, ◌<◌, length, drop};
 ghost use Rattle.transport.specs.SheetText.{more_digits_of, number_from, side};
 ghost use Rattle.sections.specs.Lines.{ending};

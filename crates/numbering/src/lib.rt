@@ -1,4 +1,6 @@
 // Tableaux between the numbers of the parties left among themselves and their own numbers.
+#![tactic(auto)]
+
 ghost use Rattle.std.specs.Prelude.{◌≡◌, cond, List, map, ℕ, ◌<◌, ltb, length};
 ghost use Rattle.transport.specs.Limits.{max_cells};
 ghost use Rattle.transport.specs.Tableau.{cells_of, tableau_of};

@@ -1,4 +1,6 @@
 // The panel: reads a sheet text from standard input, and prints its plan text or why it is refused.
+#![tactic(auto)]
+
 ghost use Rattle.std.specs.Prelude.{◌≡◌, ◌≤◌, length};
 ghost use Rattle.transport.specs.Limits.{max_plan_text};
 ghost use Rattle.transport.specs.PlanText.{printed};
@@ -6,30 +8,27 @@ ghost use Rattle.decimals.specs.Front.{front};
 ghost use Rattle.panel.specs.Input.{inside};
 
 use display::MAX_READ;
-use libc::{STDERR_FILENO, STDIN_FILENO, STDOUT_FILENO};
+use std::io::{Read, Stdin, Write};
 use transport::MAX_PLAN_TEXT;
 
 // What came of reading: the count of bytes at the front of the buffer, or an error.
-#[derive(Drop)]
+#[derive(Clone, Copy)]
 enum Input {
     Read(usize),
     Failed,
 }
 
 // Reads standard input until it ends or the buffer is full, whatever the pieces in which it comes.
-fn read_input(buffer: &mut [u8]) -> Input
+fn read_input(mut stdin: Stdin, buffer: &mut [u8]) -> Input
     ensures { inside result (length buffer.new) }
 {
     let mut at: usize = 0;
     while at < buffer.len() {
-        let got = libc::read(STDIN_FILENO, &mut buffer[at..]);
-        if got < 0 {
-            return Input::Failed;
+        match stdin.read(&mut buffer[at..]) {
+            Err(_) => return Input::Failed,
+            Ok(0) => return Input::Read(at),
+            Ok(got) => at += got,
         }
-        if got == 0 {
-            return Input::Read(at);
-        }
-        at += got as usize;
     }
     Input::Read(at)
 }
@@ -43,20 +42,21 @@ fn answer(input: &[u8], out: &mut [u8]) -> usize
     display::show(input, out)
 }
 
-fn complain(message: &[u8]) {
-    io::write_all(STDERR_FILENO, message);
+// Nothing is left to do where standard error cannot be written either.
+fn complain(rt: &HostRuntime, message: &[u8]) {
+    let _ = rt.stderr().write_all(message);
 }
 
-fn main() {
+fn main(rt: HostRuntime) {
     let mut input = [0u8; MAX_READ];
     let mut out = [0u8; MAX_PLAN_TEXT];
-    let read = read_input(&mut input);
+    let read = read_input(rt.stdin(), &mut input);
     let Input::Read(count) = read else {
-        complain(b"panel: cannot read standard input\n");
+        complain(&rt, b"panel: cannot read standard input\n");
         return;
     };
     let len = answer(&input[..count], &mut out);
-    if !io::write_all(STDOUT_FILENO, &out[..len]) {
-        complain(b"panel: cannot write standard output\n");
+    if rt.stdout().write_all(&out[..len]).is_err() {
+        complain(&rt, b"panel: cannot write standard output\n");
     }
 }

@@ -1,5 +1,7 @@
 // The parties of a sheet's tableaux: those left, which have an amount, numbered among themselves in their order, and where there is a surplus an extra café
 // after them, the last, that takes it.
+#![tactic(auto)]
+
 ghost use Rattle.std.specs.Prelude.{◌≡◌, true, List, ◌<◌, ◌≤◌, ℤ, length};
 ghost use Rattle.transport.specs.Limits.{max_side};
 ghost use Rattle.transport.specs.Lists.{at};
@@ -11,7 +13,7 @@ use sheet::total_of;
 use transport::MAX_SIDE;
 
 // How many parties there are: rows, columns, and of the columns the cafés, which come first.
-#[derive(Drop)]
+#[derive(Clone, Copy)]
 pub struct Parties {
     pub rows: usize,
     pub columns: usize,

@@ -8,7 +8,7 @@ use crate::lanes;
 use sections::{section, wholes};
 
 // What the plan text shows in one number each: the cost, the rounds, and the count of the lanes that carry a bag.
-#[derive(Drop)]
+#[derive(Clone, Copy)]
 pub struct Figures {
     pub total: i64,
     pub rounds: u64,

@@ -1,4 +1,6 @@
 // The plan that the bags of a tableau make.
+#![tactic(auto)]
+
 ghost use Rattle.plan_store.specs.Plan.{Storable, Stored};
 
 use parties::own_number;

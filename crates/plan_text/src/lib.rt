@@ -1,4 +1,6 @@
 // Plan texts: write plan.
+#![tactic(auto)]
+
 pub mod writer;
 
 pub use writer::write_plan;

@@ -39,7 +39,7 @@ row_cons : (low left d x : ℕ) (ds xs : List ℕ) → x ≤ d → x ≤ left �
 unfolding at
 row_cons low left d x ds xs p q r = record {
   size = ap suc r.size;
-  wanted = λ j. elim j [ zero ↦ p | suc j ↦ r.wanted j ];
+  wanted = λ j. elim j as (λ j. at (x ∷ xs) j ≤ at (d ∷ ds) j) [ zero ↦ p | suc j ↦ r.wanted j ];
   least = omega (arith, total-cons x xs, r.least);
   most = omega (arith, total-cons x xs, r.most);
 }
@@ -95,7 +95,7 @@ ahead-cons x xs ys a =
     let difference : FirstDifference (x ∷ xs) (x ∷ ys) (suc a.lane) = record {
       lane = omega (arith, a.difference.lane);
       differ = a.difference.differ;
-      before = λ h. elim h [ zero ↦ λ p. refl | suc h ↦ λ p. a.difference.before h (omega arith) ];
+      before = λ h. elim h as (λ h. h < suc a.lane → at (x ∷ xs) h ≡ at (x ∷ ys) h) [ zero ↦ λ p. refl | suc h ↦ λ p. a.difference.before h (omega arith) ];
     } in
     record { lane = suc a.lane; difference = difference; more = a.more }
 

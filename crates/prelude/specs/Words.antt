@@ -9,7 +9,8 @@ pub use Rattle.std.proofs.Math.IntN.{sub_ℕ, +ℤ_idl}
 pub use Rattle.std.specs.Int.Signed.{le_z, lt_z, le_z_yes, mag, non_neg}
 -- equations, decisions and tests
 pub use Rattle.std.proofs.Math.Path.{fun_ext}
-pub use Rattle.std.proofs.Math.Logic.{by_cases, Dec-and, ite, if_pos, if_neg}
+pub use Rattle.std.proofs.Math.Logic.{by_cases, ite, if_pos, if_neg}
+pub use Rattle.std.proofs.Math.Logic.Dec.{and as Dec-and}
 pub use Rattle.std.proofs.lemmas.Bool.{false≢true, lt-leb, eqb-false, not-true, not-false}
 pub use Rattle.std.proofs.Math.Bool.{Bool-discrete, decide, decide_iff, and-true, and-false, and_comm, and-eq-true_iff, or-true, or-false}
 unfoldable pub use Rattle.std.proofs.Math.Bool.{xor}
@@ -20,7 +21,7 @@ pub use Rattle.std.proofs.Math.Option.{Option, some, none}
 pub use mathlib.Core.List.Memᴰ.{head as Memᴰ-head}
 pub use mathlib.Core.List.Memᴰ.{not-nil as Memᴰ-not_nil}
 pub use mathlib.Core.List.Memᴰ.{tail as Memᴰ-tail}
-pub use mathlib.Core.List.{List, [], ◌∷◌, ◌++◌, map, append-nil, append_assoc, Memᴰ as Memᴰ}
+pub use mathlib.Core.List.{List, [], ◌∷◌, ◌++◌, map, append-nil, append_assoc, Memᴰ}
 pub use mathlib.Core.List.Memᴰ.{append_cases as Memᴰ-append_cases}
 pub use mathlib.Core.List.Memᴰ.{append_left as Memᴰ-append_left}
 pub use mathlib.Core.List.Memᴰ.{append_right as Memᴰ-append_right}

@@ -1,1 +1,3 @@
 // The words of the libraries; nothing runs here.
+
+#![tactic(auto)]

@@ -1,4 +1,6 @@
 // Prices as calls give them: those of the parties left at their own numbers, and those of struck ones by their rule.
+#![tactic(auto)]
+
 ghost use Rattle.std.specs.Prelude.{◌≡◌, cond, List, ◌++◌, ℕ, ◌+◌, ◌-◌, ◌<◌, ◌≤◌, ltb, nat_abs, ◌-ℤ◌, length, drop};
 ghost use Rattle.std.specs.Int.Signed.{lt_z};
 ghost use Rattle.transport.specs.Limits.{max_side};

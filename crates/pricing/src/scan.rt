@@ -161,7 +161,7 @@ fn first_column(
 }
 
 // A lane with its reduced cost.
-#[derive(Drop)]
+#[derive(Clone, Copy)]
 pub struct PricedLane {
     pub row: usize,
     pub col: usize,

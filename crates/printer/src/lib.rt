@@ -1,5 +1,7 @@
 // The panel's printer of numbers alone, for the test that links it (tests/printer): any number of 64 bits, signed or not, at the front of the output, and the
 // count of its bytes; where the output is too short for it, the count is 0 and the output is as it was.
+#![tactic(auto)]
+
 ghost use Rattle.std.specs.Prelude.{◌≡◌, length};
 ghost use Rattle.transport.specs.Text.{digits, whole_digits};
 ghost use Rattle.transport.specs.PlanText.{fitting};

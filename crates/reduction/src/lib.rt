@@ -1,1 +1,3 @@
 // Theory alone: what the problem behind a sheet says of the sheet.
+
+#![tactic(auto)]

@@ -1,4 +1,6 @@
 // Round: the next tableau of a sheet, or the prices of a finished one.
+#![tactic(auto)]
+
 ghost use Rattle.std.specs.Prelude.{◌≡◌, List};
 ghost use Rattle.transport.specs.Sheet.{sheet_of};
 ghost use Rattle.transport.specs.declared.Cell.{Cell};

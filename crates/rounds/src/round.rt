@@ -114,7 +114,7 @@ pub fn advance(
 }
 
 // What a round gives: whether the tableau is finished, and the prices of the one that the arrays then hold.
-#[derive(Drop)]
+#[derive(Clone, Copy)]
 pub struct Turn {
     pub finished: bool,
     pub price: [Price; NODES],

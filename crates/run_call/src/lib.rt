@@ -1,4 +1,6 @@
 // Run: rounds within an allowance.
+#![tactic(auto)]
+
 ghost use Rattle.std.specs.Prelude.{◌≡◌, List};
 ghost use Rattle.transport.specs.Sheet.{sheet_of};
 ghost use Rattle.transport.specs.Tableau.{tableau_of};

@@ -1,2 +1,4 @@
 // Runs of rounds on flat arrays.
+#![tactic(auto)]
+
 pub mod run;

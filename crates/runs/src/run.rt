@@ -11,7 +11,7 @@ use rounds::round::{advance, begin};
 use tree::{LANES, NODES, Price};
 
 // How a run ended, and how many rounds it made.
-#[derive(Drop)]
+#[derive(Clone, Copy)]
 pub struct Made {
     pub finished: bool,
     pub made: u64,

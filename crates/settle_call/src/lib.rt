@@ -1,4 +1,6 @@
 // Settle: from a finished tableau of a sheet to its settled plan.
+#![tactic(auto)]
+
 ghost use Rattle.std.specs.Prelude.{◌≡◌, length};
 ghost use Rattle.transport.specs.Sheet.{sheet_of};
 ghost use Rattle.transport.specs.Calls.{lent_after, settle_call};

@@ -1,4 +1,6 @@
 // The sheet check, part of every call that takes a sheet as lists: refusals 1 to 5, 10 and 11, of several the first.
+#![tactic(auto)]
+
 ghost use Rattle.std.specs.Prelude.{◌≡◌, true, ◌≤◌, pos, neg_ℤ, length};
 ghost use Rattle.transport.specs.Lists.{all, at_most, within, within_z, total};
 ghost use Rattle.transport.specs.Limits.{max_side, max_amount, max_cost};
@@ -9,7 +11,7 @@ use transport::{MAX_AMOUNT, MAX_COST, MAX_SIDE, MAX_SINKS, MAX_SOURCES};
 
 pub mod lists;
 
-#[derive(Drop)]
+#[derive(Clone, Copy)]
 pub enum SheetCheck {
     Accepted,
     Refused(u8),

@@ -1,4 +1,6 @@
 // Read sheet, section by section.
+#![tactic(auto)]
+
 pub mod whole_text;
 
 ghost use Rattle.std.specs.Prelude.{◌≡◌, length};

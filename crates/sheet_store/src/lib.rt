@@ -1,4 +1,6 @@
 // A sheet that was read, stored in the lent lists.
+#![tactic(auto)]
+
 ghost use Rattle.std.specs.Prelude.{◌≡◌, true, false, ◌*◌, ◌≤◌, length};
 ghost use Rattle.transport.specs.Limits.{max_sources, max_sinks};
 ghost use Rattle.transport.specs.Sheet.{sheet_of};

@@ -1,4 +1,6 @@
 // Write sheet: three sections, each written in what the sections before it left of the output.
+#![tactic(auto)]
+
 ghost use Rattle.std.specs.Prelude.{◌≡◌, ◌++◌, ◌≤◌, length};
 ghost use Rattle.transport.specs.Sheet.{sheet_of};
 ghost use Rattle.transport.specs.SheetText.{sheet_text, write_sheet_call};

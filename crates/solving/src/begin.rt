@@ -20,7 +20,7 @@ use tree::{LANES, NODES, Price};
 
 // The parties of a sheet with the own numbers of rows and columns, and the first tableau of those
 // left.
-#[derive(Drop)]
+#[derive(Clone, Copy)]
 pub struct First {
     pub loading: Loading,
     pub tableau: Tableau,

@@ -36,8 +36,7 @@ length-bags_of : (P : Problem) (T : List Cell) → length (bags_for P T) ≡ sou
 unfolding bags_for
 length-bags_of P T = length-map (lanes (sources P) (sinks P)) (bags_on T) ∙ length-lanes (sources P) (sinks P)
 
-pub bags_of-at : (P : Problem) (T : List Cell) (i j : ℕ) → i < sources P → j < sinks P
-    → at (bags_for P T) (place (sinks P) i j) ≡ bags_on T (lane i j)
+bags_of-at : (P : Problem) (T : List Cell) (i j : ℕ) → i < sources P → j < sinks P → at (bags_for P T) (place (sinks P) i j) ≡ bags_on T (lane i j)
 unfolding bags_for at
 bags_of-at P T i j k l =
     get_d_map (bags_on T) (lanes (sources P) (sinks P)) (place (sinks P) i j) (lane 0 0) 0

@@ -30,7 +30,7 @@ data Walk (m b : ℕ) : ℕ → List Lane → Type 0 where
   down : {a : ℕ} {l : Lane} {ls : List Lane} → a ≡ l.row → Walk m b (m + l.col) ls → Walk m b a (l ∷ ls)
   up : {a : ℕ} {l : Lane} {ls : List Lane} → a ≡ m + l.col → Walk m b l.row ls → Walk m b a (l ∷ ls)
 
-walk-append : {m a b c : ℕ} {ks ls : List Lane} → Walk m c a ks → Walk m b c ls → Walk m b a (ks ++ ls)
+walk-append : {m b c a : ℕ} {ks ls : List Lane} → Walk m c a ks → Walk m b c ls → Walk m b a (ks ++ ls)
 walk-append (stay e) w = rw e w
 walk-append (down e rest) w = down e (walk-append rest w)
 walk-append (up e rest) w = up e (walk-append rest w)

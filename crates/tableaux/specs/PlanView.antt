@@ -53,7 +53,7 @@ plan-fulfils {P} {k} {Q} e p = record {
 
 -- ---- their cost
 
-pub sum-sum_z : (n : ℕ) (f : ℕ → ℤ) → to_z (sum_z n f) ≈ sum n (λ k. to_z (f k))
+sum-sum_z : (n : ℕ) (f : ℕ → ℤ) → to_z (sum_z n f) ≈ sum n (λ k. to_z (f k))
 unfolding sum_z
 sum-sum_z zero f = omega arith
 sum-sum_z (suc n) f = omega (arith, z-add (sum_z n f) (f n), sum-sum_z n f)

@@ -1,4 +1,5 @@
 -- Striking off leaf after leaf: lanes join all nodes without a loop exactly if all of them are struck off, and what the list of strikes then is.
+use Rattle.tableaux.specs.Leaves.{unless}
 use Rattle.prelude.specs.Words.{◌≡◌, refl, ap, sym, ◌∙◌, ◌↔◌, ◌≢◌, ◌⊎◌, inl, inr, ⊎_elim, by_cases, Bool, true, false, cond, List, [], ◌∷◌, Memᴰ}
 use Rattle.prelude.specs.Words.{Memᴰ-head, Memᴰ-tail, Memᴰ-not_nil, Memᴰ-cases_cons, Memᴰ-cast, none, some, ℕ, zero, suc, ◌+◌, ◌-◌, ◌≤◌}
 use Rattle.prelude.specs.Words.{◌<◌, arith, ℕ_discrete, dec_lt, lt-ltb, le-ltb, eqb-true, eq-eqb, eqb, ltb, length, by_test, by_option, some≢none}
@@ -40,7 +41,7 @@ linked-struck {m} {n} {left} {nodes} (suc most) {B} p others w q = by_option (fi
     (λ s e.
     let f = found m nodes B s e in
     let less = length_without f in
-    rw (strike-some m nodes most B s e) (omega (arith, linked-struck most p others (leaf-struck w others f) (omega arith))))
+    rw (strike-some m nodes most B s e) (omega (arith, linked-struck {left = unless s.leaf left} most p others (leaf-struck w others f) (omega arith))))
 
 -- A strike's lane is one of the list, and its leaf one of the nodes.
 record StrikeOf (m : ℕ) (nodes : List ℕ) (B : List Lane) (t : Strike) : Type 0 where
@@ -341,7 +342,7 @@ linked-leaves {m} {n} {left} (suc size) (l ∷ ls) p w q =
     let others = nodes-others m n p in
     let (s, o) = leaf_exists w p others l (Memᴰ-head refl) in
     let f = found m (table (basis_size m n) suc) (l ∷ ls) s o in
-    leaf s.leaf s.lane f.only (linked-leaves size (without m s.leaf (l ∷ ls)) p (leaf-struck w others f) (omega (arith, length_without f)))
+    leaf s.leaf s.lane f.only (linked-leaves {left = unless s.leaf left} size (without m s.leaf (l ∷ ls)) p (leaf-struck w others f) (omega (arith, length_without f)))
 
 -- The sentence of the paper on single basic cells: joined lanes have a leaf, and what is left without it is joined again.
 pub leaf_again : {m n : ℕ} {B : List Lane} → 1 ≤ m → Fits m n B → length B ≡ basis_size m n → Joined m n (Has B) → Strikable m B

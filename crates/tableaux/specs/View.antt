@@ -1,6 +1,6 @@
 -- A tableau as amounts on rows and columns: the view in which the theory of networks speaks of it.
 use Rattle.prelude.specs.Words.{◌≡◌, refl, sym, ◌∙◌, ◌↔◌, by_cases, Dec-and, ◌&&◌, cond, List, [], ◌∷◌, map, ℕ, zero, suc, ◌<◌, arith, ℕ_discrete, eq-eqb}
-use Rattle.prelude.specs.Words.{ne_eqb, eqb, ℤ, pos, ◌+ℤ◌, length, get_or}
+use Rattle.prelude.specs.Words.{ne_eqb, eqb, ℤ, pos, ◌+ℤ◌, length, get_or, subst}
 use Rattle.integers.specs.Integer.{Z, ◌≈◌, ◌⊕◌, ◌⊗◌, nat}
 use Rattle.integers.specs.Bridge.{to_z, z-add}
 use Rattle.integers.specs.Sum.{sum, point}
@@ -117,11 +117,16 @@ module _ (part : Pair → ℤ) (part-zero : part nothing ≡ pos 0) (part-add : 
   abbrev along : (Cell → ℕ) → List Cell → ℕ → Z
   along line T k = to_z (part (add_up (map (λ c. c.amount) (keep (λ c. eqb (line c) k) T))))
 
+  along-own : (line : Cell → ℕ) (c : Cell) (cs : List Cell)
+      → along line (c ∷ cs) (line c) ≈ point (line c) (to_z (part c.amount)) (line c) ⊕ along line cs (line c)
+  unfolding keep add_up
+  along-own line c cs = rw (eq-eqb (line c) (line c) refl, point_at (line c) (to_z (part c.amount)))
+      (part-sum c.amount (add_up (map (λ d. d.amount) (keep (λ d. eqb (line d) (line c)) cs))))
+
   along-cons : (line : Cell → ℕ) (c : Cell) (cs : List Cell) (k : ℕ) → along line (c ∷ cs) k ≈ point (line c) (to_z (part c.amount)) k ⊕ along line cs k
   unfolding keep add_up
   along-cons line c cs k = by_cases (ℕ_discrete k (line c))
-      (λ e. rw (eq-eqb (line c) k (sym e), e, point_at (line c) (to_z (part c.amount)))
-      (part-sum c.amount (add_up (map (λ d. d.amount) (keep (λ d. eqb (line d) (line c)) cs)))))
+      (λ e. subst (λ (j : ℕ). along line (c ∷ cs) j ≈ point (line c) (to_z (part c.amount)) j ⊕ along line cs j) (sym e) (along-own line c cs))
       (λ e. rw (ne_eqb (line c) k (λ f. e (sym f)), point-off (line c) (to_z (part c.amount)) k e) (omega arith))
 
   pub row-sum : (m n : ℕ) (T : List Cell) → Distinct T → Inside m n T → (i : ℕ) → sum n (at T i) ≈ along (λ c. c.row) T i

@@ -1,4 +1,6 @@
 // The tight lanes, on which settling moves bags: those of reduced cost 0, so of least cost together.
+#![tactic(auto)]
+
 ghost use Rattle.std.specs.Prelude.{◌<◌};
 ghost use Rattle.tight.specs.Tight.{Ranged, TightRow, TightLanes};
 

@@ -1,6 +1,6 @@
 -- The declared answers of the calls: which one stands for the paper's answer (`..Answer`), and what one says in the paper's terms, given what the lent lists
 -- then hold (`..Says`). Fields without a meaning hold zeros.
-use Rattle.std.specs.Prelude.{true, false, List, [], ℕ, ◌*◌, ℤ, pos, length, take, replicate}
+use Rattle.std.specs.Prelude.{true, false, List, [], ℕ, ◌*◌, ℤ, pos, length, take}
 use Rattle.std.proofs.Math.Option.{none, some}
 pub use Rattle.transport.specs.declared.StartAnswer.{StartAnswer}
 pub use Rattle.transport.specs.declared.StartOutcome.{StartOutcome}
@@ -16,21 +16,19 @@ use Rattle.transport.specs.declared.SettleAnswer.TheVariants as SettleAnswer
 pub use Rattle.transport.specs.declared.SolveAnswer.{SolveAnswer}
 use Rattle.transport.specs.declared.SolveAnswer.TheVariants as SolveAnswer
 pub use Rattle.transport.specs.declared.SetUpAnswer.{SetUpAnswer}
-pub use Rattle.transport.specs.declared.QuoteAnswer.{QuoteAnswer}
-pub use Rattle.transport.specs.declared.ConfirmAnswer.{ConfirmAnswer}
-use Rattle.transport.specs.declared.Desk as Declared
+pub use Rattle.transport.specs.declared.EditAnswer.{EditAnswer}
+use Rattle.transport.specs.declared.Standing as Declared
 pub use Rattle.transport.specs.declared.ReadAnswer.{ReadAnswer}
 use Rattle.transport.specs.declared.ReadAnswer.TheVariants as ReadAnswer
 pub use Rattle.transport.specs.declared.WriteAnswer.{WriteAnswer}
 use Rattle.transport.specs.declared.WriteAnswer.TheVariants as WriteAnswer
 use Rattle.transport.specs.Lists.{padded}
-use Rattle.transport.specs.Limits.{max_sources, max_side}
+use Rattle.transport.specs.Limits.{max_side}
 use Rattle.transport.specs.Sheet.{Sheet, sheet_of, roasteries, cafes}
 use Rattle.transport.specs.Tableau.{Cell, tableau_of, cells_of, no_tableau}
 use Rattle.transport.specs.Round.{Run}
 use Rattle.transport.specs.Calls.{Answer, refused, given, refused_by, Round, finished, moved, Solution}
-use Rattle.transport.specs.Standing.{Edit, Standing, struct_of}
-use Rattle.transport.specs.Quotes.{Desk, quote_of_edit, struct_of_quote, struct_with}
+use Rattle.transport.specs.Standing.{Standing, struct_of}
 
 -- ---- start
 
@@ -105,35 +103,22 @@ solve_says m n (SolveAnswer.Solved cost rounds) u v plan =
     given (record { cost = cost; rounds = rounds; u = take m u; v = take n v; plan = take (m * n) plan })
 solve_says m n (SolveAnswer.Refused k) u v plan = refused_by k
 
--- ---- set up, quote and confirm: the answers cross to C as they are; `refusal` is 0 or the number
+-- ---- set up and edit: the answers cross to C as they are, so `refusal` is 0 or the number
 
--- The struct of a desk without quotes.
-unfoldable pub struct_of_desk : Standing → Declared.Desk
-struct_of_desk St = record {
-  standing = record { sheet = struct_of St.sheet; tableau = St.tableau; counter = St.counter };
-  quotes = replicate max_sources (struct_of_quote none);
-}
-
-unfoldable pub set_up_answer : Answer Desk → SetUpAnswer
+unfoldable pub set_up_answer : Answer Standing → SetUpAnswer
 set_up_answer (refused r) = record {
   refusal = r.number;
-  desk = struct_of_desk (record { sheet = sheet_of [] [] []; tableau = no_tableau; counter = 0 });
+  standing = record { sheet = struct_of (sheet_of [] [] []); tableau = no_tableau; counter = 0 };
 }
-set_up_answer (given D) = record { refusal = 0; desk = struct_of_desk D.standing }
-
--- A refused quote gives the desk back as it was.
-unfoldable pub quote_answer : Answer ℤ → Declared.Desk → Edit → QuoteAnswer
-quote_answer (refused r) old e = record { refusal = r.number; difference = pos 0; after = old }
-quote_answer (given d) old e = record {
+set_up_answer (given St) = record {
   refusal = 0;
-  difference = d;
-  after = struct_with old e.row (some (quote_of_edit e d old.standing.counter));
+  standing = record { sheet = struct_of St.sheet; tableau = St.tableau; counter = St.counter };
 }
 
--- A refused confirm gives the desk back with the quote used up.
-unfoldable pub confirm_answer : Answer Solution → Declared.Desk → Declared.Desk → ConfirmAnswer
-confirm_answer (refused r) old new = record { refusal = r.number; cost = pos 0; rounds = 0; after = old }
-confirm_answer (given s) old new = record { refusal = 0; cost = s.cost; rounds = s.rounds; after = new }
+-- A refusal gives the standing sheet back as it was.
+unfoldable pub edit_answer : Answer Solution → Declared.Standing → Declared.Standing → EditAnswer
+edit_answer (refused r) old new = record { refusal = r.number; cost = pos 0; rounds = 0; after = old }
+edit_answer (given s) old new = record { refusal = 0; cost = s.cost; rounds = s.rounds; after = new }
 
 -- ---- read sheet
 

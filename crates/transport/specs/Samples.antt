@@ -1,8 +1,8 @@
--- The samples of paper 01, P1 to P9, its text samples and its worked text, those of paper 02, One to Six, and a sample for each trap that these leave open,
+-- The samples of paper 01, P1 to P9, its text samples and its worked text, those of paper 02, One to Five, and a sample for each trap that these leave open,
 -- as one theorem over the definitions.
 mod Open
 use Rattle.std.specs.Prelude.{◌≡◌, refl, true, false, List, [], ◌∷◌, ◌++◌, map, ℕ, ◌-◌, ℤ, pos, negsuc, neg_ℤ, replicate}
-use Rattle.std.proofs.Math.Option.{Option, none, some}
+use Rattle.std.proofs.Math.Option.{some}
 use Prim.Native.String.{String}
 use Rattle.transport.specs.Problem.{Problem, Lane, lane_cost}
 use Rattle.transport.specs.Sheet.{Sheet}
@@ -12,9 +12,8 @@ use Rattle.transport.specs.Potential.{reduced_cost}
 use Rattle.transport.specs.Round.{entering, next}
 use Rattle.transport.specs.Plan.{plan_cost_of}
 use Rattle.transport.specs.Calls.{Answer, refused, given, refused_by, unless, start_call, finished, moved, round_call, run_call, settle_call, solve_call}
-use Rattle.transport.specs.Standing.{Edit, edited, Standing, set_up_of, standing_tests, max_counter, edit_call, carried_out, stands_after, kept_sheet}
+use Rattle.transport.specs.Standing.{Edit, edited, Standing, set_up_call, standing_tests, max_counter, edit_call, carried_out, stands_after, kept_sheet}
 use Rattle.transport.specs.Standing.{spare, struct_of, standing_of}
-use Rattle.transport.specs.Quotes.{Quote, Desk, set_up_call, quote_call, confirm_call, struct_of_quote, quote_of}
 use Rattle.transport.specs.declared.Change.TheVariants as Change
 use Rattle.transport.specs.Text.{bytes, number_line}
 use Rattle.transport.specs.SheetText.{read_sheet_call, write_sheet_call}
@@ -187,20 +186,6 @@ set_cost i j c = record { row = i - 1; col = j - 1; change = Change.Cost c }
 abbrev set_amounts : ℕ → ℕ → ℕ → ℕ → Edit
 set_amounts i j s d = record { row = i - 1; col = j - 1; change = Change.Amounts s d }
 
--- Six: the desk of stands1, with the open quotes of its two roasteries ..
-abbrev desk1 : ℕ → Option Quote → Option Quote → Desk
-desk1 k q r = record { standing = stands1 k; quotes = q ∷ r ∷ [] }
-
--- .. of which one makes a lane dearer, one makes a lane cheaper, and one brings a bag more; each was quoted when the counter stood at k.
-abbrev dearer : ℕ → Quote
-dearer k = record { col = 1; change = Change.Cost (pos 9); difference = pos 14; counter = k }
-
-abbrev cheaper : ℕ → Quote
-cheaper k = record { col = 0; change = Change.Cost (pos 1); difference = below_zero 4; counter = k }
-
-abbrev bag_more : ℕ → Quote
-bag_more k = record { col = 0; change = Change.Amounts 4 6; difference = pos 4; counter = k }
-
 abbrev samples : List Sample
 samples =
     -- P1
@@ -334,8 +319,8 @@ samples =
     ∷ (solve_call (sheet_wide_closed 40) 1 32 32 is refused_by 10)
     ∷ (solve_call (record { supply = 1 ∷ []; demand = replicate 32 0; cost = replicate 32 (pos 0) }) 1 32 32 is refused_by 10)
     -- Five: what is set up, and its struct and back
-    ∷ (set_up_call sheet1 is given (desk1 0 none none))
-    ∷ (set_up_of sheet_dear_closed is stands_closed)
+    ∷ (set_up_call sheet1 is given (stands1 0))
+    ∷ (set_up_call sheet_dear_closed is given stands_closed)
     ∷ (set_up_call (one_lane 2 3 (pos 0)) is refused_by 5)
     ∷ (set_up_call (one_lane 3 0 (pos 0)) is refused_by 11)
     ∷ (kept_sheet (struct_of sheet1) is sheet1)
@@ -373,37 +358,6 @@ samples =
     ∷ (edit_call (record { sheet = sheet1; tableau = tableau_of start1; counter = max_counter }) (set_cost 3 1 (pos 1)) 2 2 4 is refused_by 7)
     ∷ (edit_call (record { sheet = sheet1; tableau = record { cells = (tableau_of next1).cells; count = 64 }; counter = 0 }) (set_cost 3 1 (pos 1)) 2 2 4 is refused_by 6)
     ∷ (unless {A = ℕ} (standing_tests (standing_of (record { sheet = record { m = 33; n = 2; supply = replicate 32 1; demand = replicate 32 1; cost = [] }; tableau = tableau_of next1; counter = 0 }))) 0 is refused_by 1)
-    -- Six: a quote, of a difference above 0, below 0 and of 0; the other roastery's stays, and the counter does not move
-    ∷ (quote_call (desk1 7 none none) (set_cost 1 2 (pos 9)) is record { answer = given (pos 14); after = desk1 7 (some (dearer 7)) none })
-    ∷ (quote_call (desk1 7 (some (dearer 3)) none) (set_cost 2 1 (pos 1)) is record { answer = given (below_zero 4); after = desk1 7 (some (dearer 3)) (some (cheaper 7)) })
-    ∷ ((quote_call (desk1 0 none none) (set_cost 2 2 (pos 7))).answer is given (pos 0))
-    -- a new quote replaces the open one
-    ∷ (quote_call (desk1 7 (some (dearer 7)) none) (set_amounts 1 1 4 6) is record { answer = given (pos 4); after = desk1 7 (some (bag_more 7)) none })
-    -- a refused quote changes nothing: 3, 4, 5, 11, and 12 before them
-    ∷ (quote_call (desk1 0 (some (dearer 0)) none) (set_amounts 1 1 1_000_001 9) is record { answer = refused_by 3; after = desk1 0 (some (dearer 0)) none })
-    ∷ (quote_call (desk1 0 (some (dearer 0)) none) (set_cost 1 1 (pos 1_000_001)) is record { answer = refused_by 4; after = desk1 0 (some (dearer 0)) none })
-    ∷ (quote_call (desk1 0 (some (dearer 0)) none) (set_amounts 1 1 3 6) is record { answer = refused_by 5; after = desk1 0 (some (dearer 0)) none })
-    ∷ (quote_call (record { standing = set_up_of (one_lane 1 1 (pos 0)); quotes = none ∷ [] }) (set_amounts 1 1 1 0) is record { answer = refused_by 11; after = record { standing = set_up_of (one_lane 1 1 (pos 0)); quotes = none ∷ [] } })
-    ∷ (quote_call (desk1 0 (some (dearer 0)) none) (set_cost 1 3 (pos 1_000_001)) is record { answer = refused_by 12; after = desk1 0 (some (dearer 0)) none })
-    ∷ (quote_call (desk1 max_counter none none) (set_cost 1 1 (pos 1)) is record { answer = refused_by 12; after = desk1 max_counter none none })
-    -- a confirm answers as the edit does, counts it, and uses its quote up
-    ∷ (confirm_call (desk1 7 (some (dearer 7)) (some (cheaper 7))) 0 2 2 4 is record { answer = given (record { cost = pos 28; rounds = 1; u = pos 0 ∷ negsuc 1 ∷ []; v = pos 4 ∷ pos 8 ∷ []; plan = 3 ∷ 0 ∷ 2 ∷ 2 ∷ [] }); after = record { standing = record { sheet = edited sheet1 (set_cost 1 2 (pos 9)); tableau = tableau_of start1; counter = 8 }; quotes = none ∷ some (cheaper 7) ∷ [] } })
-    -- 13: the counter has moved by another's edit, and the quote is gone, so that a second confirm gets 13 too
-    ∷ (confirm_call (record { standing = carried_out (stands1 7) (set_cost 1 2 (pos 9)); quotes = none ∷ some (cheaper 7) ∷ [] }) 1 2 2 4 is record { answer = refused_by 13; after = record { standing = carried_out (stands1 7) (set_cost 1 2 (pos 9)); quotes = none ∷ none ∷ [] } })
-    ∷ (confirm_call (record { standing = carried_out (stands1 7) (set_cost 1 2 (pos 9)); quotes = none ∷ none ∷ [] }) 1 2 2 4 is record { answer = refused_by 13; after = record { standing = carried_out (stands1 7) (set_cost 1 2 (pos 9)); quotes = none ∷ none ∷ [] } })
-    -- 13 without a quote, and for a roastery not on the sheet; before 12 and before 8
-    ∷ (confirm_call (desk1 7 none (some (cheaper 7))) 0 2 2 4 is record { answer = refused_by 13; after = desk1 7 none (some (cheaper 7)) })
-    ∷ (confirm_call (desk1 7 none (some (cheaper 7))) 2 2 2 4 is record { answer = refused_by 13; after = desk1 7 none (some (cheaper 7)) })
-    ∷ (confirm_call (desk1 max_counter (some (dearer 7)) none) 0 2 2 3 is record { answer = refused_by 13; after = desk1 max_counter none none })
-    -- 8, 12, and the first check before 13: each uses the quote up
-    ∷ (confirm_call (desk1 7 (some (dearer 7)) (some (cheaper 7))) 0 2 2 3 is record { answer = refused_by 8; after = desk1 7 none (some (cheaper 7)) })
-    ∷ (confirm_call (desk1 max_counter (some (dearer max_counter)) none) 0 2 2 3 is record { answer = refused_by 12; after = desk1 max_counter none none })
-    ∷ (confirm_call (record { standing = record { sheet = sheet1; tableau = tableau_of start1; counter = 0 }; quotes = some (dearer 7) ∷ none ∷ [] }) 0 2 2 4 is record { answer = refused_by 7; after = record { standing = record { sheet = sheet1; tableau = tableau_of start1; counter = 0 }; quotes = none ∷ none ∷ [] } })
-    -- a quote's struct and back; a kind that no call gives stands for amounts
-    ∷ (quote_of (struct_of_quote (some (dearer 7))) is some (dearer 7))
-    ∷ (quote_of (struct_of_quote (some (bag_more 7))) is some (bag_more 7))
-    ∷ (quote_of (record { kind = 3; col = 0; cost = pos 9; supply = 4; demand = 6; difference = pos 4; counter = 7 }) is some (bag_more 7))
-    ∷ (quote_of (record { kind = 0; col = 1; cost = pos 9; supply = 4; demand = 6; difference = pos 4; counter = 7 }) is none)
     -- traps: the least reduced cost enters, and not the first negative one; a count beyond the array does not belong
     ∷ (entering (extended sheet10) (start (extended sheet10)) is lane 1 3)
     ∷ (round_call sheet1 (record { cells = (tableau_of start1).cells; count = 64 }) is refused_by 6)
@@ -411,4 +365,4 @@ samples =
 
 pub samples-hold : Hold samples
 unfolding opened
-samples-hold = (refl, (refl, (refl, (refl, (refl, (refl, (refl, (refl, (refl, (refl, (refl, (refl, (refl, (refl, (refl, (refl, (refl, (refl, (refl, (refl, (refl, (refl, (refl, (refl, (refl, (refl, (refl, (refl, (refl, (refl, (refl, (refl, (refl, (refl, (refl, (refl, (refl, (refl, (refl, (refl, (refl, (refl, (refl, (refl, (refl, (refl, (refl, (refl, (refl, (refl, (refl, (refl, (refl, (refl, (refl, (refl, (refl, (refl, (refl, (refl, (refl, (refl, (refl, (refl, (refl, (refl, (refl, (refl, (refl, (refl, (refl, (refl, (refl, (refl, (refl, (refl, (refl, (refl, (refl, (refl, (refl, (refl, (refl, (refl, (refl, (refl, (refl, (refl, (refl, (refl, (refl, (refl, (refl, (refl, (refl, (refl, (refl, (refl, (refl, (refl, (refl, (refl, (refl, (refl, (refl, (refl, (refl, (refl, (refl, (refl, (refl, (refl, (refl, (refl, (refl, (refl, (refl, (refl, (refl, (refl, (refl, (refl, (refl, (refl, (refl, (refl, (refl, (refl, (refl, (refl, (refl, (refl, (refl, (refl, (refl, (refl, (refl, (refl, (refl, (refl, (refl, (refl, (refl, (refl, (refl, (refl, (refl, (refl, (refl, (refl, (refl, (refl, (refl, (refl, (refl, (refl, (refl, (refl, (refl, (refl, (refl, (refl, (refl, tt)))))))))))))))))))))))))))))))))))))))))))))))))))))))))))))))))))))))))))))))))))))))))))))))))))))))))))))))))))))))))))))))))))))))))))))))))))))))))))))))))))
+samples-hold = (refl, (refl, (refl, (refl, (refl, (refl, (refl, (refl, (refl, (refl, (refl, (refl, (refl, (refl, (refl, (refl, (refl, (refl, (refl, (refl, (refl, (refl, (refl, (refl, (refl, (refl, (refl, (refl, (refl, (refl, (refl, (refl, (refl, (refl, (refl, (refl, (refl, (refl, (refl, (refl, (refl, (refl, (refl, (refl, (refl, (refl, (refl, (refl, (refl, (refl, (refl, (refl, (refl, (refl, (refl, (refl, (refl, (refl, (refl, (refl, (refl, (refl, (refl, (refl, (refl, (refl, (refl, (refl, (refl, (refl, (refl, (refl, (refl, (refl, (refl, (refl, (refl, (refl, (refl, (refl, (refl, (refl, (refl, (refl, (refl, (refl, (refl, (refl, (refl, (refl, (refl, (refl, (refl, (refl, (refl, (refl, (refl, (refl, (refl, (refl, (refl, (refl, (refl, (refl, (refl, (refl, (refl, (refl, (refl, (refl, (refl, (refl, (refl, (refl, (refl, (refl, (refl, (refl, (refl, (refl, (refl, (refl, (refl, (refl, (refl, (refl, (refl, (refl, (refl, (refl, (refl, (refl, (refl, (refl, (refl, (refl, (refl, (refl, (refl, (refl, tt))))))))))))))))))))))))))))))))))))))))))))))))))))))))))))))))))))))))))))))))))))))))))))))))))))))))))))))))))))))))))))))))))))))))))))

@@ -10,7 +10,7 @@ use Rattle.transport.specs.declared.Standing as Declared
 use Rattle.transport.specs.Lists.{first_of, padded}
 use Rattle.transport.specs.Limits.{max_sources, max_sinks}
 use Rattle.transport.specs.Problem.{place}
-use Rattle.transport.specs.Sheet.{Sheet, sheet_of, roasteries, cafes, refusal}
+use Rattle.transport.specs.Sheet.{Sheet, sheet_of, roasteries, cafes, sheet_tests, refusal}
 use Rattle.transport.specs.Parties.{problem_of}
 use Rattle.transport.specs.Tableau.{Cell, Tableau, tableau_of, start}
 use Rattle.transport.specs.Round.{round_bound}
@@ -39,9 +39,10 @@ pub record Standing : Type 0 where
 unfoldable pub last_tableau_of : Sheet → List Cell → Tableau
 last_tableau_of S T = tableau_of (run_from S (round_bound (problem_of S)) T).tableau
 
--- At the set-up: the finished tableau is the one to which the rounds from the start lead.
-unfoldable pub set_up_of : Sheet → Standing
-set_up_of S = record { sheet = S; tableau = last_tableau_of S (start (problem_of S)); counter = 0 }
+-- The set-up: from a sheet that solve accepts, refused as solve would refuse it. There are no lists
+-- to be too short.
+unfoldable pub set_up_call : Sheet → Answer Standing
+set_up_call S = unless (sheet_tests S) (record { sheet = S; tableau = last_tableau_of S (start (problem_of S)); counter = 0 })
 
 -- The first check of a standing sheet: as settle checks sheet and tableau, without 8.
 unfoldable pub standing_tests : Standing → List (Bool × ℕ)
@@ -50,7 +51,7 @@ standing_tests St = finished_tests St.sheet St.tableau
 abbrev pub Passes : Standing → Type 0
 Passes St = refusal (standing_tests St) ≡ none
 
--- ---- an edit
+-- ---- the call
 
 -- The largest value of the counter: it has 64 bits.
 unfoldable pub max_counter : ℕ
@@ -87,7 +88,7 @@ carried_out St e = record {
   counter = suc St.counter;
 }
 
--- How the sheet stands afterwards: a refusal alters nothing.
+-- How the sheet stands after a call: a refusal alters nothing.
 unfoldable pub stands_after : {A : Type 0} → Answer A → Standing → Standing → Standing
 stands_after (refused r) old new = old
 stands_after (given a) old new = new

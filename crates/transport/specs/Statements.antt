@@ -25,16 +25,11 @@
 --   FromNothing              an accepted edit: demands/FromNothing.from-nothing
 --   Passes (Standing)        what is set up, and what stands after any edit:
 --                            demands/FromNothing.set-up-stands, edit-stands
---   Quoting                  a quote at any desk: demands/Quoting.quoting
---   Confirming               a confirm at any desk: demands/Confirming.confirming
---   OnlyUsedUp               all calls: demands/Confirming.only-used-up
---   AsQuoted                 any desk that a history reaches: demands/Histories.as-quoted
 --   SheetTextOf              exactly the texts that the definition reads: grammar/Place.reader-iff
 --   Place                    the place that read sheet gives with 9: grammar/Place.place
 --   Undo                     write sheet and read sheet: grammar/SheetCalls.undo
-use Rattle.std.specs.Prelude.{◌≡◌, ◌↔◌, ◌⊎◌, Bool, true, false, cond, ℕ, zero, suc, ◌+◌, ◌*◌, ◌^◌, ◌≤◌, ◌<◌, ℤ, pos, negsuc, nat_abs, neg_ℤ, ◌+ℤ◌, ◌-ℤ◌, ◌*ℤ◌, ◌≤ℤ◌, length, take, drop, get_or}
+use Rattle.std.specs.Prelude.{◌≡◌, ◌↔◌, ◌⊎◌, Bool, true, false, cond, ℕ, zero, suc, ◌+◌, ◌*◌, ◌^◌, ◌≤◌, ◌<◌, ℤ, pos, negsuc, nat_abs, neg_ℤ, ◌+ℤ◌, ◌*ℤ◌, ◌≤ℤ◌, length, take, drop, get_or}
 use mathlib.Core.List.{List, [], ◌∷◌, map, Memᴰ}
-use Rattle.std.proofs.Math.Option as Option
 use Rattle.transport.specs.declared.SolveAnswer.{SolveAnswer}
 use Rattle.transport.specs.declared.SolveAnswer.TheVariants as SolveAnswer
 use Rattle.transport.specs.Lists.{sum_to, at, at_z, total, within}
@@ -51,11 +46,8 @@ use Rattle.transport.specs.Potential.{is_finished_of}
 use Rattle.transport.specs.OwnNumbers.{renumbered, roastery_prices, cafe_prices}
 use Rattle.transport.specs.Round.{sign, leaving, next, Run}
 use Rattle.transport.specs.Plan.{plan_cost_of}
-use Rattle.transport.specs.Calls.{Refusal, Answer, refused, given, refused_by, lent_after, Solution, solution}
-use Rattle.transport.specs.Calls.{solve_call}
-use Rattle.transport.specs.Standing.{Edit, edited, Standing, Passes, edit_from, edit_call, carried_out, stands_after}
-use Rattle.transport.specs.Quotes.{Quote, Desk, set_up_call, open_quote, with_quote, quote_of_edit, quote_call}
-use Rattle.transport.specs.Quotes.{quoted_edit_of, confirm_call}
+use Rattle.transport.specs.Calls.{Answer, given, Solution, solution, solve_call}
+use Rattle.transport.specs.Standing.{Edit, edited, Standing, Passes, edit_from, carried_out}
 use Rattle.transport.specs.SheetText.{sheet_text}
 
 -- ---- sheets
@@ -367,88 +359,6 @@ pub record FromNothing (St : Standing) (e : Edit) (uRoom vRoom plan_room : ℕ) 
   pub best : Best (edited St.sheet e) s.plan s.cost
   pub rounds : FirstFinished (problem_of (edited St.sheet e)) (edit_from St e) s.rounds
   pub stands : Passes (carried_out St e)
-
--- ---- quote first (02, Six)
-
--- The total is least in the sense of demand 3: it is the cost of a best plan.
-abbrev pub LeastTotal : Sheet → ℤ → Type 0
-LeastTotal S total = (plan : List ℕ) × Best S plan total
-
--- Each roastery has its place in the list of open quotes, and nobody else.
-abbrev pub Placed : Desk → Type 0
-Placed D = length D.quotes ≡ roasteries D.standing.sheet
-
--- The open quotes of all roasteries but one are what they were.
-abbrev pub OthersStay : ℕ → Desk → Desk → Type 0
-OthersStay row before after = (h : ℕ) → ¬ (h ≡ row) → open_quote after h ≡ open_quote before h
-
-pub record Quoting (D : Desk) (e : Edit) : Type 0 where
-  -- A quote alters nothing but the list of open quotes, and there its roastery's place alone.
-  pub only : (quote_call D e).after.standing ≡ D.standing
-  pub others : OthersStay e.row D (quote_call D e).after
-  -- It answers new total minus old, and both are least. It is then the open quote.
-  pub answers : (d : ℤ) → (quote_call D e).answer ≡ given d
-      → (new old : ℤ) × LeastTotal (edited D.standing.sheet e) new × LeastTotal D.standing.sheet old
-      × (d ≡ (new -ℤ old))
-  pub opens : (d : ℤ) → (quote_call D e).answer ≡ given d
-      → open_quote (quote_call D e).after e.row ≡ Option.some (quote_of_edit e d D.standing.counter)
-  -- It is refused as the edit would be with lists for the largest sheet, and then changes nothing.
-  pub refused_alike : (k : ℕ) → ((quote_call D e).answer ≡ refused_by k)
-      ↔ (edit_call D.standing e max_sources max_sinks (max_sources * max_sinks) ≡ refused_by k)
-  pub nothing : (k : ℕ) → (quote_call D e).answer ≡ refused_by k → (quote_call D e).after ≡ D
-
--- A confirm that names this roastery, with lent lists that have these rooms.
-pub record Confirming (D : Desk) (row uRoom vRoom plan_room : ℕ) : Type 0 where
-  -- Whatever it answers, the roastery then has no open quote, and every other has what it had.
-  pub closed : open_quote (confirm_call D row uRoom vRoom plan_room).after row ≡ Option.none
-  pub others : OthersStay row D (confirm_call D row uRoom vRoom plan_room).after
-  -- Of a refusal this is the only change.
-  pub only : (k : ℕ) → (confirm_call D row uRoom vRoom plan_room).answer ≡ refused_by k
-      → (confirm_call D row uRoom vRoom plan_room).after ≡ with_quote D row Option.none
-  -- Once the first check is passed, 13 refuses where there is no open quote, or the counter has
-  -- moved since.
-  pub unquoted : Passes D.standing → open_quote D row ≡ Option.none
-      → (confirm_call D row uRoom vRoom plan_room).answer ≡ refused_by 13
-  pub moved : Passes D.standing → (q : Quote) → open_quote D row ≡ Option.some q
-      → ¬ (q.counter ≡ D.standing.counter)
-      → (confirm_call D row uRoom vRoom plan_room).answer ≡ refused_by 13
-  -- Else the confirm carries the edit out: it answers as the edit does, and the sheet then stands
-  -- as after the edit.
-  pub carries : (q : Quote) → open_quote D row ≡ Option.some q → q.counter ≡ D.standing.counter
-      → let e = quoted_edit_of row (Option.some q) in let a = edit_call D.standing e uRoom vRoom plan_room in
-      let St = D.standing in
-      ((confirm_call D row uRoom vRoom plan_room).answer ≡ a)
-      × ((confirm_call D row uRoom vRoom plan_room).after.standing ≡ stands_after a St (carried_out St e))
-  -- What it then gives is what solving the edited sheet from nothing gives.
-  pub gives : (s : Solution) → (confirm_call D row uRoom vRoom plan_room).answer ≡ given s
-      → (q : Quote) × (open_quote D row ≡ Option.some q) × (q.counter ≡ D.standing.counter)
-      × FromNothing D.standing (quoted_edit_of row (Option.some q)) uRoom vRoom plan_room s
-
--- The quote that a confirm uses up is the only change that any refusal makes. A call that fills
--- lent lists leaves them as they were, and its contract says so by `lent_after`. No call but quote
--- and confirm gives a desk in place of another.
-pub record OnlyUsedUp : Type 1 where
-  pub lent : {A B : Type 0} (part : A → List B) (r : Refusal) (old : List B) → lent_after part (refused r) old ≡ old
-  pub quote : (D : Desk) (e : Edit) (r : Refusal) → (quote_call D e).answer ≡ refused r → (quote_call D e).after ≡ D
-  pub confirm : (D : Desk) (row uRoom vRoom plan_room : ℕ) (r : Refusal)
-      → (confirm_call D row uRoom vRoom plan_room).answer ≡ refused r
-      → (confirm_call D row uRoom vRoom plan_room).after ≡ with_quote D row Option.none
-
--- A history: a set-up, and then any quotes and confirms, accepted or refused.
-pub data Reached : Desk → Type 0 where
-  set_up_of : (S : Sheet) {D : Desk} → set_up_call S ≡ given D → Reached D
-  quoted : {D : Desk} → Reached D → (e : Edit) → Reached (quote_call D e).after
-  confirmed : {D : Desk} → Reached D → (row uRoom vRoom plan_room : ℕ)
-      → Reached (confirm_call D row uRoom vRoom plan_room).after
-
--- At a desk that a history reaches the first check passes. A confirm that is not refused meets the
--- counter where it was when its quote was given, and its total is the least total of the sheet that
--- stands before it, plus the quoted difference.
-pub record AsQuoted (D : Desk) : Type 0 where
-  pub passes : Passes D.standing
-  pub total : (row uRoom vRoom plan_room : ℕ) (q : Quote) (s : Solution) → open_quote D row ≡ Option.some q
-      → (confirm_call D row uRoom vRoom plan_room).answer ≡ given s
-      → (old : ℤ) × LeastTotal D.standing.sheet old × (s.cost ≡ (old +ℤ q.difference))
 
 -- ---- texts (01, "Texts")
 

@@ -1,4 +1,6 @@
 // The types that every crate of the panel shares, and, in specs/, the definitions that every contract cites.
+#![tactic(auto)]
+
 ghost use Rattle.std.specs.Prelude.{◌≡◌};
 ghost use Rattle.transport.specs.Amount.{add, subtract, less, Fit};
 
@@ -33,7 +35,7 @@ pub const MAX_PLAN_TEXT: usize = 1_604;
 
 // A paired amount: `q` bags and `e` marks.
 #[repr(C)]
-#[derive(Drop)]
+#[derive(Clone, Copy)]
 pub struct Pair {
     pub q: i64,
     pub e: i64,
@@ -72,7 +74,7 @@ impl Pair {
 
 // A basic cell with its amount. Rows (sources) and columns (sinks) count from 0.
 #[repr(C)]
-#[derive(Drop)]
+#[derive(Clone, Copy)]
 pub struct Cell {
     pub row: usize,
     pub col: usize,
@@ -81,7 +83,7 @@ pub struct Cell {
 
 // A tableau: its first `count` cells, in sheet order. A tableau that a call gives holds zeros in the rest.
 #[repr(C)]
-#[derive(Drop)]
+#[derive(Clone, Copy)]
 pub struct Tableau {
     pub cells: [Cell; MAX_CELLS],
     pub count: usize,
@@ -90,20 +92,20 @@ pub struct Tableau {
 // In every answer `Refused` holds the number of the refusal. What a field holds where it has no meaning is zero.
 
 // The answer of start: the first tableau.
-#[derive(Drop)]
+#[derive(Clone, Copy)]
 pub struct StartAnswer {
     pub outcome: StartOutcome,
     pub tableau: Tableau,
 }
 
-#[derive(Drop)]
+#[derive(Clone, Copy)]
 pub enum StartOutcome {
     Started,
     Refused(u8),
 }
 
 // The answer of round: the next tableau, or the potentials (prices) of a finished one.
-#[derive(Drop)]
+#[derive(Clone, Copy)]
 pub struct RoundAnswer {
     pub outcome: RoundOutcome,
     pub tableau: Tableau,
@@ -111,7 +113,7 @@ pub struct RoundAnswer {
     pub v: [i64; MAX_SIDE],
 }
 
-#[derive(Drop)]
+#[derive(Clone, Copy)]
 pub enum RoundOutcome {
     Moved,
     Finished,
@@ -119,13 +121,13 @@ pub enum RoundOutcome {
 }
 
 // The answer of run: the last tableau, with the rounds made.
-#[derive(Drop)]
+#[derive(Clone, Copy)]
 pub struct RunAnswer {
     pub outcome: RunOutcome,
     pub tableau: Tableau,
 }
 
-#[derive(Drop)]
+#[derive(Clone, Copy)]
 pub enum RunOutcome {
     Finished(u64),
     Spent(u64),
@@ -133,14 +135,14 @@ pub enum RunOutcome {
 }
 
 // The answer of settle; the plan stands in the lent list.
-#[derive(Drop)]
+#[derive(Clone, Copy)]
 pub enum SettleAnswer {
     Settled,
     Refused(u8),
 }
 
 // The answer of solve; the potentials and the plan stand in the lent lists.
-#[derive(Drop)]
+#[derive(Clone, Copy)]
 pub enum SolveAnswer {
     Solved { cost: i64, rounds: u64 },
     Refused(u8),
@@ -149,7 +151,7 @@ pub enum SolveAnswer {
 // A sheet by value. Its m supplies, n demands and m × n costs, in sheet order, stand at the fronts
 // of arrays with room for the largest sheet.
 #[repr(C)]
-#[derive(Drop)]
+#[derive(Clone, Copy)]
 pub struct KeptSheet {
     pub m: usize,
     pub n: usize,
@@ -160,7 +162,7 @@ pub struct KeptSheet {
 
 // A standing sheet: a sheet with its finished tableau. `counter` counts the accepted edits.
 #[repr(C)]
-#[derive(Drop)]
+#[derive(Clone, Copy)]
 pub struct Standing {
     pub sheet: KeptSheet,
     pub tableau: Tableau,
@@ -169,86 +171,43 @@ pub struct Standing {
 
 // What an edit sets: the cost of the lane between the roastery and the café that it names, or the
 // supply of the one and the demand of the other.
-#[derive(Drop)]
+#[derive(Clone, Copy)]
 pub enum Change {
     Cost(i64),
     Amounts { supply: u64, demand: u64 },
 }
 
 // An edit names one roastery, its row, and one café, its column.
-#[derive(Drop)]
+#[derive(Clone, Copy)]
 pub struct Edit {
     pub row: usize,
     pub col: usize,
     pub change: Change,
 }
 
-// The open quote of a roastery, in numbers alone, so that it crosses to C. Its place among the
-// quotes says which roastery. `kind` is `NO_QUOTE`, and then nothing else has a meaning;
-// `COST_QUOTE`, for a new cost of the lane to café `col`; or any other number, for a new supply and
-// a new demand of that café. `difference` is what was quoted, and `counter` is where the counter
-// stood.
+// The answer of set up. It crosses to C as it is: `refusal` is the number of the refusal, or 0. The
+// standing sheet of a refusal is all zeros.
 #[repr(C)]
-#[derive(Drop)]
-pub struct Quote {
-    pub kind: u64,
-    pub col: usize,
-    pub cost: i64,
-    pub supply: u64,
-    pub demand: u64,
-    pub difference: i64,
-    pub counter: u64,
-}
-
-// The kinds of a quote that a call gives.
-pub const NO_QUOTE: u64 = 0;
-
-pub const COST_QUOTE: u64 = 1;
-
-pub const AMOUNTS_QUOTE: u64 = 2;
-
-// A standing sheet with its list of open quotes, at most one for each roastery.
-#[repr(C)]
-#[derive(Drop)]
-pub struct Desk {
-    pub standing: Standing,
-    pub quotes: [Quote; MAX_SOURCES],
-}
-
-// The answers of set up, quote and confirm cross to C as they are: `refusal` is the number of the
-// refusal, or 0.
-
-// The answer of set up. The desk of a refusal is all zeros.
-#[repr(C)]
-#[derive(Drop)]
+#[derive(Clone, Copy)]
 pub struct SetUpAnswer {
     pub refusal: u8,
-    pub desk: Desk,
+    pub standing: Standing,
 }
 
-// The answer of a quote: the new total minus the old, and the desk after it. A refusal gives the
-// desk back as it was.
+// The answer of an edit, which crosses to C as it is too: the cost of the plan, the rounds that the
+// edit made, and the standing sheet after it. A refusal has no cost and no rounds, and gives the
+// standing sheet back as it was.
 #[repr(C)]
-#[derive(Drop)]
-pub struct QuoteAnswer {
-    pub refusal: u8,
-    pub difference: i64,
-    pub after: Desk,
-}
-
-// The answer of a confirm: the cost of the plan, the rounds that its edit made, and the desk after
-// it. A refusal has no cost and no rounds, and gives the desk back without the quote.
-#[repr(C)]
-#[derive(Drop)]
-pub struct ConfirmAnswer {
+#[derive(Clone, Copy)]
+pub struct EditAnswer {
     pub refusal: u8,
     pub cost: i64,
     pub rounds: u64,
-    pub after: Desk,
+    pub after: Standing,
 }
 
 // The answer of read sheet: how many sources and sinks the lent lists now hold; `NotSheetText` is refusal 9 with its place.
-#[derive(Drop)]
+#[derive(Clone, Copy)]
 pub enum ReadAnswer {
     Sheet { sources: usize, sinks: usize },
     NotSheetText(usize),
@@ -256,14 +215,14 @@ pub enum ReadAnswer {
 }
 
 // The answer of write sheet and of write plan: the length of the text in the lent output.
-#[derive(Drop)]
+#[derive(Clone, Copy)]
 pub enum WriteAnswer {
     Written(usize),
     Refused(u8),
 }
 
 // The kind of a byte of a text.
-#[derive(Drop)]
+#[derive(Clone, Copy)]
 pub enum ByteKind {
     Digit,
     Space,

@@ -5,7 +5,7 @@ use Rattle.prelude.specs.Words.{le-ltb, get_or-set_same, get_or-set_other, by_te
 use Rattle.transport.specs.Laws.ListLaws.{and_right}
 use Rattle.std.specs.Int.Bits.{bit_and, bit_or, bit_xor, differ}
 use Rattle.std.proofs.lemmas.Nat.{and_le_r}
-use Rattle.tree.specs.Mask.{bit, has, put, has-put, has-zero, bit-suc, bit-and, bit-or, bit_xor, on_bits}
+use Rattle.tree.specs.Mask.{bit, has, put, has-put, has-zero, bit-suc, bit-and, bit-or, bit-xor, on_bits}
 use Rattle.tree.specs.MaskLaws.{first_bits_of, first_below, first_above}
 
 -- ---- tests of bits
@@ -16,7 +16,7 @@ or_cases false b e = inr e
 
 pub has_xor : (a b k : ℕ) → has (bit_xor a b) k ≡ xor (has a k) (has b k)
 unfolding xor
-has_xor a b k = rw (bit_xor a b k) (on_bits (λ x y. eqb (differ x y) 1 ≡ xor (eqb x 1) (eqb y 1)) refl refl refl refl a b k)
+has_xor a b k = rw (bit-xor a b k) (on_bits (λ x y. eqb (differ x y) 1 ≡ xor (eqb x 1) (eqb y 1)) refl refl refl refl a b k)
 
 pub has-and : (a b k : ℕ) → has (bit_and a b) k ≡ has a k && has b k
 has-and a b k = rw (bit-and a b k) (on_bits (λ x y. eqb (min x y) 1 ≡ eqb x 1 && eqb y 1) refl refl refl refl a b k)

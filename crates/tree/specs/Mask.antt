@@ -42,8 +42,8 @@ two_digits P e f g h (suc zero) (suc (suc y)) p q = absurd (omega arith)
 pub on_bits : (P : ℕ → ℕ → Type 0) → P 0 0 → P 0 1 → P 1 0 → P 1 1 → (a b k : ℕ) → P (bit a k) (bit b k)
 on_bits P e f g h a b k = two_digits P e f g h (bit a k) (bit b k) (omega arith) (omega arith)
 
-pub bit_xor : (a b k : ℕ) → bit (bit_xor a b) k ≡ differ (bit a k) (bit b k)
-bit_xor a b k = rw (xor_shr a b k, xor_step (a / 2 ^ k) (b / 2 ^ k))
+pub bit-xor : (a b k : ℕ) → bit (bit_xor a b) k ≡ differ (bit a k) (bit b k)
+bit-xor a b k = rw (xor_shr a b k, xor_step (a / 2 ^ k) (b / 2 ^ k))
     (bottom _ (on_bits (λ x y. differ x y < 2) (omega arith) (omega arith) (omega arith) (omega arith) a b k))
   where
     bottom : (q : ℕ) {r : ℕ} → r < 2 → (q * 2 + r) % 2 ≡ r
@@ -73,7 +73,7 @@ put-there x j k n = omega (arith, bit-or x (1 * 2 ^ j) k, bit-pow-other j k n)
 
 pub unset-here : (x j : ℕ) → bit (unset x j) j ≡ 0
 unfolding unset
-unset-here x j = bit_xor (bit_or x (1 * 2 ^ j)) (1 * 2 ^ j) j ∙ rw (bit-pow-same j, bit-or x (1 * 2 ^ j) j, bit-pow-same j) (top (x / 2 ^ j % 2) (omega arith))
+unset-here x j = bit-xor (bit_or x (1 * 2 ^ j)) (1 * 2 ^ j) j ∙ rw (bit-pow-same j, bit-or x (1 * 2 ^ j) j, bit-pow-same j) (top (x / 2 ^ j % 2) (omega arith))
   where
     top : (d : ℕ) → d < 2 → differ (max d 1) 1 ≡ 0
     top zero p = refl
@@ -83,7 +83,7 @@ unset-here x j = bit_xor (bit_or x (1 * 2 ^ j)) (1 * 2 ^ j) j ∙ rw (bit-pow-sa
 pub unset-there : (x j k : ℕ) → (k ≡ j → ⊥) → bit (unset x j) k ≡ bit x k
 unfolding unset
 unset-there x j k n =
-    bit_xor (bit_or x (1 * 2 ^ j)) (1 * 2 ^ j) k ∙ rw (bit-pow-other j k n, bit-or x (1 * 2 ^ j) k, bit-pow-other j k n) (low (x / 2 ^ k % 2))
+    bit-xor (bit_or x (1 * 2 ^ j)) (1 * 2 ^ j) k ∙ rw (bit-pow-other j k n, bit-or x (1 * 2 ^ j) k, bit-pow-other j k n) (low (x / 2 ^ k % 2))
   where
     low : (d : ℕ) → differ (max d 0) 0 ≡ d
     low zero = refl

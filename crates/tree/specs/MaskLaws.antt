@@ -3,7 +3,7 @@ use Rattle.prelude.specs.Words.{◌≡◌, refl, ◌∙◌, ℕ, zero, suc, ◌+
 use Rattle.std.specs.Int.Bits.{bit_or, bit_xor, differ}
 use Rattle.std.proofs.Common.{pow_pos, pow_mono, shl_exact, shr-shr}
 use Rattle.std.specs.Int.Count.{count_trailing_zeros}
-use Rattle.tree.specs.Mask.{bit, bit-or, bit_xor, bit-suc, first_in, on_bits, lt-pow}
+use Rattle.tree.specs.Mask.{bit, bit-or, bit-xor, bit-suc, first_in, on_bits, lt-pow}
 
 -- ---- the first n bits
 
@@ -36,7 +36,7 @@ minus_is a b = refl
 
 pub bit-minus : (a b k : ℕ) → bit (minus a b) k + min (bit a k) (bit b k) ≡ bit a k
 unfolding minus
-bit-minus a b k = rw (bit_xor (bit_or a b) b k, bit-or a b k) (on_bits (λ x y. differ (max x y) y + min x y ≡ x) refl refl refl refl a b k)
+bit-minus a b k = rw (bit-xor (bit_or a b) b k, bit-or a b k) (on_bits (λ x y. differ (max x y) y + min x y ≡ x) refl refl refl refl a b k)
 
 -- ---- some bit
 

@@ -1,6 +1,8 @@
 // The tree of a basis in flat arrays: masks of its lanes, its leaves struck off, and potentials.
 // A lane (i, j) lies at i * MAX_SIDE + j, and its cost at j * MAX_SIDE + i. Nodes are numbered as in the specification: source i is node i, sink j is node
 // m + j, and node 0 is the root.
+#![tactic(auto)]
+
 pub mod mask;
 pub mod potential;
 pub mod strike;

@@ -1,4 +1,6 @@
 // Whole numbers: numbers that may begin with a minus.
+#![tactic(auto)]
+
 ghost use Rattle.std.specs.Prelude.{◌≡◌, ◌≤◌, ◌^◌, length, drop};
 ghost use Rattle.transport.specs.SheetText.{whole};
 ghost use Rattle.sections.specs.Lines.{ending};

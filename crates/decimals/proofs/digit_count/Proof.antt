@@ -5,14 +5,14 @@ use Rattle.decimals.specs.Digits.{length-digits-small, length-digits-more}
 use Rattle.decimals.proofs.digit_count.Statement.{statement}
 use Rattle.decimals.proofs.digit_count.Tie as tie
 
-abbrev invariant-loop : tie.invariant-loop
+abbrev invariant-loop : tie.invariant-loop-rest
 invariant-loop n count₀ rest₀ count rest = (count + rest ≤ n + 1) × (count + length (digits rest) ≡ length (digits n) + 1)
 
-abbrev decreases-loop : tie.decreases-loop
+abbrev decreases-loop : tie.decreases-loop-rest
 decreases-loop n count₀ rest₀ count rest = rest
 
-pub digit-count-spec : {M : Type 1} → statement M
-digit-count-spec =
+pub digit_count_spec : {M : Type 1} → statement M
+digit_count_spec =
     tie.close (tie.spec invariant-loop decreases-loop (λ c. omega arith) (λ c. search rules) (λ c. search rules)
-    (λ c. omega (arith, length-digits-more c.before.loop.rest (omega arith)))
-    (λ c. omega (arith, length-digits-small c.before.loop.rest (omega arith))))
+    (λ c. omega (arith, length-digits-more c.before.loop-rest.rest (omega arith)))
+    (λ c. omega (arith, length-digits-small c.before.loop-rest.rest (omega arith))))

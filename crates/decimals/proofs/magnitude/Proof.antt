@@ -9,32 +9,32 @@ use Rattle.decimals.proofs.magnitude.Tie as tie
 in_range : (c : tie.Start) → mag c.args.z < 2 ^ 63
 in_range c = search rules
 
-negative : (c : tie.Then1) → lt_z c.before.args.z (pos 0) ≡ true
-negative c = rw (back w64 c.before.args.z (in_range c.before)) at c.if1.true
+negative : (c : tie.Then-z-lt0) → lt_z c.before.args.z (pos 0) ≡ true
+negative c = rw (back w64 c.before.args.z (in_range c.before)) at c.if-z-lt0.true
 
-sub-result : tie.Need-overflow-sub-result
+sub-result : tie.Need-overflow_sub-result
 sub-result c = turned-fits c.before.args.z (in_range c.before) (negative c)
 
-cast-result : tie.Need-overflow-cast-result
+cast-result : tie.Need-overflow_cast-result
 cast-result c =
     rw (turned-back c.before.args.z (in_range c.before) (negative c))
     (tt, omega (arith, magnitude_le c.before.args.z (in_range c.before)))
 
-add-result : tie.Need-overflow-add-result
+add-result : tie.Need-overflow_add-result
 add-result c =
     rw (turned-back c.before.args.z (in_range c.before) (negative c))
     (omega (arith, magnitude_le c.before.args.z (in_range c.before)))
 
-cast-result-2 : tie.Need-overflow-cast-result-2
+cast-result-2 : tie.Need-overflow_cast-result-else-z-lt0
 cast-result-2 c =
     let z = c.before.args.z in
     let p = in_range c.before in
-    rw (back w64 z p) (not_negative z (rw (back w64 z p) at c.if1.false), omega (arith, magnitude_le z p))
+    rw (back w64 z p) (not_negative z (rw (back w64 z p) at c.if-z-lt0.false), omega (arith, magnitude_le z p))
 
-returns : tie.Need-returns
+returns : tie.Need-returns-then-z-lt0
 returns c =
     rw (turned-back c.before.args.z (in_range c.before) (negative c))
     (omega (arith, magnitude_pos c.before.args.z (negative c)))
 
-pub magnitude-spec : {M : Type 1} → statement M
-magnitude-spec = tie.close (tie.spec sub-result cast-result add-result cast-result-2 returns (λ c. search rules))
+pub magnitude_spec : {M : Type 1} → statement M
+magnitude_spec = tie.close (tie.spec sub-result cast-result add-result cast-result-2 returns (λ c. search rules))

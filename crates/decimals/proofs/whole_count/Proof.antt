@@ -14,10 +14,10 @@ in_range c = search rules
 sized : (c : tie.After-magnitude) → c.magnitude.result ≡ nat_abs c.before.args.z
 sized c = rw (back w64 c.before.args.z (in_range c.before)) at c.magnitude.ensures
 
-counted : (c : tie.After-digit-count) → c.digit-count.result ≡ length (digits (nat_abs c.before.before.args.z))
-counted c = c.digit-count.ensures ∙ (rw (sized c.before))
+counted : (c : tie.After-digit_count-count) → c.digit_count-count.result ≡ length (digits (nat_abs c.before.before.args.z))
+counted c = c.digit_count-count.ensures ∙ (rw (sized c.before))
 
-add-result : tie.Need-overflow-add-result
+add-result : tie.Need-overflow_add-result
 add-result c =
     omega (
       arith,
@@ -26,17 +26,17 @@ add-result c =
           (omega (arith, magnitude_le c.before.before.before.args.z (in_range c.before.before.before))),
     )
 
-returns : tie.Need-returns
+returns : tie.Need-returns-then-z-lt0
 returns c =
     let z = c.before.before.before.args.z in
-    let h : lt_z z (pos 0) ≡ true = rw (back w64 z (in_range c.before.before.before)) at c.if1.true in
+    let h : lt_z z (pos 0) ≡ true = rw (back w64 z (in_range c.before.before.before)) at c.if-z-lt0.true in
     omega (arith, counted c.before, ap length (whole-negative z h))
 
-returns-2 : tie.Need-returns-2
+returns-2 : tie.Need-returns
 returns-2 c =
     let z = c.before.before.before.args.z in
-    let h : lt_z z (pos 0) ≡ false = rw (back w64 z (in_range c.before.before.before)) at c.if1.false in
+    let h : lt_z z (pos 0) ≡ false = rw (back w64 z (in_range c.before.before.before)) at c.if-z-lt0.false in
     counted c.before ∙ sym (ap length (whole_positive z h))
 
-pub whole-count-spec : {M : Type 1} → statement M
-whole-count-spec = tie.close (tie.spec (λ c κs. search rules) (λ c κs. search rules) add-result returns returns-2)
+pub whole_count_spec : {M : Type 1} → statement M
+whole_count_spec = tie.close (tie.spec (λ c κs. search rules) (λ c κs. search rules) add-result returns returns-2)

@@ -10,7 +10,7 @@ use Rattle.decimals.specs.Whole.{whole-negative, whole_positive}
 use Rattle.decimals.proofs.write_whole.Statement.{statement}
 use Rattle.decimals.proofs.write_whole.Tie as tie
 
-module _ (c : tie.After-magnitude) where
+module _ (c : tie.After-magnitude-size) where
   abbrev start : tie.Start
   start = c.before.before
 
@@ -20,39 +20,39 @@ module _ (c : tie.After-magnitude) where
   as-it-is : to_z w64 (of_z w64 z) ≡ z
   as-it-is = back w64 z (search rules)
 
-  sized : nat_abs z ≡ c.magnitude.result
-  sized = sym (rw as-it-is at c.magnitude.ensures)
+  sized : nat_abs z ≡ c.magnitude-size.result
+  sized = sym (rw as-it-is at c.magnitude-size.ensures)
 
-negative : (c : tie.Then1) → whole_digits (z c.before) ≡ 45 ∷ digits c.before.magnitude.result
-negative c = whole-negative (z c.before) (rw (as-it-is c.before) at c.if1.true) ∙ ap (λ k. 45 ∷ digits k) (sized c.before)
+negative : (c : tie.Then-z-lt0) → whole_digits (z c.before) ≡ 45 ∷ digits c.before.magnitude-size.result
+negative c = whole-negative (z c.before) (rw (as-it-is c.before) at c.if-z-lt0.true) ∙ ap (λ k. 45 ∷ digits k) (sized c.before)
 
-positive : (c : tie.Else1) → whole_digits (z c.before) ≡ digits c.before.magnitude.result
-positive c = whole_positive (z c.before) (rw (as-it-is c.before) at c.if1.false) ∙ ap digits (sized c.before)
+positive : (c : tie.Else-z-lt0) → whole_digits (z c.before) ≡ digits c.before.magnitude-size.result
+positive c = whole_positive (z c.before) (rw (as-it-is c.before) at c.if-z-lt0.false) ∙ ap digits (sized c.before)
 
-room : (c : tie.Then1) → length (digits c.before.magnitude.result) + 1 ≤ length (start c.before).args.out.now
-room c = omega (arith, ap length (negative c), (start c.before).pre)
+room : (c : tie.Then-z-lt0) → length (digits c.before.magnitude-size.result) + 1 ≤ length (start c.before).args.out.now
+room c = omega (arith, ap length (negative c), (start c.before).requires)
 
 -- Only here does it matter which byte stands first.
-returns : tie.Need-returns
+returns : tie.Need-returns-then-z-lt0
 returns c =
     let n = c.before.before in
-    let w = n.write-number in
+    let w = n.write_number-count in
     let t = n.before.before in
     let out = (start t.before).args.out.now in
-    let put = front-then (45 ∷ []) out _ 1 refl (front-first out 45 (omega (arith, room t))) (digits t.before.magnitude.result) in
+    let put = front-then (45 ∷ []) out _ 1 refl (front-first out 45 (omega (arith, room t))) (digits t.before.magnitude-size.result) in
     (omega (arith, ap length (negative t), w.ensures.0), rw (w.ensures.1, negative t) put)
 
-returns-2 : tie.Need-returns-2
+returns-2 : tie.Need-returns
 returns-2 c =
     let w = c.before.before in
     let e = positive w.before.before in
-    (w.write-number2.ensures.0 ∙ sym (ap length e), w.write-number2.ensures.1 ∙ (rw e))
+    (w.write_number.ensures.0 ∙ sym (ap length e), w.write_number.ensures.1 ∙ (rw e))
 
-pub write-whole-spec : {M : Type 1} → statement M
-write-whole-spec =
+pub write_whole_spec : {M : Type 1} → statement M
+write_whole_spec =
     tie.close (tie.spec (λ c κs. search rules) (λ c. omega (arith, room c)) (λ c. simp length-set (omega (arith, room c)))
     (λ c. simp length-set (omega (arith, room c))) (λ c. search rules)
     (λ c κs. simp (length-take, length-drop, length-set) (omega (arith, room c.before)))
-    (λ c. let w = c.before.before in omega (arith, room w.before.before, w.write-number.ensures.0))
-    (λ c. let kept = c.before.before.write-number.auto.1.0 in rw (same_len_mid, length-set)) returns
-    (λ c κs. omega (arith, ap length (positive c.before), (start c.before.before).pre)) (λ c. search rules) returns-2)
+    (λ c. let w = c.before.before in omega (arith, room w.before.before, w.write_number-count.ensures.0))
+    (λ c. let kept = c.before.before.write_number-count.auto.out in rw (same_len_mid, length-set)) returns
+    (λ c κs. omega (arith, ap length (positive c.before), (start c.before.before).requires)) (λ c. search rules) returns-2)

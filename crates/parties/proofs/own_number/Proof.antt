@@ -4,12 +4,12 @@ use Rattle.transport.specs.Lists.{at}
 use Rattle.parties.proofs.own_number.Statement.{statement}
 use Rattle.parties.proofs.own_number.Tie as tie
 
-returns : tie.Need-returns
-returns c = sym (c.before.requires.1 c.if1.true)
+returns : tie.Need-returns-then-all
+returns c = sym (c.before.requires.1 c.if-all.true)
 
-returns-2 : tie.Need-returns-2
+returns-2 : tie.Need-returns-else-all
 unfolding at
 returns-2 c = search rules
 
-pub own-number-spec : {M : Type 1} → statement M
-own-number-spec = tie.close (tie.spec (λ c. search rules) (λ c. search rules) returns returns-2)
+pub own_number_spec : {M : Type 1} → statement M
+own_number_spec = tie.close (tie.spec (λ c. search rules) (λ c. search rules) returns returns-2)

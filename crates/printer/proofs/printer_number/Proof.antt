@@ -5,16 +5,16 @@ use Rattle.decimals.specs.Fitting.{put-nothing, put_whole}
 use Rattle.printer.proofs.printer_number.Statement.{statement}
 use Rattle.printer.proofs.printer_number.Tie as tie
 
-returns : tie.Need-returns
+returns : tie.Need-returns-then-out-digit_count
 returns c =
     let a = c.before.before.before.args in
-    put-nothing (digits a.n) a.out.now (omega (arith, c.before.digit-count.ensures))
+    put-nothing (digits a.n) a.out.now (omega (arith, c.before.digit_count.ensures))
 
-returns-2 : tie.Need-returns-2
+returns-2 : tie.Need-returns
 returns-2 c =
     let h = c.before.before.before.before.before in
     let a = h.before.before.args in
-    put_whole (digits a.n) a.out.now _ _ (omega (arith, h.digit-count.ensures)) c.before.before.write-number.ensures
+    put_whole (digits a.n) a.out.now _ _ (omega (arith, h.digit_count.ensures)) c.before.before.write_number.ensures
 
-pub printer-number-spec : {M : Type 1} → statement M
-printer-number-spec = tie.close (tie.spec (λ c κs. search rules) returns (λ c κs. search rules) (λ c. search rules) returns-2)
+pub printer_number_spec : {M : Type 1} → statement M
+printer_number_spec = tie.close (tie.spec (λ c κs. search rules) returns (λ c κs. search rules) (λ c. search rules) returns-2)

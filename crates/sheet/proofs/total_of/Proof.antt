@@ -7,39 +7,39 @@ use Rattle.transport.specs.Laws.SheetLaws.{all_most}
 use Rattle.sheet.proofs.total_of.Statement.{statement}
 use Rattle.sheet.proofs.total_of.Tie as tie
 
-abbrev invariant-loop : tie.invariant-loop
+abbrev invariant-loop : tie.invariant-loop-i
 invariant-loop amounts sum₀ i₀ sum i = (i ≤ length amounts) × (sum ≤ i * max_amount) × (sum ≡ sum_to i (at amounts))
 
-abbrev decreases-loop : tie.decreases-loop
+abbrev decreases-loop : tie.decreases-loop-i
 decreases-loop amounts sum₀ i₀ sum i = length amounts - i
 
-loop-holds : tie.Need-loop-init invariant-loop decreases-loop
+loop-holds : tie.Need-loop-i-init invariant-loop decreases-loop
 loop-holds c = (omega arith, omega arith, rw sum_to-zero)
 
-small : (c : tie.In-loop invariant-loop decreases-loop) → get_or c.before.before.args.amounts.now c.before.loop.i 0 ≤ max_amount
+small : (c : tie.In-loop-i invariant-loop decreases-loop) → get_or c.before.before.args.amounts.now c.before.loop-i.i 0 ≤ max_amount
 unfolding at
-small c = all_most max_amount c.before.before.args.amounts.now c.before.before.requires.1 c.before.loop.i
+small c = all_most max_amount c.before.before.args.amounts.now c.before.before.requires.1 c.before.loop-i.i
 
-add-sum : tie.Need-overflow-add-sum invariant-loop decreases-loop
+add-sum : tie.Need-overflow_add-sum invariant-loop decreases-loop
 unfolding max_side max_amount
 add-sum c = omega (arith, small c.before)
 
-loop-again : tie.Need-loop-preserved invariant-loop decreases-loop
+loop-again : tie.Need-loop-i-preserved invariant-loop decreases-loop
 unfolding at
 loop-again c =
     let s = c.before.before.before.args.amounts.now in
-    let i = c.before.before.loop in
+    let i = c.before.before.loop-i in
     (omega arith, omega (arith, small c.before), omega (arith, sum_to-one i.i (at s)))
 
 returns : tie.Need-returns invariant-loop decreases-loop
 unfolding total
 returns c =
     let s = c.before.before.args.amounts.now in
-    let i = c.before.loop in
+    let i = c.before.loop-i in
     let whole : i.i ≡ length s = omega arith in
     i.invariant.2 ∙ ap (λ (k : ℕ). sum_to k (at s)) whole
 
-pub total-of-spec : {M : Type 1} → statement M
-total-of-spec =
+pub total_of_spec : {M : Type 1} → statement M
+total_of_spec =
     tie.close (tie.spec invariant-loop decreases-loop loop-holds (λ c. search rules) (λ c. search rules) add-sum (λ c. search rules) (λ c. search rules)
     loop-again returns)

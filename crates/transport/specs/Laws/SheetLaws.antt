@@ -62,7 +62,7 @@ within_z-true low high z e = (le_z_yes (rw (and_left (le_z low z) (le_z z high) 
 true-within_z : (low high z : ℤ) → low ≤ℤ z → z ≤ℤ high → within_z low high z ≡ true
 unfolding within_z
 true-within_z low high z p q =
-    let yes : (b : Bool) → T b → b ≡ true = λ b. elim b [ true ↦ λ t. refl | false ↦ λ t. absurd t ] in
+    let yes : (b : Bool) → T b → b ≡ true = λ b. elim b as (λ b. T b → b ≡ true) [ true ↦ λ t. refl | false ↦ λ t. absurd t ] in
     rw (yes (le_z low z) p.le, yes (le_z z high) q.le)
 
 -- As the code tests it, by the strict order.

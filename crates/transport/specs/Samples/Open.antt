@@ -18,18 +18,14 @@ use Rattle.transport.specs.Round.{entering, take_from, flow, sign, leaving, gain
 use Rattle.transport.specs.Plan.{plan_cost_of, row_plans, plans_for, plans, settled}
 use Rattle.transport.specs.Calls.{refused_by, unless, lent_after, tableau_tests, inside, too_short, start_call, round, round_call, run_from, run_call, settle_call}
 use Rattle.transport.specs.Calls.{solution_from, solution, solve_call, finished_tests, solve_tests}
-use Rattle.transport.specs.Standing.{edited, last_tableau_of, set_up_of, standing_tests, max_counter, bad_edit, edit_tests}
+use Rattle.transport.specs.Standing.{edited, last_tableau_of, set_up_call, standing_tests, max_counter, bad_edit, edit_tests}
 use Rattle.transport.specs.Standing.{edit_from, edit_call, carried_out, stands_after, kept_sheet, spare, struct_of, standing_of}
-use Rattle.transport.specs.Quotes.{set_up_call, open_quote, with_quote, sheet_total, difference, quote_tests, quote_of_edit}
-use Rattle.transport.specs.Quotes.{quoted_desk, quote_call, late, quoted_edit_of, confirm_tests, confirm_call, change_for}
-use Rattle.transport.specs.Quotes.{quote_of, struct_of_quote, desk_of, struct_with, used_up}
 use Rattle.transport.specs.Text.{bytes, kind_of, digits_up_to, digits, whole_digits, head_line, number_line, row_line}
 use Rattle.transport.specs.SheetText.{rows_of, sheet_text, write_sheet_call, ◌>>=◌, ◌>>◌, pure, times, byte_that, word, end, is_digit, digit_value_of, more_digits_of}
 use Rattle.transport.specs.SheetText.{number_from, number, minus, whole, side, line, row, sheet_reader, read_with, read_tests, read_sheet_call}
 use Rattle.transport.specs.PlanText.{whole_line, carried, used, lane_line, plan_text, write_plan_call, refused_line, printed, fitting, shown}
 use Rattle.transport.specs.Answers.{start_answer, start_says, prices, no_prices, round_answer, round_says, run_outcome, run_answer, run_says, settle_answer}
-use Rattle.transport.specs.Answers.{settle_says, solve_answer, solve_says, read_answer, read_says, write_answer, write_says}
-use Rattle.transport.specs.Answers.{struct_of_desk, set_up_answer, quote_answer, confirm_answer}
+use Rattle.transport.specs.Answers.{settle_says, solve_answer, solve_says, set_up_answer, edit_answer, read_answer, read_says, write_answer, write_says}
 use Rattle.transport.specs.Statements.{scaled, loop_sign, after}
 
 unfoldable pub opened : Unit {0}
@@ -45,9 +41,7 @@ unfolding flat_map flatten zip_with all keep least_from first_least table padded
     row_line rows_of sheet_text write_sheet_call ◌>>=◌ ◌>>◌ pure times byte_that word end is_digit digit_value_of more_digits_of number_from number minus whole side
     line row sheet_reader read_with read_tests read_sheet_call whole_line carried used lane_line plan_text write_plan_call refused_line printed fitting shown
     start_answer start_says prices no_prices round_answer round_says run_outcome run_answer run_says settle_answer settle_says solve_answer solve_says read_answer
-    read_says write_answer write_says scaled loop_sign after first_of finished_tests solve_tests edited last_tableau_of set_up_of
+    read_says write_answer write_says scaled loop_sign after first_of finished_tests solve_tests edited last_tableau_of set_up_call
     standing_tests max_counter bad_edit edit_tests edit_from edit_call carried_out stands_after kept_sheet spare struct_of
-    standing_of set_up_call open_quote with_quote sheet_total difference quote_tests quote_of_edit quoted_desk quote_call late
-    quoted_edit_of confirm_tests confirm_call change_for quote_of struct_of_quote desk_of struct_with used_up struct_of_desk
-    set_up_answer quote_answer confirm_answer
+    standing_of set_up_answer edit_answer
 opened = tt

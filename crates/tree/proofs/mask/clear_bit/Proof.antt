@@ -7,5 +7,5 @@ use Rattle.tree.proofs.mask.clear_bit.Tie as tie
 returns : tie.Need-returns
 returns c = unset_shl c.args.mask c.args.k c.requires
 
-pub clear-bit-spec : {M : Type 1} → statement M
-clear-bit-spec = tie.close (tie.spec (λ c. search rules) returns)
+pub clear_bit_spec : {M : Type 1} → statement M
+clear_bit_spec = tie.close (tie.spec (λ c. search rules) returns)

@@ -8,5 +8,5 @@ use Rattle.tree.proofs.mask.first_bit.Tie as tie
 returns : tie.Need-returns
 returns c = let x = c.args.mask in (first-lt 64 x c.requires c.ranges.mask.fits, first_in 64 x c.requires c.ranges.mask.fits, first-least 64 x)
 
-pub first-bit-spec : {M : Type 1} → statement M
-first-bit-spec = tie.close (tie.spec (λ c. omega (arith, trailing_le 64 c.args.mask)) returns)
+pub first_bit_spec : {M : Type 1} → statement M
+first_bit_spec = tie.close (tie.spec (λ c. omega (arith, trailing_le 64 c.args.mask)) returns)

@@ -7,5 +7,5 @@ use Rattle.tree.proofs.mask.set_bit.Tie as tie
 returns : tie.Need-returns
 returns c = put_shl c.args.mask c.args.k c.requires
 
-pub set-bit-spec : {M : Type 1} → statement M
-set-bit-spec = tie.close (tie.spec (λ c. search rules) returns)
+pub set_bit_spec : {M : Type 1} → statement M
+set_bit_spec = tie.close (tie.spec (λ c. search rules) returns)

@@ -8,13 +8,13 @@ use Rattle.tree.specs.PotentialLaws.{Priced, potential_by-nil, priced-step, pric
 use Rattle.tree.proofs.potential.potentials.Statement.{statement}
 use Rattle.tree.proofs.potential.potentials.Tie as tie
 
-abbrev invariant-loop : tie.invariant-loop
+abbrev invariant-loop : tie.invariant-loop-k
 invariant-loop cost leaf other lane count price₀ k₀ price k = (k ≤ count) × (length price ≡ node_room) × Priced cost leaf other lane count price k
 
-abbrev decreases-loop : tie.decreases-loop
+abbrev decreases-loop : tie.decreases-loop-k
 decreases-loop cost leaf other lane count price₀ k₀ price k = k
 
-loop-holds : tie.Need-loop-init invariant-loop decreases-loop
+loop-holds : tie.Need-loop-k-init invariant-loop decreases-loop
 unfolding Priced
 loop-holds c = let a = c.before.args in (
   omega arith,
@@ -23,31 +23,31 @@ loop-holds c = let a = c.before.args in (
 )
 
 -- From the strike's lane to where the loop's turn began.
-abbrev turn : tie.After-l invariant-loop decreases-loop → tie.At-loop invariant-loop decreases-loop
-turn c = c.before.before.before.before
+abbrev turn : tie.After-l-1 invariant-loop decreases-loop → tie.At-loop-k invariant-loop decreases-loop
+turn c = c.before.before.before.before.before.before.before
 
 -- The lane, the other end and the leaf of the strike are within the arrays.
-lane_in : (c : tie.After-l invariant-loop decreases-loop) → get_or (turn c).before.before.args.lane.now ((turn c).loop.k - 1) 0 < lane_room
-lane_in c = (turn c).before.before.requires.0.lane_in_of ((turn c).loop.k - 1) (omega arith)
+lane_in : (c : tie.After-l-1 invariant-loop decreases-loop) → get_or (turn c).before.before.args.lane.now ((turn c).loop-k.k - 1) 0 < lane_room
+lane_in c = (turn c).before.before.requires.0.lane_in_of ((turn c).loop-k.k - 1) (omega arith)
 
-other_in : (c : tie.After-l invariant-loop decreases-loop) → get_or (turn c).before.before.args.other.now ((turn c).loop.k - 1) 0 < node_room
-other_in c = (turn c).before.before.requires.0.other_in_of ((turn c).loop.k - 1) (omega arith)
+other_in : (c : tie.After-l-1 invariant-loop decreases-loop) → get_or (turn c).before.before.args.other.now ((turn c).loop-k.k - 1) 0 < node_room
+other_in c = (turn c).before.before.requires.0.other_in_of ((turn c).loop-k.k - 1) (omega arith)
 
-leaf_in : (c : tie.After-l invariant-loop decreases-loop) → get_or (turn c).before.before.args.leaf.now ((turn c).loop.k - 1) 0 < node_room
-leaf_in c = (turn c).before.before.requires.0.leaf_in_of ((turn c).loop.k - 1) (omega arith)
+leaf_in : (c : tie.After-l-1 invariant-loop decreases-loop) → get_or (turn c).before.before.args.leaf.now ((turn c).loop-k.k - 1) 0 < node_room
+leaf_in c = (turn c).before.before.requires.0.leaf_in_of ((turn c).loop-k.k - 1) (omega arith)
 
 -- The difference is in range.
-room : (c : tie.After-price3 invariant-loop decreases-loop) → let a = c.before.before.before.before.before.before.before.before.args in
-    let i = c.before.before.before.before.before.before.loop in
+room : (c : tie.After-price-in-loop-k-2-1 invariant-loop decreases-loop) → let a = c.before.before.before.before.before.before.before.before.before.before.before.args in
+    let i = c.before.before.before.before.before.before.loop-k in
     nat_abs (cost_of a.cost.now (lane_at (get_or a.lane.now (i.k - 1) 0))) + nat_abs (get_or i.price (get_or a.other.now (i.k - 1) 0) (pos 0)) < 2 ^ 31
 unfolding cost_above max_cost
-room c = let s = c.before.before.before.before.before.before.before.before in
-    let i = c.before.before.before.before.before.before.loop in let e : i.k ≡ suc (i.k - 1) = omega arith in
+room c = let s = c.before.before.before.before.before.before.before.before.before.before.before in
+    let i = c.before.before.before.before.before.before.loop-k in let e : i.k ≡ suc (i.k - 1) = omega arith in
     omega (arith, priced-room _ _ _ _ _ i.price (i.k - 1) cost_above s.requires.0 s.requires.1 (omega arith) (rw e at i.invariant.2))
 
-loop-again : tie.Need-loop-preserved invariant-loop decreases-loop
-loop-again c = let s = c.before.before.before.before.before.before.before.before in let a = s.args in
-    let i = c.before.before.before.before.before.before.loop in let e : i.k ≡ suc (i.k - 1) = omega arith in
+loop-again : tie.Need-loop-k-preserved invariant-loop decreases-loop
+loop-again c = let s = c.before.before.before.before.before.before.before.before.before.before.before in let a = s.args in
+    let i = c.before.before.before.before.before.before.loop-k in let e : i.k ≡ suc (i.k - 1) = omega arith in
     let v = diff_back w32 (cost_of a.cost.now (lane_at (get_or a.lane.now (i.k - 1) 0))) (get_or i.price (get_or a.other.now (i.k - 1) 0) (pos 0))
     (room c) in (
       omega arith,
@@ -58,10 +58,10 @@ loop-again c = let s = c.before.before.before.before.before.before.before.before
 
 returns : tie.Need-returns invariant-loop decreases-loop
 unfolding Priced
-returns c = let e : c.before.loop.k ≡ 0 = omega arith in (c.before.loop.invariant.1, rw e at c.before.loop.invariant.2)
+returns c = let e : c.before.loop-k.k ≡ 0 = omega arith in (c.before.loop-k.invariant.1, rw e at c.before.loop-k.invariant.2)
 
-pub potentials-spec : {M : Type 1} → statement M
-potentials-spec = tie.close (tie.spec invariant-loop decreases-loop loop-holds (λ c. omega arith) (λ c. omega arith) (λ c. omega arith) (λ c. omega arith)
+pub potentials_spec : {M : Type 1} → statement M
+potentials_spec = tie.close (tie.spec invariant-loop decreases-loop loop-holds (λ c. omega arith) (λ c. omega arith) (λ c. omega arith) (λ c. omega arith)
     (λ c. omega arith) (λ c. omega arith) (λ c. omega arith) (λ c. omega (arith, lane_in c)) (λ c. omega (arith, lane_in c))
     (λ c. omega (arith, lane_in c)) (λ c. omega (arith, lane_in c)) (λ c. omega (arith, other_in c.before)) (λ c. other_in c.before)
     (λ c. search (rules, diff_in, room c)) (λ c. omega (arith, leaf_in c.before.before)) (λ c. leaf_in c.before.before) (λ c. omega arith)

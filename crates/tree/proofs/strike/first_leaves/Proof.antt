@@ -6,13 +6,13 @@ use Rattle.tree.specs.Queue.{Queue, room, queue-start, queue-next}
 use Rattle.tree.proofs.strike.first_leaves.Statement.{statement}
 use Rattle.tree.proofs.strike.first_leaves.Tie as tie
 
-abbrev invariant-loop : tie.invariant-loop
+abbrev invariant-loop : tie.invariant-loop-node
 invariant-loop live leaf₀ m n tail₀ node₀ leaf tail node = (1 ≤ node) × (node ≤ m + n) × (m + n ≤ node_room) × (length leaf ≡ node_room) × Queue node live leaf 0 tail
 
-abbrev decreases-loop : tie.decreases-loop
+abbrev decreases-loop : tie.decreases-loop-node
 decreases-loop live leaf₀ m n tail₀ node₀ leaf tail node = m + n - node
 
-loop-holds : tie.Need-loop-init invariant-loop decreases-loop
+loop-holds : tie.Need-loop-node-init invariant-loop decreases-loop
 loop-holds c = (
   omega arith,
   omega (arith, c.requires.0.rows_low),
@@ -22,22 +22,22 @@ loop-holds c = (
 )
 
 -- There is room for one node more.
-tail-room : (c : tie.In-loop invariant-loop decreases-loop) → c.before.loop.tail < node_room
-tail-room c = omega (arith, room c.before.loop.invariant.0 c.before.loop.invariant.4)
+tail-room : (c : tie.In-loop-node invariant-loop decreases-loop) → c.before.loop-node.tail < node_room
+tail-room c = omega (arith, room c.before.loop-node.invariant.0 c.before.loop-node.invariant.4)
 
-again : (c : tie.After-joins-queue invariant-loop decreases-loop) → let a = c.before.before.before.before.args in
-    let i = c.before.before.before.loop in
-    Queue (i.node + 1) a.live.now (set i.leaf i.tail i.node) 0 (i.tail + c.joins-queue.result)
-again c = let i = c.before.before.before.loop in rw c.joins-queue.ensures (queue-next i.node i.invariant.0 (omega arith) i.invariant.3 i.invariant.4)
+again : (c : tie.After-joins_queue-tail invariant-loop decreases-loop) → let a = c.before.before.before.before.before.before.args in
+    let i = c.before.before.before.loop-node in
+    Queue (i.node + 1) a.live.now (set i.leaf i.tail i.node) 0 (i.tail + c.joins_queue-tail.result)
+again c = let i = c.before.before.before.before.before.loop-node in rw c.joins_queue-tail.ensures (queue-next i.node i.invariant.0 (omega arith) i.invariant.3 i.invariant.4)
 
-loop-again : tie.Need-loop-preserved invariant-loop decreases-loop
-loop-again c = (omega arith, omega arith, omega arith, simp length-set c.before.before.before.loop.invariant.3, again c)
+loop-again : tie.Need-loop-node-preserved invariant-loop decreases-loop
+loop-again c = (omega arith, omega arith, omega arith, simp length-set c.before.before.before.before.before.loop-node.invariant.3, again c)
 
 returns : tie.Need-returns invariant-loop decreases-loop
-returns c = let e : c.before.loop.node ≡ c.before.before.args.m + c.before.before.args.n = omega arith in
-    (c.before.loop.invariant.3, rw e at c.before.loop.invariant.4)
+returns c = let e : c.before.loop-node.node ≡ c.before.before.args.m + c.before.before.args.n = omega arith in
+    (c.before.loop-node.invariant.3, rw e at c.before.loop-node.invariant.4)
 
-pub first-leaves-spec : {M : Type 1} → statement M
-first-leaves-spec = tie.close (tie.spec invariant-loop decreases-loop loop-holds (λ c. omega arith) (λ c. omega (arith, tail-room c)) (λ c. tail-room c)
+pub first_leaves_spec : {M : Type 1} → statement M
+first_leaves_spec = tie.close (tie.spec invariant-loop decreases-loop loop-holds (λ c. omega arith) (λ c. omega (arith, tail-room c)) (λ c. tail-room c.before)
     (λ c. omega arith) (λ c. omega arith) (λ c κs. search rules) (λ c. omega (arith, room (omega arith) (again c))) (λ c. omega arith)
     (λ c. omega arith) loop-again returns)

@@ -4,18 +4,18 @@ use lib.Count.{ones}
 use Rattle.tree.proofs.strike.joins_queue.Statement.{statement}
 use Rattle.tree.proofs.strike.joins_queue.Tie as tie
 
-returns : tie.Need-returns
+returns : tie.Need-returns-then-is_single
 returns c = let a = c.before.before.before.args in
-    let e : eqb (ones a.lanes) 1 ≡ true = sym c.before.is-single.ensures ∙ c.if2.true in
-    rw (ne_eqb a.node 0 c.before.before.if1.true, e)
+    let e : eqb (ones a.lanes) 1 ≡ true = sym c.before.is_single.ensures ∙ c.if-is_single.true in
+    rw (ne_eqb a.node 0 c.before.before.if-node-ne0.true, e)
 
-returns-2 : tie.Need-returns-2
+returns-2 : tie.Need-returns-else-is_single
 returns-2 c = let a = c.before.before.before.args in
-    let e : eqb (ones a.lanes) 1 ≡ false = sym c.before.is-single.ensures ∙ c.if2.false in
-    rw (ne_eqb a.node 0 c.before.before.if1.true, e)
+    let e : eqb (ones a.lanes) 1 ≡ false = sym c.before.is_single.ensures ∙ c.if-is_single.false in
+    rw (ne_eqb a.node 0 c.before.before.if-node-ne0.true, e)
 
-returns-3 : tie.Need-returns-3
-returns-3 c = rw (eq-eqb c.before.args.node 0 c.if1.false)
+returns-3 : tie.Need-returns-else-node-ne0
+returns-3 c = rw (eq-eqb c.before.args.node 0 c.if-node-ne0.false)
 
-pub joins-queue-spec : {M : Type 1} → statement M
-joins-queue-spec = tie.close (tie.spec (λ c κs. search rules) returns returns-2 returns-3)
+pub joins_queue_spec : {M : Type 1} → statement M
+joins_queue_spec = tie.close (tie.spec (λ c κs. search rules) returns returns-2 returns-3)

@@ -3,5 +3,5 @@ use Rattle.prelude.specs.Words.{lt-ltb, le-ltb}
 use Rattle.tree.proofs.strike.own_bit.Statement.{statement}
 use Rattle.tree.proofs.strike.own_bit.Tie as tie
 
-pub own-bit-spec : {M : Type 1} → statement M
-own-bit-spec = tie.close (tie.spec (λ c. rw (lt-ltb _ _ c.if1.true)) (λ c. rw (le-ltb _ _ c.if1.false)))
+pub own_bit_spec : {M : Type 1} → statement M
+own_bit_spec = tie.close (tie.spec (λ c. rw (lt-ltb _ _ c.if-node-m.true)) (λ c. rw (le-ltb _ _ c.if-node-m.false)))

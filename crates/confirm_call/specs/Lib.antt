@@ -1,2 +1,0 @@
-pub mod Carried
-pub mod Confirm

@@ -1,2 +1,0 @@
-pub mod BagsCost
-pub mod BoardTotal
