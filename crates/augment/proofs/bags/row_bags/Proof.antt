@@ -9,28 +9,28 @@ use Rattle.augment.specs.Bags.{RowBags, row-none, row_more, row-all}
 use Rattle.augment.proofs.bags.row_bags.Statement.{statement}
 use Rattle.augment.proofs.bags.row_bags.Tie as tie
 
-abbrev invariant-loop : tie.invariant-loop
+abbrev invariant-loop : tie.invariant-loop-left
 invariant-loop q basic i cols₀ left₀ cols left = RowBags q basic i left cols
 
-abbrev decreases-loop : tie.decreases-loop
+abbrev decreases-loop : tie.decreases-loop-left
 decreases-loop q basic i cols₀ left₀ cols left = left
 
 -- The next column is the least that is left.
-least : (c : tie.After-first-bit invariant-loop decreases-loop) → Least c.before.before.loop.left c.first_bit.result
-least c = record { on = c.first_bit.ensures.1; off = c.first_bit.ensures.2 }
+least : (c : tie.After-first_bit-j invariant-loop decreases-loop) → Least c.before.before.loop-left.left c.first_bit-j.result
+least c = record { on = c.first_bit-j.ensures.1; off = c.first_bit-j.ensures.2 }
 
-inside : (c : tie.After-first-bit invariant-loop decreases-loop) → c.first_bit.result < stride
-inside c = let s = c.before.before in s.before.requires.1 c.first_bit.result (s.loop.invariant.part c.first_bit.result (has-least (least c)))
+inside : (c : tie.After-first_bit-j invariant-loop decreases-loop) → c.first_bit-j.result < stride
+inside c = let s = c.before.before in s.before.requires.1 c.first_bit-j.result (s.loop-left.invariant.part c.first_bit-j.result (has-least (least c)))
 
-loop-less : tie.Need-loop-smaller invariant-loop decreases-loop
-loop-less c = rw c.rest.ensures (rest-less c.before.before.before.before.before.loop.left (omega arith))
+loop-less : tie.Need-loop-left-smaller invariant-loop decreases-loop
+loop-less c = rw c.rest-left.ensures (rest-less c.before.before.before.before.before.loop-left.left (omega arith))
 
-loop-again : tie.Need-loop-preserved invariant-loop decreases-loop
+loop-again : tie.Need-loop-left-preserved invariant-loop decreases-loop
 loop-again c = let b = c.before.before.before in let s = b.before.before in let a = s.before.args in
-    let z = get_or a.q.now (a.i * stride + b.first_bit.result) (pos 0) in let v : to_z w64 (of_z w64 z) ≡ z = search rules in
-    rw c.rest.ensures (row_more s.loop.invariant c.before.with-bit.result (least b) (rw v at c.before.with-bit.ensures))
+    let z = get_or a.q.now (a.i * stride + b.first_bit-j.result) (pos 0) in let v : to_z w64 (of_z w64 z) ≡ z = search rules in
+    rw c.rest-left.ensures (row_more s.loop-left.invariant c.before.with_bit-cols.result (least b) (rw v at c.before.with_bit-cols.ensures))
 
-pub row-bags-spec : {M : Type 1} → statement M
-row-bags-spec = tie.close (tie.spec invariant-loop decreases-loop (λ c. row-none c.args.q.now c.args.basic c.args.i) (λ c κs. omega arith)
+pub row_bags_spec : {M : Type 1} → statement M
+row_bags_spec = tie.close (tie.spec invariant-loop decreases-loop (λ c. row-none c.args.q.now c.args.basic c.args.i) (λ c κs. omega arith)
     (λ c. omega (arith, inside c)) (λ c. omega (arith, inside c)) (λ c. omega (arith, inside c)) (λ c. omega (arith, inside c))
-    (λ c κs. omega (arith, inside c.before)) (λ c κs. omega arith) loop-less loop-again (λ c. row-all c.before.loop.invariant (omega arith)))
+    (λ c κs. omega (arith, inside c.before)) (λ c κs. omega arith) loop-less loop-again (λ c. row-all c.before.loop-left.invariant (omega arith)))
