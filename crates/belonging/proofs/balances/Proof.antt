@@ -11,13 +11,13 @@ use Rattle.belonging.specs.Spread.{list_sides, sound_modest, Balancing, balanced
 use Rattle.belonging.proofs.balances.Statement.{statement}
 use Rattle.belonging.proofs.balances.Tie as tie
 
-abbrev start : tie.After-weigh-marks → tie.Start
+abbrev start : tie.After-weigh_marks → tie.Start
 start c = c.before.before.before.before.before.before
 
-weigh-marks-requires : tie.Need-weigh-marks-requires
+weigh-marks-requires : tie.Need-weigh_marks-requires
 weigh-marks-requires c κs = let s = list_sides c.before.before.before.before.before.requires.0.1 in (s.rows_high, s.cols_low, s.cols_high)
 
-sub-count : tie.Need-overflow-sub-count
+sub-count : tie.Need-overflow_sub-count
 sub-count c = omega (arith, (list_sides c.before.before.before.before.before.before.requires.0.1).rows_low)
 
 -- The strikes are within their room, and no lane comes twice.
@@ -28,32 +28,32 @@ strikes c = let s = list_sides c.requires.0.1 in let (T, h) = c.requires.1 in (
   strikes-distinct _ _ _ _ _ _ h.spanning.struck.peels,
 )
 
-flows-match-requires : tie.Need-flows-match-requires
-flows-match-requires c κs = let (room, distinct) = strikes (start c.before) in (room, (distinct, c.before.before.before.weigh-bags.ensures.light))
+flows-match-requires : tie.Need-flows_match-requires
+flows-match-requires c κs = let (room, distinct) = strikes (start c.before) in (room, (distinct, c.before.before.before.weigh_bags.ensures.light))
 
 -- What is to be found: whether both flows are carried.
-flows : (c : tie.After-weigh-marks) (cost : List ℤ) (T : List Cell) → let a = (start c).args in
+flows : (c : tie.After-weigh_marks) (cost : List ℤ) (T : List Cell) → let a = (start c).args in
     let count = length a.supply.now + length a.demand.now - 1 in
     let ss = strikes_of a.leaf.now a.other.now a.lane.now count in
     Balancing (length a.supply.now) (length a.demand.now) T a.q.now a.e.now a.leaf.now a.other.now a.lane.now
     → balanced (problem a.supply.now a.demand.now cost) T
-    ≡ carries_flow (weights_of c.before.before.weigh-bags.new.1.1.0) ss a.q.now a.lane.now count
-    && carries_flow (weights_of c.weigh-marks.new.1.1.0) ss a.e.now a.lane.now count
-flows c cost T h = balanced-is _ _ cost h.amounts _ _ _ _ h.spanning (start c).requires.0.1.balance c.before.before.weigh-bags.ensures
-    c.weigh-marks.ensures
+    ≡ carries_flow (weights_of c.before.before.weigh_bags.new.weight) ss a.q.now a.lane.now count
+    && carries_flow (weights_of c.weigh_marks.new.weight) ss a.e.now a.lane.now count
+flows c cost T h = balanced-is _ _ cost h.amounts _ _ _ _ h.spanning (start c).requires.0.1.balance c.before.before.weigh_bags.ensures
+    c.weigh_marks.ensures
 
-returns : tie.Need-returns
+returns : tie.Need-returns-then-not-flows_match
 returns c cost T h = sym (flows c.before.before.before cost T h
-    ∙ rw (← c.before.flows-match.ensures, not-true c.before.flows-match.result c.if1.true))
+    ∙ rw (← c.before.flows_match.ensures, not-true c.before.flows_match.result c.if-not-flows_match.true-raw))
 
-flows-match-requires-2 : tie.Need-flows-match-requires-2
+flows-match-requires-2 : tie.Need-flows_match-requires-2
 flows-match-requires-2 c κs = let m = c.before.before.before.before in
-    let (room, distinct) = strikes (start m) in (room, (distinct, m.weigh-marks.ensures.light))
+    let (room, distinct) = strikes (start m) in (room, (distinct, m.weigh_marks.ensures.light))
 
-returns-2 : tie.Need-returns-2
+returns-2 : tie.Need-returns
 returns-2 c cost T h = let f = c.before.before.before in sym (flows f.before.before cost T h
-    ∙ rw (← f.flows-match.ensures, not-false f.flows-match.result c.before.before.if1.false, ← c.flows-match2.ensures))
+    ∙ rw (← f.flows_match.ensures, not-false f.flows_match.result c.before.before.if-not-flows_match.false-raw, ← c.flows_match-2.ensures))
 
-pub balances-spec : {M : Type 1} → statement M
-balances-spec = tie.close (tie.spec (λ c κs. sound_modest c.before.before.before.requires.0.1) weigh-marks-requires (λ c. search rules) sub-count
+pub balances_spec : {M : Type 1} → statement M
+balances_spec = tie.close (tie.spec (λ c κs. sound_modest c.before.before.before.requires.0.1) weigh-marks-requires (λ c. search rules) sub-count
     flows-match-requires returns flows-match-requires-2 returns-2)

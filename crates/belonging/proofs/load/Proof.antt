@@ -12,70 +12,70 @@ use Rattle.belonging.proofs.load.Tie as tie
 sides : (c : tie.Start) → Sides (length c.args.supply.now) (length c.args.demand.now)
 sides c = list_sides c.requires.0.1
 
-returns : tie.Need-returns
+returns : tie.Need-returns-then-t-m
 unfolding basis_size
-returns c = ((λ cost. sym (other-count _ _ cost _ c.if1.true)), λ e. absurd (false≢true e))
+returns c = ((λ cost. sym (other-count _ _ cost _ c.if-t-m.true)), λ e. absurd (false≢true e))
 
 -- The count is m + n - 1, and the array has as many cells.
-counted : (c : tie.Else1) → let a = c.before.before.before.before.args in a.t.count ≡ basis_size (length a.supply.now) (length a.demand.now)
+counted : (c : tie.Else-t-m) → let a = c.before.before.before.before.args in a.t.count ≡ basis_size (length a.supply.now) (length a.demand.now)
 unfolding basis_size
-counted c = c.if1.false
+counted c = c.if-t-m.false
 
-roomy : (c : tie.After-struct-known) → length c.before.before.before.args.t.cells ≡ cell_room
+roomy : (c : tie.After-struct_known-1) → length c.before.before.before.args.t.cells ≡ cell_room
 roomy c = search (rules, length_mapped)
 
-few : (c : tie.Else1) → c.before.before.before.before.args.t.count ≤ cell_room
+few : (c : tie.Else-t-m) → c.before.before.before.before.args.t.count ≤ cell_room
 unfolding basis_size
 few c = omega (arith, counted c, (sides c.before.before.before.before).rows_high, (sides c.before.before.before.before).cols_high)
 
-returns-2 : tie.Need-returns-2
+returns-2 : tie.Need-returns-then-not-cells_fit
 returns-2 c = (
-  (λ cost. sym (other-cells _ _ cost _ (sym c.before.cells_fit.ensures ∙ not-true c.before.cells_fit.result c.if2.true))),
+  (λ cost. sym (other-cells _ _ cost _ (sym c.before.cells_fit.ensures ∙ not-true c.before.cells_fit.result c.if-not-cells_fit.true-raw))),
   λ e. absurd (false≢true e),
 )
 
-fits : (c : tie.Else2) → let a = c.before.before.before.before.before.before.args in
+fits : (c : tie.Else-not-cells_fit) → let a = c.before.before.before.before.before.before.args in
     cells_fit_of (length a.supply.now) (length a.demand.now) (cells_of a.t) ≡ true
-fits c = sym c.before.cells_fit.ensures ∙ not-false c.before.cells_fit.result c.if2.false
+fits c = sym c.before.cells_fit.ensures ∙ not-false c.before.cells_fit.result c.if-not-cells_fit.false-raw
 
-abbrev else_of : tie.After-lay-out → tie.Else2
+abbrev else_of : tie.After-lay_out → tie.Else-not-cells_fit
 else_of c = c.before.before.before.before.before.before
 
-abbrev start_of : tie.After-lay-out → tie.Start
+abbrev start_of : tie.After-lay_out → tie.Start
 start_of c = (else_of c).before.before.before.before.before.before
 
-lay-out-requires : tie.Need-lay-out-requires
+lay-out-requires : tie.Need-lay_out-requires
 lay-out-requires c κs = let e = c.before.before.before.before.before in let s = e.before.before.before.before.before.before in
     ((few e.before.before, sides s, fit_inside _ _ _ (fits e), fit_distinct _ _ _ (fits e)), s.requires.1)
 
-many : (c : tie.After-lay-out) → let a = (start_of c).args in length (cells_of a.t) ≡ basis_size (length a.supply.now) (length a.demand.now)
+many : (c : tie.After-lay_out) → let a = (start_of c).args in length (cells_of a.t) ≡ basis_size (length a.supply.now) (length a.demand.now)
 many c = let e = c.before.before.before.before.before.before.before.before in
     length-cells (start_of c).args.t (omega (arith, few e, roomy e.before)) ∙ counted e
 
-returns-3 : tie.Need-returns-3
+returns-3 : tie.Need-returns-then-lay_out-m
 unfolding basis_size
 returns-3 c = let l = c.before in let e = else_of l in
     let apart = struck-apart _ (sides (start_of l)) (fit_inside _ _ _ (fits e)) (fit_distinct _ _ _ (fits e)) (many l) _ _ _ _
-    l.lay-out.ensures.2 c.if3.true
+    l.lay_out.ensures.2 c.if-lay_out-m.true
     in ((λ cost. sym (belongs-whole _ _ cost _ (counted e.before.before) (fits e) ∙ rw apart)), λ f. absurd (false≢true f))
 
 -- All lanes are struck off, so the cells are a tree.
-balancing : (c : tie.Else3) → let a = (start_of c.before).args in let x = c.before.lay-out.new.1.1.1 in
-    Balancing (length a.supply.now) (length a.demand.now) (cells_of a.t) x.0 x.1.0 x.1.1.0 x.1.1.1.0 x.1.1.1.1.0
+balancing : (c : tie.Else-lay_out-m) → let a = (start_of c.before).args in let x = c.before.lay_out.new in
+    Balancing (length a.supply.now) (length a.demand.now) (cells_of a.t) x.q x.e x.leaf x.other x.lane
 unfolding basis_size
 balancing c = let l = c.before in let e = else_of l in
     record {
-      amounts = l.lay-out.ensures.0;
-      long = l.lay-out.ensures.1;
+      amounts = l.lay_out.ensures.0;
+      long = l.lay_out.ensures.1;
       spanning = struck-spans _ (sides (start_of l)) (fit_inside _ _ _ (fits e)) (fit_distinct _ _ _ (fits e)) (many l) _ _ _ _
-          l.lay-out.ensures.2 c.if3.false;
+          l.lay_out.ensures.2 c.if-lay_out-m.false;
     }
 
 balances-requires : tie.Need-balances-requires
-balances-requires c κs = let e = c.before.before.before.before.before in ((start_of e.before).requires.0, (_, balancing e))
+balances-requires c κs = let e = c in ((start_of e.before).requires.0, (_, balancing e))
 
-returns-4 : tie.Need-returns-4
-returns-4 c = let e = c.before.before.before.before.before.before in let b = balancing e in let f = else_of e.before in (
+returns-4 : tie.Need-returns
+returns-4 c = let e = c.before in let b = balancing e in let f = else_of e.before in (
   (λ cost. c.balances.ensures cost _ b ∙ sym (belongs-whole _ _ cost _ (counted f.before.before) (fits f) ∙ rw b.spanning.spans)),
   λ s. record { amounts = b.amounts; long = b.long; struck = b.spanning.struck },
 )

@@ -8,26 +8,26 @@ use Rattle.belonging.specs.Weighing.{PutFrom, put-none, put-more}
 use Rattle.belonging.proofs.weights.put_from.Statement.{statement}
 use Rattle.belonging.proofs.weights.put_from.Tie as tie
 
-abbrev invariant-loop : tie.invariant-loop
+abbrev invariant-loop : tie.invariant-loop-k
 invariant-loop amounts from weight₀ k₀ weight k = (k ≤ length amounts) × PutFrom amounts from weight₀ weight k
 
-abbrev decreases-loop : tie.decreases-loop
+abbrev decreases-loop : tie.decreases-loop-k
 decreases-loop amounts from weight₀ k₀ weight k = length amounts - k
 
-loop-holds : tie.Need-loop-init invariant-loop decreases-loop
+loop-holds : tie.Need-loop-k-init invariant-loop decreases-loop
 loop-holds c = (omega arith, put-none _ _ _ c.requires.1.1)
 
-cast-weight : tie.Need-overflow-cast-weight invariant-loop decreases-loop
+cast-weight : tie.Need-overflow_cast-weight invariant-loop decreases-loop
 unfolding at max_bags max_side max_amount
-cast-weight c = omega (arith, c.before.before.before.requires.0.high c.before.before.loop.k)
+cast-weight c = omega (arith, c.before.before.before.requires.0.high c.before.before.loop-k.k)
 
-loop-again : tie.Need-loop-preserved invariant-loop decreases-loop
+loop-again : tie.Need-loop-k-preserved invariant-loop decreases-loop
 unfolding at
-loop-again c = (omega arith, rw (to_z_pos w64 (cast-weight c).sfits) (put-more (omega arith) c.before.before.loop.invariant.1))
+loop-again c = (omega arith, rw (to_z_pos w64 (cast-weight c).sfits) (put-more (omega arith) c.before.before.loop-k.invariant.1))
 
 returns : tie.Need-returns invariant-loop decreases-loop
-returns c = let e : c.before.loop.k ≡ length c.before.before.args.amounts.now = omega arith in rw e at c.before.loop.invariant.1
+returns c = let e : c.before.loop-k.k ≡ length c.before.before.args.amounts.now = omega arith in rw e at c.before.loop-k.invariant.1
 
-pub put-from-spec : {M : Type 1} → statement M
-put-from-spec = tie.close (tie.spec invariant-loop decreases-loop loop-holds (λ c. omega arith) (λ c. omega arith) cast-weight (λ c. omega arith)
+pub put_from_spec : {M : Type 1} → statement M
+put_from_spec = tie.close (tie.spec invariant-loop decreases-loop loop-holds (λ c. omega arith) (λ c. omega arith) cast-weight (λ c. omega arith)
     (λ c. omega arith) (λ c. omega arith) (λ c. omega arith) (λ c. omega arith) loop-again returns)

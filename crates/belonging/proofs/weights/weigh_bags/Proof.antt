@@ -7,7 +7,7 @@ use Rattle.belonging.proofs.weights.weigh_bags.Tie as tie
 
 returns : tie.Need-returns
 returns c = let p = c.before.before.before.before.before.before.before.requires in
-    bags-put p.0 p.1 (λ j. get_or-all node_room j (pos 0)) c.before.before.put-from.ensures c.put-from2.ensures
+    bags-put p.0 p.1 (λ j. get_or-all node_room j (pos 0)) c.before.before.put_from.ensures c.put_from-2.ensures
 
-pub weigh-bags-spec : {M : Type 1} → statement M
-weigh-bags-spec = tie.close (tie.spec (λ c κs. search rules) (λ c κs. search rules) returns)
+pub weigh_bags_spec : {M : Type 1} → statement M
+weigh_bags_spec = tie.close (tie.spec (λ c κs. search rules) (λ c κs. search rules) returns)

@@ -5,25 +5,25 @@ use Rattle.board.specs.Drawing.{Redrawn, redraw_start, redraw_step}
 use Rattle.board.proofs.gather.draw.Statement.{statement}
 use Rattle.board.proofs.gather.draw.Tie as tie
 
-abbrev invariant-loop : tie.invariant-loop
+abbrev invariant-loop : tie.invariant-loop-k
 invariant-loop lane m count adj₀ k₀ adj k = (k ≤ count) × Redrawn m lane k adj
 
-abbrev decreases-loop : tie.decreases-loop
+abbrev decreases-loop : tie.decreases-loop-k
 decreases-loop lane m count adj₀ k₀ adj k = count - k
 
-loop-holds : tie.Need-loop-init invariant-loop decreases-loop
+loop-holds : tie.Need-loop-k-init invariant-loop decreases-loop
 loop-holds c = (omega arith, redraw_start _ _ _ refl (λ j. get_or-all node_room j 0))
 
 link-requires : tie.Need-link-requires invariant-loop decreases-loop
-link-requires c κs = let s = c.before.before.before.before.before in (s.requires.2 c.before.before.before.loop.k (omega arith), s.requires.0, omega arith)
+link-requires c κs = let s = c.before.before.before.before.before.before in (s.requires.2 c.before.before.before.before.loop-k.k (omega arith), s.requires.0, omega arith)
 
-loop-again : tie.Need-loop-preserved invariant-loop decreases-loop
-loop-again c = let i = c.before.before.before.before in let p = i.before.before.requires in
-    (omega arith, rw c.link.ensures (redraw_step i.loop.invariant.1 p.0 (p.2 i.loop.k (omega arith))))
+loop-again : tie.Need-loop-k-preserved invariant-loop decreases-loop
+loop-again c = let i = c.before.before.before.before.before in let p = i.before.before.requires in
+    (omega arith, rw c.link.ensures (redraw_step i.loop-k.invariant.1 p.0 (p.2 i.loop-k.k (omega arith))))
 
 returns : tie.Need-returns invariant-loop decreases-loop
-returns c = let e : c.before.loop.k ≡ c.before.before.before.args.count = omega arith in rw e at c.before.loop.invariant.1
+returns c = let e : c.before.loop-k.k ≡ c.before.before.before.args.count = omega arith in rw e at c.before.loop-k.invariant.1
 
-pub draw-spec : {M : Type 1} → statement M
-draw-spec = tie.close (tie.spec invariant-loop decreases-loop loop-holds (λ c. search rules) (λ c. search rules) link-requires (λ c. search rules)
+pub draw_spec : {M : Type 1} → statement M
+draw_spec = tie.close (tie.spec invariant-loop decreases-loop loop-holds (λ c. search rules) (λ c. search rules) link-requires (λ c. search rules)
     (λ c. search rules) loop-again returns)

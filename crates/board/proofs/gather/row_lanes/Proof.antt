@@ -6,34 +6,34 @@ use Rattle.board.specs.Lanes.{row_lanes_of, row_lanes-zero, row_lanes-first}
 use Rattle.board.proofs.gather.row_lanes.Statement.{statement}
 use Rattle.board.proofs.gather.row_lanes.Tie as tie
 
-abbrev invariant-loop : tie.invariant-loop
+abbrev invariant-loop : tie.invariant-loop-bits
 invariant-loop mask first lanes₀ count bits₀ k₀ lanes bits k = (length lanes ≡ node_room) × (k + length (row_lanes_of first bits) ≡ count
     + length (row_lanes_of first bits₀)) × (take k lanes ++ row_lanes_of first bits ≡ take count lanes₀ ++ row_lanes_of first bits₀)
 
-abbrev decreases-loop : tie.decreases-loop
+abbrev decreases-loop : tie.decreases-loop-bits
 decreases-loop mask first lanes₀ count bits₀ k₀ lanes bits k = length (row_lanes_of first bits)
 
 -- The lane of the least bit comes first.
-next : (c : tie.After-clear-bit invariant-loop decreases-loop) → let first = c.before.before.before.before.args.first in
-    row_lanes_of first c.before.before.before.loop.bits ≡ (first + c.before.first_bit.result) ∷ row_lanes_of first c.clear-bit.result
-next c = let b = c.before.first_bit.ensures in
-    rw c.clear-bit.ensures (row_lanes-first c.before.before.before.before.args.first c.before.before.before.loop.bits
-    c.before.first_bit.result b.0 b.1 b.2)
+next : (c : tie.After-clear_bit-bits invariant-loop decreases-loop) → let first = c.before.before.before.before.args.first in
+    row_lanes_of first c.before.before.before.loop-bits.bits ≡ (first + c.before.first_bit-j.result) ∷ row_lanes_of first c.clear_bit-bits.result
+next c = let b = c.before.first_bit-j.ensures in
+    rw c.clear_bit-bits.ensures (row_lanes-first c.before.before.before.before.args.first c.before.before.before.loop-bits.bits
+    c.before.first_bit-j.result b.0 b.1 b.2)
 
-loop-again : tie.Need-loop-preserved invariant-loop decreases-loop
-loop-again c = let i = c.before.before.before.loop in
-    let x = c.before.before.before.before.args.first + c.before.first_bit.result in (
+loop-again : tie.Need-loop-bits-preserved invariant-loop decreases-loop
+loop-again c = let i = c.before.before.before.before.loop-bits in
+    let x = c.before.before.before.before.before.args.first + c.before.before.first_bit-j.result in (
       simp length-set i.invariant.0,
-      omega (arith, ap length (next c)),
-      rw (add-one i.k, take-suc-set i.lanes i.k x (omega (arith, ap length (next c))), append_assoc) (rw (next c) at i.invariant.2),
+      omega (arith, ap length (next c.before)),
+      rw (add-one i.k, take-suc-set i.lanes i.k x (omega (arith, ap length (next c.before))), append_assoc) (rw (next c.before) at i.invariant.2),
     )
 
 returns : tie.Need-returns invariant-loop decreases-loop
-returns c = let i = c.before.loop in let e : i.bits ≡ 0 = omega arith in
+returns c = let i = c.before.loop-bits in let e : i.bits ≡ 0 = omega arith in
     let none : row_lanes_of c.before.before.args.first i.bits ≡ [] = rw e (row_lanes-zero _) in
     (i.invariant.0, omega (arith, ap length none), sym (append-nil _) ∙ rw none at i.invariant.2)
 
-pub row-lanes-spec : {M : Type 1} → statement M
-row-lanes-spec = tie.close (tie.spec invariant-loop decreases-loop (λ c. (c.requires.0, refl, refl)) (λ c κs. omega arith) (λ c κs. c.first_bit.ensures.0)
-    (λ c. omega arith) (λ c. omega (arith, ap length (next c))) (λ c. omega (arith, ap length (next c))) (λ c. omega (arith, ap length (next c)))
-    (λ c. omega (arith, ap length (next c))) loop-again returns)
+pub row_lanes_spec : {M : Type 1} → statement M
+row_lanes_spec = tie.close (tie.spec invariant-loop decreases-loop (λ c. (c.requires.0, refl, refl)) (λ c κs. omega arith) (λ c κs. c.first_bit-j.ensures.0)
+    (λ c. omega arith) (λ c. omega (arith, ap length (next c))) (λ c. omega (arith, ap length (next c.before))) (λ c. omega (arith, ap length (next c.before)))
+    (λ c. omega (arith, ap length (next c.before))) loop-again returns)

@@ -6,8 +6,8 @@ use Rattle.board.proofs.spread.link.Tie as tie
 
 returns : tie.Need-returns
 unfolding linked
-returns c = rw (c.set-bit2.ensures, c.before.before.set-bit.ensures)
+returns c = rw (c.set_bit-2.ensures, c.before.before.set_bit.ensures)
 
-pub link-spec : {M : Type 1} → statement M
-link-spec = tie.close (tie.spec (λ c. search rules) (λ c. search rules) (λ c κs. search rules) (λ c. search rules) (λ c. search rules)
+pub link_spec : {M : Type 1} → statement M
+link_spec = tie.close (tie.spec (λ c. search rules) (λ c. search rules) (λ c κs. search rules) (λ c. search rules) (λ c. search rules)
     (λ c. search rules) (λ c. search rules) (λ c. search rules) (λ c κs. search rules) (λ c. search rules) (λ c. search rules) returns)

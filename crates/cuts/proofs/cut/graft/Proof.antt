@@ -5,23 +5,23 @@ use Rattle.tree.specs.Bits.{Least, rest-less, Touching, touch-start, touch-still
 use Rattle.cuts.proofs.cut.graft.Statement.{statement}
 use Rattle.cuts.proofs.cut.graft.Tie as tie
 
-abbrev invariant-loop : tie.invariant-loop
+abbrev invariant-loop : tie.invariant-loop-bits
 invariant-loop masks₀ at x bits₀ masks bits = Touching (λ (y : ℕ). bit_xor y x) 0 masks₀ at bits masks
 
-abbrev decreases-loop : tie.decreases-loop
+abbrev decreases-loop : tie.decreases-loop-bits
 decreases-loop masks₀ at x bits₀ masks bits = bits
 
-loop-holds : tie.Need-loop-init invariant-loop decreases-loop
+loop-holds : tie.Need-loop-bits-init invariant-loop decreases-loop
 loop-holds c = touch-start _ 0 c.args.masks.now c.args.at
 
-loop-again : tie.Need-loop-preserved invariant-loop decreases-loop
-loop-again c = let f = c.before.before.first_bit.ensures in
-    let i = c.before.before.before.before.loop.invariant in let r : Least _ _ = record { on = f.1; off = f.2 } in
-    rw (c.rest.ensures, touch-still i r) (touch_step i r (omega (arith, f.0, c.before.before.before.before.before.requires)))
+loop-again : tie.Need-loop-bits-preserved invariant-loop decreases-loop
+loop-again c = let f = c.before.before.before.first_bit-k.ensures in
+    let i = c.before.before.before.before.before.loop-bits.invariant in let r : Least _ _ = record { on = f.1; off = f.2 } in
+    rw (c.rest-bits.ensures, touch-still i r) (touch_step i r (omega (arith, f.0, c.before.before.before.before.before.before.requires)))
 
 returns : tie.Need-returns invariant-loop decreases-loop
-returns c = touch-end c.before.loop.invariant (omega arith)
+returns c = touch-end c.before.loop-bits.invariant (omega arith)
 
-pub graft-spec : {M : Type 1} → statement M
-graft-spec = tie.close (tie.spec invariant-loop decreases-loop loop-holds (λ c κs. search rules) (λ c. search rules) (λ c. search rules) (λ c. search rules)
-    (λ c. search rules) (λ c κs. search rules) (λ c. rw c.rest.ensures (rest-less _ (omega arith))) loop-again returns)
+pub graft_spec : {M : Type 1} → statement M
+graft_spec = tie.close (tie.spec invariant-loop decreases-loop loop-holds (λ c κs. search rules) (λ c. search rules) (λ c. search rules) (λ c. search rules)
+    (λ c. search rules) (λ c κs. search rules) (λ c. rw c.rest-bits.ensures (rest-less _ (omega arith))) loop-again returns)

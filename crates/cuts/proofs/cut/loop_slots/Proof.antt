@@ -6,29 +6,29 @@ use Rattle.cuts.specs.Cycle.{FarRows, far-start, far-step, loop-slots}
 use Rattle.cuts.proofs.cut.loop_slots.Statement.{statement}
 use Rattle.cuts.proofs.cut.loop_slots.Tie as tie
 
-abbrev invariant-loop : tie.invariant-loop
+abbrev invariant-loop : tie.invariant-loop-bits
 invariant-loop path lane row sink own cycle far₀ bits₀ far bits = FarRows path lane cycle bits far
 
-abbrev decreases-loop : tie.decreases-loop
+abbrev decreases-loop : tie.decreases-loop-bits
 decreases-loop path lane row sink own cycle far₀ bits₀ far bits = bits
 
 -- The slot that comes is the least bit that is left.
-slot : (c : tie.After-l invariant-loop decreases-loop) → Least c.before.before.before.loop.bits c.before.first_bit.result
-slot c = let f = c.before.first_bit.ensures in record { on = f.1; off = f.2 }
+slot : (c : tie.After-l-1 invariant-loop decreases-loop) → Least c.before.before.before.before.loop-bits.bits c.before.before.first_bit-t.result
+slot c = let f = c.before.before.first_bit-t.ensures in record { on = f.1; off = f.2 }
 
-row_room : (c : tie.After-l invariant-loop decreases-loop)
-    → get_or c.before.before.before.before.before.before.args.lane.now c.before.first_bit.result 0 / stride < node_room
-row_room c = c.before.before.before.before.before.before.requires.1 _ (c.before.before.before.loop.invariant.part _ (has-least (slot c)))
+row_room : (c : tie.After-l-1 invariant-loop decreases-loop)
+    → get_or c.before.before.before.before.before.before.before.before.args.lane.now c.before.before.first_bit-t.result 0 / stride < node_room
+row_room c = c.before.before.before.before.before.before.before.before.requires.1 _ (c.before.before.before.before.loop-bits.invariant.part _ (has-least (slot c)))
 
-loop-again : tie.Need-loop-preserved invariant-loop decreases-loop
-loop-again c = rw (c.rest.ensures, c.before.set-bit.ensures)
-    (far-step c.before.before.before.before.before.before.loop.invariant (slot c.before.before.before))
+loop-again : tie.Need-loop-bits-preserved invariant-loop decreases-loop
+loop-again c = rw (c.rest-bits.ensures, c.before.set_bit.ensures)
+    (far-step c.before.before.before.before.before.before.before.before.loop-bits.invariant (slot c.before.before.before.before))
 
 returns : tie.Need-returns invariant-loop decreases-loop
-returns c = let e : c.before.loop.bits ≡ 0 = omega arith in loop-slots _ _ _ _ _ (rw e at c.before.loop.invariant)
+returns c = let e : c.before.loop-bits.bits ≡ 0 = omega arith in loop-slots _ _ _ _ _ (rw e at c.before.loop-bits.invariant)
 
-pub loop-slots-spec : {M : Type 1} → statement M
-loop-slots-spec = tie.close (tie.spec invariant-loop decreases-loop (λ c. search rules) (λ c. search rules) (λ c. search rules) (λ c. search rules)
+pub loop_slots_spec : {M : Type 1} → statement M
+loop_slots_spec = tie.close (tie.spec invariant-loop decreases-loop (λ c. search rules) (λ c. search rules) (λ c. search rules) (λ c. search rules)
     (λ c. far-start _ _ _) (λ c κs. search rules) (λ c. search rules) (λ c. search rules) (λ c. omega (arith, row_room c))
-    (λ c. omega (arith, row_room c)) (λ c κs. search rules) (λ c κs. search rules) (λ c. rw c.rest.ensures (rest-less _ (omega arith)))
+    (λ c. omega (arith, row_room c.before)) (λ c κs. search rules) (λ c κs. search rules) (λ c. rw c.rest-bits.ensures (rest-less _ (omega arith)))
     loop-again returns)

@@ -6,11 +6,11 @@ use Rattle.cuts.proofs.cut.regraft.Tie as tie
 returns : tie.Need-returns
 returns c = record {
   far = refl;
-  paths = rw c.before.before.before.before.clear-bit.ensures at c.before.before.graft.ensures;
-  subs = rw c.before.before.before.before.clear-bit.ensures at c.graft2.ensures;
+  paths = rw c.before.before.before.before.clear_bit-change.ensures at c.before.before.graft.ensures;
+  subs = rw c.before.before.before.before.clear_bit-change.ensures at c.graft-2.ensures;
   laid = refl;
 }
 
-pub regraft-spec : {M : Type 1} → statement M
-regraft-spec = tie.close (tie.spec (λ c. search rules) (λ c. search rules) (λ c. search rules) (λ c. search rules) (λ c. search rules)
+pub regraft_spec : {M : Type 1} → statement M
+regraft_spec = tie.close (tie.spec (λ c. search rules) (λ c. search rules) (λ c. search rules) (λ c. search rules) (λ c. search rules)
     (λ c. search rules) (λ c κs. search rules) (λ c κs. search rules) (λ c κs. search rules) (λ c. search rules) (λ c. search rules) returns)

@@ -5,21 +5,21 @@ use Rattle.cuts.specs.Planting.{Turning, turning_start, turning_step}
 use Rattle.cuts.proofs.cut.turn_over.Statement.{statement}
 use Rattle.cuts.proofs.cut.turn_over.Tie as tie
 
-abbrev invariant-loop : tie.invariant-loop
+abbrev invariant-loop : tie.invariant-loop-p
 invariant-loop path nodes sub₀ p₀ sub p = (p ≤ nodes) × Turning path p sub
 
-abbrev decreases-loop : tie.decreases-loop
+abbrev decreases-loop : tie.decreases-loop-p
 decreases-loop path nodes sub₀ p₀ sub p = nodes - p
 
-loop-holds : tie.Need-loop-init invariant-loop decreases-loop
+loop-holds : tie.Need-loop-p-init invariant-loop decreases-loop
 loop-holds c = (omega arith, turning_start _ _ refl (λ j. get_or-all node_room j 0))
 
-loop-again : tie.Need-loop-preserved invariant-loop decreases-loop
-loop-again c = (omega arith, turning_step c.before.before.before.before.before.loop.invariant.1 (rw c.before.set-bit.ensures at c.graft.ensures))
+loop-again : tie.Need-loop-p-preserved invariant-loop decreases-loop
+loop-again c = (omega arith, turning_step c.before.before.before.before.before.before.loop-p.invariant.1 (rw c.before.set_bit.ensures at c.graft.ensures))
 
 returns : tie.Need-returns invariant-loop decreases-loop
-returns c = let e : c.before.loop.p ≡ c.before.before.before.args.nodes = omega arith in rw e at c.before.loop.invariant.1
+returns c = let e : c.before.loop-p.p ≡ c.before.before.before.args.nodes = omega arith in rw e at c.before.loop-p.invariant.1
 
-pub turn-over-spec : {M : Type 1} → statement M
-turn-over-spec = tie.close (tie.spec invariant-loop decreases-loop loop-holds (λ c. search rules) (λ c. search rules) (λ c κs. search rules)
-    (λ c κs. c.before.before.before.before.loop.invariant.1.long) (λ c. search rules) (λ c. search rules) loop-again returns)
+pub turn_over_spec : {M : Type 1} → statement M
+turn_over_spec = tie.close (tie.spec invariant-loop decreases-loop loop-holds (λ c. search rules) (λ c. search rules) (λ c κs. search rules)
+    (λ c κs. c.before.before.before.before.before.loop-p.invariant.1.long) (λ c. search rules) (λ c. search rules) loop-again returns)

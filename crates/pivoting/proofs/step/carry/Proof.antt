@@ -8,44 +8,41 @@ use Rattle.board.specs.Slots.{Added, add_start, add_step}
 use Rattle.pivoting.proofs.step.carry.Statement.{statement}
 use Rattle.pivoting.proofs.step.carry.Tie as tie
 
-abbrev invariant-loop : tie.invariant-loop
+abbrev invariant-loop : tie.invariant-loop-bits
 invariant-loop q₀ e₀ lane slots x bits₀ q e bits = Added x.q lane slots bits q₀ q × Added x.e lane slots bits e₀ e
 
-abbrev decreases-loop : tie.decreases-loop
+abbrev decreases-loop : tie.decreases-loop-bits
 decreases-loop q₀ e₀ lane slots x bits₀ q e bits = bits
 
 -- The slot that comes is the least bit that is left.
-slot : (c : tie.After-first-bit invariant-loop decreases-loop) → Least c.before.before.loop.bits c.first_bit.result
+slot : (c : tie.After-first_bit invariant-loop decreases-loop) → Least c.before.before.loop-bits.bits c.first_bit.result
 slot c = let f = c.first_bit.ensures in record { on = f.1; off = f.2 }
 
-here : (c : tie.After-first-bit invariant-loop decreases-loop) → has c.before.before.before.args.slots c.first_bit.result ≡ true
-here c = c.before.before.loop.invariant.0.part _ (has-least (slot c))
+here : (c : tie.After-first_bit invariant-loop decreases-loop) → has c.before.before.before.args.slots c.first_bit.result ≡ true
+here c = c.before.before.loop-bits.invariant.0.part _ (has-least (slot c))
 
-pair-at-requires : tie.Need-pair-at-requires invariant-loop decreases-loop
-pair-at-requires c κs = c.before.before.before.before.before.before.requires.0.2.inside _ (here c.before.before.before)
+pair-at-requires : tie.Need-pair_at-requires invariant-loop decreases-loop
+pair-at-requires c κs = c.requires.0.2.inside _ (here c.before.before)
 
-add-requires : tie.Need-add-requires invariant-loop decreases-loop
-add-requires c κs = let f = c.before.before.before.before in let i = c.before.before.before.before.before.before.loop.invariant in
-    rw (c.pair-at.ensures, i.0.still _ (has-least (slot f)), i.1.still _ (has-least (slot f)))
-    (c.before.before.before.before.before.before.before.requires.1 _ (here f))
+add-requires : tie.Need-add-sum-requires invariant-loop decreases-loop
+add-requires c κs = let f = c.before.before.before in let i = c.loop-bits.invariant in
+    rw (c.pair_at.ensures, i.0.still _ (has-least (slot f)), i.1.still _ (has-least (slot f))) (c.requires.1 _ (here f))
 
-put-pair-requires : tie.Need-put-pair-requires invariant-loop decreases-loop
-put-pair-requires c κs = c.before.before.before.before.before.before.before.before.before.before.requires.0.2.inside _
-    (here c.before.before.before.before.before.before.before)
+put-pair-requires : tie.Need-put_pair-requires invariant-loop decreases-loop
+put-pair-requires c κs = c.requires.0.2.inside _ (here c.before.before.before.before.before.before)
 
-loop-again : tie.Need-loop-preserved invariant-loop decreases-loop
+loop-again : tie.Need-loop-bits-preserved invariant-loop decreases-loop
 unfolding add
-loop-again c = let s = c.before.before.before.before.before.before.before.before.before.before.before.before in
-    let i = c.before.before.before.before.before.before.before.before.before.before.before.loop.invariant in
-    let f = slot c.before.before.before.before.before.before.before.before.before in
-    let p = c.before.put-pair.ensures in let a = c.before.before.before.before.add.ensures in
-    rw (c.rest.ensures, p.0, p.1, a, c.before.before.before.before.before.pair-at.ensures)
-    (add_step i.0 s.requires.0.2 s.requires.0.0 f, add_step i.1 s.requires.0.2 s.requires.0.1 f)
+loop-again c = let i = c.loop-bits.invariant in
+    let f = slot c.before.before.before.before.before.before.before.before in
+    let p = c.put_pair.ensures in
+    rw (c.rest-bits.ensures, p.0, p.1, c.add-sum.ensures, c.pair_at.ensures)
+    (add_step i.0 c.requires.0.2 c.requires.0.0 f, add_step i.1 c.requires.0.2 c.requires.0.1 f)
 
 returns : tie.Need-returns invariant-loop decreases-loop
-returns c = let e : c.before.loop.bits ≡ 0 = omega arith in rw e at c.before.loop.invariant
+returns c = let e : c.before.loop-bits.bits ≡ 0 = omega arith in rw e at c.before.loop-bits.invariant
 
-pub carry-spec : {M : Type 1} → statement M
-carry-spec = tie.close (tie.spec invariant-loop decreases-loop (λ c. (add_start _ _ _ _, add_start _ _ _ _)) (λ c κs. search rules) (λ c. search rules)
+pub carry_spec : {M : Type 1} → statement M
+carry_spec = tie.close (tie.spec invariant-loop decreases-loop (λ c. (add_start _ _ _ _, add_start _ _ _ _)) (λ c κs. search rules) (λ c. search rules)
     (λ c. search rules) pair-at-requires add-requires put-pair-requires (λ c κs. search rules)
-    (λ c. rw c.rest.ensures (rest-less _ (omega arith))) loop-again returns)
+    (λ c. rw c.rest-bits.ensures (rest-less _ (omega arith))) loop-again returns)

@@ -10,28 +10,28 @@ use Rattle.pricing.proofs.scan.entering.Statement.{statement}
 use Rattle.pricing.proofs.scan.entering.Tie as tie
 
 -- The least reduced cost, as the code keeps it.
-least-is : (c : tie.After-least-reduced) → let a = c.before.args in
-    to_z w32 (of_z w32 c.least-reduced.result) ≡ lowest (pos 0) (row_reduced a.slack.now a.price.now) a.m
-least-is c = to_z-of_z (search rules) ∙ c.least-reduced.ensures
+least-is : (c : tie.After-least_reduced-reduced) → let a = c.before.args in
+    to_z w32 (of_z w32 c.least_reduced-reduced.result) ≡ lowest (pos 0) (row_reduced a.slack.now a.price.now) a.m
+least-is c = to_z-of_z {w = w32} (search rules) ∙ c.least_reduced-reduced.ensures
 
 -- This holds also where the row is sought by another number below 0.
-inside : (c : tie.After-first-row) → c.first-row.result < c.before.before.before.args.m
-inside c = let least = c.before.before in let s = least.before in let best = to_z w32 (of_z w32 least.least-reduced.result) in
-    scanned_row s.requires.0 s.requires.1 best (least-is least) c.before.if1.true (omega (arith, lt_yes best (pos 0) c.before.if1.true))
-    c.first-row.ensures
+inside : (c : tie.After-first_row-row) → c.first_row-row.result < c.before.before.before.args.m
+inside c = let least = c.before.before in let s = least.before in let best = to_z w32 (of_z w32 least.least_reduced-reduced.result) in
+    scanned_row s.requires.0 s.requires.1 best (least-is least) c.before.if-reduced-lt0.true (omega (arith, lt_yes best (pos 0) c.before.if-reduced-lt0.true))
+    c.first_row-row.ensures
 
-returns : tie.Need-returns
-returns c = let at = c.before.before in let least = at.before.before in let s = least.before in let row = at.first-row.result in
+returns : tie.Need-returns-then-reduced-lt0
+returns c = let at = c.before.before in let least = at.before.before in let s = least.before in let row = at.first_row-row.result in
     let low = get_or s.args.slack.now row (pos 0) in let back_low : to_z w32 (of_z w32 low) ≡ low = search rules in
-    scanned_yes s.requires.0 s.requires.1 (to_z w32 (of_z w32 least.least-reduced.result)) (least-is least) at.before.if1.true row
-    at.first-row.ensures c.first-column.result (rw back_low at c.first-column.ensures)
+    scanned_yes s.requires.0 s.requires.1 (to_z w32 (of_z w32 least.least_reduced-reduced.result)) (least-is least) at.before.if-reduced-lt0.true row
+    at.first_row-row.ensures c.first_column-col.result (rw back_low at c.first_column-col.ensures)
 
-returns-2 : tie.Need-returns-2
+returns-2 : tie.Need-returns
 returns-2 c = let s = c.before.before in
-    scanned_no s.requires.0 s.requires.1 (to_z w32 (of_z w32 c.before.least-reduced.result)) (least-is c.before) c.if1.false
+    scanned_no s.requires.0 s.requires.1 (to_z w32 (of_z w32 c.before.least_reduced-reduced.result)) (least-is c.before) c.if-reduced-lt0.false
 
-pub entering-spec : {M : Type 1} → statement M
-entering-spec = tie.close (tie.spec (λ c κs. rows_fit c.requires.0 c.requires.1)
+pub entering_spec : {M : Type 1} → statement M
+entering_spec = tie.close (tie.spec (λ c κs. rows_fit c.requires.0 c.requires.1)
     (λ c κs. rows_fit c.before.before.requires.0 c.before.before.requires.1) (λ c. search rules)
     (λ c. omega (arith, inside c, c.before.before.before.requires.0.rows))
     (λ c κs. (c.before.before.before.before.requires.0, inside c.before)) returns returns-2)

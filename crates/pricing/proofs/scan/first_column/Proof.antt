@@ -11,45 +11,45 @@ use Rattle.pricing.specs.Slacks.{slack-room}
 use Rattle.pricing.proofs.scan.first_column.Statement.{statement}
 use Rattle.pricing.proofs.scan.first_column.Tie as tie
 
-abbrev invariant-loop : tie.invariant-loop
+abbrev invariant-loop : tie.invariant-loop-col
 invariant-loop cost price m n row slack col₀ col = Above (slack_at cost price m row) (to_z w32 slack) n col₀ col
 
-abbrev decreases-loop : tie.decreases-loop
+abbrev decreases-loop : tie.decreases-loop-col
 decreases-loop cost price m n row slack col₀ col = n - col
 
-loop-holds : tie.Need-loop-init invariant-loop decreases-loop
+loop-holds : tie.Need-loop-col-init invariant-loop decreases-loop
 loop-holds c = let a = c.args in above-start (slack_at a.cost.now a.price.now a.m a.row) (to_z w32 (of_z w32 a.slack)) a.n _
 
 -- The turn of the loop in which a column is looked at.
-abbrev turn : tie.After-if13 invariant-loop decreases-loop → tie.At-loop invariant-loop decreases-loop
+abbrev turn : tie.After-t19-1 invariant-loop decreases-loop → tie.At-loop-col invariant-loop decreases-loop
 turn c = c.before.before.before
 
-room : (c : tie.After-if13 invariant-loop decreases-loop) → let a = (turn c).before.args in let j = (turn c).loop.col in
+room : (c : tie.After-t19-1 invariant-loop decreases-loop) → let a = (turn c).before.args in let j = (turn c).loop-col.col in
     nat_abs (get_or a.cost.now (j * stride + a.row) (pos 0)) + nat_abs (get_or a.price.now (a.m + j) (pos 0)) < 2 ^ 31
 unfolding cost_above max_cost
-room c = let s = (turn c).before in omega (arith, slack-room s.pre.0 s.args.row (turn c).loop.col (omega arith))
+room c = let s = (turn c).before in omega (arith, slack-room s.requires.0 s.args.row (turn c).loop-col.col (omega arith))
 
 -- The slack in the column, as the code has it.
-slack-is : (c : tie.After-if13 invariant-loop decreases-loop) → let a = (turn c).before.args in let j = (turn c).loop.col in
+slack-is : (c : tie.After-t19-1 invariant-loop decreases-loop) → let a = (turn c).before.args in let j = (turn c).loop-col.col in
     let x = get_or a.cost.now (j * stride + a.row) (pos 0) in let y = get_or a.price.now (a.m + j) (pos 0) in
     to_z w32 (of_z w32 (to_z w32 (of_z w32 x) -ℤ to_z w32 (of_z w32 y))) ≡ slack_at a.cost.now a.price.now a.m a.row j
-slack-is c = let a = (turn c).before.args in let j = (turn c).loop.col in
+slack-is c = let a = (turn c).before.args in let j = (turn c).loop-col.col in
     diff_back w32 (get_or a.cost.now (j * stride + a.row) (pos 0)) (get_or a.price.now (a.m + j) (pos 0)) (room c)
 
-loop-again : tie.Need-loop-preserved invariant-loop decreases-loop
-loop-again c = above_step (turn c.before).loop.inv (omega arith) (rw (slack-is c.before) at c.if1.true)
+loop-again : tie.Need-loop-col-preserved invariant-loop decreases-loop
+loop-again c = above_step (turn c.before).loop-col.invariant (omega arith) (rw (slack-is c.before) at c.if-slack-cost.true)
 
 -- The number that is sought, as the code has it.
 sought : (c : tie.Start invariant-loop decreases-loop) → to_z w32 (of_z w32 c.args.slack) ≡ c.args.slack
 sought c = search rules
 
-returns : tie.Need-returns invariant-loop decreases-loop
-returns c = let t = turn c.before in rw (sought t.before) at (above_stop t.loop.inv (omega arith) (rw (slack-is c.before) at c.if1.false))
+returns : tie.Need-returns-else-slack-cost invariant-loop decreases-loop
+returns c = let t = turn c.before in rw (sought t.before) at (above_stop t.loop-col.invariant (omega arith) (rw (slack-is c.before) at c.if-slack-cost.false))
 
-returns-2 : tie.Need-returns-2 invariant-loop decreases-loop
-returns-2 c = rw (sought c.before.before) at (above-end c.before.loop.invariant (omega arith))
+returns-2 : tie.Need-returns-after-loop-col invariant-loop decreases-loop
+returns-2 c = rw (sought c.before.before) at (above-end c.before.loop-col.invariant (omega arith))
 
-pub first-column-spec : {M : Type 1} → statement M
-first-column-spec = tie.close (tie.spec invariant-loop decreases-loop loop-holds (λ c. search rules) (λ c. search rules) (λ c. search rules) (λ c. search rules)
+pub first_column_spec : {M : Type 1} → statement M
+first_column_spec = tie.close (tie.spec invariant-loop decreases-loop loop-holds (λ c. search rules) (λ c. search rules) (λ c. search rules) (λ c. search rules)
     (λ c. search rules) (λ c. search rules) (λ c. search rules) (λ c. search (rules, diff_in, room c)) (λ c. search rules) (λ c. search rules)
     loop-again returns returns-2)

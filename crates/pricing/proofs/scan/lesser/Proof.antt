@@ -9,11 +9,11 @@ use Rattle.pricing.proofs.scan.lesser.Tie as tie
 read : (c : tie.Start) → (to_z w32 (of_z w32 c.args.a) ≡ c.args.a) × (to_z w32 (of_z w32 c.args.b) ≡ c.args.b)
 read c = (search rules, search rules)
 
-returns : tie.Need-returns
-returns c = let (x, y) = read c.before in x ∙ rw (rw (x, y) at c.if1.true)
+returns : tie.Need-returns-then-a-b
+returns c = let (x, y) = read c.before in x ∙ rw (rw (x, y) at c.if-a-b.true)
 
-returns-2 : tie.Need-returns-2
-returns-2 c = let (x, y) = read c.before in y ∙ rw (rw (x, y) at c.if1.false)
+returns-2 : tie.Need-returns-else-a-b
+returns-2 c = let (x, y) = read c.before in y ∙ rw (rw (x, y) at c.if-a-b.false)
 
-pub lesser-spec : {M : Type 1} → statement M
-lesser-spec = tie.close (tie.spec returns returns-2)
+pub lesser_spec : {M : Type 1} → statement M
+lesser_spec = tie.close (tie.spec returns returns-2)

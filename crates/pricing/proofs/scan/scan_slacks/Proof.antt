@@ -7,8 +7,8 @@ use Rattle.pricing.proofs.scan.scan_slacks.Tie as tie
 
 returns : tie.Need-returns
 unfolding cost_above max_cost
-returns c = let f = c.before in slacks_anew f.before.args.n f.first-bits.ensures f.before.requires c.relax-slacks.ensures
+returns c = let f = c.before in slacks_anew f.before.args.n f.first_bits.ensures f.before.requires c.relax_slacks.ensures
 
-pub scan-slacks-spec : {M : Type 1} → statement M
-scan-slacks-spec = tie.close (tie.spec (λ c κs. search rules)
-    (λ c κs. let s = c.before in (s.args.n, s.requires, all-inside s.args.n c.first-bits.ensures)) returns)
+pub scan_slacks_spec : {M : Type 1} → statement M
+scan_slacks_spec = tie.close (tie.spec (λ c κs. search rules)
+    (λ c κs. let s = c.before in (s.args.n, s.requires, all-inside s.args.n c.first_bits.ensures)) returns)

@@ -11,38 +11,38 @@ use Rattle.pricing.specs.Slacks.{Changing, lowering, changing_start, changing_st
 use Rattle.pricing.proofs.scan.take_column.Statement.{statement}
 use Rattle.pricing.proofs.scan.take_column.Tie as tie
 
-abbrev invariant-loop : tie.invariant-loop
+abbrev invariant-loop : tie.invariant-loop-i
 invariant-loop cost j v slack i₀ least i = (i ≤ stride) × Changing (lowering cost j (to_z w32 v)) slack i least
 
-abbrev decreases-loop : tie.decreases-loop
+abbrev decreases-loop : tie.decreases-loop-i
 decreases-loop cost j v slack i₀ least i = stride - i
 
-loop-holds : tie.Need-loop-init invariant-loop decreases-loop
+loop-holds : tie.Need-loop-i-init invariant-loop decreases-loop
 loop-holds c = let a = c.args in (omega arith, changing_start (lowering a.cost.now a.j (to_z w32 (of_z w32 a.v))) a.slack (search rules))
 
 -- The turn of the loop in which a row is taken in.
-abbrev turn : tie.After-lesser-arg invariant-loop decreases-loop → tie.At-loop invariant-loop decreases-loop
+abbrev turn : tie.After-lesser-arg-1 invariant-loop decreases-loop → tie.At-loop-i invariant-loop decreases-loop
 turn c = c.before.before
 
-room : (c : tie.After-lesser-arg invariant-loop decreases-loop) → let a = (turn c).before.args in
-    nat_abs (get_or a.cost.now (a.j * stride + (turn c).loop.i) (pos 0)) + nat_abs a.v < 2 ^ 31
+room : (c : tie.After-lesser-arg-1 invariant-loop decreases-loop) → let a = (turn c).before.args in
+    nat_abs (get_or a.cost.now (a.j * stride + (turn c).loop-i.i) (pos 0)) + nat_abs a.v < 2 ^ 31
 unfolding cost_above max_cost
-room c = let s = (turn c).before in omega (arith, s.pre.2 (s.args.j * stride + (turn c).loop.i))
+room c = let s = (turn c).before in omega (arith, s.requires.2 (s.args.j * stride + (turn c).loop-i.i))
 
-loop-again : tie.Need-loop-preserved invariant-loop decreases-loop
-loop-again c = let l = (turn c.before.before).loop in let a = (turn c.before.before).before.args in
+loop-again : tie.Need-loop-i-preserved invariant-loop decreases-loop
+loop-again c = let l = (turn c.before.before).loop-i in let a = (turn c.before.before).before.args in
     let x = get_or a.cost.now (a.j * stride + l.i) (pos 0) in let y = get_or l.least l.i (pos 0) in
     let back-v : to_z w32 (of_z w32 a.v) ≡ a.v = search rules in let back-y : to_z w32 (of_z w32 y) ≡ y = search rules in
     let own = diff_back w32 x a.v (room c.before.before) in
     let taken : to_z w32 (of_z w32 c.lesser.result) ≡ lesser (x -ℤ to_z w32 (of_z w32 a.v)) y =
-    to_z-of_z (search rules) ∙ c.lesser.ensures ∙ rw (own, back-y, back-v) in
-    (omega arith, rw taken (changing_step (lowering a.cost.now a.j (to_z w32 (of_z w32 a.v))) a.slack l.inv.1 (omega arith)))
+    to_z-of_z {w = w32} (search rules) ∙ c.lesser.ensures ∙ rw (own, back-y, back-v) in
+    (omega arith, rw taken (changing_step (lowering a.cost.now a.j (to_z w32 (of_z w32 a.v))) a.slack l.invariant.1 (omega arith)))
 
 returns : tie.Need-returns invariant-loop decreases-loop
 returns c = let a = c.before.before.args in let back-v : to_z w32 (of_z w32 a.v) ≡ a.v = search rules in
-    rw back-v at (changing_end (lowering a.cost.now a.j (to_z w32 (of_z w32 a.v))) a.slack c.before.loop.invariant.1 (omega arith))
+    rw back-v at (changing_end (lowering a.cost.now a.j (to_z w32 (of_z w32 a.v))) a.slack c.before.loop-i.invariant.1 (omega arith))
 
-pub take-column-spec : {M : Type 1} → statement M
-take-column-spec = tie.close (tie.spec invariant-loop decreases-loop loop-holds (λ c. search rules) (λ c. search rules) (λ c. search rules) (λ c. search rules)
+pub take_column_spec : {M : Type 1} → statement M
+take_column_spec = tie.close (tie.spec invariant-loop decreases-loop loop-holds (λ c. search rules) (λ c. search rules) (λ c. search rules) (λ c. search rules)
     (λ c. search (rules, diff_in, room c)) (λ c. search rules) (λ c. search rules) (λ c κs. search rules) (λ c. search rules) (λ c. search rules)
     (λ c. search rules) (λ c. search rules) loop-again returns)
