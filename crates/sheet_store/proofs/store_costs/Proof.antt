@@ -4,15 +4,15 @@ use Rattle.decimals.specs.Front.{front}
 use Rattle.sheet_store.proofs.store_costs.Statement.{statement}
 use Rattle.sheet_store.proofs.store_costs.Tie as tie
 
-copy-costs-requires : tie.Need-copy-costs-requires
-copy-costs-requires c κs = c.before.before.requires c.before.if1.true
+copy-costs-requires : tie.Need-copy_costs-requires
+copy-costs-requires c κs = c.before.before.requires c.before.if-wanted.true
 
-returns : tie.Need-returns
+returns : tie.Need-returns-then-wanted
 unfolding front
-returns c = (λ e. c.before.copy-costs.ensures, λ e. clash c.before.before.before.if1.true e)
+returns c = (λ e. c.before.copy_costs.ensures, λ e. clash c.before.before.before.if-wanted.true e)
 
-returns-2 : tie.Need-returns-2
-returns-2 c = (λ e. clash e c.if1.false, λ e. refl)
+returns-2 : tie.Need-returns-else-wanted
+returns-2 c = (λ e. clash e c.if-wanted.false, λ e. refl)
 
-pub store-costs-spec : {M : Type 1} → statement M
-store-costs-spec = tie.close (tie.spec copy-costs-requires (λ c. search rules) returns returns-2)
+pub store_costs_spec : {M : Type 1} → statement M
+store_costs_spec = tie.close (tie.spec copy-costs-requires (λ c. search rules) returns returns-2)

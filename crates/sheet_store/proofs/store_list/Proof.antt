@@ -4,15 +4,15 @@ use Rattle.decimals.specs.Front.{front}
 use Rattle.sheet_store.proofs.store_list.Statement.{statement}
 use Rattle.sheet_store.proofs.store_list.Tie as tie
 
-copy-list-requires : tie.Need-copy-list-requires
-copy-list-requires c κs = c.before.before.before.before.requires c.before.if1.true
+copy-list-requires : tie.Need-copy_list-requires
+copy-list-requires c κs = c.before.before.before.before.requires c.before.if-wanted.true
 
-returns : tie.Need-returns
+returns : tie.Need-returns-then-wanted
 unfolding front
-returns c = (λ e. c.before.before.copy-list.ensures, λ e. clash c.before.before.before.before.if1.true e)
+returns c = (λ e. c.before.before.copy_list.ensures, λ e. clash c.before.before.before.before.if-wanted.true e)
 
-returns-2 : tie.Need-returns-2
-returns-2 c = (λ e. clash e c.if1.false, λ e. refl)
+returns-2 : tie.Need-returns-else-wanted
+returns-2 c = (λ e. clash e c.if-wanted.false, λ e. refl)
 
-pub store-list-spec : {M : Type 1} → statement M
-store-list-spec = tie.close (tie.spec copy-list-requires (λ c. search rules) returns returns-2)
+pub store_list_spec : {M : Type 1} → statement M
+store_list_spec = tie.close (tie.spec copy-list-requires (λ c. search rules) returns returns-2)

@@ -7,19 +7,19 @@ use Rattle.plan_lines.specs.Lanes.{lane_text, line-none, line-one}
 use Rattle.plan_lines.proofs.lanes.write_lane.Statement.{statement}
 use Rattle.plan_lines.proofs.lanes.write_lane.Tie as tie
 
-returns : tie.Need-returns
-returns c = let a = c.before.before.args in rw (c.if1.true, line-none a.n a.place) (refl, sym (front-nil a.out.now))
+returns : tie.Need-returns-then-bags-eq0
+returns c = let a = c.before.before.args in rw (c.if-bags-eq0.true, line-none a.n a.place) (refl, sym (front-nil a.out.now))
 
 -- The line is that of the numbers.
-line : (c : tie.After-lane-numbers) → let a = c.before.before.before.args in
-    lane_text a.n a.place a.bags ≡ lines_from digits 3 3 c.lane-numbers.result
-line c = let a = c.before.before.before.args in line-one a.n a.place a.bags _ c.lane-numbers.ensures c.before.if1.false
+line : (c : tie.After-lane_numbers-numbers) → let a = c.before.before.before.args in
+    lane_text a.n a.place a.bags ≡ lines_from digits 3 3 c.lane_numbers-numbers.result
+line c = let a = c.before.before.before.args in line-one a.n a.place a.bags _ c.lane_numbers-numbers.ensures c.before.if-bags-eq0.false
 
-write-lines-requires : tie.Need-write-lines-requires
+write-lines-requires : tie.Need-write_lines-requires
 write-lines-requires c κs = let n = c.before.before in omega (arith, ap length (line n), n.before.before.before.requires)
 
-returns-2 : tie.Need-returns-2
-returns-2 c = let w = c.before.before in rw (line w.before.before.before) w.write-lines.ensures
+returns-2 : tie.Need-returns
+returns-2 c = let w = c.before.before in rw (line w.before.before.before) w.write_lines.ensures
 
-pub write-lane-spec : {M : Type 1} → statement M
-write-lane-spec = tie.close (tie.spec returns (λ c κs. search rules) (λ c. search rules) write-lines-requires (λ c. search rules) returns-2)
+pub write_lane_spec : {M : Type 1} → statement M
+write_lane_spec = tie.close (tie.spec returns (λ c κs. search rules) (λ c. search rules) write-lines-requires (λ c. search rules) returns-2)

@@ -4,11 +4,11 @@ use Rattle.prelude.specs.Words.{rules}
 use Rattle.sections.proofs.lines.left_after.Statement.{statement}
 use Rattle.sections.proofs.lines.left_after.Tie as tie
 
-returns : tie.Need-returns
-returns c = rw (c.if1.true, left-last)
+returns : tie.Need-returns-then-left-eq1
+returns c = rw (c.if-left-eq1.true, left-last)
 
-returns-2 : tie.Need-returns-2
-returns-2 c = rw (left-more c.before.args.width c.before.args.left c.if1.false)
+returns-2 : tie.Need-returns-else-left-eq1
+returns-2 c = rw (left-more c.before.args.width c.before.args.left c.if-left-eq1.false)
 
-pub left-after-spec : {M : Type 1} → statement M
-left-after-spec = tie.close (tie.spec (λ c. search rules) returns returns-2)
+pub left_after_spec : {M : Type 1} → statement M
+left_after_spec = tie.close (tie.spec (λ c. search rules) returns returns-2)

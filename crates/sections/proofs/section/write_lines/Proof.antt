@@ -7,43 +7,43 @@ use Rattle.sections.specs.LinesWritten.{LinesWritten, lines_start, lines_kept, l
 use Rattle.sections.proofs.section.write_lines.Statement.{statement}
 use Rattle.sections.proofs.section.write_lines.Tie as tie
 
-abbrev invariant-loop : tie.invariant-loop
+abbrev invariant-loop : tie.invariant-loop-i
 invariant-loop numbers width out₀ at₀ left₀ i₀ out at left i = LinesWritten digits numbers width out₀ out at left i
 
-abbrev decreases-loop : tie.decreases-loop
+abbrev decreases-loop : tie.decreases-loop-i
 decreases-loop numbers width out₀ at₀ left₀ i₀ out at left i = length numbers - i
 
-loop-holds : tie.Need-loop-init invariant-loop decreases-loop
+loop-holds : tie.Need-loop-i-init invariant-loop decreases-loop
 loop-holds c = let t = c.before.before in lines_start digits t.args.numbers.now t.args.width t.args.out.now t.requires
 
 -- The lines so far, and the next number.
-begun : (c : tie.After-ending invariant-loop decreases-loop) → let a = c.before.before.before.before.before.args in let l = c.before.before.loop in
-    FirstWritten (take l.at (lines_from digits a.width a.width a.numbers.now)) (ended digits (get_or a.numbers.now l.i 0) c.ending.result)
+begun : (c : tie.After-ending-end invariant-loop decreases-loop) → let a = c.before.before.before.before.before.args in let l = c.before.before.loop-i in
+    FirstWritten (take l.at (lines_from digits a.width a.width a.numbers.now)) (ended digits (get_or a.numbers.now l.i 0) c.ending-end.result)
     a.out.now l.out l.at
-begun c = lines_begun c.before.before.loop.invariant 0 _ _ (omega arith) refl c.ending.ensures
+begun c = lines_begun c.before.before.loop-i.invariant 0 _ _ (omega arith) refl c.ending-end.ensures
 
-write-ended-requires : tie.Need-write-ended-requires invariant-loop decreases-loop
+write-ended-requires : tie.Need-write_ended-at-requires invariant-loop decreases-loop
 write-ended-requires c κs = second-room (begun c.before.before)
 
-add_at : tie.Need-overflow-add-at invariant-loop decreases-loop
+add_at : tie.Need-overflow_add-at invariant-loop decreases-loop
 add_at c =
     let b = begun c.before.before.before.before.before in
-    omega (arith, b.room, both-length b _ c.before.before.write-ended.ensures.0)
+    omega (arith, b.room, both-length b _ c.before.before.write_ended-at.ensures.0)
 
-left-after-requires : tie.Need-left-after-requires invariant-loop decreases-loop
-left-after-requires c κs = c.before.before.before.before.before.before.before.loop.invariant.on_line
+left-after-requires : tie.Need-left_after-left-requires invariant-loop decreases-loop
+left-after-requires c κs = c.before.before.before.before.before.before.before.loop-i.invariant.on_line
 
-loop-again : tie.Need-loop-preserved invariant-loop decreases-loop
+loop-again : tie.Need-loop-i-preserved invariant-loop decreases-loop
 loop-again c =
-    let w = c.before.before.before.write-ended in
-    lines_more c.before.before.before.before.before.before.before.before.loop.invariant 0 _ _ (omega arith) refl
-    c.before.before.before.before.before.before.ending.ensures _ _ _ w.ensures.0 w.ensures.1 c.left_After.ensures
+    let w = c.before.before.before.write_ended-at in
+    lines_more c.before.before.before.before.before.before.before.before.loop-i.invariant 0 _ _ (omega arith) refl
+    c.before.before.before.before.before.before.ending-end.ensures _ _ _ w.ensures.0 w.ensures.1 c.left_after-left.ensures
 
 returns : tie.Need-returns invariant-loop decreases-loop
-returns c = lines_done c.before.loop.invariant (omega arith)
+returns c = lines_done c.before.loop-i.invariant (omega arith)
 
-pub write-lines-spec : {M : Type 1} → statement M
-write-lines-spec =
+pub write_lines_spec : {M : Type 1} → statement M
+write_lines_spec =
     tie.close (tie.spec invariant-loop decreases-loop loop-holds (λ c κs. search rules) (λ c. search rules) (λ c. search rules)
     (λ c. second-start (begun c.before)) (λ c. second-start (begun c.before)) (λ c. search rules) write-ended-requires add_at
-    left-after-requires (λ c. search rules) (λ c. search rules) loop-again (λ c. lines_kept c.before.loop.invariant) returns)
+    left-after-requires (λ c. search rules) (λ c. search rules) loop-again (λ c. lines_kept c.before.loop-i.invariant) returns)

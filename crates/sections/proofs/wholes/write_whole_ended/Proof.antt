@@ -11,25 +11,25 @@ use Rattle.sections.proofs.wholes.write_whole_ended.Tie as tie
 in_range : (c : tie.Start) → mag c.args.z < 2 ^ 63
 in_range c = search rules
 
-write-whole-requires : tie.Need-write-whole-requires
+write-whole-requires : tie.Need-write_whole-at-requires
 write-whole-requires c κs =
     let t = c.before.before in
     rw (back w64 t.args.z (in_range t)) (omega (arith, t.requires, length-ended whole_digits t.args.z t.args.end))
 
-module _ (c : tie.After-write-whole) where
-  counted : c.write-whole.result ≡ length (whole_digits c.before.before.before.args.z)
-  counted = rw (back w64 c.before.before.before.args.z (in_range c.before.before.before)) at c.write-whole.ensures.0
+module _ (c : tie.After-write_whole-at) where
+  counted : c.write_whole-at.result ≡ length (whole_digits c.before.before.before.args.z)
+  counted = rw (back w64 c.before.before.before.args.z (in_range c.before.before.before)) at c.write_whole-at.ensures.0
 
-  held : c.write-whole.new.1.0 ≡ front (whole_digits c.before.before.before.args.z) c.before.before.before.args.out.now
-  held = rw (back w64 c.before.before.before.args.z (in_range c.before.before.before)) at c.write-whole.ensures.1
+  held : c.write_whole-at.new.out ≡ front (whole_digits c.before.before.before.args.z) c.before.before.before.args.out.now
+  held = rw (back w64 c.before.before.before.args.z (in_range c.before.before.before)) at c.write_whole-at.ensures.1
 
   room : length (whole_digits c.before.before.before.args.z) < length c.before.before.before.args.out.now
   room = omega (arith, c.before.before.before.requires, length-ended whole_digits c.before.before.before.args.z c.before.before.before.args.end)
 
-slice-write-out : tie.Need-slice-write-out
+slice-write-out : tie.Need-bounds-out-at
 slice-write-out c = omega (arith, room c.before.before, counted c.before.before)
 
-add-result : tie.Need-overflow-add-result
+add-result : tie.Need-overflow_add-result
 add-result c = omega (arith, room c.before.before, counted c.before.before)
 
 returns : tie.Need-returns
@@ -38,8 +38,8 @@ returns c =
     let t = c.before.before.before.before.before in
     let w = c.before.before in (
       omega (arith, counted w, length-ended whole_digits t.args.z t.args.end),
-      rw (held w) (front-byte (whole_digits t.args.z) t.args.out.now w.write-whole.result t.args.end (counted w) (room w)),
+      rw (held w) (front-byte (whole_digits t.args.z) t.args.out.now w.write_whole-at.result t.args.end (counted w) (room w)),
     )
 
-pub write-whole-ended-spec : {M : Type 1} → statement M
-write-whole-ended-spec = tie.close (tie.spec write-whole-requires slice-write-out add-result (λ c. search rules) returns)
+pub write_whole_ended_spec : {M : Type 1} → statement M
+write_whole_ended_spec = tie.close (tie.spec write-whole-requires slice-write-out add-result (λ c. search rules) returns)

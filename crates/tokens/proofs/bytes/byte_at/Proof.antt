@@ -4,6 +4,6 @@ use Rattle.tokens.specs.Reading.{byte-end, byte-here}
 use Rattle.tokens.proofs.bytes.byte_at.Statement.{statement}
 use Rattle.tokens.proofs.bytes.byte_at.Tie as tie
 
-pub byte-at-spec : {M : Type 1} → statement M
-byte-at-spec = tie.close (tie.spec (λ c. sym (byte-end _ _ _ c.if1.true)) (λ c. search rules)
-    (λ c. sym (byte-here _ _ _ c.before.if1.false)))
+pub byte_at_spec : {M : Type 1} → statement M
+byte_at_spec = tie.close (tie.spec (λ c. sym (byte-end _ _ _ c.if-text-at.true)) (λ c. search rules)
+    (λ c. sym (byte-here _ _ _ c.before.if-text-at.false)))

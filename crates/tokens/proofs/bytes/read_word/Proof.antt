@@ -6,35 +6,35 @@ use Rattle.tokens.specs.Reading.{byte_next, byte_inside, drop-next, word-nil, wo
 use Rattle.tokens.proofs.bytes.read_word.Statement.{statement}
 use Rattle.tokens.proofs.bytes.read_word.Tie as tie
 
-abbrev invariant-loop : tie.invariant-loop
+abbrev invariant-loop : tie.invariant-loop-i
 invariant-loop text at expected next₀ i₀ next i = (i ≤ length expected) × (next ≤ length text)
     × (word expected (drop at text) ≡ word (drop i expected) (drop next text))
 
-abbrev decreases-loop : tie.decreases-loop
+abbrev decreases-loop : tie.decreases-loop-i
 decreases-loop text at expected next₀ i₀ next i = length expected - i
 
-loop-holds : tie.Need-loop-init invariant-loop decreases-loop
+loop-holds : tie.Need-loop-i-init invariant-loop decreases-loop
 loop-holds c = (omega arith, c.before.before.requires, refl)
 
-returns : tie.Need-returns invariant-loop decreases-loop
-returns c = let l = c.before.before.before.before.loop in let a = c.before.before.before.before.before.before.before.args in
+returns : tie.Need-returns-then-not-byte_at invariant-loop decreases-loop
+returns c = let l = c.before.before.before.before.loop-i in let a = c.before.before.before.before.before.before.before.args in
     let cut : drop l.i a.expected.now ≡ get_or a.expected.now l.i 0 ∷ drop (suc l.i) a.expected.now =
     drop-cons a.expected.now l.i 0 (omega arith) in
-    (l.invariant.2 ∙ (rw cut (word_no _ _ _ (sym c.before.byte_at.ensures ∙ not-true _ c.if1.true))), l.invariant.1)
+    (l.invariant.2 ∙ (rw cut (word_no _ _ _ (sym c.before.byte_at.ensures ∙ not-true _ c.if-not-byte_at.true-raw))), l.invariant.1)
 
-next-byte : (c : tie.Else1 invariant-loop decreases-loop) → byte_next (get_or c.before.before.before.before.before.before.before.args.expected.now
-    c.before.before.before.before.loop.i 0)
-    (drop c.before.before.before.before.loop.next c.before.before.before.before.before.before.before.args.text.now) ≡ true
-next-byte c = sym c.before.byte_at.ensures ∙ not-false _ c.if1.false
+next-byte : (c : tie.Else-not-byte_at invariant-loop decreases-loop) → byte_next (get_or c.before.before.before.before.before.before.before.args.expected.now
+    c.before.before.before.before.loop-i.i 0)
+    (drop c.before.before.before.before.loop-i.next c.before.before.before.before.before.before.before.args.text.now) ≡ true
+next-byte c = sym c.before.byte_at.ensures ∙ not-false _ c.if-not-byte_at.false-raw
 
-add-next : tie.Need-overflow-add-next invariant-loop decreases-loop
+add-next : tie.Need-overflow_add-next invariant-loop decreases-loop
 add-next c = omega (
   arith,
-  byte_inside c.before.before.before.before.before.before.before.args.text.now c.before.before.before.before.loop.next _ (next-byte c),
+  byte_inside c.before.before.before.before.before.before.before.args.text.now c.before.before.before.before.loop-i.next _ (next-byte c),
 )
 
-loop-again : tie.Need-loop-preserved invariant-loop decreases-loop
-loop-again c = let l = c.before.before.before.before.loop in let a = c.before.before.before.before.before.before.before.args in
+loop-again : tie.Need-loop-i-preserved invariant-loop decreases-loop
+loop-again c = let l = c.before.before.before.before.loop-i in let a = c.before.before.before.before.before.before.before.args in
     let cut : drop l.i a.expected.now ≡ get_or a.expected.now l.i 0 ∷ drop (suc l.i) a.expected.now =
     drop-cons a.expected.now l.i 0 (omega arith) in (
       omega arith,
@@ -42,10 +42,10 @@ loop-again c = let l = c.before.before.before.before.loop in let a = c.before.be
       l.invariant.2 ∙ (rw (cut, add-one l.i, ← drop-next a.text.now l.next) (word_yes _ _ _ (next-byte c))),
     )
 
-returns-2 : tie.Need-returns-2 invariant-loop decreases-loop
-returns-2 c = let l = c.before.loop in let a = c.before.before.before.before.args in
+returns-2 : tie.Need-returns invariant-loop decreases-loop
+returns-2 c = let l = c.before.loop-i in let a = c.before.before.before.before.args in
     (l.invariant.2 ∙ (rw (drop_of_length-le a.expected.now {i = l.i} (omega arith), word-nil)), l.invariant.1)
 
-pub read-word-spec : {M : Type 1} → statement M
-read-word-spec = tie.close (tie.spec invariant-loop decreases-loop loop-holds (λ c. search rules) (λ c κs. search rules) returns add-next (λ c. search rules)
+pub read_word_spec : {M : Type 1} → statement M
+read_word_spec = tie.close (tie.spec invariant-loop decreases-loop loop-holds (λ c. search rules) (λ c κs. search rules) returns add-next (λ c. search rules)
     (λ c. search rules) loop-again returns-2)
