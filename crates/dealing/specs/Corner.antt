@@ -74,8 +74,8 @@ module _ (P : Problem) where
   unfolding corner paired_supply_of paired_demand_of sources sinks
   corner-costless zero i j s d = refl
   corner-costless (suc left) i j s d = by_test (less d s)
-      (λ e. rw (corner-right free left i j s d e, corner-right P left i j s d e, corner-costless left i (suc j) (subtract s d) (paired_demand_of P (suc j))))
-      (λ e. rw (corner-down free left i j s d e, corner-down P left i j s d e, corner-costless left (suc i) j (paired_supply_of P (suc i)) (subtract d s)))
+      (λ e. rw (corner-right free left i j s d e))
+      (λ e. rw (corner-down free left i j s d e))
 
   pub start-costless : start free ≡ start P
   unfolding start paired_supply_of paired_demand_of sources sinks

@@ -5,22 +5,22 @@ use Rattle.cells.specs.Lent.{max_count, add_cell_of}
 use Rattle.cells.proofs.add_cell.Statement.{statement}
 use Rattle.cells.proofs.add_cell.Tie as tie
 
-returns : tie.Need-returns
+returns : tie.Need-returns-then-k-lt-MAX_CELLS
 unfolding add_cell_of max_side max_cells
-returns c = rw (lt-ltb _ max_cells c.if1.true)
+returns c = rw (lt-ltb _ max_cells c.if-k-lt-MAX_CELLS.true)
 
-returns-2 : tie.Need-returns-2
+returns-2 : tie.Need-returns-then-k-lt-MAX_COUNT
 unfolding add_cell_of max_side max_cells max_count
 returns-2 c =
     let k = c.before.before.args.t.count in
-    rw (le-ltb k max_cells (omega (arith, c.before.if1.false)), lt-ltb k max_count (omega (arith, c.if2.true)))
+    rw (le-ltb k max_cells (omega (arith, c.before.if-k-lt-MAX_CELLS.false)), lt-ltb k max_count (omega (arith, c.if-k-lt-MAX_COUNT.true)))
 
-returns-3 : tie.Need-returns-3
+returns-3 : tie.Need-returns
 unfolding add_cell_of max_side max_cells max_count
 returns-3 c =
     let k = c.before.before.args.t.count in
-    rw (le-ltb k max_cells (omega (arith, c.before.if1.false)), le-ltb k max_count (omega (arith, c.if2.false)))
+    rw (le-ltb k max_cells (omega (arith, c.before.if-k-lt-MAX_CELLS.false)), le-ltb k max_count (omega (arith, c.if-k-lt-MAX_COUNT.false)))
 
-pub add-cell-spec : {M : Type 1} → statement M
-add-cell-spec =
+pub add_cell_spec : {M : Type 1} → statement M
+add_cell_spec =
     tie.close (tie.spec (λ c. search rules) (λ c. search rules) (λ c. search rules) returns (λ c. search rules) returns-2 returns-3)

@@ -4,13 +4,13 @@ use Rattle.transport.specs.Limits.{max_side, max_cells}
 use Rattle.numbering.proofs.counted.Statement.{statement}
 use Rattle.numbering.proofs.counted.Tie as tie
 
-returns : tie.Need-returns
+returns : tie.Need-returns-then-count-lt-MAX_CELLS
 unfolding max_cells max_side
-returns c = rw (lt-ltb _ _ c.if1.true)
+returns c = rw (lt-ltb _ _ c.if-count-lt-MAX_CELLS.true)
 
-returns-2 : tie.Need-returns-2
+returns-2 : tie.Need-returns-else-count-lt-MAX_CELLS
 unfolding max_cells max_side
-returns-2 c = rw (le-ltb _ _ c.if1.false)
+returns-2 c = rw (le-ltb _ _ c.if-count-lt-MAX_CELLS.false)
 
 pub counted_spec : {M : Type 1} → statement M
 counted_spec = tie.close (tie.spec returns returns-2)

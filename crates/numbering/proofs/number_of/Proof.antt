@@ -6,13 +6,13 @@ use Rattle.numbering.specs.Numbers.{numbering_off}
 use Rattle.numbering.proofs.number_of.Statement.{statement}
 use Rattle.numbering.proofs.number_of.Tie as tie
 
-returns : tie.Need-returns
+returns : tie.Need-returns-then-own-lt-MAX_SIDE
 unfolding at max_side
-returns c ks w = w.numbers c.before.before.args.own (omega (arith, c.before.if1.true))
+returns c ks w = w.numbers c.before.before.before.args.own (omega (arith, c.before.before.if-own-lt-MAX_SIDE.true))
 
-returns-2 : tie.Need-returns-2
+returns-2 : tie.Need-returns-else-own-lt-MAX_SIDE
 unfolding max_side
-returns-2 c ks w = numbering_off w c.before.args.own (omega (arith, c.if1.false))
+returns-2 c ks w = numbering_off w c.before.args.own (omega (arith, c.if-own-lt-MAX_SIDE.false))
 
-pub number-of-spec : {M : Type 1} → statement M
-number-of-spec = tie.close (tie.spec (λ c. search rules) (λ c. search rules) returns returns-2)
+pub number_of_spec : {M : Type 1} → statement M
+number_of_spec = tie.close (tie.spec (λ c. search rules) (λ c. search rules) returns returns-2)

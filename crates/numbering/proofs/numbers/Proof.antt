@@ -6,28 +6,28 @@ use Rattle.numbering.specs.Numbers.{NumberedTo, numbered_none, numbered_one, num
 use Rattle.numbering.proofs.numbers.Statement.{statement}
 use Rattle.numbering.proofs.numbers.Tie as tie
 
-abbrev invariant-loop : tie.invariant-loop
+abbrev invariant-loop : tie.invariant-loop-k
 invariant-loop own among₀ k₀ among k = (k ≤ length own) × NumberedTo own k among
 
-abbrev decreases-loop : tie.decreases-loop
+abbrev decreases-loop : tie.decreases-loop-k
 decreases-loop own among₀ k₀ among k = length own - k
 
 -- An own number has a place in the list.
-inside : (c : tie.After-shared-slice-known invariant-loop decreases-loop) → let t = c.before.before in at t.before.args.own.now t.loop.k < max_side
-inside c = let t = c.before.before in t.before.requires.inside t.loop.k (omega arith)
+inside : (c : tie.After-shared_slice_known-1 invariant-loop decreases-loop) → let t = c.before.before in at t.before.args.own.now t.loop-k.k < max_side
+inside c = let t = c.before.before in t.before.requires.inside t.loop-k.k (omega arith)
 
-loop-again : tie.Need-loop-preserved invariant-loop decreases-loop
+loop-again : tie.Need-loop-k-preserved invariant-loop decreases-loop
 unfolding at
-loop-again c = let l = c.before.before.loop in (omega arith, numbered_one _ l.k l.among l.invariant.1 (inside c))
+loop-again c = let l = c.before.before.loop-k in (omega arith, numbered_one _ l.k l.among l.invariant.1 (inside c))
 
 returns : tie.Need-returns invariant-loop decreases-loop
 returns c =
     let own = c.before.before.args.own.now in
-    let e : c.before.loop.k ≡ length own = omega arith in
-    numbered_all own c.before.loop.among c.before.before.requires (rw e at c.before.loop.invariant.1)
+    let e : c.before.loop-k.k ≡ length own = omega arith in
+    numbered_all own c.before.loop-k.among c.before.before.requires (rw e at c.before.loop-k.invariant.1)
 
-pub numbers-spec : {M : Type 1} → statement M
+pub numbers_spec : {M : Type 1} → statement M
 unfolding at max_side
-numbers-spec =
+numbers_spec =
     tie.close (tie.spec invariant-loop decreases-loop (λ c. (omega arith, numbered_none c.args.own.now)) (λ c. omega arith) (λ c. omega arith)
     (λ c. omega (arith, inside c)) (λ c. inside c) (λ c. omega arith) (λ c. omega arith) loop-again returns)

@@ -9,5 +9,5 @@ returns : tie.Need-returns
 unfolding own_cell_of at
 returns c = refl
 
-pub own-cell-spec : {M : Type 1} → statement M
-own-cell-spec = tie.close (tie.spec (λ c. search rules) (λ c. search rules) (λ c. search rules) (λ c. search rules) returns)
+pub own_cell_spec : {M : Type 1} → statement M
+own_cell_spec = tie.close (tie.spec (λ c. search rules) (λ c. search rules) (λ c. search rules) (λ c. search rules) returns)

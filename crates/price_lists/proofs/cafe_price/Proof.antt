@@ -8,17 +8,17 @@ use Rattle.price_lists.specs.PriceLists.{max_price, price_back, cost_in, row_sla
 use Rattle.price_lists.proofs.cafe_price.Statement.{statement}
 use Rattle.price_lists.proofs.cafe_price.Tie as tie
 
-abbrev invariant-loop : tie.invariant-loop
+abbrev invariant-loop : tie.invariant-loop-k
 invariant-loop cost cafes rows u j first least₀ k₀ least k =
     (1 ≤ k) × (k ≤ length rows) × (to_z w64 least ≡ least_for (table k (row_slack cost cafes rows u j)))
 
-abbrev decreases-loop : tie.decreases-loop
+abbrev decreases-loop : tie.decreases-loop-k
 decreases-loop cost cafes rows u j first least₀ k₀ least k = length rows - k
 
-abbrev first : tie.After-slack-arg invariant-loop decreases-loop → tie.Start invariant-loop decreases-loop
+abbrev first : tie.After-slack-arg-1 invariant-loop decreases-loop → tie.Start invariant-loop decreases-loop
 first c = c.before.before.before
 
-abbrev start : tie.At-loop invariant-loop decreases-loop → tie.Start invariant-loop decreases-loop
+abbrev start : tie.At-loop-k invariant-loop decreases-loop → tie.Start invariant-loop decreases-loop
 start c = first c.before.before
 
 -- The k-th roastery left has its number on the list of prices, and its price is read as it is.
@@ -46,51 +46,51 @@ module _ (c : tie.Start invariant-loop decreases-loop) (k : ℕ) (l : k < length
 some : (c : tie.Start invariant-loop decreases-loop) → 0 < length c.args.rows.now
 some c = c.requires.2.some
 
-slack-requires : tie.Need-slack-requires invariant-loop decreases-loop
+slack-requires : tie.Need-slack-least-requires invariant-loop decreases-loop
 unfolding at at_z
 slack-requires c κs =
     let s = first c in
-    let (m, costs, rows) = s.pre in
+    let (m, costs, rows) = s.requires in
     ((m, costs, rows.inside 0 (some s)), small s 0 (some s))
 
-loop-holds : tie.Need-loop-init invariant-loop decreases-loop
+loop-holds : tie.Need-loop-k-init invariant-loop decreases-loop
 unfolding at at_z
 loop-holds c =
     let s = first c.before in
-    (omega arith, some s, back w64 c.slack.result (search rules) ∙ slack-is s 0 (some s) c.slack.result c.slack.ensures ∙ sym (least-one _))
+    (omega arith, some s, back w64 c.slack-least.result (search rules) ∙ slack-is s 0 (some s) c.slack-least.result c.slack-least.ensures ∙ sym (least-one _))
 
 -- The next one.
-next : (c : tie.In-loop invariant-loop decreases-loop) → c.before.loop.k < length (start c.before).args.rows.now
+next : (c : tie.In-loop-k invariant-loop decreases-loop) → c.before.loop-k.k < length (start c.before).args.rows.now
 next c = omega arith
 
-slack-requires-2 : tie.Need-slack-requires-2 invariant-loop decreases-loop
+slack-requires-2 : tie.Need-slack-requires invariant-loop decreases-loop
 unfolding at at_z
 slack-requires-2 c κs =
     let here = c.before.before.before in
     let (m, costs, rows) = (start here).requires in
     let l = next c.before.before in
-    ((m, costs, rows.inside here.loop.k l), small (start here) here.loop.k l)
+    ((m, costs, rows.inside here.loop-k.k l), small (start here) here.loop-k.k l)
 
-loop-again : tie.Need-loop-preserved invariant-loop decreases-loop
+loop-again : tie.Need-loop-k-preserved invariant-loop decreases-loop
 unfolding at at_z
 loop-again c =
     let turn = c.before.before.before.before in
     let here = turn.before in
-    let slack = c.before.slack2 in
-    let fresh = back w64 slack.result (search rules) ∙ slack-is (start here) here.loop.k (next turn) slack.result slack.ensures in
-    (omega arith, omega arith, back w64 c.lesser.result (search rules) ∙ least_step _ here.loop.invariant.0 here.loop.invariant.2 fresh c.lesser.ensures)
+    let slack = c.before.slack in
+    let fresh = back w64 slack.result (search rules) ∙ slack-is (start here) here.loop-k.k (next turn) slack.result slack.ensures in
+    (omega arith, omega arith, back w64 c.lesser-least.result (search rules) ∙ least_step _ here.loop-k.invariant.0 here.loop-k.invariant.2 fresh c.lesser-least.ensures)
 
 returns : tie.Need-returns invariant-loop decreases-loop
 returns c =
-    let all : c.before.loop.k ≡ length (start c.before).args.rows.now = omega arith in
-    rw all at c.before.loop.invariant.2
+    let all : c.before.loop-k.k ≡ length (start c.before).args.rows.now = omega arith in
+    rw all at c.before.loop-k.invariant.2
 
-pub cafe-price-spec : {M : Type 1} → statement M
+pub cafe_price_spec : {M : Type 1} → statement M
 unfolding at
-cafe-price-spec =
+cafe_price_spec =
     tie.close (tie.spec invariant-loop decreases-loop (λ c. some c.before.before)
     (λ c. let s = c.before.before in omega (arith, listed s 0 (some s))) (λ c. let s = c.before.before in listed s 0 (some s))
     slack-requires loop-holds (λ c. omega arith) (λ c. omega arith)
-    (λ c. let here = c.before.before in omega (arith, listed (start here) here.loop.k (next c.before)))
-    (λ c. let here = c.before.before in listed (start here) here.loop.k (next c.before)) slack-requires-2 (λ c κs. tt)
+    (λ c. let here = c.before.before in omega (arith, listed (start here) here.loop-k.k (next c.before)))
+    (λ c. let here = c.before.before in listed (start here) here.loop-k.k (next c.before)) slack-requires-2 (λ c κs. tt)
     (λ c. omega arith) (λ c. omega arith) loop-again returns)

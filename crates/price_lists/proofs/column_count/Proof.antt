@@ -5,17 +5,17 @@ use Rattle.transport.specs.Lists.{at}
 use Rattle.price_lists.proofs.column_count.Statement.{statement}
 use Rattle.price_lists.proofs.column_count.Tie as tie
 
-add-result : tie.Need-overflow-add-result
+add-result : tie.Need-overflow_add-result
 unfolding at max_side
 add-result c = omega (arith, c.before.before.requires.1)
 
-returns : tie.Need-returns
+returns : tie.Need-returns-then-last-cafes
 unfolding at
-returns c = rw (lt-ltb _ _ c.if1.true)
+returns c = rw (lt-ltb _ _ c.if-last-cafes.true)
 
-returns-2 : tie.Need-returns-2
+returns-2 : tie.Need-returns-else-last-cafes
 unfolding at
-returns-2 c = rw (le-ltb _ _ c.if1.false)
+returns-2 c = rw (le-ltb _ _ c.if-last-cafes.false)
 
-pub column-count-spec : {M : Type 1} → statement M
-column-count-spec = tie.close (tie.spec (λ c. search rules) (λ c. search rules) (λ c. search rules) add-result returns returns-2)
+pub column_count_spec : {M : Type 1} → statement M
+column_count_spec = tie.close (tie.spec (λ c. search rules) (λ c. search rules) (λ c. search rules) add-result returns returns-2)

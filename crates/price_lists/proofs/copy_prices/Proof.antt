@@ -7,18 +7,18 @@ use Rattle.transport.specs.Laws.RangeLaws.{back}
 use Rattle.price_lists.proofs.copy_prices.Statement.{statement}
 use Rattle.price_lists.proofs.copy_prices.Tie as tie
 
-abbrev invariant-loop : tie.invariant-loop
+abbrev invariant-loop : tie.invariant-loop-k
 invariant-loop from out₀ k₀ out k = (k ≤ length from) × (length out ≡ length out₀) × (out ≡ table k (λ i. get_or from i (pos 0)) ++ drop k out₀)
 
-abbrev decreases-loop : tie.decreases-loop
+abbrev decreases-loop : tie.decreases-loop-k
 decreases-loop from out₀ k₀ out k = length from - k
 
-loop-holds : tie.Need-loop-init invariant-loop decreases-loop
+loop-holds : tie.Need-loop-k-init invariant-loop decreases-loop
 loop-holds c = (omega arith, refl, rw table-zero)
 
-loop-again : tie.Need-loop-preserved invariant-loop decreases-loop
+loop-again : tie.Need-loop-k-preserved invariant-loop decreases-loop
 loop-again c =
-    let l = c.before.before.loop in
+    let l = c.before.before.loop-k in
     let a = c.before.before.before.args in (
       omega arith,
       simp length-set l.invariant.1,
@@ -28,12 +28,12 @@ loop-again c =
 
 returns : tie.Need-returns invariant-loop decreases-loop
 returns c =
-    let l = c.before.loop in
+    let l = c.before.loop-k in
     let a = c.before.before.args in
     let all : l.k ≡ length a.from.now = omega arith in
     l.invariant.2 ∙ rw (all, table-get_or a.from.now (pos 0))
 
-pub copy-prices-spec : {M : Type 1} → statement M
-copy-prices-spec =
+pub copy_prices_spec : {M : Type 1} → statement M
+copy_prices_spec =
     tie.close (tie.spec invariant-loop decreases-loop loop-holds (λ c. search rules) (λ c. search rules) (λ c. search rules) (λ c. search rules)
     (λ c. search rules) (λ c. search rules) loop-again (λ c. search rules) returns)

@@ -5,23 +5,23 @@ use mir.Val.{to_z, of_z}
 use Rattle.price_lists.proofs.lesser.Statement.{statement}
 use Rattle.price_lists.proofs.lesser.Tie as tie
 
-returns : tie.Need-returns
+returns : tie.Need-returns-then-a-b
 returns c =
     let x = c.before.args.a in
     let y = c.before.args.b in
     let back-x : to_z w64 (of_z w64 x) ≡ x = search rules in
     let back-y : to_z w64 (of_z w64 y) ≡ y = search rules in
-    let less : lt_z x y ≡ true = rw (back-x, back-y) at c.if1.true in
+    let less : lt_z x y ≡ true = rw (back-x, back-y) at c.if-a-b.true in
     back-x ∙ rw less
 
-returns-2 : tie.Need-returns-2
+returns-2 : tie.Need-returns-else-a-b
 returns-2 c =
     let x = c.before.args.a in
     let y = c.before.args.b in
     let back-x : to_z w64 (of_z w64 x) ≡ x = search rules in
     let back-y : to_z w64 (of_z w64 y) ≡ y = search rules in
-    let less : lt_z x y ≡ false = rw (back-x, back-y) at c.if1.false in
+    let less : lt_z x y ≡ false = rw (back-x, back-y) at c.if-a-b.false in
     back-y ∙ rw less
 
-pub lesser-spec : {M : Type 1} → statement M
-lesser-spec = tie.close (tie.spec returns returns-2)
+pub lesser_spec : {M : Type 1} → statement M
+lesser_spec = tie.close (tie.spec returns returns-2)

@@ -1,48 +1,51 @@
 -- `price_lists::price_roasteries` meets its contract. The loop's invariant: from where it began to i the struck roasteries have their prices.
-use Rattle.prelude.specs.Words.{◌-◌, ◌<◌, arith, ◌∙◌, ⊎_elim, rules, length}
+use Rattle.prelude.specs.Words.{◌-◌, ◌<◌, arith, ◌∙◌, rules, length}
 use mir.Syntax.{w64}
 use Rattle.transport.specs.Lists.{at}
 use Rattle.transport.specs.Laws.RangeLaws.{back}
 use Rattle.price_lists.specs.PriceLists.{columns_least, StruckPriced, priced-none, priced-struck, priced-left, priced-all}
 use Rattle.price_lists.proofs.price_roasteries.Statement.{statement}
+use Rattle.price_lists.proofs.price_roasteries.Lts.{then-supply-i-eq0, else-supply-i-eq0}
 use Rattle.price_lists.proofs.price_roasteries.Tie as tie
 
-abbrev invariant-loop : tie.invariant-loop
+abbrev invariant-loop : tie.invariant-loop-i
 invariant-loop supply cost cafes v width u₀ i₀ u i = StruckPriced supply (columns_least cost cafes v width) i₀ i u₀ u
 
-abbrev decreases-loop : tie.decreases-loop
+abbrev decreases-loop : tie.decreases-loop-i
 decreases-loop supply cost cafes v width u₀ i₀ u i = length supply - i
 
-abbrev turn : tie.Then1 invariant-loop decreases-loop → tie.In-loop invariant-loop decreases-loop
+abbrev turn : tie.Then-supply-i-eq0 invariant-loop decreases-loop → tie.In-loop-i invariant-loop decreases-loop
 turn c = c.before.before
 
-abbrev start : tie.In-loop invariant-loop decreases-loop → tie.Start invariant-loop decreases-loop
+abbrev start : tie.In-loop-i invariant-loop decreases-loop → tie.Start invariant-loop decreases-loop
 start c = c.before.before.before
 
-loop-holds : tie.Need-loop-init invariant-loop decreases-loop
+loop-holds : tie.Need-loop-i-init invariant-loop decreases-loop
 loop-holds c = priced-none
 
-roastery-price-requires : tie.Need-roastery-price-requires invariant-loop decreases-loop
-roastery-price-requires c κs = let s = start (turn c) in ((length s.args.supply.now, s.pre.0, omega arith), s.pre.1)
+roastery-price-requires : tie.Need-roastery_price-requires invariant-loop decreases-loop
+roastery-price-requires c κs = let s = start (turn c) in ((length s.args.supply.now, s.requires.0, omega arith), s.requires.1)
 
-room : (c : tie.In-loop invariant-loop decreases-loop) → c.before.loop.i < length c.before.loop.u
-room c = omega (arith, (start c).requires.2, c.before.loop.invariant.long)
+room : (c : tie.In-loop-i invariant-loop decreases-loop) → c.before.loop-i.i < length c.before.loop-i.u
+room c = omega (arith, (start c).requires.2, c.before.loop-i.invariant.long)
 
-loop-again : tie.Need-loop-preserved invariant-loop decreases-loop
+loop-again : tie.Need-loop-i-preserved invariant-loop decreases-loop
 unfolding at
 loop-again c =
     let here = c.before.before in
-    let inv = here.before.loop.invariant in
-    ⊎_elim
-    (λ w. priced-struck inv (omega arith) (room here) w.0.taken w.2 (back w64 w.1.result (search rules) ∙ w.1.ensures))
-    (λ w. priced-left inv (omega arith) w.0.left w.1)
-    c.if1.branch
+    let inv = here.before.loop-i.invariant in
+    elim c.if-supply-i-eq0.branch [
+      | then-supply-i-eq0 w ↦
+        priced-struck inv (omega arith) (room here) w.if-supply-i-eq0.true w.u-is
+        (back w64 w.roastery_price.result (search rules) ∙ w.roastery_price.ensures)
+      | else-supply-i-eq0 w ↦ priced-left inv (omega arith) w.if-supply-i-eq0.false w.u-is
+    ]
 
 returns : tie.Need-returns invariant-loop decreases-loop
-returns c = priced-all (omega arith) c.before.loop.invariant
+returns c = priced-all (omega arith) c.before.loop-i.invariant
 
-pub price-roasteries-spec : {M : Type 1} → statement M
-price-roasteries-spec =
+pub price_roasteries_spec : {M : Type 1} → statement M
+price_roasteries_spec =
     tie.close (tie.spec invariant-loop decreases-loop loop-holds (λ c. omega arith) (λ c. omega arith) roastery-price-requires
     (λ c. omega (arith, room (turn c.before))) (λ c. room (turn c.before)) (λ c. omega arith) (λ c. omega arith) loop-again
-    (λ c. c.before.loop.invariant.long) returns)
+    (λ c. c.before.loop-i.invariant.long) returns)

@@ -9,13 +9,13 @@ use Rattle.price_lists.specs.PriceLists.{max_price, price_back, cost_in, column_
 use Rattle.price_lists.proofs.roastery_price.Statement.{statement}
 use Rattle.price_lists.proofs.roastery_price.Tie as tie
 
-abbrev invariant-loop : tie.invariant-loop
+abbrev invariant-loop : tie.invariant-loop-j
 invariant-loop cost cafes v width i least₀ j₀ least j = (1 ≤ j) × (j ≤ width) × (to_z w64 least ≡ least_for (table j (column_slack cost cafes v i)))
 
-abbrev decreases-loop : tie.decreases-loop
+abbrev decreases-loop : tie.decreases-loop-j
 decreases-loop cost cafes v width i least₀ j₀ least j = width - j
 
-abbrev start : tie.At-loop invariant-loop decreases-loop → tie.Start invariant-loop decreases-loop
+abbrev start : tie.At-loop-j invariant-loop decreases-loop → tie.Start invariant-loop decreases-loop
 start c = c.before.before.before
 
 -- The price of column j is read as it is.
@@ -33,38 +33,38 @@ module _ (c : tie.Start invariant-loop decreases-loop) (j : ℕ) where
       z ≡ cost_in a.cost.now a.cafes a.i j -ℤ to_z w64 (of_z w64 price) → z ≡ column_slack a.cost.now a.cafes a.v.now a.i j
   slack-is z e = e ∙ rw whole
 
-slack-requires : tie.Need-slack-requires invariant-loop decreases-loop
+slack-requires : tie.Need-slack-least-requires invariant-loop decreases-loop
 unfolding at_z
 slack-requires c κs = let s = c.before in (s.requires.0, small s 0)
 
-loop-holds : tie.Need-loop-init invariant-loop decreases-loop
+loop-holds : tie.Need-loop-j-init invariant-loop decreases-loop
 unfolding at_z
 loop-holds c =
     let s = c.before.before in
-    (omega arith, s.requires.1.some, back w64 c.slack.result (search rules) ∙ slack-is s 0 c.slack.result c.slack.ensures ∙ sym (least-one _))
+    (omega arith, s.requires.1.some, back w64 c.slack-least.result (search rules) ∙ slack-is s 0 c.slack-least.result c.slack-least.ensures ∙ sym (least-one _))
 
-room : (c : tie.In-loop invariant-loop decreases-loop) → c.before.loop.j < 32
+room : (c : tie.In-loop-j invariant-loop decreases-loop) → c.before.loop-j.j < 32
 unfolding max_side
-room c = omega (arith, (start c.before).pre.1.room)
+room c = omega (arith, (start c.before).requires.1.room)
 
-slack-requires-2 : tie.Need-slack-requires-2 invariant-loop decreases-loop
+slack-requires-2 : tie.Need-slack-requires invariant-loop decreases-loop
 unfolding at_z
-slack-requires-2 c κs = let here = c.before.before in ((start here).requires.0, small (start here) here.loop.j)
+slack-requires-2 c κs = let here = c.before.before in ((start here).requires.0, small (start here) here.loop-j.j)
 
-loop-again : tie.Need-loop-preserved invariant-loop decreases-loop
+loop-again : tie.Need-loop-j-preserved invariant-loop decreases-loop
 unfolding at_z
 loop-again c =
     let here = c.before.before.before.before in
-    let slack = c.before.slack2 in
-    let fresh = back w64 slack.result (search rules) ∙ slack-is (start here) here.loop.j slack.result slack.ensures in
-    (omega arith, omega arith, back w64 c.lesser.result (search rules) ∙ least_step _ here.loop.invariant.0 here.loop.invariant.2 fresh c.lesser.ensures)
+    let slack = c.before.slack in
+    let fresh = back w64 slack.result (search rules) ∙ slack-is (start here) here.loop-j.j slack.result slack.ensures in
+    (omega arith, omega arith, back w64 c.lesser-least.result (search rules) ∙ least_step _ here.loop-j.invariant.0 here.loop-j.invariant.2 fresh c.lesser-least.ensures)
 
 returns : tie.Need-returns invariant-loop decreases-loop
 returns c =
-    let all : c.before.loop.j ≡ (start c.before).args.width = omega arith in
-    rw all at c.before.loop.invariant.2
+    let all : c.before.loop-j.j ≡ (start c.before).args.width = omega arith in
+    rw all at c.before.loop-j.invariant.2
 
-pub roastery-price-spec : {M : Type 1} → statement M
-roastery-price-spec =
+pub roastery_price_spec : {M : Type 1} → statement M
+roastery_price_spec =
     tie.close (tie.spec invariant-loop decreases-loop (λ c. omega arith) slack-requires loop-holds (λ c. omega (arith, room c)) room slack-requires-2
     (λ c κs. tt) (λ c. omega arith) (λ c. omega arith) loop-again returns)

@@ -7,13 +7,13 @@ use Rattle.dealing.specs.Corner.{costless}
 use Rattle.dealing.proofs.corner.first_corner.Statement.{statement}
 use Rattle.dealing.proofs.corner.first_corner.Tie as tie
 
-paired-supply-requires : tie.Need-paired-supply-requires
+paired-supply-requires : tie.Need-paired_supply-s-requires
 unfolding sources
 paired-supply-requires c κs =
     let ok = c.before.before.requires in
     (ok.sources_low, supply-most ok 0)
 
-paired-demand-requires : tie.Need-paired-demand-requires
+paired-demand-requires : tie.Need-paired_demand-d-requires
 unfolding sources sinks max_side max_bags max_amount
 paired-demand-requires c κs =
     let ok = c.before.before.before.requires in
@@ -24,7 +24,7 @@ unfolding sources
 returns c =
     let a = c.before.before.before.before.args in
     let S = costless a.supply.now a.demand.now in
-    rw (c.before.paired-supply.ensures S refl, c.paired-demand.ensures S refl refl)
+    rw (c.before.paired_supply-s.ensures S refl, c.paired_demand-d.ensures S refl refl)
 
-pub first-corner-spec : {M : Type 1} → statement M
-first-corner-spec = tie.close (tie.spec paired-supply-requires paired-demand-requires returns)
+pub first_corner_spec : {M : Type 1} → statement M
+first_corner_spec = tie.close (tie.spec paired-supply-requires paired-demand-requires returns)

@@ -10,14 +10,14 @@ use Rattle.dealing.specs.Filling.{filled, filled_none, filled-one, filled-all}
 use Rattle.dealing.proofs.corner.first_tableau.Statement.{statement}
 use Rattle.dealing.proofs.corner.first_tableau.Tie as tie
 
-abbrev invariant-loop : tie.invariant-loop
+abbrev invariant-loop : tie.invariant-loop-k
 invariant-loop supply demand count t₀ at₀ k₀ t at k = (k ≡ at.row + at.col) × DealtTo (costless supply demand) at
     × (t.cells ≡ filled (start (costless supply demand)) k)
 
-abbrev decreases-loop : tie.decreases-loop
+abbrev decreases-loop : tie.decreases-loop-k
 decreases-loop supply demand count t₀ at₀ k₀ t at k = count - k
 
-module _ (c : tie.At-loop invariant-loop decreases-loop) where
+module _ (c : tie.At-loop-k invariant-loop decreases-loop) where
   abbrev first : tie.Start invariant-loop decreases-loop
   first = c.before.before.before.before.before
 
@@ -25,33 +25,33 @@ module _ (c : tie.At-loop invariant-loop decreases-loop) where
   P = costless first.args.supply.now first.args.demand.now
 
   -- Cell k has its place in the array ..
-  room : c.loop.k < node_room - 1
+  room : c.loop-k.k < node_room - 1
   unfolding max_cells max_side
-  room = rw c.loop.invariant.0 (dealt_to-room P first.pre c.loop.at c.loop.invariant.1)
+  room = rw c.loop-k.invariant.0 (dealt_to-room P first.requires c.loop-k.at c.loop-k.invariant.1)
 
   -- .. and is put there.
-  stored : set c.loop.t.cells c.loop.k (cell_of c.loop.at) ≡ filled (start P) (c.loop.k + 1)
+  stored : set c.loop-k.t.cells c.loop-k.k (cell_of c.loop-k.at) ≡ filled (start P) (c.loop-k.k + 1)
   unfolding max_cells max_side
   stored =
-      let l = c.loop in
-      let cell = ap (λ k. get_or (start P) k no_cell) l.invariant.0 ∙ dealt_to-cell P first.pre l.at l.invariant.1 in
+      let l = c.loop-k in
+      let cell = ap (λ k. get_or (start P) k no_cell) l.invariant.0 ∙ dealt_to-cell P first.requires l.at l.invariant.1 in
       ap (λ cells. set cells l.k (cell_of l.at)) l.invariant.2 ∙ filled-one (start P) l.k (cell_of l.at) room cell
 
-loop-holds : tie.Need-loop-init invariant-loop decreases-loop
+loop-holds : tie.Need-loop-k-init invariant-loop decreases-loop
 loop-holds c =
     let a = c.before.before.before.before in
     let S = costless a.args.supply.now a.args.demand.now in
-    rw (c.before.empty-tableau.ensures, c.first-corner.ensures)
+    rw (c.before.empty_tableau-t.ensures, c.first_corner-at.ensures)
     (refl, dealt_to-first S a.requires, filled_none (start S))
 
-loop-again : tie.Need-loop-preserved invariant-loop decreases-loop
+loop-again : tie.Need-loop-k-preserved invariant-loop decreases-loop
 unfolding sources sinks
 loop-again c =
     let t = c.before.before.before in
-    let at = t.loop.at in
-    rw (c.next.ensures, c.before.put.ensures) (
+    let at = t.loop-k.at in
+    rw (c.next-at.ensures, c.before.put.ensures) (
       omega (arith, next-number (P t) at),
-      dealt_to-next (P t) (first t).requires at t.loop.invariant.1 (omega arith),
+      dealt_to-next (P t) (first t).requires at t.loop-k.invariant.1 (omega arith),
       stored t,
     )
 
@@ -60,15 +60,15 @@ unfolding sources sinks
 returns c =
     let l = c.before.before in
     let a = (first l).args in
-    let last : l.loop.k + 1 ≡ length a.supply.now + length a.demand.now - 1 = omega (arith, l.loop.invariant.1.state.size) in
-    filled-all (start (P l)) _ _ (sym (length-start (P l) (first l).requires)) (rw c.put2.ensures (stored l ∙ ap (filled (start (P l))) last))
+    let last : l.loop-k.k + 1 ≡ length a.supply.now + length a.demand.now - 1 = omega (arith, l.loop-k.invariant.1.state.size) in
+    filled-all (start (P l)) _ _ (sym (length-start (P l) (first l).requires)) (rw c.put-2.ensures (stored l ∙ ap (filled (start (P l))) last))
 
-pub first-tableau-spec : {M : Type 1} → statement M
+pub first_tableau_spec : {M : Type 1} → statement M
 unfolding sources sinks max_side
-first-tableau-spec =
+first_tableau_spec =
     tie.close (tie.spec invariant-loop decreases-loop (λ c. let p = c.before.before.requires in omega (arith, p.sources_high, p.sinks_high))
     (λ c. omega (arith, c.before.before.requires.sources_low)) (λ c κs. search rules) (λ c κs. c.before.before.before.requires) loop-holds
     (λ c. omega (arith, room c)) (λ c κs. search rules) (λ c. omega (arith, room c.before.before))
-    (λ c. omega (arith, room c.before.before)) (λ c κs. let t = c.before.before in ((first t).requires, (t.loop.invariant.1, omega arith)))
+    (λ c. omega (arith, room c.before.before)) (λ c κs. let t = c.before.before in ((first t).requires, (t.loop-k.invariant.1, omega arith)))
     (λ c. omega (arith, room c.before.before.before)) (λ c. search rules) loop-again (λ c κs. search rules)
     (λ c. omega (arith, room c.before.before)) (λ c. omega (arith, room c.before.before)) returns)

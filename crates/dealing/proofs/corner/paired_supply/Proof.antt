@@ -8,7 +8,7 @@ use Rattle.transport.specs.Amount.{paired_supply_of}
 use Rattle.dealing.proofs.corner.paired_supply.Statement.{statement}
 use Rattle.dealing.proofs.corner.paired_supply.Tie as tie
 
-cast-t6 : tie.Need-overflow-cast-t6
+cast-t6 : tie.Need-overflow_cast-result
 unfolding at max_bags max_side max_amount
 cast-t6 c = omega arith
 
@@ -16,5 +16,5 @@ returns : tie.Need-returns
 unfolding paired_supply_of at
 returns c S e = rw (e, to_z_pos w64 (cast-t6 c).sfits)
 
-pub paired-supply-spec : {M : Type 1} → statement M
-paired-supply-spec = tie.close (tie.spec (λ c. search rules) (λ c. search rules) cast-t6 returns)
+pub paired_supply_spec : {M : Type 1} → statement M
+paired_supply_spec = tie.close (tie.spec (λ c. search rules) (λ c. search rules) cast-t6 returns)

@@ -11,5 +11,5 @@ returns : tie.Need-returns
 unfolding no_tableau tableau_of padded max_cells max_side no_cell nothing
 returns c = refl
 
-pub empty-tableau-spec : {M : Type 1} → statement M
-empty-tableau-spec = tie.close (tie.spec returns)
+pub empty_tableau_spec : {M : Type 1} → statement M
+empty_tableau_spec = tie.close (tie.spec returns)

@@ -4,7 +4,7 @@ use Rattle.dealing.proofs.corner.Corner.put.Statement.{statement}
 use Rattle.dealing.proofs.corner.Corner.put.Tie as tie
 
 returns : tie.Need-returns
-returns c = rw c.smaller.ensures
+returns c = rw c.smaller-x.ensures
 
 pub put_spec : {M : Type 1} → statement M
 put_spec = tie.close (tie.spec (λ c κs. search rules) returns)
