@@ -26,7 +26,7 @@ use Rattle.transport.specs.Laws.ListLaws.{and_right}
 use Rattle.transport.specs.Laws.SheetLaws.{refusal-clear, refusal-pass, accepted, passes}
 use Rattle.transport.specs.Laws.CallLaws.{unless-given, unless-refused, unless-given_iff, refusal-last}
 use Rattle.transport.specs.Laws.OwnLaws.{length-own, renumbered-own}
-use Rattle.transport.specs.Laws.Sound.{sound, rows_left, columns-left}
+use Rattle.transport.proofs.Sound.{sound, rows_left, columns-left}
 use Rattle.tableaux.specs.Belonging.{belongs_iff, belongs-amounts}
 use Rattle.tableaux.specs.Starting.{start-belongs}
 use Rattle.tableaux.specs.Running.{run-done_iff, run-reached, run-finished}

@@ -15,7 +15,7 @@ use Rattle.transport.specs.Laws.ListLaws.{and_right}
 use Rattle.transport.specs.Laws.SheetLaws.{refusal_yes, refusal-pass, refusal-stands, passes}
 use Rattle.transport.specs.Laws.CallLaws.{refusal-last}
 use Rattle.transport.specs.Laws.PartiesLaws.{struck-sources, struck-sinks}
-use Rattle.transport.specs.Laws.Sound.{sound}
+use Rattle.transport.proofs.Sound.{sound}
 use Rattle.transport.specs.declared.Cell.{Cell}
 use Rattle.transport.specs.declared.Tableau.{Tableau}
 use Rattle.parties.specs.declared.Parties.{Parties}

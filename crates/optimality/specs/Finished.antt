@@ -1,7 +1,7 @@
 -- A finished tableau: its bags are a plan of least cost, and the plans of least cost are exactly those on its tight lanes.
 use Rattle.prelude.specs.Words.{◌≡◌, ◌↔◌, true, List, ℕ, pos, ◌*ℤ◌, ◌≤ℤ◌}
 use Rattle.transport.specs.Problem.{Problem}
-use Rattle.transport.specs.Laws.Sound.{Sound}
+use Rattle.transport.proofs.Sound.{Sound}
 use Rattle.transport.specs.Potential.{is_finished_of}
 use Rattle.transport.specs.Statements.{Belongs}
 use Rattle.transport.specs.declared.Cell.{Cell}

@@ -10,10 +10,10 @@ use Rattle.transport.specs.Extended.{surplus, wanted, extended}
 use Rattle.transport.specs.Parties.{left, rows_left_of, columns_left, struck, problem_of}
 use Rattle.transport.specs.Laws.ListLaws.{get_d_map}
 use Rattle.transport.specs.Laws.ProblemLaws.{problem}
-use Rattle.transport.specs.Laws.ExtendedLaws.{Extra, without, with, extra}
+use Rattle.transport.proofs.ExtendedLaws.{Extra, without, with, extra}
 use Rattle.transport.specs.Laws.PartiesLaws.{amounts_left, length-amounts, left_at, length-left, left-append, left_before, before-none, before_yes, before_no}
 use Rattle.transport.specs.Laws.PartiesLaws.{before-most, left-before}
-use Rattle.transport.specs.Laws.Sound.{wanted_room}
+use Rattle.transport.proofs.Sound.{wanted_room}
 use Rattle.transport.specs.Statements.{Accepted}
 use Rattle.parties.specs.declared.Parties.{Parties}
 

@@ -5,7 +5,7 @@ use Rattle.transport.specs.Sheet.{Sheet, roasteries, cafes}
 use Rattle.transport.specs.Extended.{surplus, cost_at, extended}
 use Rattle.transport.specs.Statements.{Balanced, Meets, MeetsExactly, Best, BestExactly}
 use Rattle.transport.specs.Laws.ProblemLaws.{problem, grid-is}
-use Rattle.transport.specs.Laws.ExtendedLaws.{without, with, extra, cost-cafe}
+use Rattle.transport.proofs.ExtendedLaws.{without, with, extra, cost-cafe}
 use Rattle.reduction.specs.Extending.{sends-all}
 
 no_surplus : (S : Sheet) → Balanced S → surplus S ≡ 0

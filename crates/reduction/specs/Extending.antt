@@ -8,7 +8,7 @@ use Rattle.transport.specs.Extended.{surplus, wanted, extended}
 use Rattle.transport.specs.Statements.{Meets}
 use Rattle.transport.specs.Laws.ListLaws.{sum_to-one, sum_to_cong, sum_to-add, sum_to_scale, sum_to-each, sum_to_swap}
 use Rattle.transport.specs.Laws.ProblemLaws.{length-grid, get_or-grid}
-use Rattle.transport.specs.Laws.ExtendedLaws.{width_low, wanted-at, beyond}
+use Rattle.transport.proofs.ExtendedLaws.{width_low, wanted-at, beyond}
 use Rattle.tableaux.specs.ProblemPlans.{Fulfils}
 use Rattle.reduction.specs.SheetLanes.{width_of, width_is, SameOnSheet}
 

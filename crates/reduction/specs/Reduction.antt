@@ -11,9 +11,9 @@ use Rattle.transport.specs.Statements.{Meets, FirstDifference, scaled, Best}
 use Rattle.transport.specs.Laws.ListLaws.{sum_to_cong, sum_to_scale, sum_to-part, total-append}
 use Rattle.transport.specs.Laws.ProblemLaws.{place_of, length-grid, get_or-grid}
 use Rattle.transport.specs.Laws.PlanLaws.{scaled_at}
-use Rattle.transport.specs.Laws.ExtendedLaws.{without, with, extra, width_low, wanted-at}
+use Rattle.transport.proofs.ExtendedLaws.{without, with, extra, width_low, wanted-at}
 use Rattle.transport.specs.Laws.PartiesLaws.{struck-sinks, among-more, total_left}
-use Rattle.transport.specs.Laws.Sound.{Sound}
+use Rattle.transport.proofs.Sound.{Sound}
 use Rattle.plans.specs.Settled.{best-settled}
 use Rattle.tableaux.specs.ProblemPlans.{flow_cost, Fulfils, Optimal}
 use Rattle.reduction.specs.SheetLanes.{width_of, SameOnSheet, same-scaled, cost-same, first-same}

@@ -14,7 +14,7 @@ use Rattle.transport.specs.Plan.{plan_cost_of}
 use Rattle.transport.specs.Statements.{FirstDifference, scaled}
 use Rattle.transport.specs.Laws.ListLaws.{sum_to-one, sum_to_cong}
 use Rattle.transport.specs.Laws.ProblemLaws.{place-below, place_of}
-use Rattle.transport.specs.Laws.ExtendedLaws.{without, with, extra, width_low, cost-cafe, cost-extra, lane_cost-at}
+use Rattle.transport.proofs.ExtendedLaws.{without, with, extra, width_low, cost-cafe, cost-extra, lane_cost-at}
 use Rattle.transport.specs.Laws.PlanLaws.{scaled_at}
 use Rattle.tableaux.specs.ProblemPlans.{flow_cost}
 use Rattle.tableaux.specs.PlanView.{carried, lanes-cost}

@@ -10,7 +10,7 @@ use Rattle.transport.specs.Plan.{plan_cost_of}
 use Rattle.transport.specs.Statements.{Accepted, Meets}
 use Rattle.transport.specs.Laws.ListLaws.{sum_to_runs, total-nil, total-cons}
 use Rattle.transport.specs.Laws.RangeLaws.{abs_between, abs_sum}
-use Rattle.transport.specs.Laws.Sound.{bags_of}
+use Rattle.transport.proofs.Sound.{bags_of}
 use Rattle.transport.specs.Laws.Largest.{largest}
 use Rattle.reduction.specs.Extending.{all_sent}
 

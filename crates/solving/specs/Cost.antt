@@ -8,7 +8,7 @@ use Rattle.transport.specs.Sheet.{Sheet, roasteries, cafes}
 use Rattle.transport.specs.Problem.{place}
 use Rattle.transport.specs.Laws.ProblemLaws.{place_of}
 use Rattle.transport.specs.Statements.{Accepted, Meets}
-use Rattle.transport.specs.Laws.Sound.{sound}
+use Rattle.transport.proofs.Sound.{sound}
 use Rattle.transport.specs.Laws.RangeLaws.{abs_times, abs_between, abs_sum}
 use Rattle.transport.specs.Plan.{plan_cost_of, settled}
 use Rattle.transport.specs.Calls.{solution_from, solution}

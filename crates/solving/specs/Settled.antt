@@ -10,9 +10,9 @@ use Rattle.transport.specs.Plan.{settled}
 use Rattle.transport.specs.Statements.{Accepted}
 use Rattle.transport.specs.Laws.ListLaws.{get_or-table}
 use Rattle.transport.specs.Laws.ProblemLaws.{place_of, place-below}
-use Rattle.transport.specs.Laws.ExtendedLaws.{without, with, extra}
+use Rattle.transport.proofs.ExtendedLaws.{without, with, extra}
 use Rattle.transport.specs.Laws.PartiesLaws.{left_at, left-append, among-left, struck-sources, struck-sinks}
-use Rattle.transport.specs.Laws.Sound.{sound}
+use Rattle.transport.proofs.Sound.{sound}
 use Rattle.reduction.specs.Reduction.{own_sheet_plan, carries-left, carries-row, carries-column, length-own_sheet_plan, problem-settled}
 use Rattle.plan_store.specs.Plan.{bags_in, bags_in-place, Storable, storable, Stored}
 use Rattle.solving.specs.Finished.{SettledBags}

@@ -9,7 +9,7 @@ use Rattle.network.specs.Measure.{cost-low, cost-high}
 use Rattle.transport.specs.Lists.{at, total}
 use Rattle.transport.specs.Limits.{max_side, max_amount, max_bags, max_cost, cost_below, cost_above}
 use Rattle.transport.specs.Problem.{Problem, sources, sinks, place, lane_cost}
-use Rattle.transport.specs.Laws.Sound.{Sound}
+use Rattle.transport.proofs.Sound.{Sound}
 use Rattle.transport.specs.Tableau.{start}
 use Rattle.transport.specs.Potential.{is_finished_of}
 use Rattle.transport.specs.Round.{next, run, round_bound}

@@ -8,7 +8,7 @@ use Rattle.transport.specs.Belonging.{belongs}
 use Rattle.transport.specs.OwnNumbers.{belongs_to}
 use Rattle.transport.specs.Calls.{inside}
 use Rattle.transport.specs.Statements.{Accepted}
-use Rattle.transport.specs.Laws.Sound.{sound}
+use Rattle.transport.proofs.Sound.{sound}
 use Rattle.transport.specs.declared.Tableau.{Tableau}
 use Rattle.sheet.specs.Check.{check_answer, check-none, check-some}
 use Rattle.parties.specs.Parties.{PartiesOf, parties-problem, supplies-lent, demands-lent, rows-lent, columns-lent, cafes-lent}

@@ -2,8 +2,8 @@
 use Rattle.prelude.specs.Words.{refl, sym, arith, rules, length-take-le}
 use Rattle.transport.specs.Limits.{max_side}
 use Rattle.transport.specs.Sheet.{Sheet, sheet_of, roasteries, cafes}
-use Rattle.transport.specs.Laws.ExtendedLaws.{width_low}
-use Rattle.transport.specs.Laws.Sound.{wanted_room}
+use Rattle.transport.proofs.ExtendedLaws.{width_low}
+use Rattle.transport.proofs.Sound.{wanted_room}
 use Rattle.price_lists.specs.Prices.{costs_of, n_room, cols-some, last_in, width_is, placing_rows, placing_cols, row-prices, placed-small, columns-small}
 use Rattle.price_lists.specs.Prices.{columns-long, cafes-given, roasteries-given}
 use Rattle.price_lists.proofs.write_prices.Statement.{statement}

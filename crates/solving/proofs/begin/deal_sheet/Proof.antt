@@ -2,7 +2,7 @@
 -- problem behind the sheet, whatever its costs are.
 use Rattle.prelude.specs.Words.{List, ℤ}
 use Rattle.transport.specs.Sheet.{Sheet, sheet_of}
-use Rattle.transport.specs.Laws.Sound.{sound}
+use Rattle.transport.proofs.Sound.{sound}
 use Rattle.parties.specs.Parties.{PartiesOf, supplies-lent, demands-lent}
 use Rattle.solving.specs.First.{first-sound, first_dealt}
 use Rattle.solving.proofs.begin.deal_sheet.Statement.{statement}

@@ -12,7 +12,7 @@ use Rattle.transport.specs.Statements.{Accepted}
 use Rattle.transport.specs.Laws.ListLaws.{sum_to-each, sum_to_bound, at-past}
 use Rattle.transport.specs.Laws.SheetLaws.{accepted}
 use Rattle.transport.specs.Laws.ProblemLaws.{grid-each, length-grid}
-use Rattle.transport.specs.Laws.ExtendedLaws.{without, with, extra, wanted-total, cost-each}
+use Rattle.transport.proofs.ExtendedLaws.{without, with, extra, wanted-total, cost-each}
 use Rattle.transport.specs.Laws.PartiesLaws.{left_at, length-left, amounts_left, length-amounts, amounts-at, total_left, some_left}
 
 pub record Sound (P : Problem) : Type 0 where

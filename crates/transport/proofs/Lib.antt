@@ -1,0 +1,2 @@
+pub mod ExtendedLaws
+pub mod Sound
