@@ -123,7 +123,7 @@ pub fn regraft(
     let moved = sub[s];
     let change = mask::clear_bit(path[row] ^ path[sink], s);
     graft(path, moved, change);
-    graft(sub, moved, change);
+    graft(sub, change, moved);
     lane[s] = into;
     moved
 }
