@@ -41,5 +41,5 @@ returns c = let a = c.before.before.before.before.args in let b = c.before.befor
 
 pub gather_cells_spec : {M : Type 1} → statement M
 gather_cells_spec = tie.close (tie.spec invariant-loop decreases-loop (λ c κs. (c.before.requires, refl)) loop-holds
-    (λ c. omega (arith, c.basic_lanes-count.ensures.many, c.requires.few)) (λ c. omega (arith, c.basic_lanes-count.ensures.many, c.requires.few)) (λ c κs. inside c) (λ c. search rules) (λ c. search rules) (λ c. search rules) (λ c. omega arith) loop-again
-    returns)
+    (λ c. omega (arith, c.basic_lanes-count.ensures.many, c.requires.few)) (λ c. omega (arith, c.basic_lanes-count.ensures.many, c.requires.few))
+    (λ c κs. inside c) (λ c. search rules) (λ c. search rules) (λ c. search rules) (λ c. omega arith) loop-again returns)
