@@ -2,5 +2,5 @@
 use Rattle.runs.proofs.run.make_run.Statement.{statement}
 use Rattle.runs.proofs.run.make_run.Tie as tie
 
-pub make-run-spec : {M : Type 1} → statement M
-make-run-spec = tie.close (tie.spec (λ c κs. c.before.before.before.before.requires) (λ c P T d. (c.rounds.ensures P T d).ended))
+pub make_run_spec : {M : Type 1} → statement M
+make_run_spec = tie.close (tie.spec (λ c κs. c.requires) (λ c P T d. (c.rounds.ensures P T d).ended))
