@@ -2,7 +2,6 @@
 use Rattle.prelude.specs.Words.{◌≡◌, refl, sym, ap, ◌∙◌, ◌↔◌, ◌⊎◌, inl, inr, by_cases, List, ℕ, ◌*◌, arith, dec_lt, ℕ_discrete, ℤ, length, take, drop, take_at}
 use Rattle.prelude.specs.Words.{drop_at, Dec-and, ⊎_elim}
 use Rattle.transport.specs.declared.SolveAnswer.{SolveAnswer}
-use Rattle.transport.specs.declared.SolveAnswer.TheVariants as SolveAnswer
 use Rattle.transport.specs.Lists.{total}
 use Rattle.transport.specs.Limits.{max_side}
 use Rattle.transport.specs.Sheet.{Sheet, roasteries, cafes}

@@ -4,7 +4,6 @@ use Rattle.prelude.specs.Words.{◌≡◌, refl, sym, ap, ◌∙◌, Bool, true,
 use Rattle.prelude.specs.Words.{eqb, eq-eqb, not-false}
 use Rattle.transport.specs.declared.Cell.{Cell}
 use Rattle.transport.specs.declared.Change.{Change}
-use Rattle.transport.specs.declared.Change.TheVariants as Change
 use Rattle.transport.specs.declared.Edit.{Edit}
 use Rattle.transport.specs.declared.Tableau.{Tableau}
 use Rattle.transport.specs.Lists.{all}
@@ -12,7 +11,7 @@ use Rattle.transport.specs.Problem.{Problem, sources, sinks}
 use Rattle.transport.specs.Sheet.{Sheet, sheet_tests, refusal}
 use Rattle.transport.specs.Extended.{surplus, wanted, extended}
 use Rattle.transport.specs.Parties.{rows_left_of, columns_left, struck, problem_of}
-use Rattle.transport.specs.Tableau.{cells_of, tableau_of, basis_size, start}
+use Rattle.transport.specs.Tableau.{cells_of, tableau_of, basis_size}
 use Rattle.transport.specs.Belonging.{cells_belong}
 use Rattle.transport.specs.Potential.{is_finished_of}
 use Rattle.transport.specs.OwnNumbers.{own, renumbered, covers, belongs_to}

@@ -8,7 +8,6 @@ use Rattle.transport.specs.Lists.{keep, sum_to}
 use Rattle.transport.specs.Laws.ListLaws.{member-place, keep_yes, keep_no, keep-member, member-keep, and_left, and_right, sum_to_cong, sum_to-none, sum_to-add}
 use Rattle.transport.specs.Laws.ListLaws.{sum_to-le, sum_to_scale}
 use Rattle.transport.specs.Problem.{Lane}
-use Rattle.transport.specs.Laws.ProblemLaws.{lane}
 use Rattle.transport.specs.Leaf.{Strike, touches, strike_at, only_one, first_leaf}
 use Rattle.network.specs.Cut.{bit_le}
 use Rattle.tableaux.specs.Lanes.{Fits}

@@ -12,7 +12,6 @@ use Rattle.network.specs.FlowLaws.{on-zero}
 use Rattle.network.specs.Basis.{In, in_cells, Replaces, unit}
 use Rattle.network.specs.Pivot.{loop, loop-at, loop-off, lowers, value, valued}
 use Rattle.network.specs.Round.{Tableau, Choice, after, some-minus, tableau_cong, value-above, round-cost, round, no_tie}
-use Rattle.transport.specs.Lists.{at}
 use Rattle.transport.specs.Laws.ListLaws.{member-at, member-place}
 use Rattle.transport.specs.Problem.{Problem, sources, sinks, Lane}
 use Rattle.transport.proofs.Sound.{Sound}

@@ -4,24 +4,17 @@ use Rattle.std.specs.Prelude.{true, false, List, [], ℕ, ◌*◌, ℤ, pos, len
 use Rattle.std.proofs.Math.Option.{none, some}
 pub use Rattle.transport.specs.declared.StartAnswer.{StartAnswer}
 pub use Rattle.transport.specs.declared.StartOutcome.{StartOutcome}
-use Rattle.transport.specs.declared.StartOutcome.TheVariants as StartOutcome
 pub use Rattle.transport.specs.declared.RoundAnswer.{RoundAnswer}
 pub use Rattle.transport.specs.declared.RoundOutcome.{RoundOutcome}
-use Rattle.transport.specs.declared.RoundOutcome.TheVariants as RoundOutcome
 pub use Rattle.transport.specs.declared.RunAnswer.{RunAnswer}
 pub use Rattle.transport.specs.declared.RunOutcome.{RunOutcome}
-use Rattle.transport.specs.declared.RunOutcome.TheVariants as RunOutcome
 pub use Rattle.transport.specs.declared.SettleAnswer.{SettleAnswer}
-use Rattle.transport.specs.declared.SettleAnswer.TheVariants as SettleAnswer
 pub use Rattle.transport.specs.declared.SolveAnswer.{SolveAnswer}
-use Rattle.transport.specs.declared.SolveAnswer.TheVariants as SolveAnswer
 pub use Rattle.transport.specs.declared.SetUpAnswer.{SetUpAnswer}
 pub use Rattle.transport.specs.declared.EditAnswer.{EditAnswer}
 use Rattle.transport.specs.declared.Standing as Declared
 pub use Rattle.transport.specs.declared.ReadAnswer.{ReadAnswer}
-use Rattle.transport.specs.declared.ReadAnswer.TheVariants as ReadAnswer
 pub use Rattle.transport.specs.declared.WriteAnswer.{WriteAnswer}
-use Rattle.transport.specs.declared.WriteAnswer.TheVariants as WriteAnswer
 use Rattle.transport.specs.Lists.{padded}
 use Rattle.transport.specs.Limits.{max_side}
 use Rattle.transport.specs.Sheet.{Sheet, sheet_of, roasteries, cafes}

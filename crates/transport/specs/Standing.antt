@@ -3,7 +3,6 @@
 use Rattle.std.specs.Prelude.{◌≡◌, Bool, not, ◌&&◌, ◌||◌, List, ◌∷◌, ◌++◌, ℕ, suc, ◌*◌, ◌-◌, ◌^◌, eqb, ltb, ℤ, pos, set, drop}
 use Rattle.std.proofs.Math.Option.{none}
 pub use Rattle.transport.specs.declared.Change.{Change}
-use Rattle.transport.specs.declared.Change.TheVariants as Change
 pub use Rattle.transport.specs.declared.Edit.{Edit}
 use Rattle.transport.specs.declared.KeptSheet.{KeptSheet}
 use Rattle.transport.specs.declared.Standing as Declared

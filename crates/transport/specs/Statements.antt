@@ -31,7 +31,6 @@
 use Rattle.std.specs.Prelude.{◌≡◌, ◌↔◌, ◌⊎◌, Bool, true, false, cond, ℕ, zero, suc, ◌+◌, ◌*◌, ◌^◌, ◌≤◌, ◌<◌, ℤ, pos, negsuc, nat_abs, neg_ℤ, ◌+ℤ◌, ◌*ℤ◌, ◌≤ℤ◌, length, take, drop, get_or}
 use mathlib.Core.List.{List, [], ◌∷◌, map, Memᴰ}
 use Rattle.transport.specs.declared.SolveAnswer.{SolveAnswer}
-use Rattle.transport.specs.declared.SolveAnswer.TheVariants as SolveAnswer
 use Rattle.transport.specs.Lists.{sum_to, at, at_z, total, within}
 use Rattle.transport.specs.Limits.{max_sources, max_sinks, max_side, max_amount, max_cost, max_digits}
 use Rattle.transport.specs.Problem.{Problem, sources, sinks, Lane, place, lane_cost}

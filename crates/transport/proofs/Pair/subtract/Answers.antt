@@ -1,7 +1,7 @@
 -- Both differences are in range by `Fit`, that of the marks either way round.
 use Rattle.prelude.specs.Words.{rules}
 use Rattle.transport.specs.Amount.{subtract}
-use Rattle.transport.specs.Laws.RangeLaws.{diff_fits, diff_turned}
+use Rattle.transport.specs.Laws.RangeLaws.{diff_fits}
 use Rattle.transport.proofs.Pair.subtract.Goals as goal
 
 pub returns : goal.returns
