@@ -11,20 +11,20 @@ use Rattle.solving.specs.First.{Dealt, first_fits, first_admitted}
 use Rattle.edit_steps.proofs.begin.begin_afresh.Statement.{statement}
 use Rattle.edit_steps.proofs.begin.begin_afresh.Tie as tie
 
-abbrev start_of : tie.After-deal-sheet → tie.Start
+abbrev start_of : tie.After-deal_sheet-first → tie.Start
 start_of d = d.before.before.before
 
-abbrev sheet_on : tie.After-deal-sheet → Sheet
+abbrev sheet_on : tie.After-deal_sheet-first → Sheet
 sheet_on d = let a = (start_of d).args in sheet_of a.supply.now a.demand.now a.cost.now
 
-ok : (d : tie.After-deal-sheet) → Accepted (sheet_on d)
+ok : (d : tie.After-deal_sheet-first) → Accepted (sheet_on d)
 ok d = (start_of d).requires
 
-dealt : (d : tie.After-deal-sheet) → let r = d.deal-sheet.result in let l = r.loading in
+dealt : (d : tie.After-deal_sheet-first) → let r = d.deal_sheet-first.result in let l = r.loading in
     Dealt (sheet_on d) l.parties l.rows l.cols r.tableau
-dealt d = d.deal-sheet.ensures (sheet_on d).cost (ok d)
+dealt d = d.deal_sheet-first.ensures (sheet_on d).cost (ok d)
 
-abbrev dealt_before : tie.After-cols → tie.After-deal-sheet
+abbrev dealt_before : tie.After-cols-1 → tie.After-deal_sheet-first
 dealt_before c = c.before.before.before
 
 respread-requires : tie.Need-respread-requires
@@ -34,10 +34,10 @@ respread-requires c κs =
     let h = (dealt d).parties in
     rw (h.row_numbers, h.cafe_numbers) (spreadable (ok d))
 
-abbrev spread_before : tie.After-lay-out-arg5 → tie.After-respread
+abbrev spread_before : tie.After-lay_out-arg-5-1 → tie.After-respread
 spread_before c = c.before.before.before.before.before.before.before.before.before.before.before
 
-abbrev dealt_at : tie.After-respread → tie.After-deal-sheet
+abbrev dealt_at : tie.After-respread → tie.After-deal_sheet-first
 dealt_at x = dealt_before x.before.before.before.before
 
 returns : tie.Need-returns
@@ -46,12 +46,12 @@ returns c = λ before.
     let x = spread_before c.before in
     let d = dealt_at x in
     let h = (dealt d).parties in
-    let (amounts, long, stripped) = c.lay-out.ensures in
+    let (amounts, long, stripped) = c.lay_out.ensures in
     let spread = x.respread.ensures (rw (h.row_numbers, h.cafe_numbers) before) in
     first_admitted (ok d) (dealt d) spread amounts long stripped
 
-pub begin-afresh-spec : {M : Type 1} → statement M
-begin-afresh-spec = tie.close (tie.spec (λ c κs. (_, c.before.before.requires))
+pub begin_afresh_spec : {M : Type 1} → statement M
+begin_afresh_spec = tie.close (tie.spec (λ c κs. (_, c.requires))
     (λ c. (dealt (dealt_before c)).parties.rows_room) (λ c. rows-lent (dealt (dealt_before c.before)).parties)
     (λ c. (dealt (dealt_before c.before)).parties.cafes_room)
     (λ c. cafes-lent (dealt (dealt_before c.before.before)).parties) respread-requires

@@ -33,54 +33,53 @@ held s = s.requires.1
 
 -- ---- a new cost
 
-abbrev start_of : tie.After-known-told → tie.Start
-start_of k = k.before.before.before.before.before.before
+abbrev start_of : tie.In-Cost → tie.Start
+start_of k = k.before.before.before.before
 
-abbrev told : tie.After-cols → tie.After-known-told
+abbrev told : tie.After-cols-1 → tie.In-Cost
 told c = c.before.before
 
-parties : (k : tie.After-known-told) → let s = start_of k in let l = s.args.loaded in
+parties : (k : tie.In-Cost) → let s = start_of k in let l = s.args.loaded in
     let h = (held s).3 in PartiesOf (held s).0 l.parties h.supplies h.demands l.rows l.cols
 parties k = (held (start_of k)).3.parties
 
 -- The cost that is set, as it is handed on.
-cost-is : (k : tie.After-known-told) → let c = k.before.change.given.0.0 in
+cost-is : (k : tie.In-Cost) → let c = k.in-Cost.c in
     (start_of k).args.edit.change ≡ Change.Cost (to_z w64 (of_z w64 c))
 cost-is k =
-    let told = k.before.change.given in
-    told.1 ∙ ap Change.Cost (sym (back w64 told.0.0 (search rules)))
+    k.in-Cost.is ∙ ap Change.Cost (sym (back w64 k.in-Cost.c (search rules)))
 
-respread-lane-requires : tie.Need-respread-lane-requires
+respread-lane-requires : tie.Need-respread_lane-requires
 respread-lane-requires c κs =
     let k = told c.before.before.before in
     let s = start_of k in
     let (S, T, w, a) = held s in
-    let g = respreadable w s.pre.0 a (cost-is k) in
+    let g = respreadable w s.requires.0 a (cost-is k) in
     (g.growing_rows, g.growing_cols, a.spread.long, g.small)
 
-returns : tie.Need-returns
+returns : tie.Need-returns-in-Cost
 returns c = λ S T w a.
     let k = told c.before.before.before.before in
     let s = start_of k in
-    let ok = s.pre.0 in
-    admitted_kept w ok a (cost-is k) (c.respread_lane_of.ensures _ _ (respreadable w ok a (cost-is k)) a.spread)
+    let ok = s.requires.0 in
+    admitted_kept w ok a (cost-is k) (c.respread_lane.ensures _ _ (respreadable w ok a (cost-is k)) a.spread)
 
 -- ---- new amounts
 
-abbrev amounts : tie.After-begin-afresh → tie.After-enum-told
+abbrev amounts : tie.After-begin_afresh → tie.In_default
 amounts b = b.before.before.before.before.before.before.before
 
-returns-2 : tie.Need-returns-2
+returns-2 : tie.Need-returns
 returns-2 c = λ S T w a.
     let n = amounts c in
-    let is = n.enum_told.given.1 in
-    admitted_afresh n.before.before.before.before.before.args.edit T is
-    (c.begin-afresh.ensures (spread-before w is a.parties a.spread))
+    let is = n.in_default.is in
+    admitted_afresh n.args.edit T is
+    (c.begin_afresh.ensures (spread-before w is a.parties a.spread))
 
-pub begin-edit-spec : {M : Type 1} → statement M
-begin-edit-spec = tie.close (tie.spec (λ c. search rules)
+pub begin_edit_spec : {M : Type 1} → statement M
+begin_edit_spec = tie.close (tie.spec (λ c. search rules)
     (λ c. (parties (told c)).rows_room) (λ c. rows-lent (parties (told c.before)))
     (λ c. (parties (told c.before)).cafes_room) (λ c. cafes-lent (parties (told c.before.before)))
     respread-lane-requires returns (λ c. search rules)
-    (λ c κs. c.before.before.before.before.before.before.before.before.before.before.before.requires.0)
+    (λ c κs. c.requires.0)
     returns-2)

@@ -5,13 +5,13 @@ use Rattle.edit_steps.specs.Respread.{all-left-is}
 use Rattle.edit_steps.proofs.begin.respread.Statement.{statement}
 use Rattle.edit_steps.proofs.begin.respread.Tie as tie
 
-returns : tie.Need-returns
+returns : tie.Need-returns-then-all_left-2
 returns c = λ before.
-    let n = c.before in
-    let first = n.before in
-    before (all-left-is (sym first.before.all_left.ensures ∙ first.if1.true))
-    (all-left-is (sym n.all-left2.ensures ∙ c.if2.true))
+    let n = c in
+    let first = n in
+    before (all-left-is (sym first.all_left.ensures ∙ first.if-all_left.true))
+    (all-left-is (sym n.all_left-then-all_left.ensures ∙ c.if-all_left-2.true))
 
-pub respread-spec : {M : Type 1} → statement M
-respread-spec = tie.close (tie.spec (λ c κs. tt) (λ c κs. tt) returns
-    (λ c κs. c.before.before.before.before.before.requires) (λ c. λ before. c.spread-costs.ensures))
+pub respread_spec : {M : Type 1} → statement M
+respread_spec = tie.close (tie.spec (λ c κs. tt) (λ c κs. tt) returns
+    (λ c κs. c.requires) (λ c. λ before. c.spread_costs.ensures))

@@ -12,66 +12,66 @@ use Rattle.edit_steps.proofs.lists.check_edited.Tie as tie
 
 -- ---- a new cost
 
-abbrev start_of : tie.After-enum-told → tie.Start
-start_of a = a.before.before.before.before
+abbrev start_of : tie.In-Cost → tie.Start
+start_of a = a.before.before.before
 
 -- Its place in the list, which has few costs.
-placed : (a : tie.After-enum-told) → let r = (start_of a).args in
+placed : (a : tie.In-Cost) → let r = (start_of a).args in
     let l = r.edit.row * length r.demand.now + r.edit.col in
     (l < length r.cost.now) × (length r.cost.now ≤ 1024)
-placed a = let (S, w) = (start_of a).requires in new-placed w a.enum_told.given.1
+placed a = let (S, w) = (start_of a).requires in new-placed w a.in-Cost.is
 
-abbrev told : tie.After-struct-known2 → tie.After-enum-told
+abbrev told : tie.After-struct_known-in-Cost-1 → tie.In-Cost
 told k = k.before.before
 
-check-numbers-requires : tie.Need-check-numbers-requires
+check-numbers-requires : tie.Need-check_numbers-requires
 unfolding roasteries cafes
 check-numbers-requires c κs =
     let a = told c.before in
-    let (S, w) = (start_of a).pre in
-    let is = a.enum_told.given.1 in
+    let (S, w) = (start_of a).requires in
+    let is = a.in-Cost.is in
     let limits = w.accepted.limits in (
       omega (arith, limits.roasteries_high, sources-room, ap length (same-supply w is)),
       omega (arith, limits.cafes_high, sinks-room, ap length (same-demand w is)),
     )
 
-returns : tie.Need-returns
+returns : tie.Need-returns-in-Cost
 unfolding place cafes
 returns c =
     let a = told c.before.before in
-    let (S, w) = (start_of a).pre in
-    let is = a.enum_told.given.1 in
+    let (S, w) = (start_of a).requires in
+    let is = a.in-Cost.is in
     let r = (start_of a).args in
     let l : ℕ = r.edit.row * length r.demand.now + r.edit.col in
     let one : l + 1 - l ≡ 1 = omega arith in
     let new = ap (λ (k : ℕ). take k (drop l r.cost.now)) one
     ∙ ap (λ (d : List ℕ). take 1 (drop (r.edit.row * length d + r.edit.col) r.cost.now)) (same-demand w is) in
-    c.check-numbers.ensures ∙ ap check_answer (sym (cost-tests w is _ new))
+    c.check_numbers.ensures ∙ ap check_answer (sym (cost-tests w is _ new))
 
 -- ---- new amounts
 
-abbrev start : tie.After-enum-told2 → tie.Start
-start a = a.before.before.before.before
+abbrev start : tie.In_default → tie.Start
+start a = a.before.before.before
 
-check-numbers-requires-2 : tie.Need-check-numbers-requires-2
+check-numbers-requires-2 : tie.Need-check_numbers-requires-2
 unfolding roasteries cafes
 check-numbers-requires-2 c κs =
-    let a = c.before in
+    let a = c in
     let (S, w) = (start a).requires in
-    let is = a.enum-told2.given.1 in
+    let is = a.in_default.is in
     let limits = w.accepted.limits in (
       omega (arith, limits.roasteries_high, sources-room, same-roasteries w is),
       omega (arith, limits.cafes_high, sinks-room, same-cafes w is),
     )
 
-returns-2 : tie.Need-returns-2
+returns-2 : tie.Need-returns
 returns-2 c =
-    let a = c.before.before in
+    let a = c.before in
     let (S, w) = (start a).requires in
-    c.check-numbers2.ensures ∙ ap check_answer (sym (amounts-tests w a.enum-told2.given.1))
+    c.check_numbers-2.ensures ∙ ap check_answer (sym (amounts-tests w a.in_default.is))
 
-pub check-edited-spec : {M : Type 1} → statement M
-check-edited-spec = tie.close
+pub check_edited_spec : {M : Type 1} → statement M
+check_edited_spec = tie.close
     (tie.spec (λ c. search rules) (λ c. omega (arith, placed c.before)) (λ c. omega (arith, placed (told c)))
     (λ c. omega (arith, placed (told c))) (λ c. omega (arith, placed (told c))) (λ c. omega (arith, placed (told c)))
     (λ c. omega (arith, placed (told c))) (λ c. omega (arith, placed (told c)))

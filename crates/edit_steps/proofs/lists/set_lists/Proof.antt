@@ -16,8 +16,8 @@ use Rattle.edit_steps.proofs.lists.set_lists.Tie as tie
 abbrev sheet_at : tie.Start → Sheet
 sheet_at s = let a = s.args in sheet_of a.supply.now a.demand.now a.cost.now
 
-abbrev start_of : tie.After-known-told → tie.Start
-start_of c = c.before.before.before
+abbrev start_of : tie.In-Cost → tie.Start
+start_of c = c.before
 
 -- The lane has a place among the costs, which are few.
 placed : (s : tie.Start) → let a = s.args in let l = a.e.row * length a.demand.now + a.e.col in
@@ -39,31 +39,30 @@ stored s x =
 abbrev sets : tie.Start → ℤ → Edit
 sets s x = record { row = s.args.e.row; col = s.args.e.col; change = Change.Cost x }
 
-returns : tie.Need-returns
+returns : tie.Need-returns-in-Cost
 unfolding cafes
 returns c =
     let s = start_of c.before in
-    let told = c.before.before.change.given in
     let old : ℤ = get_or s.args.cost.now (s.args.e.row * length s.args.demand.now + s.args.e.col)
     (pos 0) in (
-      ap (stored s) (back w64 told.0.0 (search rules)) ∙ set-cost (sheet_at s) s.args.e told.1,
-      cost-back (sheet_at s) s.args.e _ told.1 (placed s).0 (ap (sets s) (back w64 old (search rules))),
+      ap (stored s) (back w64 c.in-Cost.c (search rules)) ∙ set-cost (sheet_at s) s.args.e c.in-Cost.is,
+      cost-back (sheet_at s) s.args.e _ c.in-Cost.is (placed s).0 (ap (sets s) (back w64 old (search rules))),
       refl,
       refl,
     )
 
-returns-2 : tie.Need-returns-2
+returns-2 : tie.Need-returns-in-Amounts
 returns-2 c =
-    let s = c.before.before.before.before.before in
-    let is = c.before.before.before.change2.given.1 in (
+    let s = c.before.before.before in
+    let is = c.in-Amounts.is in (
       set-amounts (sheet_at s) s.args.e is,
       amounts-back (sheet_at s) s.args.e _ is s.requires.row s.requires.col refl,
       refl,
       refl,
     )
 
-pub set-lists-spec : {M : Type 1} → statement M
-set-lists-spec = tie.close (tie.spec (λ c. search rules)
+pub set_lists_spec : {M : Type 1} → statement M
+set_lists_spec = tie.close (tie.spec (λ c. search rules)
     (λ c. omega (arith, placed (start_of c))) (λ c. omega (arith, placed (start_of c)))
     (λ c. omega (arith, placed (start_of c)))
     (λ c. (placed (start_of c)).0) (λ c. omega (arith, placed (start_of c.before)))
