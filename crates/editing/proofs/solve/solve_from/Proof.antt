@@ -23,48 +23,48 @@ Begins s T =
     a.other.now
     a.lane.now
 
-abbrev start_before : tie.After-price → tie.Start
+abbrev start_before : tie.After-price-1 → tie.Start
 start_before c = c.before.before.before.before.before.before.before
 
-abbrev start : tie.After-finish → tie.Start
+abbrev start : tie.After-finish-rounds → tie.Start
 start f = start_before f.before
 
-finished : (f : tie.After-finish) {T : List Cell} → Begins (start f) T → let s = start f in let l = s.args.begun in
-    let a = f.finish.new in
-    SheetFinished (sheet_at s) T f.finish.result l.parties l.rows l.cols a.0 a.1.0
+finished : (f : tie.After-finish-rounds) {T : List Cell} → Begins (start f) T → let s = start f in let l = s.args.begun in
+    let a = f.finish-rounds.new in
+    SheetFinished (sheet_at s) T f.finish-rounds.result l.parties l.rows l.cols a.q a.e
     s.args.spread.now
-    a.1.1.1.1.1.1.1.1.0 a.1.1.1.1.1.0
-finished f w = sheet-finished w (f.finish.ensures _ _ w.begun)
+    a.price a.lane
+finished f w = sheet-finished w (f.finish-rounds.ensures _ _ w.begun)
 
-abbrev finished_before : tie.After-last-tableau → tie.After-finish
-finished_before l = l.before.before.before.before
+abbrev finished_before : tie.After-last_tableau-tableau → tie.After-finish-rounds
+finished_before l = l.before
 
-abbrev last_before : tie.After-store-solution → tie.After-last-tableau
-last_before o = o.before.before.before.before.before.before.before
+abbrev last_before : tie.After-store_solution → tie.After-last_tableau-tableau
+last_before o = o.before.before.before.before.before.before
 
-store-solution-requires : tie.Need-store-solution-requires
+store-solution-requires : tie.Need-store_solution-requires
 store-solution-requires c κs =
-    let f = finished_before c.before.before.before.before.before.before in
-    ((_, _, _, finished f (start f).pre.0.1), (start f).pre.1)
+    let f = finished_before c.before.before.before.before.before in
+    ((_, _, _, finished f (start f).requires.0.1), (start f).requires.1)
 
-plan-cost-requires : tie.Need-plan-cost-requires
+plan-cost-requires : tie.Need-plan_cost-total-requires
 plan-cost-requires c κs =
-    let o = c.before.before.before.before.before in
+    let o = c.before.before.before.before in
     let f = finished_before (last_before o) in
-    let w = (start f).pre.0.1 in
-    stored_summable (o.store-solution.ensures _ _ _ (finished f w)) w.accepted
+    let w = (start f).requires.0.1 in
+    stored_summable (o.store_solution.ensures _ _ _ (finished f w)) w.accepted
 
 returns : tie.Need-returns
 returns c = λ T w.
-    let o = c.before.before.before.before.before.before in
+    let o = c.before.before.before.before.before in
     let l = last_before o in
     let f = finished_before l in
-    let total = back w64 c.plan-cost.result (search rules) ∙ c.plan-cost.ensures in (
-      told_stored (o.store-solution.ensures _ _ _ (finished f w)) w.accepted total,
-      l.last-tableau.ensures _ _ _ _ _ (finished f w),
+    let total = back w64 c.plan_cost-total.result (search rules) ∙ c.plan_cost-total.ensures in (
+      told_stored (o.store_solution.ensures _ _ _ (finished f w)) w.accepted total,
+      l.last_tableau-tableau.ensures _ _ _ _ _ (finished f w),
     )
 
-pub solve-from-spec : {M : Type 1} → statement M
-solve-from-spec = tie.close (tie.spec (λ c κs. (_, _, (start_before c).requires.0.1.begun))
-    (λ c κs. let f = c.before.before.before in (_, _, _, _, _, finished f (start f).requires.0.1))
+pub solve_from_spec : {M : Type 1} → statement M
+solve_from_spec = tie.close (tie.spec (λ c κs. (_, _, (start_before c).requires.0.1.begun))
+    (λ c κs. let f = c in (_, _, _, _, _, finished f (start f).requires.0.1))
     store-solution-requires plan-cost-requires (λ c. search rules) (λ c. search rules) (λ c. search rules) returns)
