@@ -15,20 +15,17 @@ use Rattle.start_call.specs.Start.{start-refused, start-given}
 use Rattle.start_call.proofs.start.Statement.{statement}
 use Rattle.start_call.proofs.start.Tie as tie
 
-abbrev sheet_at : (c : tie.Start) → Sheet
-sheet_at c = sheet_of c.args.supply.now c.args.demand.now c.args.cost.now
-
 returns : tie.Need-returns-in-Refused
 returns c =
     rw c.empty_tableau.ensures
-    (start-refused (sheet_at c.before.before.before.before.before.before.before) _
-    (refused-some _ _ (sym c.before.before.before.before.check_sheet-check.ensures ∙ c.before.before.check-1.given.1)))
+    (start-refused (sheet_of c.args.supply.now c.args.demand.now c.args.cost.now) _
+    (refused-some _ _ (sym c.check_sheet-check.ensures ∙ c.in-Refused.is)))
 
 abbrev told_at : tie.In_default → Sheet
-told_at c = sheet_at c.before.before.before.before.before
+told_at c = sheet_of c.args.supply.now c.args.demand.now c.args.cost.now
 
 passed : (c : tie.In_default) → refusal (sheet_tests (told_at c)) ≡ none
-passed c = accepted-none _ (sym c.before.before.check_sheet-check.ensures ∙ c.enum_told-1.given.1)
+passed c = accepted-none _ (sym c.check_sheet-check.ensures ∙ c.in_default.is)
 
 number-parties-requires : tie.Need-number_parties-parties-requires
 number-parties-requires c κs = let told = c.before.before.before.before in (_, accepted (told_at told) (passed told))
@@ -45,8 +42,8 @@ ok : (p : tie.After-number_parties-parties) → Accepted (sheet_on p)
 ok p = accepted (sheet_on p) (passed (told_before p))
 
 parties : (p : tie.After-number_parties-parties)
-    → let l = p.number_parties-parties.new.1.1 in
-    PartiesOf (sheet_on p) p.number_parties-parties.result l.0 l.1.0 l.1.1.0 l.1.1.1.0
+    → let l = p.number_parties-parties.new in
+    PartiesOf (sheet_on p) p.number_parties-parties.result l.supplies l.demands l.rows l.cols
 parties p = p.number_parties-parties.ensures (sheet_on p).cost
 
 -- This holds whichever side comes first: a program that changes them (must-fail/sides_changed) fails where its tableau gets own numbers.
@@ -54,7 +51,7 @@ first-tableau-requires : tie.Need-first_tableau-first-requires
 first-tableau-requires c κs =
     let p = c.before.before in
     let P = problem_of (sheet_on p) in
-    rw ((parties p).supplies-1, (parties p).demands-1) (search (rules, sound-costless P (sound (ok p)), sound-turned P (sound (ok p))))
+    rw ((parties p).supplies, (parties p).demands) (search (rules, sound-costless P (sound (ok p)), sound-turned P (sound (ok p))))
 
 -- ---- and the first tableau is made
 
@@ -64,7 +61,7 @@ parties_before f = f.before.before.before
 first : (f : tie.After-first_tableau-first) → f.first_tableau-first.result ≡ tableau_of (start (problem_of (sheet_on (parties_before f))))
 first f =
     let h = parties (parties_before f) in
-    f.first_tableau-first.ensures ∙ rw (h.supplies-1, h.demands-1, start-costless (problem_of (sheet_on (parties_before f))))
+    f.first_tableau-first.ensures ∙ rw (h.supplies, h.demands, start-costless (problem_of (sheet_on (parties_before f))))
 
 own-tableau-requires : tie.Need-own_tableau-own-requires
 own-tableau-requires c κs =
