@@ -8,7 +8,7 @@ use Rattle.round_call.proofs.refused_round.Tie as tie
 
 returns : tie.Need-returns
 unfolding no_prices prices padded max_side
-returns c = rw c.empty-tableau.ensures (round-refused c.before.args.number)
+returns c = rw c.empty_tableau.ensures (round-refused c.args.number)
 
-pub refused-round-spec : {M : Type 1} → statement M
-refused-round-spec = tie.close (tie.spec (λ c κs. tt) returns)
+pub refused_round_spec : {M : Type 1} → statement M
+refused_round_spec = tie.close (tie.spec (λ c κs. tt) returns)
