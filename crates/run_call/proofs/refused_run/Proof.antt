@@ -4,7 +4,7 @@ use Rattle.run_call.proofs.refused_run.Statement.{statement}
 use Rattle.run_call.proofs.refused_run.Tie as tie
 
 returns : tie.Need-returns
-returns c = rw c.empty-tableau.ensures (run-refused c.before.args.number)
+returns c = rw c.empty_tableau.ensures (run-refused c.args.number)
 
-pub refused-run-spec : {M : Type 1} → statement M
-refused-run-spec = tie.close (tie.spec (λ c κs. tt) returns)
+pub refused_run_spec : {M : Type 1} → statement M
+refused_run_spec = tie.close (tie.spec (λ c κs. tt) returns)

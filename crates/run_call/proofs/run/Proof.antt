@@ -17,64 +17,64 @@ use Rattle.run_call.proofs.run.Tie as tie
 abbrev sheet_at : tie.Start → Sheet
 sheet_at s = sheet_of s.args.supply.now s.args.demand.now s.args.cost.now
 
-abbrev start : tie.After-load-sheet → tie.Start
+abbrev start : tie.After-load_sheet-loading → tie.Start
 start l = l.before.before.before.before.before.before.before.before.before
 
-abbrev sheet_on : tie.After-load-sheet → Sheet
+abbrev sheet_on : tie.After-load_sheet-loading → Sheet
 sheet_on l = sheet_at (start l)
 
-abbrev tableau : tie.After-load-sheet → Tableau
+abbrev tableau : tie.After-load_sheet-loading → Tableau
 tableau l = (start l).args.t
 
-returns : tie.Need-returns
+returns : tie.Need-returns-in-Refused
 returns c =
-    let l = c.before.before.before.before in
-    c.refused-run.ensures
+    let l = c.before.before in
+    c.refused_run.ensures
     ∙ ap run_answer (sym (run-refuses (sheet_on l) (tableau l) (start l).args.allowance _
-    (refused-some _ _ (sym l.load-sheet.ensures.0 ∙ c.before.before.check.given.1))))
+    (refused-some _ _ (sym l.load_sheet-loading.ensures.0 ∙ c.in-Refused.is))))
 
 -- ---- nothing is refused
 
-abbrev loaded : tie.After-enum-told → tie.After-load-sheet
-loaded c = c.before.before
+abbrev loaded : tie.In_default → tie.After-load_sheet-loading
+loaded c = c.before
 
-passed : (c : tie.After-enum-told) → refusal (tableau_tests (sheet_on (loaded c)) (tableau (loaded c))) ≡ none
-passed c = accepted-none _ (sym (loaded c).load-sheet.ensures.0 ∙ c.enum_told.given.1)
+passed : (c : tie.In_default) → refusal (tableau_tests (sheet_on (loaded c)) (tableau (loaded c))) ≡ none
+passed c = accepted-none _ (sym (loaded c).load_sheet-loading.ensures.0 ∙ c.in_default.is)
 
-admitted : (c : tie.After-enum-told)
+admitted : (c : tie.In_default)
     → let l = loaded c in
-    let r = l.load-sheet.result in
-    let a = l.load-sheet.last.1.1.1.1 in
+    let r = l.load_sheet-loading.result in
+    let a = l.load_sheet-loading.new in
     Admitted (sheet_on l) (inside (sheet_on l) (tableau l)) r.parties r.rows r.cols
-    a.0 a.1.0 a.1.1.0 a.1.1.1.0 a.1.1.1.1.0 a.1.1.1.1.1.0
-admitted c = (loaded c).load-sheet.ensures.1 (passed c)
+    a.q a.e a.spread a.leaf a.other a.lane
+admitted c = (loaded c).load_sheet-loading.ensures.1 (passed c)
 
-make-run-requires : tie.Need-make-run-requires
+make-run-requires : tie.Need-make_run-end-requires
 make-run-requires c κs = (_, _, (admitted c.before.before.before.before.before.before.before.before).begun)
 
 -- ---- the answer is made of what the run gives, whatever its allowance
 
-abbrev told_at : tie.After-make-run → tie.After-enum-told
+abbrev told_at : tie.After-make_run-end → tie.In_default
 told_at a = a.before.before.before.before.before.before.before.before.before
 
 gather-requires : tie.Need-gather-requires
 gather-requires c κs =
     let a = c.before.before.before in
-    let r = a.make-run.ensures _ _ (admitted (told_at a)).begun in
+    let r = a.make_run-end.ensures _ _ (admitted (told_at a)).begun in
     (_, _, r.sub, r.path, r.board)
 
-abbrev ran_before : tie.After-gather → tie.After-make-run
+abbrev ran_before : tie.After-gather → tie.After-make_run-end
 ran_before g = g.before.before.before.before
 
-own-tableau-requires : tie.Need-own-tableau-requires
+own-tableau-requires : tie.Need-own_tableau-own-requires
 own-tableau-requires c κs =
     let g = c.before.before in
     let a = ran_before g in
     let w = admitted (told_at a) in
-    let r = a.make-run.ensures _ _ w.begun in
+    let r = a.make_run-end.ensures _ _ w.begun in
     (_, g.gather.ensures _ _ _ _ r.board, own-within w.accepted w.parties (board-belongs r.board))
 
-returns-2 : tie.Need-returns-2
+returns-2 : tie.Need-returns
 returns-2 c =
     let o = c.before in
     let g = o.before.before.before in
@@ -84,8 +84,8 @@ returns-2 c =
     let S = sheet_on l in
     let allowance = (start l).args.allowance in
     let w = admitted k in
-    let r = a.make-run.ensures _ _ w.begun in
-    c.ended-run.ensures _ (o.own-tableau.ensures _ (g.gather.ensures _ _ _ _ r.board) ∙ ap tableau_of (own-lent w.accepted w.parties _))
+    let r = a.make_run-end.ensures _ _ w.begun in
+    c.ended_run.ensures _ (o.own_tableau-own.ensures _ (g.gather.ensures _ _ _ _ r.board) ∙ ap tableau_of (own-lent w.accepted w.parties _))
     ∙ ap run_answer (ap given (run_is S allowance (inside S (tableau l)) r.done r.rounds) ∙ sym (run-given S (tableau l) allowance (passed k)))
 
 pub run_spec : {M : Type 1} → statement M
