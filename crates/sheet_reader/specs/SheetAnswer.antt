@@ -2,7 +2,6 @@
 use Rattle.prelude.specs.Words.{◌≡◌, ap, ◌∙◌, List, [], ℕ, ◌*◌, ◌≤◌, ◌<◌, arith, le_trans, mul-le-mul, ℤ, length, take, drop, drop_of_length-le, drop-cons}
 use Rattle.prelude.specs.Words.{length-take-le}
 use Rattle.transport.specs.declared.ReadAnswer.{ReadAnswer}
-use Rattle.transport.specs.declared.ReadAnswer.TheVariants as ReadAnswer
 use Rattle.transport.specs.Limits.{max_sources, max_sinks}
 use Rattle.transport.specs.Text.{bytes}
 use Rattle.transport.specs.Sheet.{Sheet as SheetRecord}

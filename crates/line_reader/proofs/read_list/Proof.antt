@@ -8,74 +8,74 @@ use Rattle.line_reader.specs.SheetRead.{found-got, found-stuck, list_unnamed, li
 use Rattle.line_reader.proofs.read_list.Statement.{statement}
 use Rattle.line_reader.proofs.read_list.Tie as tie
 
-abbrev start : tie.After-read-word → tie.Start
+abbrev start : tie.After-read_word-head → tie.Start
 start c = c.before.before.before.before
 
-returns : tie.Need-returns
+returns : tie.Need-returns-in_default
 returns c =
-    let w = c.before.before in
+    let w = c.before in
     let a = (start w).args in
-    found-stuck _ _ w.read_word.ensures.0 w.read_word.ensures.1 _ (ValueSide a.most) tt (list_unnamed a.name.now a.most _)
-    c.enum_told.given.1
+    found-stuck _ _ w.read_word-head.ensures.0 w.read_word-head.ensures.1 _ (ValueSide a.most) tt (list_unnamed a.name.now a.most _)
+    c.in_default.is
 
 -- The word was read.
-module _ (c : tie.After-known-told) where
+module _ (c : tie.In-Got) where
   abbrev s : tie.Start
-  s = start c.before.before.before
+  s = start c.before
 
   abbrev next : ℕ
-  next = c.before.head.given.0.1.0
+  next = c.in-Got.next
 
   named : let text = s.args.text.now in (word s.args.name.now (drop s.args.at text) ≡ got tt (drop next text)) × (next ≤ length text)
-  named = let w = c.before.before.before.read_word in found-got _ _ w.ensures.0 w.ensures.1 c.before.head.given.1
+  named = let w = c.read_word-head in found-got _ _ w.ensures.0 w.ensures.1 c.in-Got.is
 
-abbrev worded : tie.After-read-end → tie.After-known-told
+abbrev worded : tie.After-read_end-count → tie.In-Got
 worded c = c.before.before
 
-counted : (c : tie.After-read-end) → let a = (s (worded c)).args in
-    line (side a.most) (drop (next (worded c)) a.text.now) ≡ reading_of a.text.now (λ v. v) c.read-end.result
-counted c = line-end (side (s (worded c)).args.most) _ ∙ (rw (← ending-last, c.before.read-side.ensures.0) c.read-end.ensures.0)
+counted : (c : tie.After-read_end-count) → let a = (s (worded c)).args in
+    line (side a.most) (drop (next (worded c)) a.text.now) ≡ reading_of a.text.now (λ v. v) c.read_end-count.result
+counted c = line-end (side (s (worded c)).args.most) _ ∙ (rw (← ending-last, c.read_side.ensures.0) c.read_end-count.ensures.0)
 
-returns-2 : tie.Need-returns-2
+returns-2 : tie.Need-returns-in_default-count
 returns-2 c =
-    let w = c.before.before in
+    let w = c.before in
     let a = (s (worded w)).args in
-    found-stuck _ _ (counted w) w.read-end.ensures.1 _ (ValueSide a.most) tt
-    (list_uncounted a.name.now a.most _ _ (named (worded w)).0) c.enum-told2.given.1
+    found-stuck _ _ (counted w) w.read_end-count.ensures.1 _ (ValueSide a.most) tt
+    (list_uncounted a.name.now a.most _ _ (named (worded w)).0) c.in_default-count.is
 
 -- The count was read.
-module _ (c : tie.After-known-told2) where
-  abbrev read : tie.After-read-end
-  read = c.before.before.before
+module _ (c : tie.In-Got-count) where
+  abbrev read : tie.After-read_end-count
+  read = c.before
 
   abbrev first : tie.Start
   first = s (worded read)
 
   abbrev count : ℕ
-  count = c.before.count.given.0.0
+  count = c.in-Got-count.value
 
   abbrev after : ℕ
-  after = c.before.count.given.0.1.0
+  after = c.in-Got-count.after
 
   counted-as : let a = first.args in let text = a.text.now in
       (line (side a.most) (drop (next (worded read)) text) ≡ got count (drop after text)) × (after ≤ length text)
-  counted-as = found-got _ _ (counted read) read.read-end.ensures.1 c.before.count.given.1
+  counted-as = found-got _ _ (counted read) read.read_end-count.ensures.1 c.in-Got-count.is
 
   sided : (1 ≤ count) × (count ≤ first.args.most)
   sided = within-true 1 _ count (line-side-within _ count _ _ counted-as.0)
 
-returns-3 : tie.Need-returns-3
+returns-3 : tie.Need-returns
 returns-3 c =
-    let w = c.before.before.read-lines in
+    let w = c.read_lines in
     let k = c.before.before.before.before in (
       list_counted (first k).args.name.now (first k).args.most _ _ (named (worded (read k))).0 (count k) _ (counted-as k).0 ∙ w.ensures.0,
       w.ensures.1,
       side-value (first k).args.most (count k) w.result (sided k).0 (sided k).1 w.ensures.2,
     )
 
-pub read-list-spec : {M : Type 1} → statement M
-read-list-spec =
+pub read_list_spec : {M : Type 1} → statement M
+read_list_spec =
     tie.close (tie.spec (λ c κs. search rules) (λ c. search rules) (λ c. search rules) returns
-    (λ c κs. ((named c).1, (s c).requires.1)) (λ c κs. c.read-side.ensures.1) (λ c. search rules) (λ c. search rules) returns-2
-    (λ c κs. ((counted-as c.before).1, omega arith, omega (arith, sided c.before, (first c.before).pre.2)))
+    (λ c κs. ((named c).1, (s c).requires.1)) (λ c κs. c.read_side.ensures.1) (λ c. search rules) (λ c. search rules) returns-2
+    (λ c κs. ((counted-as c.before).1, omega arith, omega (arith, sided c.before, (first c.before).requires.2)))
     (λ c. search rules) returns-3)

@@ -5,26 +5,26 @@ use Rattle.tokens.specs.Reading.{DigitAt, digit_at, number-stuck, number-low, nu
 use Rattle.number_reader.proofs.read_number.Statement.{statement}
 use Rattle.number_reader.proofs.read_number.Tie as tie
 
-returns : tie.Need-returns
-returns c = (number-stuck _ _ (sym c.before.digit_at.ensures ∙ not-true _ c.if1.true), c.before.before.before.requires)
+returns : tie.Need-returns-then-not-digit_at
+returns c = (number-stuck _ _ (sym c.digit_at.ensures ∙ not-true _ c.if-not-digit_at.true-raw), c.requires)
 
-digit : (c : tie.Else1) → DigitAt c.before.before.before.args.text.now c.before.before.before.args.at
-digit c = digit_at _ _ (sym c.before.digit_at.ensures ∙ not-false _ c.if1.false)
+digit : (c : tie.Else-not-digit_at) → DigitAt c.args.text.now c.args.at
+digit c = digit_at _ _ (sym c.digit_at.ensures ∙ not-false _ c.if-not-digit_at.false-raw)
 
-returns-2 : tie.Need-returns-2
-returns-2 c = (number-low _ (digit c.before.before) c.if2.true, c.before.before.before.before.before.requires)
+returns-2 : tie.Need-returns-then-leading-low
+returns-2 c = (number-low _ (digit c.before.before) c.if-leading-low.true, c.requires)
 
-returns-3 : tie.Need-returns-3
-returns-3 c = let d = digit c.before.before.before in (number-zero _ d c.before.if2.false c.if3.true, omega arith)
+returns-3 : tie.Need-returns-then-leading-eq0
+returns-3 c = let d = digit c.before.before.before in (number-zero _ d c.if-leading-low.false c.if-leading-eq0.true, omega arith)
 
-returns-4 : tie.Need-returns-4
+returns-4 : tie.Need-returns
 unfolding max_digits
 returns-4 c = (
-  number_more _ (digit c.before.before.before.before) c.before.before.if2.false c.before.if3.false ∙ c.more-digits.ensures.0,
-  c.more-digits.ensures.1,
+  number_more _ (digit c.before.before.before.before) c.if-leading-low.false c.if-leading-eq0.false ∙ c.more_digits.ensures.0,
+  c.more_digits.ensures.1,
 )
 
-pub read-number-spec : {M : Type 1} → statement M
-read-number-spec = tie.close (tie.spec (λ c κs. search rules) returns (λ c. (digit c.before).inside) (λ c. (digit c.before).low)
+pub read_number_spec : {M : Type 1} → statement M
+read_number_spec = tie.close (tie.spec (λ c κs. search rules) returns (λ c. (digit c.before).inside) (λ c. (digit c.before).low)
     (λ c. omega (arith, (digit c.before).high)) returns-2 (λ c. omega (arith, (digit c.before.before).inside)) returns-3
     (λ c κs. let d = digit c.before.before.before in omega arith) returns-4)

@@ -6,40 +6,38 @@ use Rattle.sheet_writer.specs.SheetSections.{demand_section, cost_section}
 use Rattle.sheet_writer.proofs.write_after_supply.Statement.{statement}
 use Rattle.sheet_writer.proofs.write_after_supply.Tie as tie
 
-abbrev start : tie.After-write-section-arg2 → tie.Start
+abbrev start : tie.After-write_section-arg-2-1 → tie.Start
 start c = c.before.before.before.before
 
-write-section-requires : tie.Need-write-section-requires
+write-section-requires : tie.Need-write_section-at-requires
 unfolding bytes
-write-section-requires c κs = let a = (start c).args in
-    first-room (demand_section a.demand.now) (cost_section a.m (length a.demand.now) a.cost.now) a.out.now (start c).requires.1
+write-section-requires c κs = let a = (start c.before).args in
+    first-room (demand_section a.demand.now) (cost_section a.m (length a.demand.now) a.cost.now) a.out.now (start c.before).requires.1
 
-begun : (c : tie.After-write-section) → let t = start c.before in
+begun : (c : tie.After-write_section-at) → let t = start c.before.before in
     FirstWritten (demand_section t.args.demand.now) (cost_section t.args.m (length t.args.demand.now) t.args.cost.now) t.args.out.now
-    c.write-section.new.1.1.1.0 c.write-section.result
+    c.write_section-at.new.out c.write_section-at.result
 unfolding bytes
-begun c = record { room = (start c.before).requires.1; ends = c.write-section.ensures.0; holds = c.write-section.ensures.1 }
+begun c = record { room = (start c.before.before).requires.1; ends = c.write_section-at.ensures.0; holds = c.write_section-at.ensures.1 }
 
-abbrev written : tie.After-write-whole-section-arg → tie.After-write-section
+abbrev written : tie.After-write_whole_section-arg-1 → tie.After-write_section-at
 written c = c.before.before.before
 
-add-result : tie.Need-overflow-add-result
+add-result : tie.Need-overflow_add-result
 unfolding bytes
 add-result c =
-    let w = c.before.before in
-    let s = written w.before.before in
-    omega (arith, (begun s).room, (start s.before).well-formed, both-length (begun s) _ w.write-whole-section.ensures.0)
+    let s = written c.before.before.before.before.before in
+    omega (arith, (begun s).room, (start s.before.before).well_formed, both-length (begun s) _ c.write_whole_section.ensures.0)
 
 returns : tie.Need-returns
 unfolding bytes
 returns c =
-    let w = c.before.before in
-    let b = begun (written w.before.before) in
-    (both-length b _ w.write-whole-section.ensures.0, both-written b _ w.write-whole-section.ensures.1)
+    let b = begun (written c.before.before.before.before.before) in
+    (both-length b _ c.write_whole_section.ensures.0, both-written b _ c.write_whole_section.ensures.1)
 
-pub write-after-supply-spec : {M : Type 1} → statement M
+pub write_after_supply_spec : {M : Type 1} → statement M
 unfolding bytes
-write-after-supply-spec =
-    tie.close (tie.spec (λ c. search rules) write-section-requires (λ c. search rules) (λ c. second-start (begun (written c)))
-    (λ c. second-start (begun (written c))) (λ c. search rules)
-    (λ c κs. let w = written c.before in ((start w.before).requires.0, second-room (begun w))) add-result (λ c. search rules) returns)
+write_after_supply_spec =
+    tie.close (tie.spec write-section-requires (λ c. second-start (begun (written c.before)))
+    (λ c. second-start (begun (written c.before))) (λ c. search rules)
+    (λ c κs. let w = written c.before.before in ((start w.before.before).requires.0, second-room (begun w))) add-result (λ c. search rules) returns)

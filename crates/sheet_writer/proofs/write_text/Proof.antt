@@ -17,45 +17,43 @@ module _ (t : tie.Start) where
   others = demand_section t.args.demand.now ++ cost_section (length t.args.supply.now) (length t.args.demand.now) t.args.cost.now
 
   sections : sheet_text sheet_at ≡ supply_section t.args.supply.now ++ others
-  sections = sheet_sections sheet_at (sinks-some sheet_at t.pre.0.limits) (costs-whole sheet_at t.pre.0.limits)
+  sections = sheet_sections sheet_at (sinks-some sheet_at t.requires.0.limits) (costs-whole sheet_at t.requires.0.limits)
 
   room : length (supply_section t.args.supply.now ++ others) ≤ length t.args.out.now
-  room = rw sections at t.pre.1
+  room = rw sections at t.requires.1
 
-abbrev start : tie.After-write-section-arg2 → tie.Start
+abbrev start : tie.After-write_section-arg-2-1 → tie.Start
 start c = c.before.before.before.before.before
 
-write-section-requires : tie.Need-write-section-requires
+write-section-requires : tie.Need-write_section-at-requires
 unfolding bytes
-write-section-requires c κs = let t = start c in first-room (supply_section t.args.supply.now) (others t) t.args.out.now (room t)
+write-section-requires c κs = let t = start c.before in first-room (supply_section t.args.supply.now) (others t) t.args.out.now (room t)
 
-begun : (c : tie.After-write-section) → let t = start c.before in
-    FirstWritten (supply_section t.args.supply.now) (others t) t.args.out.now c.write-section.new.1.1.1.0 c.write-section.result
+begun : (c : tie.After-write_section-at) → let t = start c.before.before in
+    FirstWritten (supply_section t.args.supply.now) (others t) t.args.out.now c.write_section-at.new.out c.write_section-at.result
 unfolding bytes
-begun c = record { room = room (start c.before); ends = c.write-section.ensures.0; holds = c.write-section.ensures.1 }
+begun c = record { room = room (start c.before.before); ends = c.write_section-at.ensures.0; holds = c.write_section-at.ensures.1 }
 
-abbrev written : tie.After-write-after-supply-arg → tie.After-write-section
+abbrev written : tie.After-write_after_supply-arg-1 → tie.After-write_section-at
 written c = c.before.before.before
 
-write-after-supply-requires : tie.Need-write-after-supply-requires
+write-after-supply-requires : tie.Need-write_after_supply-requires
 write-after-supply-requires c κs =
-    let t = start (written c).before in
-    (sinks-some (sheet_at t) t.pre.0.limits, second-room (begun (written c)))
+    let t = start (written c).before.before in
+    (sinks-some (sheet_at t) t.requires.0.limits, second-room (begun (written c)))
 
-add-result : tie.Need-overflow-add-result
+add-result : tie.Need-overflow_add-result
 add-result c =
-    let w = c.before.before in
-    let s = written w.before in
-    omega (arith, (begun s).room, (start s.before).well-formed, both-length (begun s) _ w.write-after-supply.ensures.0)
+    let s = written c.before.before.before in
+    omega (arith, (begun s).room, (start s.before.before).well_formed, both-length (begun s) _ c.write_after_supply.ensures.0)
 
 returns : tie.Need-returns
 returns c =
-    let w = c.before.before in
-    let s = written w.before in
-    let e = w.write-after-supply.ensures in
-    rw (sections (start s.before)) (both-length (begun s) _ e.0, both-written (begun s) _ e.1)
+    let s = written c.before.before.before in
+    let e = c.write_after_supply.ensures in
+    rw (sections (start s.before.before)) (both-length (begun s) _ e.0, both-written (begun s) _ e.1)
 
-pub write-text-spec : {M : Type 1} → statement M
-write-text-spec =
-    tie.close (tie.spec (λ c. search rules) write-section-requires (λ c. second-start (begun c.before.before))
+pub write_text_spec : {M : Type 1} → statement M
+write_text_spec =
+    tie.close (tie.spec write-section-requires (λ c. second-start (begun c.before.before))
     (λ c. second-start (begun c.before.before)) (λ c. search rules) write-after-supply-requires add-result (λ c. search rules) returns)

@@ -4,7 +4,6 @@ use Rattle.transport.specs.Lists.{at}
 use Rattle.plan_lines.specs.Lanes.{used_count_of, count-zero, count_none, count-one}
 use Rattle.plan_lines.proofs.lanes.used_count.Statement.{statement}
 use Rattle.plan_lines.proofs.lanes.used_count.Tie as tie
-use Rattle.plan_lines.proofs.lanes.used_count.Lts.{then-plan-l-gt0, else-plan-l-gt0}
 
 abbrev invariant-loop : tie.invariant-loop-l
 invariant-loop plan count₀ l₀ count l = (l ≤ length plan) × (count ≤ l) × (count ≡ used_count_of plan l)
@@ -18,11 +17,8 @@ loop-holds c = (omega arith, omega arith, sym (count-zero c.args.plan.now))
 -- The lane carries a bag, or it carries none.
 loop-again : tie.Need-loop-l-preserved invariant-loop decreases-loop
 unfolding at
-loop-again c = let l = c.before.before.before.loop-l in let plan = c.before.before.before.before.args.plan.now in
-    elim c.if-plan-l-gt0.branch [
-      | then-plan-l-gt0 w ↦ omega (arith, w.count-is, l.invariant, count-one plan l.l (λ z. omega (arith, w.if-plan-l-gt0.true)))
-      | else-plan-l-gt0 w ↦ omega (arith, w.count-is, l.invariant, count_none plan l.l (omega (arith, w.if-plan-l-gt0.false)))
-    ]
+loop-again c = let l = c.loop-l in let plan = c.args.plan.now in
+    (grind arith, grind arith, grind (arith, count-one plan l.l, count_none plan l.l))
 
 returns : tie.Need-returns invariant-loop decreases-loop
 returns c = let l = c.before.loop-l in let e : l.l ≡ length c.before.before.args.plan.now = omega arith in rw (← e) l.invariant.2

@@ -16,15 +16,15 @@ as-it-is c = back w64 c.args.figures.total (search rules)
 
 write-whole-section-requires : tie.Need-write_whole_section-at-requires
 unfolding figures_text bytes
-write-whole-section-requires c κs = let t = c in (
+write-whole-section-requires c κs = (
   omega arith,
-  rw (as-it-is c.before.before.before.before) (first-room (section_text whole_digits (bytes "total ") 1 1 (t.args.figures.total ∷ []))
-      (section_text digits (bytes "rounds ") 1 1 (t.args.figures.rounds ∷ [])) t.args.out.now t.requires),
+  rw (as-it-is c.before.before.before.before) (first-room (section_text whole_digits (bytes "total ") 1 1 (c.args.figures.total ∷ []))
+      (section_text digits (bytes "rounds ") 1 1 (c.args.figures.rounds ∷ [])) c.args.out.now c.requires),
 )
 
-begun : (c : tie.After-write_whole_section-at) → let t = c in
-    FirstWritten (section_text whole_digits (bytes "total ") 1 1 (t.args.figures.total ∷ []))
-    (section_text digits (bytes "rounds ") 1 1 (t.args.figures.rounds ∷ [])) t.args.out.now
+begun : (c : tie.After-write_whole_section-at) →
+    FirstWritten (section_text whole_digits (bytes "total ") 1 1 (c.args.figures.total ∷ []))
+    (section_text digits (bytes "rounds ") 1 1 (c.args.figures.rounds ∷ [])) c.args.out.now
     c.write_whole_section-at.new.out c.write_whole_section-at.result
 unfolding figures_text bytes
 begun c = let total = as-it-is c.before.before.before.before.before in

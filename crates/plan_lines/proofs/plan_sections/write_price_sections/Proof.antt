@@ -8,11 +8,11 @@ use Rattle.plan_lines.proofs.plan_sections.write_price_sections.Tie as tie
 
 write-whole-section-requires : tie.Need-write_whole_section-at-requires
 unfolding prices_text bytes
-write-whole-section-requires c κs = let t = c in let first = price_section (bytes "roasteries ") t.args.u.now in
-    (omega arith, first-room first (price_section (bytes "cafes ") t.args.v.now) t.args.out.now t.requires)
+write-whole-section-requires c κs = let first = price_section (bytes "roasteries ") c.args.u.now in
+    (omega arith, first-room first (price_section (bytes "cafes ") c.args.v.now) c.args.out.now c.requires)
 
-begun : (c : tie.After-write_whole_section-at) → let t = c in
-    FirstWritten (price_section (bytes "roasteries ") t.args.u.now) (price_section (bytes "cafes ") t.args.v.now) t.args.out.now
+begun : (c : tie.After-write_whole_section-at) →
+    FirstWritten (price_section (bytes "roasteries ") c.args.u.now) (price_section (bytes "cafes ") c.args.v.now) c.args.out.now
     c.write_whole_section-at.new.out c.write_whole_section-at.result
 unfolding prices_text bytes
 begun c = record { room = c.requires; ends = c.write_whole_section-at.ensures.0; holds = c.write_whole_section-at.ensures.1 }

@@ -3,11 +3,11 @@ use Rattle.prelude.specs.Words.{rules}
 use Rattle.sheet_reader.proofs.whole_text.not_sheet_text.Statement.{statement}
 use Rattle.sheet_reader.proofs.whole_text.not_sheet_text.Tie as tie
 
-returns : tie.Need-returns
-returns c = let e = c.before.found.given.1 in rw e
+returns : tie.Need-returns-in-Got
+returns c = let e = c.in-Got.is in rw e
 
-returns-2 : tie.Need-returns-2
-returns-2 c = let e = c.before.found2.given.1 in rw e
+returns-2 : tie.Need-returns-in-Stuck
+returns-2 c = let e = c.in-Stuck.is in rw e
 
-pub not-sheet-text-spec : {M : Type 1} → statement M
-not-sheet-text-spec = tie.close (tie.spec (λ c. search rules) (λ c. search rules) returns returns-2)
+pub not_sheet_text_spec : {M : Type 1} → statement M
+not_sheet_text_spec = tie.close (tie.spec (λ c. search rules) (λ c. search rules) returns returns-2)

@@ -5,24 +5,24 @@ use Rattle.sheet_reader.specs.SheetAnswer.{CostsRead, costs_read, more-answer, e
 use Rattle.sheet_reader.proofs.whole_text.read_after_demand.Statement.{statement}
 use Rattle.sheet_reader.proofs.whole_text.read_after_demand.Tie as tie
 
-abbrev start : tie.After-read-costs → tie.Start
+abbrev start : tie.After-read_costs-costs → tie.Start
 start c = c.before.before.before
 
-abbrev read : tie.After-known-told → tie.After-read-costs
-read c = c.before.before.before.before
+abbrev read : tie.In-Got → tie.After-read_costs-costs
+read c = c.before.before
 
-returns : tie.Need-returns
+returns : tie.Need-returns-in_default
 returns c =
-    let r = c.before.before.before.before in let a = (start r).args in let e = r.read-costs.ensures in
-    rw c.not-sheet-text.ensures
-    (answer-stopped a.text.now _ _ (costs-stuck a.m a.n (drop a.at a.text.now)) _ _ _ e.0 e.1 c.before.enum_told.given.1)
+    let r = c.before.before.before in let a = (start r).args in let e = r.read_costs-costs.ensures in
+    rw c.not_sheet_text.ensures
+    (answer-stopped a.text.now _ _ (costs-stuck a.m a.n (drop a.at a.text.now)) _ _ _ e.0 e.1 c.in_default.is)
 
-cost-read : (c : tie.After-known-told) → let r = read c in let a = (start r).args in
-    CostsRead a.m a.n a.text.now a.at r.read-costs.last.1.1.1.1.0 c.before.costs.given.0.1.0
-cost-read c = let e = (read c).read-costs.ensures in costs_read e.0 e.1 e.2 c.before.costs.given.1
+cost-read : (c : tie.In-Got) → let r = read c in let a = (start r).args in
+    CostsRead a.m a.n a.text.now a.at r.read_costs-costs.new.list c.in-Got.next
+cost-read c = let e = (read c).read_costs-costs.ensures in costs_read e.0 e.1 e.2 c.in-Got.is
 
-pub read-after-demand-spec : {M : Type 1} → statement M
-read-after-demand-spec =
+pub read_after_demand_spec : {M : Type 1} → statement M
+read_after_demand_spec =
     tie.close (tie.spec (λ c κs. search rules) (λ c. search rules) (λ c. search rules) (λ c κs. search rules) (λ c. search rules) returns
-    (λ c. search rules) (λ c. more-answer (cost-read c.before) c.if1.true) (λ c. search rules)
-    (λ c. (end-answer (cost-read c.before) c.if1.false, (refl, refl))))
+    (λ c. search rules) (λ c. more-answer (cost-read c.before) c.if-next-text.true) (λ c. search rules)
+    (λ c. (end-answer (cost-read c.before) c.if-next-text.false, (refl, refl))))

@@ -7,40 +7,39 @@ use Rattle.sheet_reader.specs.SheetAnswer.{ListRead, list_read, answer-stopped, 
 use Rattle.sheet_reader.proofs.whole_text.read_sections.Statement.{statement}
 use Rattle.sheet_reader.proofs.whole_text.read_sections.Tie as tie
 
-abbrev start : tie.After-read-list → tie.Start
-start c = c.before.before.before.before.before.before
+abbrev start : tie.After-read_list-supplies → tie.Start
+start c = c.before.before.before.before.before.before.before
 
-abbrev read : tie.After-slice-known3 → tie.After-read-list
+abbrev read : tie.After-slice_known-3-1 → tie.After-read_list-supplies
 read c = c.before.before
 
-returns : tie.Need-returns
+returns : tie.Need-returns-in_default
 unfolding bytes max_sources
 returns c =
-    let r = read c.before.before.before in let t = (start r).args.text.now in let e = r.read-list.ensures in
-    rw c.not-sheet-text.ensures (answer-stopped t _ _ (sheet-stuck t) _ _ _ e.0 e.1 c.before.enum_told.given.1)
+    let r = read c.before.before in let t = (start r).args.text.now in let e = r.read_list-supplies.ensures in
+    rw c.not_sheet_text.ensures (answer-stopped t _ _ (sheet-stuck t) _ _ _ e.0 e.1 c.in_default.is)
 
 -- The supplies were read.
-module _ (c : tie.After-known-told) where
-  abbrev r : tie.After-read-list
-  r = read c.before.before.before
+module _ (c : tie.In-Got) where
+  abbrev r : tie.After-read_list-supplies
+  r = read c.before
 
-  supply-read : let g = c.before.supplies.given.0 in
-      ListRead (bytes "supply ") max_sources (start r).args.text.now 0 r.read-list.last.1.1.1.1.0 g.0 g.1.0
+  supply-read :
+      ListRead (bytes "supply ") max_sources (start r).args.text.now 0 r.read_list-supplies.new.list c.in-Got.m c.in-Got.next
   unfolding bytes max_sources
   supply-read =
-      let w = r.read-list in
-      list_read w.ensures.0 w.ensures.1 w.ensures.2 (omega (arith, w.kept, (start r).pre.0)) c.before.supplies.given.1
+      let w = r.read_list-supplies in
+      list_read w.ensures.0 w.ensures.1 w.ensures.2 (omega (arith, w.auto.list, (start r).requires.0)) c.in-Got.is
 
-returns-2 : tie.Need-returns-2
+returns-2 : tie.Need-returns
 returns-2 c =
-    let a = c.before.before.before in
-    let w = a.read-after-supply in
-    supplies-answer (supply-read a.before.before.before) _ _ w.result w.ensures.0 w.ensures.1
+    let w = c.read_after_supply in
+    supplies-answer (supply-read c.before.before.before.before.before.before) _ _ w.result w.ensures.0 w.ensures.1
 
-pub read-sections-spec : {M : Type 1} → statement M
+pub read_sections_spec : {M : Type 1} → statement M
 unfolding max_sources
-read-sections-spec =
-    tie.close (tie.spec (λ c. search rules) (λ c κs. search rules) (λ c. search rules) (λ c. search rules) (λ c κs. search rules)
+read_sections_spec =
+    tie.close (tie.spec (λ c κs. search rules) (λ c. search rules) (λ c. search rules) (λ c κs. search rules)
     (λ c. search rules) returns
     (λ c κs. let k = c.before.before in let p = (start (r k)).requires in ((supply-read k).inside, (supply-read k).few, p.1, p.2))
     (λ c. search rules) (λ c. search rules) (λ c. search rules) returns-2)

@@ -17,7 +17,7 @@ finished : (s : tie.Start) → let l = s.args.loaded in
     s.args.q.now s.args.e.now s.requires.3 s.requires.4 s.args.lane.now
 finished s = s.requires.5
 
-own-tableau-requires : tie.Need-own-tableau-requires
+own-tableau-requires : tie.Need-own_tableau-requires
 own-tableau-requires c κs =
     let g = c.before.before in
     let f = finished (start g) in
@@ -28,10 +28,10 @@ returns : tie.Need-returns
 returns c = λ S T made cost price f.
     let g = c.before.before.before in
     let gathered = g.gather.ensures _ _ _ _ f.judged.board in
-    last-given S T (c.own-tableau.ensures _ gathered ∙ ap tableau_of (own-lent f.accepted f.parties _))
+    last-given S T (c.own_tableau.ensures _ gathered ∙ ap tableau_of (own-lent f.accepted f.parties _))
 
-pub last-tableau-spec : {M : Type 1} → statement M
-last-tableau-spec = tie.close (tie.spec
+pub last_tableau_spec : {M : Type 1} → statement M
+last_tableau_spec = tie.close (tie.spec
     (λ c κs. let j = (finished c.before.before).judged in (_, _, j.sub, j.path, j.board))
     (λ c. (finished (start c)).parties.rows_room) (λ c. rows-lent (finished (start c.before)).parties)
     (λ c. (finished (start c.before)).parties.cols_room)
