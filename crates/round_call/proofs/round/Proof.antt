@@ -33,24 +33,24 @@ tableau l = (start l).args.t
 
 returns : tie.Need-returns-in-Refused
 returns c =
-    let l = c.before.before.before.before in
+    let l = c.before.before in
     c.refused_round.ensures
-    ∙ ap round_answer (sym (round-refuses (sheet_on l) (tableau l) _ (refused-some _ _ (sym l.load_sheet-loading.ensures.0 ∙ c.check-1.given.1))))
+    ∙ ap round_answer (sym (round-refuses (sheet_on l) (tableau l) _ (refused-some _ _ (sym l.load_sheet-loading.ensures.0 ∙ c.in-Refused.is))))
 
 -- ---- nothing is refused
 
 abbrev loaded : tie.In_default → tie.After-load_sheet-loading
-loaded c = c.before.before
+loaded c = c.before
 
 passed : (c : tie.In_default) → refusal (tableau_tests (sheet_on (loaded c)) (tableau (loaded c))) ≡ none
-passed c = accepted-none _ (sym (loaded c).load_sheet-loading.ensures.0 ∙ c.enum_told-1.given.1)
+passed c = accepted-none _ (sym (loaded c).load_sheet-loading.ensures.0 ∙ c.in_default.is)
 
 admitted : (c : tie.In_default)
     → let l = loaded c in
     let r = l.load_sheet-loading.result in
-    let a = l.load_sheet-loading.last.1.1.1.1 in
-    Admitted (sheet_on l) (inside (sheet_on l) (tableau l)) r.parties r.rows-1 r.cols-1
-    a.0 a.1.0 a.1.1.0 a.1.1.1.0 a.1.1.1.1.0 a.1.1.1.1.1.0
+    let a = l.load_sheet-loading.new in
+    Admitted (sheet_on l) (inside (sheet_on l) (tableau l)) r.parties r.rows r.cols
+    a.q a.e a.spread a.leaf a.other a.lane
 admitted c = (loaded c).load_sheet-loading.ensures.1 (passed c)
 
 make-round-requires : tie.Need-make_round-turn-requires
@@ -66,8 +66,8 @@ rounded : (a : tie.After-make_round-turn)
     let S = sheet_on l in
     let b = a.make_round-turn.new in
     let p = l.load_sheet-loading.result.parties in
-    Rounded (problem_of S) (inside S (tableau l)) b.0 b.1.0 a.make_round-turn.result.price b.1.1.1.1.1.0
-    p.rows-1 p.columns a.make_round-turn.result.finished
+    Rounded (problem_of S) (inside S (tableau l)) b.q b.e a.make_round-turn.result.price b.lane
+    p.rows p.columns a.make_round-turn.result.finished
 rounded a = a.make_round-turn.ensures _ _ (admitted (told_at a)).begun
 
 -- The tableau is finished.
@@ -75,7 +75,7 @@ abbrev done_at : tie.Then-finished → tie.After-make_round-turn
 done_at c = c.before
 
 abbrev done_before : tie.After-finished_round-arg-1 → tie.Then-finished
-done_before c = c.before.before.before.before
+done_before c = c.before.before.before
 
 finished-round-requires : tie.Need-finished_round-requires
 finished-round-requires c κs =

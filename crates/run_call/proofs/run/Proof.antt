@@ -28,25 +28,25 @@ tableau l = (start l).args.t
 
 returns : tie.Need-returns-in-Refused
 returns c =
-    let l = c.before.before.before.before in
+    let l = c.before.before in
     c.refused_run.ensures
     ∙ ap run_answer (sym (run-refuses (sheet_on l) (tableau l) (start l).args.allowance _
-    (refused-some _ _ (sym l.load_sheet-loading.ensures.0 ∙ c.check-1.given.1))))
+    (refused-some _ _ (sym l.load_sheet-loading.ensures.0 ∙ c.in-Refused.is))))
 
 -- ---- nothing is refused
 
 abbrev loaded : tie.In_default → tie.After-load_sheet-loading
-loaded c = c.before.before
+loaded c = c.before
 
 passed : (c : tie.In_default) → refusal (tableau_tests (sheet_on (loaded c)) (tableau (loaded c))) ≡ none
-passed c = accepted-none _ (sym (loaded c).load_sheet-loading.ensures.0 ∙ c.enum_told-1.given.1)
+passed c = accepted-none _ (sym (loaded c).load_sheet-loading.ensures.0 ∙ c.in_default.is)
 
 admitted : (c : tie.In_default)
     → let l = loaded c in
     let r = l.load_sheet-loading.result in
-    let a = l.load_sheet-loading.last.1.1.1.1 in
-    Admitted (sheet_on l) (inside (sheet_on l) (tableau l)) r.parties r.rows-1 r.cols-1
-    a.0 a.1.0 a.1.1.0 a.1.1.1.0 a.1.1.1.1.0 a.1.1.1.1.1.0
+    let a = l.load_sheet-loading.new in
+    Admitted (sheet_on l) (inside (sheet_on l) (tableau l)) r.parties r.rows r.cols
+    a.q a.e a.spread a.leaf a.other a.lane
 admitted c = (loaded c).load_sheet-loading.ensures.1 (passed c)
 
 make-run-requires : tie.Need-make_run-end-requires
