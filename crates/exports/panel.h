@@ -1,4 +1,4 @@
-/* The calls of the bag plan panel for programs in C and C++: link target/staticlib/libexports.a (rt staticlib exports). docs/EMBEDDING.md says how.
+/* The calls of the bag plan panel for programs in C and C++: link target/staticlib/libexports.a (tools/build exports). docs/EMBEDDING.md says how.
  *
  * A list is a pointer and a length. Rows (roasteries) and columns (cafés) count from 0; costs and plans are in sheet order, row by row. Amounts are in bags,
  * and 0 where a café is closed or a roastery has nothing; costs and prices are in cents a bag; a lane that earns money has a cost below 0, and so may a whole
