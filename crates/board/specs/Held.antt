@@ -46,7 +46,8 @@ basis_test : (T : List Cell) (i j : ℕ) {b : Bool} → b ≡ is_basic T i j →
 basis_test T i j e = ((λ s. (has-basic T i j).1 (is_basic-true T i j (sym e ∙ s))), (λ l. e ∙ true-is_basic ((has-basic T i j).0 l)))
 
 -- Distinct cells stand on distinct lanes.
-pub lanes-apart : (T : List Cell) → Distinct T → (h k : ℕ) → h < k → k < length (basis_for T) → get_or (basis_for T) h (lane 0 0) ≢ get_or (basis_for T) k (lane 0 0)
+pub lanes-apart : (T : List Cell) → Distinct T → (h k : ℕ) → h < k → k < length (basis_for T)
+    → get_or (basis_for T) h (lane 0 0) ≢ get_or (basis_for T) k (lane 0 0)
 unfolding basis_for lane_of no_cell
 lanes-apart T d h k l r e =
     let s : lane_of (get_or T h no_cell) ≡ lane_of (get_or T k no_cell) = sym (get_or-map lane_of T h no_cell) ∙ e ∙ get_or-map lane_of T k no_cell in
@@ -108,7 +109,8 @@ length-linked m i j adj = simp length-set
 eqb-turn : (a b : ℕ) → eqb a b ≡ eqb b a
 eqb-turn a b = by_test (eqb b a) (λ s. rw s (eq-eqb a b (sym (eqb-true b a s)))) (λ s. rw s (ne_eqb a b (λ r. eqb-false b a s (sym r))))
 
-has-set-put : (adj : List ℕ) (i j h k : ℕ) → i < length adj → has (get_or (set adj i (put (get_or adj i 0) j)) h 0) k ≡ eqb i h && eqb j k || has (get_or adj h 0) k
+has-set-put : (adj : List ℕ) (i j h k : ℕ) → i < length adj → has (get_or (set adj i (put (get_or adj i 0) j)) h 0) k
+    ≡ eqb i h && eqb j k || has (get_or adj h 0) k
 has-set-put adj i j h k p = by_test (eqb h i)
     (λ s.
     let r : h ≡ i = eqb-true h i s in

@@ -71,7 +71,8 @@ pub row_lanes-zero : (first : ℕ) → row_lanes_of first 0 ≡ []
 unfolding row_lanes_of
 row_lanes-zero first = rw bits_of-zero
 
-pub row_lanes-first : (first x j : ℕ) → j < 64 → bit x j ≡ 1 → ((k : ℕ) → k < j → bit x k ≡ 0) → row_lanes_of first x ≡ (first + j) ∷ row_lanes_of first (unset x j)
+pub row_lanes-first : (first x j : ℕ) → j < 64 → bit x j ≡ 1 → ((k : ℕ) → k < j → bit x k ≡ 0) → row_lanes_of first x ≡ (first + j)
+    ∷ row_lanes_of first (unset x j)
 unfolding row_lanes_of
 row_lanes-first first x j p here before = rw (bits_of-first x j p here before)
 
@@ -104,7 +105,8 @@ lanes_of-part adj k m p = let e : k + (m - k) ≡ m = omega arith in
 -- One row more.
 lanes_of-row : (adj : List ℕ) (i : ℕ) → Narrow (get_or adj i 0) → lanes_of adj (i + 1) ≡ lanes_of adj i ++ row_lanes_of (i * stride) (get_or adj i 0)
 unfolding row_lanes_of
-lanes_of-row adj i h = lanes_of-split adj i 1 ∙ ap (λ xs. lanes_of adj i ++ xs) (ap (keep (lane_in_of adj)) (sym (map-table (λ j. i * stride + j) stride (λ k. k)))
+lanes_of-row adj i h = lanes_of-split adj i 1 ∙ ap (λ xs. lanes_of adj i ++ xs)
+    (ap (keep (lane_in_of adj)) (sym (map-table (λ j. i * stride + j) stride (λ k. k)))
     ∙ keep-map (lane_in_of adj) (λ j. i * stride + j) (table stride (λ k. k))
     ∙ ap (map (λ j. i * stride + j)) (keep_cong (λ j. lane_in_of adj (i * stride + j)) (has (get_or adj i 0)) (table stride (λ k. k)) in_row
     ∙ sym (narrow_bits (get_or adj i 0) h)))

@@ -100,7 +100,8 @@ module _ (test : ℕ → Bool) (c : ℕ) (plain : is_digit c ≡ false) where
     unfolding value
     tail-takes y t rest h a = go h.ds h.follows h.whole h.written
       where
-        go : (ds : List ℕ) → Follows test (suc k) x ds → y ≡ value x ds → t ≡ ds ++ (c ∷ []) → closed_by c (more_digits_of test (suc k) x) (t ++ rest) ≡ got y rest
+        go : (ds : List ℕ) → Follows test (suc k) x ds → y ≡ value x ds → t ≡ ds ++ (c ∷ []) → closed_by c (more_digits_of test (suc k) x) (t ++ rest)
+            ≡ got y rest
         go [] f e g = rw g (more-last k x c rest (rw plain) ∙ (last_exact x).takes y (c ∷ []) rest (e, refl) tt)
         go (b ∷ ds) f e g = let both : is_digit b && test (x * 10 + digit_value_of b) ≡ true = (and-eq-true_iff _ _).1 (f.0, f.1) in
             let z = x * 10 + digit_value_of b in rw g (more-digit k x b ((ds ++ (c ∷ [])) ++ rest) both

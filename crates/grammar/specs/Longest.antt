@@ -81,7 +81,8 @@ abbrev longest : Sheet
 longest = largest (neg_ℤ (pos max_cost))
 
 pub largest-length : length (sheet_text longest) ≡ max_text
-unfolding largest sheet_text roasteries cafes head_line bytes digits digits_up_to whole_digits flat_map number_line rows_of row_line max_side max_amount max_cost max_text
+unfolding largest sheet_text roasteries cafes head_line bytes digits digits_up_to whole_digits flat_map number_line rows_of row_line max_side max_amount
+    max_cost max_text
 largest-length = refl
 
 pub largest-text : HasText longest

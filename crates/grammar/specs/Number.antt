@@ -35,7 +35,8 @@ number_digits b ds d f = go (eqb (digit_value_of b) 0) refl ds f
     go true e (c ∷ es) i = absurd i
     go false e es i = let n : digit_value_of b ≡ 0 → ⊥ = eqb-false (digit_value_of b) 0 e in
         let w : digits (value (digit_value_of b) es) ≡ b ∷ es = first-digits (λ x. true) (max_digits - 1) b es d (omega arith) i in
-        ((digits-length (max_digits - 1) (value (digit_value_of b) es)).0 (rw w (omega (arith, follows-length (λ x. true) (max_digits - 1) (digit_value_of b) es i))), w)
+        ((digits-length (max_digits - 1) (value (digit_value_of b) es)).0
+            (rw w (omega (arith, follows-length (λ x. true) (max_digits - 1) (digit_value_of b) es i))), w)
 
 -- No digit makes a number smaller.
 value_grows : (x : ℕ) (ds : List ℕ) → x ≤ value x ds

@@ -117,7 +117,8 @@ module _ {A : Type 0} {r : Reader A} {text : List ℕ} {at width count : ℕ} {l
     one_more : count - i ≡ suc (count - (i + 1))
     one_more = omega arith
 
-    pub read_stopped : (rest : List ℕ) → end_reading (ending left) (r (drop next text)) ≡ stuck rest → read_lines_of r width width count (drop at text) ≡ stuck rest
+    pub read_stopped : (rest : List ℕ) → end_reading (ending left) (r (drop next text)) ≡ stuck rest → read_lines_of r width width count (drop at text)
+        ≡ stuck rest
     read_stopped rest e =
         s.reads ∙ (rw (one_more, read_stuck r width left (count - (i + 1)) (drop next text) rest e) (after-stuck (take i list) rest))
 

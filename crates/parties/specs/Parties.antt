@@ -26,7 +26,8 @@ pub record Front (xs : List ℕ) (count : ℕ) (list : List ℕ) : Type 0 where
   pub front : take count list ≡ xs
 
 -- One more is stored after them ..
-front-more : {xs : List ℕ} {count : ℕ} {list : List ℕ} → Front xs count list → count < max_side → (x : ℕ) → Front (xs ++ (x ∷ [])) (count + 1) (set list count x)
+front-more : {xs : List ℕ} {count : ℕ} {list : List ℕ} → Front xs count list → count < max_side → (x : ℕ)
+    → Front (xs ++ (x ∷ [])) (count + 1) (set list count x)
 front-more {xs} {count} {list} f room x = record {
   counted = omega (arith, f.counted, length-append xs (x ∷ []));
   long = length-set list count x ∙ f.long;

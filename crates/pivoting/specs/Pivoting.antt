@@ -173,7 +173,8 @@ module _ {P : Problem} {T : List Cell} {q e : List ℤ} {sub path lanes : List �
   }
 
   -- The sign of the lane in slot t, by the cut of the slot.
-  slot_sign : (t : ℕ) → t < count → sign_of (lane_at (get_or lanes t 0)) ≡ sign_by (row_far path lanes t) (has (get_or path row 0) t) (has (get_or path (M + col) 0) t)
+  slot_sign : (t : ℕ) → t < count → sign_of (lane_at (get_or lanes t 0))
+      ≡ sign_by (row_far path lanes t) (has (get_or path row 0) t) (has (get_or path (M + col) 0) t)
   slot_sign t p = eq-z _ _ (sign-by b.tree.cuts fits {enter = enter} h.in_row h.in_col
       (signs_of b.sound.sources_low fits spanned enter h.in_row h.in_col) t p)
 

@@ -3,7 +3,8 @@
 use Rattle.prelude.specs.Words.{ℕ, zero, suc, ◌+◌, ◌-◌, ◌≤◌, ◌<◌, min, arith, ◌≡◌, refl, ap, List, [], ◌∷◌, map, Memᴰ, Memᴰ-head}
 use Rattle.prelude.specs.Words.{Memᴰ-eq_of_singleton, Memᴰ-not_nil, Memᴰ-cast, eqb, length, eqb-true, eq-eqb, by_test}
 use Rattle.transport.specs.Lists.{down_to, at, total}
-use Rattle.transport.specs.Laws.ListLaws.{member-table, table-member, member-map, map-member, member-flat_map, flat_map-member, sum_to-le, total-nil, total-cons}
+use Rattle.transport.specs.Laws.ListLaws.{member-table, table-member, member-map, map-member, member-flat_map, flat_map-member, sum_to-le, total-nil}
+use Rattle.transport.specs.Laws.ListLaws.{total-cons}
 use Rattle.transport.specs.Plan.{row_plans}
 use Rattle.transport.specs.Statements.{FirstDifference}
 use Rattle.plans.specs.Sorted.{Sorted, none, sorted-single, sorted-table, sorted-map, sorted-flat_map}

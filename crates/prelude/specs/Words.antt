@@ -2,8 +2,15 @@
 -- each word is the library's. The definitions of `transport`, and those of `border`, do not pass through it; they name the libraries themselves.
 
 -- numbers
-pub use Rattle.std.specs.Prelude.{ℕ, zero, suc, ◌+◌, ◌-◌, ◌*◌, ◌/◌, ◌%◌, ◌^◌, ◌≤◌, ◌<◌, min, max, ℤ, pos, negsuc, nat_abs, neg_ℤ, ◌+ℤ◌, ◌-ℤ◌, ◌*ℤ◌, ◌≤ℤ◌, ◌≡◌, refl, ◌↔◌, ◌⊎◌, ◌≢◌, Bool, true, false, cond, not, ◌&&◌, ◌||◌, T, eqb, ltb, leb, length, get_or, set, take, drop, replicate}
-pub use Rattle.std.proofs.Common.{zero-add, add-zero, add-suc, suc-add, zero-mul, mul-zero, one-mul, suc-mul, mul-add, pow-suc, le_trans, eq-or-lt_of_le, mul-le-mul, mul-le-mul_left, mul-le-mul_right, mod-lt, div-add-mod', div-lt_iff_lt-mul, add-one, sym, ◌∙◌, ap, subst, inl, inr, ⊎_elim, true≢false, leb→le, eq-eqb, ne_eqb, lt-ltb, le-ltb, le-leb, eqb-true, ltb-true, ltb-false, leb-true, length-set, length-append, length-take, length-drop, take-append-drop, drop_of_length-le, ext_get_or, get_or-set_same, get_or-set_other, get_or-take, get_or-drop, take_at, drop_at, take-suc, take-suc-set, take_all, length-take-le, lt-length-set, drop-cons, drop-drop, drop-set-lt, arith, rules}
+pub use Rattle.std.specs.Prelude.{ℕ, zero, suc, ◌+◌, ◌-◌, ◌*◌, ◌/◌, ◌%◌, ◌^◌, ◌≤◌, ◌<◌, min, max, ℤ, pos, negsuc, nat_abs, neg_ℤ, ◌+ℤ◌, ◌-ℤ◌, ◌*ℤ◌}
+pub use Rattle.std.specs.Prelude.{◌≤ℤ◌, ◌≡◌, refl, ◌↔◌, ◌⊎◌, ◌≢◌, Bool, true, false, cond, not, ◌&&◌, ◌||◌, T, eqb, ltb, leb, length, get_or, set}
+pub use Rattle.std.specs.Prelude.{take, drop, replicate}
+pub use Rattle.std.proofs.Common.{zero-add, add-zero, add-suc, suc-add, zero-mul, mul-zero, one-mul, suc-mul, mul-add, pow-suc, le_trans}
+pub use Rattle.std.proofs.Common.{eq-or-lt_of_le, mul-le-mul, mul-le-mul_left, mul-le-mul_right, mod-lt, div-add-mod', div-lt_iff_lt-mul, add-one}
+pub use Rattle.std.proofs.Common.{sym, ◌∙◌, ap, subst, inl, inr, ⊎_elim, true≢false, leb→le, eq-eqb, ne_eqb, lt-ltb, le-ltb, le-leb, eqb-true}
+pub use Rattle.std.proofs.Common.{ltb-true, ltb-false, leb-true, length-set, length-append, length-take, length-drop, take-append-drop}
+pub use Rattle.std.proofs.Common.{drop_of_length-le, ext_get_or, get_or-set_same, get_or-set_other, get_or-take, get_or-drop, take_at, drop_at}
+pub use Rattle.std.proofs.Common.{take-suc, take-suc-set, take_all, length-take-le, lt-length-set, drop-cons, drop-drop, drop-set-lt, arith, rules}
 pub use Rattle.std.proofs.Math.Nat.{sub-zero, div-eq_of_lt}
 pub use Rattle.std.proofs.Math.IntN.{sub_ℕ, +ℤ_idl}
 pub use Rattle.std.specs.Int.Signed.{le_z, lt_z, le_z_yes, mag, non_neg}

@@ -2,7 +2,8 @@
 use Rattle.prelude.specs.Words.{◌≡◌, Bool, true, false, none, some, ◌*◌, ◌≤◌, arith, mul-le-mul, eqb, pos, neg_ℤ, length}
 use Rattle.transport.specs.Lists.{all, at_most, within, within_z}
 use Rattle.transport.specs.Limits.{max_sources, max_sinks, max_amount, max_cost}
-use Rattle.transport.specs.Sheet.{Sheet, roasteries, cafes, bad_sides, bad_length, bad_amount, bad_cost, lacking, crowded, idle, number_tests, sheet_tests, refusal}
+use Rattle.transport.specs.Sheet.{Sheet, roasteries, cafes, bad_sides, bad_length, bad_amount, bad_cost, lacking, crowded, idle, number_tests}
+use Rattle.transport.specs.Sheet.{sheet_tests, refusal}
 use Rattle.transport.specs.Statements.{WithinLimits, Lacking, Crowded, Idle}
 use Rattle.transport.specs.Laws.SheetLaws.{lacking_yes, lacking_no, crowded_yes, crowded_no, idle_yes, idle_no}
 

@@ -1,5 +1,6 @@
 -- The entering lane: it is on the sheet, and on an unfinished tableau its reduced cost is negative, so that it is not basic.
-use Rattle.prelude.specs.Words.{◌≡◌, refl, ap, sym, ◌∙◌, Bool, true, false, List, ℕ, ◌<◌, arith, mul-le-mul_right, ℤ, pos, negsuc, lt_z, non_neg, get_or, by_test}
+use Rattle.prelude.specs.Words.{◌≡◌, refl, ap, sym, ◌∙◌, Bool, true, false, List, ℕ, ◌<◌, arith, mul-le-mul_right, ℤ, pos, negsuc, lt_z, non_neg}
+use Rattle.prelude.specs.Words.{get_or, by_test}
 use Rattle.prelude.specs.Words.{clash}
 use Rattle.integers.specs.Integer.{◌≺◌, ◌⊕◌}
 use Rattle.integers.specs.Tests.{lt_yes, lt_no}

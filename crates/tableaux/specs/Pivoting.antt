@@ -133,7 +133,8 @@ module _ {P : Problem} (ok : Sound P) {T : List Cell} (w : Belongs P T) {e : Lan
         (lt_yes (signs m n T e (lane_of out)) (pos 0) pivot-leaves.minus);
     least = λ k l s p. true≢false
         (sym (true-less (get_or T k no_cell).amount out.amount (rw (amount-at T (distinct_of ok w) k (omega (arith, many)), at_out) at p))
-        ∙ pivot-leaves.least (get_or T k no_cell) (member-at T no_cell k (omega (arith, many))) (yes_lt (signs m n T e (lane (row_of T k) (col_of T k))) (pos 0) s));
+        ∙ pivot-leaves.least (get_or T k no_cell) (member-at T no_cell k (omega (arith, many)))
+            (yes_lt (signs m n T e (lane (row_of T k) (col_of T k))) (pos 0) s));
   }
 
   -- ---- the cells after the pivot

@@ -184,7 +184,8 @@ size-suc P ok = omega (arith, ok.sources_low, ok.sinks_low)
 start_stairs : (P : Problem) → Sound P → Stairs P 0 0 (paired_supply_of P 0) (paired_demand_of P 0) (start P)
 unfolding start
 start_stairs P ok =
-    rw (size-suc P ok) (corner_stairs P ok (basis_size (sources P) (sinks P) - 1) 0 0 (paired_supply_of P 0) (paired_demand_of P 0) (begin P ok _ (size-suc P ok)))
+    rw (size-suc P ok)
+        (corner_stairs P ok (basis_size (sources P) (sinks P) - 1) 0 0 (paired_supply_of P 0) (paired_demand_of P 0) (begin P ok _ (size-suc P ok)))
 
 -- ---- the shape of the stairs
 

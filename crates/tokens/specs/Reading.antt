@@ -8,7 +8,8 @@ use Rattle.transport.specs.Lists.{within}
 use Rattle.transport.specs.Laws.ListLaws.{and_right}
 use Rattle.transport.specs.Limits.{max_digits}
 use Rattle.transport.specs.Text.{bytes, kind_of}
-use Rattle.transport.specs.SheetText.{Reading, stuck, got, Reader, ◌>>=◌, ◌>>◌, pure, byte_that, word, is_digit, digit_value_of, more_digits_of, number_from, side, line}
+use Rattle.transport.specs.SheetText.{Reading, stuck, got, Reader, ◌>>=◌, ◌>>◌, pure, byte_that, word, is_digit, digit_value_of, more_digits_of}
+use Rattle.transport.specs.SheetText.{number_from, side, line}
 use Rattle.transport.specs.Laws.SheetLaws.{within-true, true-within, within_low, within-high}
 use Rattle.transport.specs.declared.ByteKind.{ByteKind}
 use Rattle.transport.specs.declared.ByteKind.TheVariants.{Digit, Space, LineEnd, Letter, Other}
@@ -314,7 +315,8 @@ module _ (low : ℕ) where
 
     first-digit : low ≤ get_or text at 0 - 48 → number_from low (drop at text) ≡ after_first (get_or text at 0) (drop (at + 1) text)
     first-digit p = number_is _
-        ∙ bind-got (byte_that (starts_by (leb low))) (drop at text) (drop (at + 1) text) after_first (get_or text at 0) (starts_yes (leb low) d (le-leb low _ p))
+        ∙ bind-got (byte_that (starts_by (leb low))) (drop at text) (drop (at + 1) text) after_first (get_or text at 0)
+            (starts_yes (leb low) d (le-leb low _ p))
 
     pub number-zero : low ≤ get_or text at 0 - 48 → get_or text at 0 - 48 ≡ 0 → number_from low (drop at text) ≡ got 0 (drop (at + 1) text)
     number-zero p e = first-digit p ∙ (rw e (more-none always 0 (drop (at + 1) text)))
@@ -413,7 +415,8 @@ module _ (most : ℕ) where
     side-more low n =
         let first : within 1 most (get_or text at 0 - 48) ≡ true = true-within 1 most (get_or text at 0 - 48) (omega arith) (omega (arith, d.high)) in
         side-is _
-        ∙ bind-got (byte_that (starts_by (within 1 most))) (drop at text) (drop (at + 1) text) after_side (get_or text at 0) (starts_yes (within 1 most) d first)
+        ∙ bind-got (byte_that (starts_by (within 1 most))) (drop at text) (drop (at + 1) text) after_side (get_or text at 0)
+            (starts_yes (within 1 most) d first)
 
   -- A side that was read is within its limit.
   side-within : (m : ℕ) (rest t : List ℕ) → side most t ≡ got m rest → within 1 most m ≡ true

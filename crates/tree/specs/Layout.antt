@@ -64,7 +64,8 @@ pub length-strikes : (leaf other lane : List ℕ) (count : ℕ) → length (stri
 unfolding strikes_of
 length-strikes leaf other lane count = length-table (strike_for leaf other lane) count
 
-pub get_or-strikes : (leaf other lane : List ℕ) (count k : ℕ) (d : Strike) → k < count → get_or (strikes_of leaf other lane count) k d ≡ strike_for leaf other lane k
+pub get_or-strikes : (leaf other lane : List ℕ) (count k : ℕ) (d : Strike) → k < count → get_or (strikes_of leaf other lane count) k d
+    ≡ strike_for leaf other lane k
 unfolding strikes_of
 get_or-strikes leaf other lane count k d p = get_or-table (strike_for leaf other lane) count k d p
 

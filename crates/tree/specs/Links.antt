@@ -54,7 +54,8 @@ pub ones-some : (x : ℕ) → ones x ≡ 1 → (y : ℕ) × (has x y ≡ true)
 ones-some x e = by_cases (ℕ_discrete x 0) (λ z. absurd (omega (arith, ap ones z, ones-zero))) (λ z. has_some x (omega arith))
 
 ones_none : (x : ℕ) → ((y : ℕ) → bit x y ≡ 0) → ones x ≡ 0
-ones_none x h = by_cases (ℕ_discrete x 0) (λ z. rw z ones-zero) (λ z. absurd (omega (arith, first_in x x (omega arith) (lt-pow x), h (count_trailing_zeros x x))))
+ones_none x h =
+    by_cases (ℕ_discrete x 0) (λ z. rw z ones-zero) (λ z. absurd (omega (arith, first_in x x (omega arith) (lt-pow x), h (count_trailing_zeros x x))))
 
 bit-low : (x y : ℕ) → (bit x y ≡ 1 → ⊥) → bit x y ≡ 0
 bit-low x y h = omega arith
@@ -149,14 +150,17 @@ module _ {m n : ℕ} {live : List ℕ} (w : Links m n live) (p b : ℕ) (len : l
   end-room = omega (arith, end_below w p b low e, w.rows_high, w.cols_high)
 
   pub at_leaf : get_or (without-lane m live p b) p 0 ≡ 0
-  at_leaf = get_or-set_other (set live p 0) (other_end_of m p b) p (unset (get_or live (other_end_of m p b) 0) (own_bit_of m p)) 0 (λ q. end-apart w p b low e (sym q))
+  at_leaf = get_or-set_other (set live p 0) (other_end_of m p b) p (unset (get_or live (other_end_of m p b) 0) (own_bit_of m p)) 0
+      (λ q. end-apart w p b low e (sym q))
       ∙ get_or-set_same live p 0 0 (omega (arith, w.rows_high, w.cols_high))
 
   pub at-end : get_or (without-lane m live p b) (other_end_of m p b) 0 ≡ unset (get_or live (other_end_of m p b) 0) (own_bit_of m p)
-  at-end = get_or-set_same (set live p 0) (other_end_of m p b) (unset (get_or live (other_end_of m p b) 0) (own_bit_of m p)) 0 (simp length-set (omega (arith, end-room)))
+  at-end = get_or-set_same (set live p 0) (other_end_of m p b) (unset (get_or live (other_end_of m p b) 0) (own_bit_of m p)) 0
+      (simp length-set (omega (arith, end-room)))
 
   pub at_rest : (x : ℕ) → x ≢ p → x ≢ other_end_of m p b → get_or (without-lane m live p b) x 0 ≡ get_or live x 0
-  at_rest x h k = get_or-set_other (set live p 0) (other_end_of m p b) x (unset (get_or live (other_end_of m p b) 0) (own_bit_of m p)) 0 k ∙ get_or-set_other live p x 0 0 h
+  at_rest x h k = get_or-set_other (set live p 0) (other_end_of m p b) x (unset (get_or live (other_end_of m p b) 0) (own_bit_of m p)) 0 k
+      ∙ get_or-set_other live p x 0 0 h
 
   -- A lane is left exactly if it is there and touches the leaf at neither end.
   pub gone_from : (x y : ℕ) → x < m + n → tied (without-lane m live p b) x y ≡ true → (tied live x y ≡ true) × (x ≢ p) × (other_end_of m x y ≢ p)
@@ -173,7 +177,9 @@ module _ {m n : ℕ} {live : List ℕ} (w : Links m n live) (p b : ℕ) (len : l
 
       off : x ≢ p → x ≢ other_end_of m p b → (tied live x y ≡ true) × (x ≢ p) × (other_end_of m x y ≢ p)
       off s r = let t : tied live x y ≡ true = ap (λ z. has z y) (sym (at_rest x s r)) ∙ h in
-          (t, s, λ f. r (sym (end-end w x y l t) ∙ ap (λ z. other_end_of m z (own_bit_of m x)) f ∙ ap (other_end_of m p) (few (own_bit_of m x) (rw f at (end_back w x y l t)))))
+          (t, s,
+              λ f. r (sym (end-end w x y l t) ∙ ap (λ z. other_end_of m z (own_bit_of m x)) f
+                  ∙ ap (other_end_of m p) (few (own_bit_of m x) (rw f at (end_back w x y l t)))))
 
   pub gone_to : (x y : ℕ) → x < m + n → tied live x y ≡ true → x ≢ p → other_end_of m x y ≢ p → tied (without-lane m live p b) x y ≡ true
   gone_to x y l t s f = by_cases (ℕ_discrete x (other_end_of m p b)) at (λ r. ap (λ z. has z y) (at_rest x s r) ∙ t)

@@ -122,7 +122,8 @@ unfolding count_trailing_zeros
 first-least zero x k p = absurd (omega arith)
 first-least (suc K) x k p = go (x % 2) refl k (first-least K (x / 2)) p
   where
-    go : (d : ℕ) → x % 2 ≡ d → (k : ℕ) → ((i : ℕ) → i < count_trailing_zeros K (x / 2) → bit (x / 2) i ≡ 0) → k < under d (count_trailing_zeros K (x / 2)) → bit x k ≡ 0
+    go : (d : ℕ) → x % 2 ≡ d → (k : ℕ) → ((i : ℕ) → i < count_trailing_zeros K (x / 2) → bit (x / 2) i ≡ 0) → k < under d (count_trailing_zeros K (x / 2))
+        → bit x k ≡ 0
     go zero e zero ih q = omega arith
     go zero e (suc k) ih q = bit-suc x k ∙ ih k (omega arith)
     go (suc d) e k ih q = absurd (omega arith)

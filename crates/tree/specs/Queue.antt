@@ -158,7 +158,8 @@ module _ {m n : ℕ} {live leaf : List ℕ} {k tail : ℕ} (w : Links m n live) 
       kept t l y h = (gone_from w leaf-now b len leaf-low e leaf-few (get_or leaf t 0) y (q.nodes t l).1 h).0
 
   -- The node at the other end is no struck leaf, for these have no lane; and none that waits and had one lane only, if it has one still.
-  fresh-end : joins (other_end_of m leaf-now b) (get_or live-next (other_end_of m leaf-now b) 0) ≡ true → (t : ℕ) → t < tail → get_or leaf t 0 ≢ other_end_of m leaf-now b
+  fresh-end : joins (other_end_of m leaf-now b) (get_or live-next (other_end_of m leaf-now b) 0) ≡ true → (t : ℕ) → t < tail
+      → get_or leaf t 0 ≢ other_end_of m leaf-now b
   fresh-end j t l s = by_cases (dec_lt t k)
       (λ r. true≢false (sym back ∙ ap (λ z. tied live z (own_bit_of m leaf-now)) (sym s) ∙ q.dead t r (own_bit_of m leaf-now)))
       (λ r. lone (ones-some (get_or live-next (other_end_of m leaf-now b) 0) one) (omega arith))
@@ -172,7 +173,8 @@ module _ {m n : ℕ} {live leaf : List ℕ} {k tail : ℕ} (w : Links m n live) 
 
       lone : (y : ℕ) × (tied live-next (other_end_of m leaf-now b) y ≡ true) → k ≤ t → ⊥
       lone (y, h) r = let f : not (eqb y (own_bit_of m leaf-now)) && tied live (other_end_of m leaf-now b) y ≡ true =
-          sym (has-unset (get_or live (other_end_of m leaf-now b) 0) (own_bit_of m leaf-now) y) ∙ ap (λ z. has z y) (sym (at-end w leaf-now b len leaf-low e leaf-few))
+          sym (has-unset (get_or live (other_end_of m leaf-now b) 0) (own_bit_of m leaf-now) y)
+              ∙ ap (λ z. has z y) (sym (at-end w leaf-now b len leaf-low e leaf-few))
           ∙ h in
           let g : tied live (get_or leaf t 0) y ≡ true = rw s (and_right (not (eqb y (own_bit_of m leaf-now))) (tied live (other_end_of m leaf-now b) y) f) in
           let g' : tied live (get_or leaf t 0) (own_bit_of m leaf-now) ≡ true = rw s back in

@@ -7,7 +7,8 @@ use Rattle.transport.specs.Problem.{Lane}
 use Rattle.transport.specs.Laws.ProblemLaws.{lane}
 use Rattle.tree.specs.Mask.{unset}
 use Rattle.tree.specs.Layout.{node_room, lane_at, strike_for, strikes_of, length-strikes, lane_at-place}
-use Rattle.tree.specs.Links.{Links, Masks, other_end_of, own_bit_of, lane_to_of, joins, tied, of_row, of_col, row-or-col, without-lane, links-without, place-row}
+use Rattle.tree.specs.Links.{Links, Masks, other_end_of, own_bit_of, lane_to_of, joins, tied, of_row, of_col, row-or-col, without-lane, links-without}
+use Rattle.tree.specs.Links.{place-row}
 use Rattle.tree.specs.Links.{place-col}
 use Rattle.tree.specs.Queue.{Queue, room, leaf-low, leaf-few, queue-struck}
 use Rattle.tree.specs.Strip.{Strip, Stripped, node_lane, node_strike, lane_row, lane-col, strip-start, strip-next, stripped-empty, stripped_lost}
@@ -22,7 +23,8 @@ pub record StrikeState (m n : ℕ) (adj live leaf other lane : List ℕ) (k tail
   pub queue : Queue (m + n) live leaf k tail
   pub strip : (B : List Lane) → Masks m n B adj → Strip m n B live leaf (strikes_of leaf other lane k) k
 
-pub state-start : {m n : ℕ} {adj leaf other lane : List ℕ} {tail : ℕ} → length adj ≡ node_room → length leaf ≡ node_room → length other ≡ node_room → length lane
+pub state-start : {m n : ℕ} {adj leaf other lane : List ℕ} {tail : ℕ} → length adj ≡ node_room → length leaf ≡ node_room → length other ≡ node_room
+    → length lane
     ≡ node_room → Links m n adj → Queue (m + n) adj leaf 0 tail → StrikeState m n adj adj leaf other lane 0 tail
 unfolding strikes_of
 state-start {leaf = leaf} {other = other} {lane = lane} a b c d w q = record {

@@ -18,7 +18,8 @@ use Rattle.tableaux.specs.Leaves.{Ends, row-struck, column-struck, Leaf, Linked,
 use Rattle.tableaux.specs.Leaves.{leaf-lane, length_without, has-lane, touches-true, touches-false}
 use Rattle.tableaux.specs.Striking.{no_members, nodes-others, StrikeStep, Peeled, bare, peel, Struck, every-leaf, strike-once, struck-joined, joined-linked}
 use Rattle.tableaux.specs.Striking.{spans_iff}
-use Rattle.tree.specs.Links.{Links, Masks, other_end_of, own_bit_of, tied, single, iff_same, end_row, end-col, end_back, of_row, of_col, row-or-col, without-lane}
+use Rattle.tree.specs.Links.{Links, Masks, other_end_of, own_bit_of, tied, single, iff_same, end_row, end-col, end_back, of_row, of_col, row-or-col}
+use Rattle.tree.specs.Links.{without-lane}
 use Rattle.tree.specs.Links.{gone_from, gone_to}
 use Rattle.tree.specs.Queue.{Queue, leaf-low, leaf-few}
 

@@ -32,10 +32,12 @@ abbrev decreases-loop : tie.decreases-loop-i
 decreases-loop cost cafes rows cols out₀ all i₀ out i = length rows - i
 
 -- The turn of the outer loop, in which a row is filled in.
-abbrev turn : tie.At-loop-j invariant-loop2 decreases-loop2 invariant-loop decreases-loop → tie.At-loop-i invariant-loop2 decreases-loop2 invariant-loop decreases-loop
+abbrev turn : tie.At-loop-j invariant-loop2 decreases-loop2 invariant-loop decreases-loop
+    → tie.At-loop-i invariant-loop2 decreases-loop2 invariant-loop decreases-loop
 turn c = c.before.before.before
 
-abbrev start_of : tie.At-loop-i invariant-loop2 decreases-loop2 invariant-loop decreases-loop → tie.Start invariant-loop2 decreases-loop2 invariant-loop decreases-loop
+abbrev start_of : tie.At-loop-i invariant-loop2 decreases-loop2 invariant-loop decreases-loop
+    → tie.Start invariant-loop2 decreases-loop2 invariant-loop decreases-loop
 start_of c = c.before.before.before.before
 
 loop-holds : tie.Need-loop-i-init invariant-loop2 decreases-loop2 invariant-loop decreases-loop

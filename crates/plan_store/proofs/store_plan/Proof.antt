@@ -1,6 +1,7 @@
 -- `plan_store::store_plan` meets its contract. The loops' invariants: the places before l are cleared; then the rows before i are stored, and of row i the
 -- columns before j.
-use Rattle.prelude.specs.Words.{ℕ, ◌+◌, ◌-◌, ◌*◌, ◌≤◌, ◌<◌, ◌^◌, arith, mul-le-mul, rules, eqb-true, ◌≡◌, ap, ◌∙◌, true, List, pos, nat_abs, mag, length, get_or}
+use Rattle.prelude.specs.Words.{ℕ, ◌+◌, ◌-◌, ◌*◌, ◌≤◌, ◌<◌, ◌^◌, arith, mul-le-mul, rules, eqb-true, ◌≡◌, ap, ◌∙◌, true, List, pos, nat_abs, mag}
+use Rattle.prelude.specs.Words.{length, get_or}
 use mir.Syntax.{w64}
 use mir.Val.{to_z, of_z}
 use Rattle.transport.specs.Lists.{at}
@@ -37,7 +38,8 @@ size s = mul-le-mul s.requires.sources_few s.requires.sinks_few
 
 -- ---- cleared
 
-abbrev start_before : tie.At-loop-l invariant-loop decreases-loop invariant-loop3 decreases-loop3 invariant-loop2 decreases-loop2 → tie.Start invariant-loop decreases-loop invariant-loop3 decreases-loop3 invariant-loop2 decreases-loop2
+abbrev start_before : tie.At-loop-l invariant-loop decreases-loop invariant-loop3 decreases-loop3 invariant-loop2 decreases-loop2
+    → tie.Start invariant-loop decreases-loop invariant-loop3 decreases-loop3 invariant-loop2 decreases-loop2
 start_before c = c.before.before.before.before
 
 loop-again : tie.Need-loop-l-preserved invariant-loop decreases-loop invariant-loop3 decreases-loop3 invariant-loop2 decreases-loop2
@@ -46,16 +48,19 @@ loop-again c =
     (omega arith, emptied_one l.invariant.1 (omega arith) (start_before c.before).requires.room)
 
 -- The list is as long as it was.
-loop-inside : (c : tie.In-loop-l invariant-loop decreases-loop invariant-loop3 decreases-loop3 invariant-loop2 decreases-loop2) → c.before.loop-l.l < length c.before.loop-l.plan
+loop-inside : (c : tie.In-loop-l invariant-loop decreases-loop invariant-loop3 decreases-loop3 invariant-loop2 decreases-loop2)
+    → c.before.loop-l.l < length c.before.loop-l.plan
 loop-inside c = let s = start_before c.before in omega (arith, c.before.loop-l.invariant.1.long, s.requires.room)
 
 -- ---- row by row
 
-abbrev start_of : tie.At-loop-i invariant-loop decreases-loop invariant-loop3 decreases-loop3 invariant-loop2 decreases-loop2 → tie.Start invariant-loop decreases-loop invariant-loop3 decreases-loop3 invariant-loop2 decreases-loop2
+abbrev start_of : tie.At-loop-i invariant-loop decreases-loop invariant-loop3 decreases-loop3 invariant-loop2 decreases-loop2
+    → tie.Start invariant-loop decreases-loop invariant-loop3 decreases-loop3 invariant-loop2 decreases-loop2
 start_of c = start_before c.before.before
 
 -- The turn of the outer loop, in which a row is stored.
-abbrev turn : tie.At-loop-j invariant-loop decreases-loop invariant-loop3 decreases-loop3 invariant-loop2 decreases-loop2 → tie.At-loop-i invariant-loop decreases-loop invariant-loop3 decreases-loop3 invariant-loop2 decreases-loop2
+abbrev turn : tie.At-loop-j invariant-loop decreases-loop invariant-loop3 decreases-loop3 invariant-loop2 decreases-loop2
+    → tie.At-loop-i invariant-loop decreases-loop invariant-loop3 decreases-loop3 invariant-loop2 decreases-loop2
 turn c = c.before.before.before
 
 -- All places were cleared before.
@@ -67,10 +72,12 @@ cleared c =
     rw all at l.invariant.1
 
 -- The list is as long as it was.
-long-row : (c : tie.At-loop-i invariant-loop decreases-loop invariant-loop3 decreases-loop3 invariant-loop2 decreases-loop2) → length c.loop-i.plan ≡ length (start_of c).args.plan.now
+long-row : (c : tie.At-loop-i invariant-loop decreases-loop invariant-loop3 decreases-loop3 invariant-loop2 decreases-loop2) → length c.loop-i.plan
+    ≡ length (start_of c).args.plan.now
 long-row c = c.loop-i.invariant.1.long ∙ (cleared c).long
 
-long-column : (c : tie.At-loop-j invariant-loop decreases-loop invariant-loop3 decreases-loop3 invariant-loop2 decreases-loop2) → length c.loop-j.plan ≡ length (start_of (turn c)).args.plan.now
+long-column : (c : tie.At-loop-j invariant-loop decreases-loop invariant-loop3 decreases-loop3 invariant-loop2 decreases-loop2) → length c.loop-j.plan
+    ≡ length (start_of (turn c)).args.plan.now
 long-column c = (c.loop-j.invariant.1 _ (turn c).loop-i.invariant.1).long ∙ (cleared (turn c)).long
 
 mul-first-2 : tie.Need-overflow_mul-first invariant-loop decreases-loop invariant-loop3 decreases-loop3 invariant-loop2 decreases-loop2

@@ -43,7 +43,8 @@ module _ (p : ℕ → Bool) where
 
   last-kept : (n : ℕ) → at (kept n ++ (n ∷ [])) (length (kept n)) ≡ n
   unfolding at
-  last-kept n = ap (λ (t : ℕ). get_or (kept n ++ (n ∷ [])) t 0) (sym (add-zero (length (kept n)))) ∙ get_or-append-at (kept n) (n ∷ []) (length (kept n)) 0 0 refl
+  last-kept n = ap (λ (t : ℕ). get_or (kept n ++ (n ∷ [])) t 0) (sym (add-zero (length (kept n))))
+      ∙ get_or-append-at (kept n) (n ∷ []) (length (kept n)) 0 0 refl
 
   earlier_kept : (n k : ℕ) → k < length (kept n) → at (kept n ++ (n ∷ [])) k ≡ at (kept n) k
   unfolding at

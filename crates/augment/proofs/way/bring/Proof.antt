@@ -10,7 +10,8 @@ use Rattle.augment.proofs.way.bring.Statement.{statement}
 use Rattle.augment.proofs.way.bring.Tie as tie
 
 abbrev invariant-loop : tie.invariant-loop-at
-invariant-loop q₀ holds₀ owns₀ row col up s j x at₀ q holds owns at = (m n : ℕ) (q' : List ℤ) (holds' owns' : List ℕ) → Carries m n s j row col up q' holds' owns'
+invariant-loop q₀ holds₀ owns₀ row col up s j x at₀ q holds owns at = (m n : ℕ) (q' : List ℤ) (holds' owns' : List ℕ)
+    → Carries m n s j row col up q' holds' owns'
     → Bringing s j row col up (to_z w64 x) q' holds' owns' s q₀ holds₀ owns₀ → Bringing s j row col up (to_z w64 x) q' holds' owns' at q holds owns
 
 abbrev decreases-loop : tie.decreases-loop-at
@@ -44,7 +45,8 @@ so_far c = let s = c.before.before.before.before.before.before.before.before in
     rw (amount s) at (c.loop-at.invariant s.requires.0.0 s.requires.0.1 s.args.q.now s.args.holds.now s.args.owns.now s.requires.0.2
     (rw (amount s) (moved-first c.before)))
 
-inside : (c : tie.In-loop-at invariant-loop decreases-loop) → (c.before.loop-at.at < node_room) × (entry (started c).args.up.now c.before.loop-at.at < node_room)
+inside : (c : tie.In-loop-at invariant-loop decreases-loop) → (c.before.loop-at.at < node_room)
+    × (entry (started c).args.up.now c.before.loop-at.at < node_room)
 inside c = bringing_inside (started c).requires.0.2 (started c).args.x (started c).requires.1 (so_far c.before) (omega arith)
 
 shift-requires-2 : tie.Need-shift-requires-in-loop-at invariant-loop decreases-loop

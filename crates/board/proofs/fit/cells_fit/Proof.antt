@@ -73,5 +73,6 @@ returns-2 c = let a = c.before.before.args in let i = c.before.loop-k in
     sym (sym (fits_all a.m a.n (cells_of a.t)) ∙ i.invariant.1 ∙ rw none (fits_from-nil a.m a.n i.least))
 
 pub cells_fit_spec : {M : Type 1} → statement M
-cells_fit_spec = tie.close (tie.spec invariant-loop decreases-loop (λ c. (omega arith, refl)) (λ c. omega arith) (λ c. omega arith) (λ c κs. omega arith) returns
+cells_fit_spec =
+    tie.close (tie.spec invariant-loop decreases-loop (λ c. (omega arith, refl)) (λ c. omega arith) (λ c. omega arith) (λ c κs. omega arith) returns
     mul-least add-least add-least-2 (λ c. omega arith) (λ c. omega arith) loop-again returns-2)

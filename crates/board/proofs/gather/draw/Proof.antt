@@ -15,7 +15,8 @@ loop-holds : tie.Need-loop-k-init invariant-loop decreases-loop
 loop-holds c = (omega arith, redraw_start _ _ _ refl (λ j. get_or-all node_room j 0))
 
 link-requires : tie.Need-link-requires invariant-loop decreases-loop
-link-requires c κs = let s = c.before.before.before.before.before.before in (s.requires.2 c.before.before.before.before.loop-k.k (omega arith), s.requires.0, omega arith)
+link-requires c κs = let s = c.before.before.before.before.before.before in
+    (s.requires.2 c.before.before.before.before.loop-k.k (omega arith), s.requires.0, omega arith)
 
 loop-again : tie.Need-loop-k-preserved invariant-loop decreases-loop
 loop-again c = let i = c.before.before.before.before.before in let p = i.before.before.requires in

@@ -18,7 +18,8 @@ slot c = let f = c.before.before.first_bit-t.ensures in record { on = f.1; off =
 
 row_room : (c : tie.After-l-1 invariant-loop decreases-loop)
     → get_or c.before.before.before.before.before.before.before.before.args.lane.now c.before.before.first_bit-t.result 0 / stride < node_room
-row_room c = c.before.before.before.before.before.before.before.before.requires.1 _ (c.before.before.before.before.loop-bits.invariant.part _ (has-least (slot c)))
+row_room c = c.before.before.before.before.before.before.before.before.requires.1 _
+    (c.before.before.before.before.loop-bits.invariant.part _ (has-least (slot c)))
 
 loop-again : tie.Need-loop-bits-preserved invariant-loop decreases-loop
 loop-again c = rw (c.rest-bits.ensures, c.before.set_bit.ensures)

@@ -49,6 +49,7 @@ returns c = let b = begun c.before.before.before.before.before.before.before.bef
     (both-length b _ w.ensures.0, both-written b _ w.ensures.1)
 
 pub write_figures_spec : {M : Type 1} → statement M
-write_figures_spec = tie.close (tie.spec (λ c. search rules) write-whole-section-requires (λ c. search rules) (λ c. second-start (begun c.before.before.before.before.before))
+write_figures_spec =
+    tie.close (tie.spec (λ c. search rules) write-whole-section-requires (λ c. search rules) (λ c. second-start (begun c.before.before.before.before.before))
     (λ c. second-start (begun c.before.before.before.before.before)) (λ c. search rules) write-section-requires add-result (λ c. search rules)
     returns)

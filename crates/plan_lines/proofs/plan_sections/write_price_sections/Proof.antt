@@ -32,5 +32,8 @@ returns c = let b = begun c.before.before.before.before.before.before.before.bef
     (both-length b _ w.ensures.0, both-written b _ w.ensures.1)
 
 pub write_price_sections_spec : {M : Type 1} → statement M
-write_price_sections_spec = tie.close (tie.spec write-whole-section-requires (λ c. second-start (begun c.before.before.before.before)) (λ c. second-start (begun c.before.before.before.before)) (λ c. search rules)
+write_price_sections_spec =
+    tie.close
+        (tie.spec write-whole-section-requires (λ c. second-start (begun c.before.before.before.before))
+            (λ c. second-start (begun c.before.before.before.before)) (λ c. search rules)
     write-whole-section-requires-2 add-result (λ c. search rules) returns)

@@ -39,5 +39,6 @@ returns : tie.Need-returns invariant-loop decreases-loop
 returns c = let e : c.before.loop-i.i ≡ c.before.before.args.m = omega arith in rw e at c.before.loop-i.invariant.1
 
 pub least_reduced_spec : {M : Type 1} → statement M
-least_reduced_spec = tie.close (tie.spec invariant-loop decreases-loop loop-holds (λ c. search rules) (λ c. search rules) (λ c. search rules) (λ c. search rules)
+least_reduced_spec =
+    tie.close (tie.spec invariant-loop decreases-loop loop-holds (λ c. search rules) (λ c. search rules) (λ c. search rules) (λ c. search rules)
     (λ c. search (rules, diff_in, room c)) (λ c κs. search rules) (λ c. search rules) (λ c. search rules) loop-again returns)

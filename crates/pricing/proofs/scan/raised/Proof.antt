@@ -22,7 +22,8 @@ abbrev turn : tie.After-higher-1 invariant-loop decreases-loop → tie.At-loop-i
 turn c = c.before.before
 
 -- What is raised was not raised before, so that there is room.
-room : (c : tie.After-higher-1 invariant-loop decreases-loop) → nat_abs (get_or (turn c).loop-i.higher (turn c).loop-i.i (pos 0)) + nat_abs (turn c).before.args.x < 2 ^ 31
+room : (c : tie.After-higher-1 invariant-loop decreases-loop) → nat_abs (get_or (turn c).loop-i.higher (turn c).loop-i.i (pos 0)) + nat_abs
+    (turn c).before.args.x < 2 ^ 31
 room c = let l = (turn c).loop-i in rw (l.invariant.1.still l.i (omega arith)) ((turn c).before.requires l.i (omega arith))
 
 loop-again : tie.Need-loop-i-preserved invariant-loop decreases-loop

@@ -27,7 +27,8 @@ returns c P T k = let a = c.before.before.before in let r = a.entering-enter.res
 
 -- The reduced cost is negative.
 falls : (c : tie.Else-enter-ge0) → lt_z (scanned c).entering-enter.result.reduced (pos 0) ≡ true
-falls c = let r = (scanned c).entering-enter.result.reduced in let fits : mag r < 2 ^ 31 = search rules in not-false _ (sym (sign-is r fits) ∙ c.if-enter-ge0.false)
+falls c = let r = (scanned c).entering-enter.result.reduced in let fits : mag r < 2 ^ 31 = search rules in
+    not-false _ (sym (sign-is r fits) ∙ c.if-enter-ge0.false)
 
 pivot-requires : tie.Need-pivot-far-requires
 pivot-requires c κs = let g = c.before.before.before.before.before.before in let a = scanned g in let (P, T, k) = (start a).requires in

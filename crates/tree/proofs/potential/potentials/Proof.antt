@@ -37,7 +37,8 @@ leaf_in : (c : tie.After-l-1 invariant-loop decreases-loop) → get_or (turn c).
 leaf_in c = (turn c).before.before.requires.0.leaf_in_of ((turn c).loop-k.k - 1) (omega arith)
 
 -- The difference is in range.
-room : (c : tie.After-price-in-loop-k-2-1 invariant-loop decreases-loop) → let a = c.before.before.before.before.before.before.before.before.before.before.before.args in
+room : (c : tie.After-price-in-loop-k-2-1 invariant-loop decreases-loop) → let a =
+    c.before.before.before.before.before.before.before.before.before.before.before.args in
     let i = c.before.before.before.before.before.before.loop-k in
     nat_abs (cost_of a.cost.now (lane_at (get_or a.lane.now (i.k - 1) 0))) + nat_abs (get_or i.price (get_or a.other.now (i.k - 1) 0) (pos 0)) < 2 ^ 31
 unfolding cost_above max_cost

@@ -7,7 +7,8 @@ use Rattle.tree.proofs.strike.first_leaves.Statement.{statement}
 use Rattle.tree.proofs.strike.first_leaves.Tie as tie
 
 abbrev invariant-loop : tie.invariant-loop-node
-invariant-loop live leaf₀ m n tail₀ node₀ leaf tail node = (1 ≤ node) × (node ≤ m + n) × (m + n ≤ node_room) × (length leaf ≡ node_room) × Queue node live leaf 0 tail
+invariant-loop live leaf₀ m n tail₀ node₀ leaf tail node = (1 ≤ node) × (node ≤ m + n) × (m + n ≤ node_room) × (length leaf ≡ node_room)
+    × Queue node live leaf 0 tail
 
 abbrev decreases-loop : tie.decreases-loop-node
 decreases-loop live leaf₀ m n tail₀ node₀ leaf tail node = m + n - node
@@ -28,7 +29,8 @@ tail-room c = omega (arith, room c.before.loop-node.invariant.0 c.before.loop-no
 again : (c : tie.After-joins_queue-tail invariant-loop decreases-loop) → let a = c.before.before.before.before.before.before.args in
     let i = c.before.before.before.loop-node in
     Queue (i.node + 1) a.live.now (set i.leaf i.tail i.node) 0 (i.tail + c.joins_queue-tail.result)
-again c = let i = c.before.before.before.before.before.loop-node in rw c.joins_queue-tail.ensures (queue-next i.node i.invariant.0 (omega arith) i.invariant.3 i.invariant.4)
+again c = let i = c.before.before.before.before.before.loop-node in rw c.joins_queue-tail.ensures
+    (queue-next i.node i.invariant.0 (omega arith) i.invariant.3 i.invariant.4)
 
 loop-again : tie.Need-loop-node-preserved invariant-loop decreases-loop
 loop-again c = (omega arith, omega arith, omega arith, simp length-set c.before.before.before.before.before.loop-node.invariant.3, again c)

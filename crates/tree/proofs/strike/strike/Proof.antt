@@ -42,7 +42,8 @@ abbrev found : tie.After-clear_bit-rest invariant-loop decreases-loop → tie.Af
 found c = c.before.before.before
 
 -- The node has the lane that is found ..
-chosen : (c : tie.After-first_bit-bit invariant-loop decreases-loop) → let i = (turn c).before.loop-k in tied i.live (get_or i.leaf i.k 0) c.first_bit-bit.result ≡ true
+chosen : (c : tie.After-first_bit-bit invariant-loop decreases-loop) → let i = (turn c).before.loop-k in
+    tied i.live (get_or i.leaf i.k 0) c.first_bit-bit.result ≡ true
 chosen c = let i = (turn c).before.loop-k in eq-eqb (bit (get_or i.live (get_or i.leaf i.k 0) 0) c.first_bit-bit.result) 1 c.first_bit-bit.ensures.1
 
 -- .. and the node at the other end is one of the m + n too.
@@ -60,7 +61,8 @@ clear-bit-requires c κs = let t = turn c.before.before in let i = t.before in
     omega (arith, c.own_bit.ensures, own-le i.before.before.before.before.args.m (get_or i.loop-k.leaf i.loop-k.k 0), node-room t)
 
 -- The state after the strike.
-next : (c : tie.After-joins_queue-tail invariant-loop decreases-loop) → let i = c.before.before.before.before.before.before.before.before.before.before.before.before in
+next : (c : tie.After-joins_queue-tail invariant-loop decreases-loop) → let i =
+    c.before.before.before.before.before.before.before.before.before.before.before.before in
     let a = i.before.before.before.before.args in let end = c.before.before.before.before.other_end-end.result in
     StrikeState a.m a.n a.adj.now (set (set i.loop-k.live (get_or i.loop-k.leaf i.loop-k.k 0) 0) end c.before.before.clear_bit-rest.result)
     (set i.loop-k.leaf i.loop-k.tail end) (set i.loop-k.other i.loop-k.k end) (set i.loop-k.lane i.loop-k.k c.before.lane_to.result)
@@ -91,6 +93,7 @@ strike_spec = tie.close (tie.spec invariant-loop decreases-loop (λ c κs. (c.be
     (λ c. omega (arith, k_room (turn (found c.before.before)))) (λ c. k_room (turn (found c.before.before.before)))
     (λ c. omega (arith, node-room (turn (found c.before.before.before)))) (λ c. node-room (turn (found c.before.before.before)))
     (λ c. omega (arith, end-in c.before.before.before.before.before)) (λ c. end-in c.before.before.before.before.before)
-    (λ c. omega (arith, tail-room (turn (found c.before.before.before)).before)) (λ c. tail-room (turn (found c.before.before.before)).before) (λ c κs. search rules)
+    (λ c. omega (arith, tail-room (turn (found c.before.before.before)).before)) (λ c. tail-room (turn (found c.before.before.before)).before)
+        (λ c κs. search rules)
     add-tail (λ c. omega (arith, k_room (turn (found c.before.before.before.before)))) (λ c. omega (arith, k_room (turn (found c.before.before.before.before))))
     loop-again returns-2)
