@@ -1,5 +1,5 @@
 -- `settle_call::settle` meets its contract: each way out is a case of the call.
-use Rattle.prelude.specs.Words.{arith, ℕ, ◌≤◌, mul-le-mul_left, ◌≡◌, refl, sym, subst, ◌∙◌, Bool, true, none, rules, not-true, not-false, length}
+use Rattle.prelude.specs.Words.{arith, ℕ, ◌≤◌, mul-le-mul_left, ◌≡◌, refl, sym, subst, ◌∙◌, Bool, true, none, rules, length}
 use Rattle.transport.specs.Limits.{max_side}
 use Rattle.transport.specs.Sheet.{Sheet, roasteries, cafes, refusal, sheet_of}
 use Rattle.transport.specs.Parties.{problem_of}
@@ -71,12 +71,12 @@ returns-2 c =
     let k = told_at f in
     let l = loaded k in
     settle-refused (sheet_on l) (tableau l) (plan_room l) _ 7
-    (unfinished-refuses (sheet_on l) (tableau l) (plan_room l) (passed k) ((judged f).done ∙ not-true _ c.if-not-is_finished.true-raw))
+    (unfinished-refuses (sheet_on l) (tableau l) (plan_room l) (passed k) ((judged f).done ∙ c.if-not-is_finished.true))
 
 -- ---- it is finished
 
 finished : (c : tie.Else-not-is_finished) → JudgedAs c.before true
-finished c = subst (JudgedAs c.before) (not-false _ c.if-not-is_finished.false-raw) (judged c.before)
+finished c = subst (JudgedAs c.before) c.if-not-is_finished.false (judged c.before)
 
 -- This holds also where the plan has the columns of the tableau: such a program (must-fail/plan_with_extra_column) fails only where it returns.
 mul-if2 : tie.Need-overflow_mul-supply
