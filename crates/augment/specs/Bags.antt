@@ -1,6 +1,7 @@
 -- Bags by lane, and the masks that say where there are any.
-use Rattle.prelude.specs.Words.{◌≡◌, refl, sym, ◌∙◌, ◌↔◌, ◌≢◌, by_cases, Dec-and, Bool, true, false, not, cond, ◌&&◌, and-false, Bool-discrete, List, ℕ, ◌+◌}
-use Rattle.prelude.specs.Words.{◌-◌, ◌*◌, ◌<◌, ◌≤◌, arith, ℕ_discrete, eq-eqb, ne_eqb, eqb, ℤ, pos, nat_abs, neg_ℤ, ◌+ℤ◌, length, get_or, set, replicate}
+use Rattle.std.specs.Prelude.{◌≡◌, ◌↔◌, ◌≢◌, ◌&&◌, ◌+◌, ◌-◌, ◌*◌, ◌<◌, ◌≤◌, ◌+ℤ◌}
+use Rattle.prelude.specs.Words.{refl, sym, ◌∙◌, by_cases, Dec-and, Bool, true, false, not, cond, and-false, Bool-discrete, List, ℕ}
+use Rattle.prelude.specs.Words.{arith, ℕ_discrete, eq-eqb, ne_eqb, eqb, ℤ, pos, nat_abs, neg_ℤ, length, get_or, set, replicate}
 use Rattle.prelude.specs.Words.{length-set, get_or-set_same, get_or-set_other, lt_z, by_test}
 use Rattle.std.specs.Int.Bits.{bit_and}
 use Rattle.integers.specs.Integer.{Z, ◌≈◌, ◌≺◌, ◌⊕◌, ◌⊖◌, ◌⊗◌, neg, nat}

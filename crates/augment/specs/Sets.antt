@@ -1,6 +1,7 @@
 -- Masks as sets of their bits: what is in a mask that is made of others.
-use Rattle.prelude.specs.Words.{◌≡◌, sym, ◌∙◌, ◌↔◌, ◌≢◌, ◌⊎◌, inl, inr, ⊎_elim, by_cases, true, false≢true, ℕ, ◌-◌, ◌<◌, ◌≤◌, arith, ℕ_discrete, dec_lt}
-use Rattle.prelude.specs.Words.{eqb-true, eq-eqb, ne_eqb, Bool, ◌||◌, ◌&&◌, not, eqb, and-eq-true_iff, or-true}
+use Rattle.std.specs.Prelude.{◌≡◌, ◌↔◌, ◌≢◌, ◌⊎◌, ◌-◌, ◌<◌, ◌≤◌, ◌||◌, ◌&&◌}
+use Rattle.prelude.specs.Words.{sym, ◌∙◌, inl, inr, ⊎_elim, by_cases, true, false≢true, ℕ, arith, ℕ_discrete, dec_lt}
+use Rattle.prelude.specs.Words.{eqb-true, eq-eqb, ne_eqb, Bool, not, eqb, and-eq-true_iff, or-true}
 use Rattle.std.specs.Int.Bits.{bit_and, bit_or}
 use Rattle.tree.specs.Mask.{bit, has, put, has-put, unset, has-unset, has-zero}
 use Rattle.tree.specs.MaskLaws.{first_bits_of, first_below, first_above, minus, bit-minus}

@@ -1,5 +1,6 @@
 -- The search by masks and arrays, turn by turn.
-use Rattle.prelude.specs.Words.{◌≡◌, refl, sym, ap, ◌∙◌, ◌↔◌, ◌≢◌, ◌⊎◌, inl, inr, ⊎_elim, by_cases, true, Bool-discrete, List, ℕ, suc, ◌-◌, ◌≤◌, ◌<◌, arith}
+use Rattle.std.specs.Prelude.{◌≡◌, ◌↔◌, ◌≢◌, ◌⊎◌, ◌-◌, ◌≤◌, ◌<◌}
+use Rattle.prelude.specs.Words.{refl, sym, ap, ◌∙◌, inl, inr, ⊎_elim, by_cases, true, Bool-discrete, List, ℕ, suc, arith}
 use Rattle.prelude.specs.Words.{ℕ_discrete, length, set, length-set, get_or-set_same, get_or-set_other}
 use Rattle.std.specs.Int.Bits.{bit_and, bit_or}
 use Rattle.integers.specs.Integer.{Z, ◌≈◌, ◌≺◌, ≈_dec, nat}

@@ -1,5 +1,6 @@
 -- The way from a position of a search up to the root: the lanes that it takes bags from, and the bags moved along it.
-use Rattle.prelude.specs.Words.{◌≡◌, refl, sym, ap, ◌∙◌, by_cases, true, false, List, ℕ, zero, suc, ◌+◌, ◌*◌, ◌≤◌, ◌<◌, ◌^◌, arith, ℕ_discrete, dec_lt, ℤ, pos}
+use Rattle.std.specs.Prelude.{◌≡◌, ◌+◌, ◌*◌, ◌≤◌, ◌<◌, ◌^◌}
+use Rattle.prelude.specs.Words.{refl, sym, ap, ◌∙◌, by_cases, true, false, List, ℕ, zero, suc, arith, ℕ_discrete, dec_lt, ℤ, pos}
 use Rattle.prelude.specs.Words.{nat_abs, get_or, lt_z}
 use Rattle.integers.specs.Integer.{Z, ◌≈◌, ◌≼◌, ◌⊕◌, ◌⊖◌, ◌⊗◌}
 use Rattle.integers.specs.Bridge.{to_z}

@@ -1,6 +1,7 @@
 -- The rows and columns of a tableau add up exactly if its cells carry the flow of the paired supplies and demands: a part of the amounts, bags or marks, has
 -- the margins of the flow if the two are the same on every lane, and no other amounts on these lanes have them.
-use Rattle.prelude.specs.Words.{ℕ, zero, suc, ◌+◌, ◌-◌, ◌<◌, ◌≤◌, arith, ◌≡◌, refl, sym, ap, ◌∙◌, ◌↔◌, by_cases, Bool, true, cond, List, eqb, ℤ, pos, ◌+ℤ◌}
+use Rattle.std.specs.Prelude.{◌+◌, ◌-◌, ◌<◌, ◌≤◌, ◌≡◌, ◌↔◌, ◌+ℤ◌}
+use Rattle.prelude.specs.Words.{ℕ, zero, suc, arith, refl, sym, ap, ◌∙◌, by_cases, Bool, true, cond, List, eqb, ℤ, pos}
 use Rattle.prelude.specs.Words.{get_or, eq-eqb, ne_eqb}
 use Rattle.integers.specs.Integer.{Z, ◌≈◌, nat}
 use Rattle.integers.specs.Bridge.{to_z, z-eq, eq-z}

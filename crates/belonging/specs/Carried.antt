@@ -1,5 +1,6 @@
 -- Whether lanes carry the flow of weights, in the arrays of the code.
-use Rattle.prelude.specs.Words.{ℕ, ◌+◌, ◌^◌, ◌<◌, ◌≤◌, arith, dec_lt, ◌≡◌, refl, sym, ap, ◌∙◌, by_cases, Bool, true, false, List, ℤ, pos, ◌-ℤ◌, length, get_or}
+use Rattle.std.specs.Prelude.{◌+◌, ◌^◌, ◌<◌, ◌≤◌, ◌≡◌, ◌-ℤ◌}
+use Rattle.prelude.specs.Words.{ℕ, arith, dec_lt, refl, sym, ap, ◌∙◌, by_cases, Bool, true, false, List, ℤ, pos, length, get_or}
 use Rattle.prelude.specs.Words.{set, mag, by_test}
 use Rattle.std.specs.Int.{w64}
 use Rattle.std.proofs.Common.{to_z, of_z}

@@ -1,6 +1,7 @@
 -- The laws of flows by strikes: the step through one strike, that the weights that are left never grow, and the same on the arrays of the code.
-use Rattle.prelude.specs.Words.{ℕ, zero, suc, ◌+◌, ◌*◌, ◌<◌, ◌≤◌, arith, add-one, eq-or-lt_of_le, ◌≡◌, refl, sym, ap, ◌∙◌, ◌≢◌, ⊎_elim, Bool, true, false, cond}
-use Rattle.prelude.specs.Words.{List, eqb, ℤ, pos, nat_abs, ◌-ℤ◌, length, get_or, set, length-set, lt-length-set, eqb-true, eq-eqb, ne_eqb, by_test, fun_ext}
+use Rattle.std.specs.Prelude.{◌+◌, ◌*◌, ◌<◌, ◌≤◌, ◌≡◌, ◌≢◌, ◌-ℤ◌}
+use Rattle.prelude.specs.Words.{ℕ, zero, suc, arith, add-one, eq-or-lt_of_le, refl, sym, ap, ◌∙◌, ⊎_elim, Bool, true, false, cond}
+use Rattle.prelude.specs.Words.{List, eqb, ℤ, pos, nat_abs, length, get_or, set, length-set, lt-length-set, eqb-true, eq-eqb, ne_eqb, by_test, fun_ext}
 use Rattle.std.proofs.Math.IntN.{+ℤ_invr}
 use Rattle.transport.specs.Lists.{sum_to}
 use Rattle.transport.specs.Laws.ListLaws.{sum_to-each, sum_to_cong}

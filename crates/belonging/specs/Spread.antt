@@ -1,5 +1,6 @@
 -- A tableau in the flat arrays: whether its lanes span and its amounts add up, as the code finds it.
-use Rattle.prelude.specs.Words.{ℕ, ◌+◌, ◌-◌, ◌*◌, ◌<◌, ◌≡◌, refl, sym, ap, ◌∙◌, subst, ◌↔◌, Bool, true, false, ◌&&◌, List, eqb, ltb, ltb-true, eq-eqb, ne_eqb}
+use Rattle.std.specs.Prelude.{◌+◌, ◌-◌, ◌*◌, ◌<◌, ◌≡◌, ◌↔◌, ◌&&◌}
+use Rattle.prelude.specs.Words.{ℕ, refl, sym, ap, ◌∙◌, subst, Bool, true, false, List, eqb, ltb, ltb-true, eq-eqb, ne_eqb}
 use Rattle.prelude.specs.Words.{ℤ, pos, length, get_or, length-map, by_test, and-eq-true_iff, and-false}
 use Rattle.transport.specs.Lists.{all, at, total}
 use Rattle.transport.specs.Laws.ListLaws.{and_left, and_right, all-at, member-table, table-member}

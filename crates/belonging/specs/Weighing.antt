@@ -1,5 +1,6 @@
 -- How the weights at the nodes are put into their array.
-use Rattle.prelude.specs.Words.{ℕ, ◌+◌, ◌-◌, ◌<◌, ◌≤◌, arith, zero-add, dec_lt, ℕ_discrete, ◌≡◌, refl, ◌∙◌, by_cases, List, ℤ, pos, nat_abs, length}
+use Rattle.std.specs.Prelude.{◌+◌, ◌-◌, ◌<◌, ◌≤◌, ◌≡◌}
+use Rattle.prelude.specs.Words.{ℕ, arith, zero-add, dec_lt, ℕ_discrete, refl, ◌∙◌, by_cases, List, ℤ, pos, nat_abs, length}
 use Rattle.prelude.specs.Words.{get_or, set}
 use Rattle.prelude.specs.Words.{length-set, get_or-set_same, get_or-set_other, eq-eqb, ne_eqb}
 use Rattle.transport.specs.Lists.{at}

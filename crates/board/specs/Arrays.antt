@@ -1,5 +1,6 @@
 -- What the arrays hold: the amounts of a tableau, the strikes of its basis, and its tree.
-use Rattle.prelude.specs.Words.{◌≡◌, true, List, ℕ, ◌+◌, ◌-◌, ◌*◌, ◌<◌, ◌≤◌, arith, ℤ, pos, length, get_or}
+use Rattle.std.specs.Prelude.{◌≡◌, ◌+◌, ◌-◌, ◌*◌, ◌<◌, ◌≤◌}
+use Rattle.prelude.specs.Words.{true, List, ℕ, arith, ℤ, pos, length, get_or}
 use Rattle.transport.specs.Problem.{Problem, sources, sinks}
 use Rattle.transport.proofs.Sound.{Sound}
 use Rattle.transport.specs.Tableau.{basis_for}

@@ -1,5 +1,6 @@
 -- The tests of belonging that look at cells one by one, made in one pass.
-use Rattle.prelude.specs.Words.{ℕ, ◌+◌, ◌*◌, ◌<◌, ◌≤◌, arith, mul-le-mul, ◌≡◌, refl, ◌∙◌, Bool, true, false, ◌&&◌, List, [], ◌∷◌, ltb, leb, ltb-true, ltb-false}
+use Rattle.std.specs.Prelude.{◌+◌, ◌*◌, ◌<◌, ◌≤◌, ◌≡◌, ◌&&◌, ◌∷◌}
+use Rattle.prelude.specs.Words.{ℕ, arith, mul-le-mul, refl, ◌∙◌, Bool, true, false, List, [], ltb, leb, ltb-true, ltb-false}
 use Rattle.prelude.specs.Words.{lt-leb, le-leb, by_test}
 use Rattle.transport.specs.Lists.{all}
 use Rattle.transport.specs.Laws.ListLaws.{and_left, and_right}

@@ -1,5 +1,6 @@
 -- The cells of a tableau's array.
-use Rattle.prelude.specs.Words.{ℕ, suc, ◌<◌, ◌≤◌, arith, ◌≡◌, refl, ◌∙◌, ◌∷◌, length, drop, get_or, drop-cons, get_or-take, length-take-le}
+use Rattle.std.specs.Prelude.{◌<◌, ◌≤◌, ◌≡◌, ◌∷◌}
+use Rattle.prelude.specs.Words.{ℕ, suc, arith, refl, ◌∙◌, length, drop, get_or, drop-cons, get_or-take, length-take-le}
 use Rattle.transport.specs.Limits.{max_side, max_cells}
 use Rattle.transport.specs.Tableau.{no_cell, cells_of}
 use Rattle.transport.specs.declared.Tableau.{Tableau}

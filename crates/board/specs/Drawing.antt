@@ -1,5 +1,6 @@
 -- The masks of the basic lanes, drawn from the lanes of a tree; with them the arrays hold the cells as they do when a tableau is laid out.
-use Rattle.prelude.specs.Words.{ℕ, zero, suc, ◌+◌, ◌-◌, ◌/◌, ◌%◌, ◌<◌, ◌≤◌, arith, add-one, ◌≡◌, sym, ap, ◌∙◌, by_cases, Bool, true, false, ◌&&◌, ◌||◌}
+use Rattle.std.specs.Prelude.{◌+◌, ◌-◌, ◌/◌, ◌%◌, ◌<◌, ◌≤◌, ◌≡◌, ◌&&◌, ◌||◌}
+use Rattle.prelude.specs.Words.{ℕ, zero, suc, arith, add-one, sym, ap, ◌∙◌, by_cases, Bool, true, false}
 use Rattle.prelude.specs.Words.{false≢true, or-true, List, ℕ_discrete, eqb-true, eq-eqb, eqb, ℤ, length, get_or, ⊎_elim, and-eq-true_iff}
 use Rattle.transport.specs.Problem.{Problem, Lane, sinks}
 use Rattle.transport.specs.Laws.ProblemLaws.{lane}

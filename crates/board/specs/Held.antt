@@ -1,6 +1,7 @@
 -- How the flat arrays of a run hold a list of cells: a mask of basic lanes for each node, and an amount for each lane.
-use Rattle.prelude.specs.Words.{ℕ, zero, suc, ◌+◌, ◌*◌, ◌<◌, ◌≤◌, arith, ◌≡◌, refl, sym, ap, ◌∙◌, Bool, true, false, ◌&&◌, ◌||◌, cond, false≢true, or-true}
-use Rattle.prelude.specs.Words.{and_comm, List, [], ◌∷◌, ◌↔◌, ◌≢◌, eqb, ℤ, pos, length, get_or, set, replicate}
+use Rattle.std.specs.Prelude.{◌+◌, ◌*◌, ◌<◌, ◌≤◌, ◌≡◌, ◌&&◌, ◌||◌, ◌∷◌, ◌↔◌, ◌≢◌}
+use Rattle.prelude.specs.Words.{ℕ, zero, suc, arith, refl, sym, ap, ◌∙◌, Bool, true, false, cond, false≢true, or-true}
+use Rattle.prelude.specs.Words.{and_comm, List, [], eqb, ℤ, pos, length, get_or, set, replicate}
 use Rattle.prelude.specs.Words.{length-set}
 use Rattle.prelude.specs.Words.{length-map, length-replicate, lt-length-set, get_or-set_same, get_or-set_other, eqb-true}
 use Rattle.prelude.specs.Words.{eqb-false, eq-eqb, ne_eqb, by_test, ⊎_elim, and-eq-true_iff}

@@ -1,6 +1,7 @@
 -- The basic lanes in sheet order, read from the masks of the rows, and the cells gathered from them.
-use Rattle.prelude.specs.Words.{ℕ, zero, suc, ◌+◌, ◌-◌, ◌*◌, ◌/◌, ◌%◌, ◌<◌, ◌≤◌, arith, mul-le-mul_right, suc-mul, add-zero, dec_lt, ◌≡◌, refl, sym, ap, ◌∙◌}
-use Rattle.prelude.specs.Words.{⊎_elim, Bool, true, false, true≢false, List, [], ◌∷◌, ◌++◌, map, append-nil, Memᴰ, Memᴰ-head, Memᴰ-tail}
+use Rattle.std.specs.Prelude.{◌+◌, ◌-◌, ◌*◌, ◌/◌, ◌%◌, ◌<◌, ◌≤◌, ◌≡◌, ◌∷◌, ◌++◌}
+use Rattle.prelude.specs.Words.{ℕ, zero, suc, arith, mul-le-mul_right, suc-mul, add-zero, dec_lt, refl, sym, ap, ◌∙◌}
+use Rattle.prelude.specs.Words.{⊎_elim, Bool, true, false, true≢false, List, [], map, append-nil, Memᴰ, Memᴰ-head, Memᴰ-tail}
 use Rattle.prelude.specs.Words.{Memᴰ-not_nil, Memᴰ-cases_cons, ℤ, pos, length, take, drop, get_or, set, replicate, length-append, length-map}
 use Rattle.prelude.specs.Words.{length-replicate, get_or-take, by_cases}
 use Rattle.transport.specs.Lists.{keep, table, below, padded}

@@ -1,6 +1,7 @@
 -- Amounts by lane, and what is done to the lanes of slots: the slot with the least pair, and a pair added to each of some slots.
-use Rattle.prelude.specs.Words.{◌≡◌, refl, sym, ap, ◌∙◌, ◌≢◌, by_cases, true, false, true≢false, List, ℕ, ◌-◌, ◌<◌, arith, ℕ_discrete, eq-eqb, ne_eqb, ℤ, pos}
-use Rattle.prelude.specs.Words.{◌+ℤ◌, length, get_or, set, length-set, get_or-set_same, get_or-set_other, clash}
+use Rattle.std.specs.Prelude.{◌≡◌, ◌≢◌, ◌-◌, ◌<◌, ◌+ℤ◌}
+use Rattle.prelude.specs.Words.{refl, sym, ap, ◌∙◌, by_cases, true, false, true≢false, List, ℕ, arith, ℕ_discrete, eq-eqb, ne_eqb, ℤ, pos}
+use Rattle.prelude.specs.Words.{length, get_or, set, length-set, get_or-set_same, get_or-set_other, clash}
 use Rattle.std.specs.Int.Bits.{bit_and}
 use Rattle.transport.specs.Amount.{less}
 use Rattle.transport.specs.Laws.ListLaws.{is_false}

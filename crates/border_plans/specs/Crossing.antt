@@ -1,5 +1,6 @@
 -- The declared answer of solve crosses the border as Border says.
-use Rattle.prelude.specs.Words.{◌≡◌, refl, pos}
+use Rattle.std.specs.Prelude.{◌≡◌}
+use Rattle.prelude.specs.Words.{refl, pos}
 use Rattle.transport.specs.declared.SolveAnswer.{SolveAnswer}
 use Rattle.transport.specs.declared.SolveAnswer.TheVariants as SolveAnswer
 use Rattle.transport.specs.Calls.{Answer, refused, given, Solution}

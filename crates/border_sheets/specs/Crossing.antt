@@ -1,5 +1,6 @@
 -- The declared answers of start, read sheet and the two writers cross the border as Border says.
-use Rattle.prelude.specs.Words.{◌≡◌, refl, sym, ap, ◌∙◌, List, Option, none, some, ℕ, ◌-◌, length, some≢none}
+use Rattle.std.specs.Prelude.{◌≡◌, ◌-◌}
+use Rattle.prelude.specs.Words.{refl, sym, ap, ◌∙◌, List, Option, none, some, ℕ, length, some≢none}
 use Rattle.transport.specs.declared.ReadAnswer.{ReadAnswer}
 use Rattle.transport.specs.declared.ReadAnswer.TheVariants as ReadAnswer
 use Rattle.transport.specs.declared.WriteAnswer.{WriteAnswer}

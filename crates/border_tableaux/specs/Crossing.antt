@@ -1,5 +1,6 @@
 -- The declared answers of round, run and settle cross the border as Border says.
-use Rattle.prelude.specs.Words.{◌≡◌, refl, true, false, List, ℕ, ℤ, by_test}
+use Rattle.std.specs.Prelude.{◌≡◌}
+use Rattle.prelude.specs.Words.{refl, true, false, List, ℕ, ℤ, by_test}
 use Rattle.transport.specs.declared.Tableau.{Tableau}
 use Rattle.transport.specs.declared.RoundOutcome.{RoundOutcome}
 use Rattle.transport.specs.declared.RoundOutcome.TheVariants as RoundOutcome

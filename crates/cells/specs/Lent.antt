@@ -1,5 +1,6 @@
 -- How the tableau that a lent list of cells is (`Tableau.lent_tableau_of`) is put together cell by cell.
-use Rattle.prelude.specs.Words.{ℕ, zero, suc, ◌+◌, ◌-◌, ◌^◌, cond, List, ltb, get_or, set}
+use Rattle.std.specs.Prelude.{◌+◌, ◌-◌, ◌^◌}
+use Rattle.prelude.specs.Words.{ℕ, zero, suc, cond, List, ltb, get_or, set}
 use Rattle.transport.specs.Limits.{max_cells}
 use Rattle.transport.specs.Tableau.{no_cell, no_tableau}
 use Rattle.transport.specs.declared.Cell.{Cell}

@@ -1,6 +1,7 @@
 -- The laws of Lent: a list's cells, added to no tableau, make the tableau that the list is; and what the calls make of that tableau.
-use Rattle.prelude.specs.Words.{ℕ, zero, suc, ◌+◌, ◌-◌, ◌<◌, ◌≤◌, ◌^◌, arith, dec_lt, ◌≡◌, refl, sym, ap, ◌∙◌, by_cases, Bool, true, false, ◌&&◌, List, [], ◌∷◌}
-use Rattle.prelude.specs.Words.{◌++◌, append_assoc, eqb, length, take, get_or, set, replicate, length-append, length-map, take_all, take-suc, take-length}
+use Rattle.std.specs.Prelude.{◌+◌, ◌-◌, ◌<◌, ◌≤◌, ◌^◌, ◌≡◌, ◌&&◌, ◌∷◌, ◌++◌}
+use Rattle.prelude.specs.Words.{ℕ, zero, suc, arith, dec_lt, refl, sym, ap, ◌∙◌, by_cases, Bool, true, false, List, []}
+use Rattle.prelude.specs.Words.{append_assoc, eqb, length, take, get_or, set, replicate, length-append, length-map, take_all, take-suc, take-length}
 use Rattle.prelude.specs.Words.{take-append_seam, length-take-le, set_at, lt-ltb, le-ltb, ne_eqb, by_test, clash}
 use Rattle.std.proofs.lemmas.List.{take-append-le}
 use Rattle.transport.specs.Lists.{all, padded}

@@ -1,6 +1,7 @@
 -- The costs of a sheet's lanes between parties left, spread by column with the stride of the arrays: while they are filled in, and for a problem.
-use Rattle.prelude.specs.Words.{ℕ, ◌+◌, ◌*◌, ◌/◌, ◌%◌, ◌<◌, ◌≤◌, arith, Dec-and, length-replicate, mul-le-mul, dec_lt, ◌≡◌, sym, ap, ◌∙◌, by_cases, List, []}
-use Rattle.prelude.specs.Words.{◌∷◌, ◌++◌, ℤ, pos, nat_abs, length, get_or, replicate, length-append, get_or-append, get_or_at}
+use Rattle.std.specs.Prelude.{◌+◌, ◌*◌, ◌/◌, ◌%◌, ◌<◌, ◌≤◌, ◌≡◌, ◌∷◌, ◌++◌}
+use Rattle.prelude.specs.Words.{ℕ, arith, Dec-and, length-replicate, mul-le-mul, dec_lt, sym, ap, ◌∙◌, by_cases, List, []}
+use Rattle.prelude.specs.Words.{ℤ, pos, nat_abs, length, get_or, replicate, length-append, get_or-append, get_or_at}
 use Rattle.transport.specs.Limits.{max_cost, cost_above}
 use Rattle.transport.specs.Lists.{at, at_z}
 use Rattle.transport.specs.Problem.{Problem, sources, sinks, place, lane_cost}

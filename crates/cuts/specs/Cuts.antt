@@ -1,7 +1,8 @@
 -- The fundamental cuts of a spanning tree: without one of its lanes the tree falls into two parts, and no other lane of it goes across.
 -- What they give: the loop of an entering lane with its signs, the cuts after an exchange of lanes, and the potentials after it.
-use Rattle.prelude.specs.Words.{◌≡◌, refl, ap, sym, ◌∙◌, ◌↔◌, ◌≢◌, ◌⊎◌, inl, inr, ⊎_elim, by_cases, Bool, true, false, not, cond, xor, ◌&&◌, and-false}
-use Rattle.prelude.specs.Words.{true≢false, false≢true, List, Memᴰ, ℕ, ◌+◌, ◌<◌, ◌≤◌, arith, ℕ_discrete, eq-eqb, ne_eqb, eqb, ℤ, pos, negsuc}
+use Rattle.std.specs.Prelude.{◌≡◌, ◌↔◌, ◌≢◌, ◌⊎◌, ◌&&◌, ◌+◌, ◌<◌, ◌≤◌}
+use Rattle.prelude.specs.Words.{refl, ap, sym, ◌∙◌, inl, inr, ⊎_elim, by_cases, Bool, true, false, not, cond, xor, and-false}
+use Rattle.prelude.specs.Words.{true≢false, false≢true, List, Memᴰ, ℕ, arith, ℕ_discrete, eq-eqb, ne_eqb, eqb, ℤ, pos, negsuc}
 use Rattle.integers.specs.Integer.{Z, ◌≈◌, ◌⊕◌, ◌⊖◌, ◌⊗◌, neg, nat}
 use Rattle.integers.specs.Bridge.{to_z, eq-z}
 use Rattle.integers.specs.Sum.{point}

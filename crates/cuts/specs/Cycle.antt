@@ -1,6 +1,7 @@
 -- The loop that an entering lane closes with the tree, by the paths of its two nodes: its slots as bits, those whose lane loses the step and those whose lane
 -- gains it.
-use Rattle.prelude.specs.Words.{◌≡◌, refl, sym, ◌∙◌, by_cases, Bool, true, false, not, xor, ◌&&◌, and-true, and-false, or-false, List, ℕ, ◌-◌, ◌/◌, ℕ_discrete}
+use Rattle.std.specs.Prelude.{◌≡◌, ◌&&◌, ◌-◌, ◌/◌}
+use Rattle.prelude.specs.Words.{refl, sym, ◌∙◌, by_cases, Bool, true, false, not, xor, and-true, and-false, or-false, List, ℕ, ℕ_discrete}
 use Rattle.prelude.specs.Words.{eq-eqb, ne_eqb, eqb, get_or, by_test}
 use Rattle.std.specs.Int.Bits.{bit_and, bit_or, bit_xor}
 use Rattle.transport.specs.Laws.ListLaws.{and_right}

@@ -1,5 +1,6 @@
 -- The tree after an exchange of lanes, as masks.
-use Rattle.prelude.specs.Words.{◌≡◌, ap, sym, ◌∙◌, ◌≢◌, Bool, true, false, not, xor, ◌&&◌, and_comm, and-false, false≢true, List, ℕ, ◌+◌, ◌-◌, ◌*◌, ◌<◌, ◌≤◌}
+use Rattle.std.specs.Prelude.{◌≡◌, ◌≢◌, ◌&&◌, ◌+◌, ◌-◌, ◌*◌, ◌<◌, ◌≤◌}
+use Rattle.prelude.specs.Words.{ap, sym, ◌∙◌, Bool, true, false, not, xor, and_comm, and-false, false≢true, List, ℕ}
 use Rattle.prelude.specs.Words.{arith, lt-ltb, eqb, ltb, length, get_or, set, length-set, get_or-set_same, get_or-set_other, by_test}
 use Rattle.transport.specs.Laws.ListLaws.{and_right}
 use Rattle.transport.specs.Problem.{Lane}

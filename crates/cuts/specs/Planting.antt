@@ -1,6 +1,7 @@
 -- The first tree: strikes of a basis, read backwards, hang each leaf with its lane on the node at the other end.
-use Rattle.prelude.specs.Words.{◌≡◌, refl, ap, sym, ◌∙◌, ◌≢◌, ◌⊎◌, inl, inr, ⊎_elim, by_cases, Bool, true, false, xor, ◌&&◌, ◌||◌, and-false, and-true, List}
-use Rattle.prelude.specs.Words.{Memᴰ, ℕ, zero, suc, ◌+◌, ◌-◌, ◌<◌, ◌≤◌, arith, ℕ_discrete, dec_lt, eqb-true, eq-eqb, ne_eqb, lt-ltb, le-ltb, eqb, ltb}
+use Rattle.std.specs.Prelude.{◌≡◌, ◌≢◌, ◌⊎◌, ◌&&◌, ◌||◌, ◌+◌, ◌-◌, ◌<◌, ◌≤◌}
+use Rattle.prelude.specs.Words.{refl, ap, sym, ◌∙◌, inl, inr, ⊎_elim, by_cases, Bool, true, false, xor, and-false, and-true, List}
+use Rattle.prelude.specs.Words.{Memᴰ, ℕ, zero, suc, arith, ℕ_discrete, dec_lt, eqb-true, eq-eqb, ne_eqb, lt-ltb, le-ltb, eqb, ltb}
 use Rattle.prelude.specs.Words.{length, get_or, set, length-set, get_or-set_same, get_or-set_other, clash}
 use Rattle.transport.specs.Laws.ListLaws.{member-at, member-table, table-member}
 use Rattle.transport.specs.Problem.{Lane}

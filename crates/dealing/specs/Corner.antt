@@ -1,6 +1,7 @@
 -- The corner rule step by step: where it stands, what it puts there, where it goes on, and that its numbers stay small.
-use Rattle.prelude.specs.Words.{ℕ, zero, suc, ◌+◌, ◌*◌, ◌-◌, ◌≤◌, ◌<◌, arith, add-suc, suc-add, ◌≡◌, refl, sym, ap, ◌∙◌, Bool, true, false, cond, List, ◌∷◌}
-use Rattle.prelude.specs.Words.{eqb, pos, neg_ℤ, nat_abs, ◌≤ℤ◌, length, drop, get_or, replicate, length-replicate, drop-cons, by_test}
+use Rattle.std.specs.Prelude.{◌+◌, ◌*◌, ◌-◌, ◌≤◌, ◌<◌, ◌≡◌, ◌∷◌, ◌≤ℤ◌}
+use Rattle.prelude.specs.Words.{ℕ, zero, suc, arith, add-suc, suc-add, refl, sym, ap, ◌∙◌, Bool, true, false, cond, List}
+use Rattle.prelude.specs.Words.{eqb, pos, neg_ℤ, nat_abs, length, drop, get_or, replicate, length-replicate, drop-cons, by_test}
 pub use Rattle.dealing.specs.declared.corner.Corner.{Corner}
 use Rattle.transport.specs.Lists.{at_z}
 use Rattle.transport.specs.Limits.{max_side, max_amount, max_cells, max_bags, cost_below, cost_above}

@@ -1,5 +1,6 @@
 -- A tableau's array that is filled cell by cell.
-use Rattle.prelude.specs.Words.{ℕ, ◌+◌, ◌<◌, arith, sub-zero, ◌≡◌, List, ◌++◌, length, drop, get_or, set, replicate}
+use Rattle.std.specs.Prelude.{◌+◌, ◌<◌, ◌≡◌, ◌++◌}
+use Rattle.prelude.specs.Words.{ℕ, arith, sub-zero, List, length, drop, get_or, set, replicate}
 use Rattle.prelude.specs.Words.{length-replicate}
 use Rattle.transport.specs.Lists.{table, padded}
 use Rattle.transport.specs.Laws.ListLaws.{table-zero, length-table, table-get_or, fill_one, drop-replicate}

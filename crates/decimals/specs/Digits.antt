@@ -1,5 +1,6 @@
 -- The decimal digits of a number, counted and written from the last one on.
-use Rattle.prelude.specs.Words.{◌≡◌, refl, sym, ap, ◌∙◌, List, [], ◌∷◌, ◌++◌, ℕ, suc, ◌+◌, ◌/◌, ◌%◌, ◌≤◌, ◌<◌, arith, dec_lt, length, take, drop, get_or, set}
+use Rattle.std.specs.Prelude.{◌≡◌, ◌∷◌, ◌++◌, ◌+◌, ◌/◌, ◌%◌, ◌≤◌, ◌<◌}
+use Rattle.prelude.specs.Words.{refl, sym, ap, ◌∙◌, List, [], ℕ, suc, arith, dec_lt, length, take, drop, get_or, set}
 use Rattle.prelude.specs.Words.{length-append, length-take, take-suc, drop-cons, get_or-set_same, drop-set-lt, lt-length-set, by_cases}
 use Rattle.transport.specs.Text.{digits}
 use Rattle.grammar.specs.Digits.{digits-small, digits_large}

@@ -1,5 +1,6 @@
 -- A text that is put at the front of an output if it fits, and else not at all.
-use Rattle.prelude.specs.Words.{◌≡◌, refl, sym, List, [], ℕ, ◌≤◌, ◌<◌, length}
+use Rattle.std.specs.Prelude.{◌≡◌, ◌≤◌, ◌<◌}
+use Rattle.prelude.specs.Words.{refl, sym, List, [], ℕ, length}
 use Rattle.transport.specs.PlanText.{fitting}
 use Rattle.transport.specs.Laws.CallLaws.{short_yes, short_no}
 use Rattle.decimals.specs.Front.{front, front-nil}

@@ -1,5 +1,6 @@
 -- A text at the front of an output: the bytes of the output past the text stay. So it is with a list of anything in a longer one.
-use Rattle.prelude.specs.Words.{◌≡◌, refl, sym, ap, ◌∙◌, List, [], ◌∷◌, ◌++◌, append-nil, append_assoc, ℕ, suc, ◌+◌, ◌-◌, ◌≤◌, ◌<◌, arith, add-one, length}
+use Rattle.std.specs.Prelude.{◌≡◌, ◌∷◌, ◌++◌, ◌+◌, ◌-◌, ◌≤◌, ◌<◌}
+use Rattle.prelude.specs.Words.{refl, sym, ap, ◌∙◌, List, [], append-nil, append_assoc, ℕ, suc, arith, add-one, length}
 use Rattle.prelude.specs.Words.{take, drop, set, get_or, length-append, length-drop, drop_of_length-le, length-take-le, take_all, take_at, drop_at, drop-drop}
 use Rattle.prelude.specs.Words.{drop-cons, set_at}
 use Rattle.std.proofs.Common.{take-add}

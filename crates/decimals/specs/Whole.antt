@@ -1,5 +1,6 @@
 -- Whole numbers of 64 bits: their magnitude, and the laws of their digits.
-use Rattle.prelude.specs.Words.{◌≡◌, refl, ap, ◌∙◌, true, false, true≢false, ◌∷◌, ℕ, suc, ◌-◌, ◌^◌, ◌≤◌, ◌<◌, arith, T, ℤ, pos, negsuc, ◌-ℤ◌, nat_abs, length}
+use Rattle.std.specs.Prelude.{◌≡◌, ◌∷◌, ◌-◌, ◌^◌, ◌≤◌, ◌<◌, ◌-ℤ◌}
+use Rattle.prelude.specs.Words.{refl, ap, ◌∙◌, true, false, true≢false, ℕ, suc, arith, T, ℤ, pos, negsuc, nat_abs, length}
 use Rattle.prelude.specs.Words.{lt_z, mag, non_neg, le-ltb, clash}
 use Rattle.std.specs.Int.{w64}
 use Rattle.std.proofs.Common.{to_z, of_z, SFits, to_z-of_z}

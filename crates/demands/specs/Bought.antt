@@ -1,5 +1,6 @@
 -- What is bought, from the contract of solve.
-use Rattle.prelude.specs.Words.{◌≡◌, refl, sym, ap, ◌∙◌, ◌↔◌, ◌⊎◌, inl, inr, by_cases, List, ℕ, ◌*◌, arith, dec_lt, ℕ_discrete, ℤ, length, take, drop, take_at}
+use Rattle.std.specs.Prelude.{◌≡◌, ◌↔◌, ◌⊎◌, ◌*◌}
+use Rattle.prelude.specs.Words.{refl, sym, ap, ◌∙◌, inl, inr, by_cases, List, ℕ, arith, dec_lt, ℕ_discrete, ℤ, length, take, drop, take_at}
 use Rattle.prelude.specs.Words.{drop_at, Dec-and, ⊎_elim}
 use Rattle.transport.specs.declared.SolveAnswer.{SolveAnswer}
 use Rattle.transport.specs.Lists.{total}

@@ -1,5 +1,6 @@
 -- The prices that solve shows prove its plan, to whoever does not trust the panel.
-use Rattle.prelude.specs.Words.{◌≡◌, sym, ap, ◌∙◌, ⊎_elim, by_cases, List, ℕ, ◌+◌, ◌≤◌, ◌<◌, arith, one-mul, ℕ_discrete, ℤ, pos, ◌+ℤ◌, ◌*ℤ◌}
+use Rattle.std.specs.Prelude.{◌≡◌, ◌+◌, ◌≤◌, ◌<◌, ◌+ℤ◌, ◌*ℤ◌}
+use Rattle.prelude.specs.Words.{sym, ap, ◌∙◌, ⊎_elim, by_cases, List, ℕ, arith, one-mul, ℕ_discrete, ℤ, pos}
 use Rattle.integers.specs.Integer.{◌≈◌, ≈_dec, ◌≼◌, ◌⊕◌, nat}
 use Rattle.integers.specs.Bridge.{to_z, z-eq, eq-z, z-le, le-z, z-add, z-mul}
 use Rattle.network.specs.Flow.{Tight}

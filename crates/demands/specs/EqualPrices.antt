@@ -1,7 +1,8 @@
 -- Any two finished tableaux that belong to the same sheet have the same prices, those of struck
 -- parties among them (02, Five and Fourteen).
-use Rattle.prelude.specs.Words.{◌≡◌, refl, sym, ap, ◌∙◌, true, List, [], ◌∷◌, map, Memᴰ, Memᴰ-head}
-use Rattle.prelude.specs.Words.{Memᴰ-tail, ℕ, ◌≤◌, arith, ℤ, ◌-ℤ◌, by_test, subst}
+use Rattle.std.specs.Prelude.{◌≡◌, ◌∷◌, ◌≤◌, ◌-ℤ◌}
+use Rattle.prelude.specs.Words.{refl, sym, ap, ◌∙◌, true, List, [], map, Memᴰ, Memᴰ-head}
+use Rattle.prelude.specs.Words.{Memᴰ-tail, ℕ, arith, ℤ, by_test, subst}
 use Rattle.transport.specs.declared.Cell.{Cell}
 use Rattle.transport.specs.Lists.{at, least_for}
 use Rattle.transport.specs.Problem.{Problem, sinks, lane_cost}

@@ -1,6 +1,7 @@
 -- A best plan uses at most m + n − 1 lanes.
-use Rattle.prelude.specs.Words.{◌≡◌, refl, sym, ap, ◌∙◌, by_cases, Bool, false, not, cond, List, [], ◌∷◌, ℕ, zero, suc, ◌+◌, ◌*◌, ◌-◌, ◌≤◌, ◌<◌, arith}
-use Rattle.prelude.specs.Words.{mul-le-mul_left, ℕ_discrete, dec_lt, eqb, ℤ, pos, ◌*ℤ◌, length, get_or, length-map, by_test}
+use Rattle.std.specs.Prelude.{◌≡◌, ◌∷◌, ◌+◌, ◌*◌, ◌-◌, ◌≤◌, ◌<◌, ◌*ℤ◌}
+use Rattle.prelude.specs.Words.{refl, sym, ap, ◌∙◌, by_cases, Bool, false, not, cond, List, [], ℕ, zero, suc, arith}
+use Rattle.prelude.specs.Words.{mul-le-mul_left, ℕ_discrete, dec_lt, eqb, ℤ, pos, length, get_or, length-map, by_test}
 use Rattle.integers.specs.Integer.{Z, ◌≈◌, ◌≼◌, ≈_dec, ◌⊕◌, ◌⊗◌, neg, nat}
 use Rattle.integers.specs.IntegerLaws.{⊗_cong}
 use Rattle.integers.specs.Bridge.{to_z, z-mul, z-eq, z-le, eq-z}
@@ -15,7 +16,7 @@ use Rattle.transport.specs.Plan.{plan_cost_of}
 use Rattle.transport.specs.PlanText.{carried, used}
 use Rattle.transport.specs.Statements.{Meets, FirstDifference, scaled, Best}
 use Rattle.transport.specs.Laws.ListLaws.{length-table, get_or-table, sum_to-each}
-use Rattle.transport.specs.Laws.ProblemLaws.{lane, place_of, place-below, length-lanes, get_or-lanes}
+use Rattle.transport.specs.Laws.ProblemLaws.{lane, lane_placed, place-below, length-lanes, get_or-lanes}
 use Rattle.transport.specs.Laws.PlanLaws.{scaled_at}
 use Rattle.tableaux.specs.PlanView.{sum-sum_to, places_cost}
 
@@ -44,7 +45,7 @@ module _ (m n : ℕ) (plan : List ℕ) where
   carries-none : (l : ℕ) → l < m * n → at plan l ≡ 0 → carries l ≡ false
   unfolding carried
   carries-none l p e =
-      let w = place_of m n l p in
+      let w = lane_placed m n l p in
       let here : get_or (lanes m n) l (lane 0 0) ≡ lane w.row w.col =
       ap (λ (t : ℕ). get_or (lanes m n) t (lane 0 0)) (sym w.placed) ∙ get_or-lanes m n w.row w.col (lane 0 0) w.row_below w.col_below in
       rw (here, w.placed, e)

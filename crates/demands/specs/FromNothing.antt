@@ -1,6 +1,7 @@
 -- Phone orders (02, Five): an accepted edit gives what solving the edited sheet from nothing gives,
 -- but for the rounds, and the standing sheet after it passes its first check again.
-use Rattle.prelude.specs.Words.{◌≡◌, refl, sym, ap, ◌∙◌, Bool, true, ◌&&◌, List, none, subst, by_option, ℕ}
+use Rattle.std.specs.Prelude.{◌≡◌, ◌&&◌}
+use Rattle.prelude.specs.Words.{refl, sym, ap, ◌∙◌, Bool, true, List, none, subst, by_option, ℕ}
 use Rattle.prelude.specs.Words.{eqb, eq-eqb, not-false}
 use Rattle.transport.specs.declared.Cell.{Cell}
 use Rattle.transport.specs.declared.Change.{Change}

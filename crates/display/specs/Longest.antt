@@ -1,5 +1,6 @@
 -- No plan text is longer than 1,604 bytes, and nothing that the program prints is.
-use Rattle.prelude.specs.Words.{◌≡◌, refl, ap, Option, none, some, List, ◌++◌, flat_map, Memᴰ, ℕ, suc, ◌+◌, ◌*◌, ◌-◌, ◌^◌, ◌≤◌, ◌<◌, arith}
+use Rattle.std.specs.Prelude.{◌≡◌, ◌++◌, ◌+◌, ◌*◌, ◌-◌, ◌^◌, ◌≤◌, ◌<◌}
+use Rattle.prelude.specs.Words.{refl, ap, Option, none, some, List, flat_map, Memᴰ, ℕ, suc, arith}
 use Rattle.prelude.specs.Words.{mul-le-mul_right, eq-eqb, ℤ, nat_abs, length, take, length-append, length-take}
 use Prim.Native.String.{String}
 use Rattle.transport.specs.Lists.{table, below, grid}

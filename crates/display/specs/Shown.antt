@@ -1,5 +1,6 @@
 -- What is shown of a sheet that was read, and of a text that is no sheet text.
-use Rattle.prelude.specs.Words.{◌≡◌, refl, sym, ap, ◌∙◌, by_cases, Bool, none, some, List, [], ◌∷◌, ◌++◌, ℕ, suc, min, ◌*◌, ◌-◌, ◌≤◌, arith, dec_le, length}
+use Rattle.std.specs.Prelude.{◌≡◌, ◌∷◌, ◌++◌, ◌*◌, ◌-◌, ◌≤◌}
+use Rattle.prelude.specs.Words.{refl, sym, ap, ◌∙◌, by_cases, Bool, none, some, List, [], ℕ, suc, min, arith, dec_le, length}
 use Rattle.prelude.specs.Words.{take, take_all, eq-eqb, by_test, by_option, some≢none, drop, length-drop}
 use Rattle.transport.specs.declared.WriteAnswer.TheVariants.{Written, Refused}
 use Rattle.transport.specs.declared.ReadAnswer.{ReadAnswer}

@@ -1,5 +1,6 @@
 -- Where the rounds of an edit begin, laid out over the arrays.
-use Rattle.prelude.specs.Words.{◌≡◌, refl, sym, ap, ◌∙◌, List, ℕ, ◌<◌, ◌≤◌, arith, ℤ, pos, nat_abs, length, take, set}
+use Rattle.std.specs.Prelude.{◌≡◌, ◌<◌, ◌≤◌}
+use Rattle.prelude.specs.Words.{refl, sym, ap, ◌∙◌, List, ℕ, arith, ℤ, pos, nat_abs, length, take, set}
 use Rattle.prelude.specs.Words.{get_or-set_same}
 use Rattle.transport.specs.declared.Cell.{Cell}
 use Rattle.transport.specs.declared.Change.TheVariants as Change

@@ -1,6 +1,7 @@
 -- The costs that are spread by column, after an edit: with one new cost among them, or for other
 -- parties.
-use Rattle.prelude.specs.Words.{◌≡◌, sym, ap, ◌∙◌, by_cases, true, ◌&&◌, eqb, eqb-true, List, ℕ, ◌+◌, ◌*◌, ◌≤◌, ◌<◌}
+use Rattle.std.specs.Prelude.{◌≡◌, ◌&&◌, ◌+◌, ◌*◌, ◌≤◌, ◌<◌}
+use Rattle.prelude.specs.Words.{sym, ap, ◌∙◌, by_cases, true, eqb, eqb-true, List, ℕ}
 use Rattle.prelude.specs.Words.{arith, Dec-and, ℕ_discrete}
 use Rattle.prelude.specs.Words.{ℤ, pos, nat_abs, length, get_or, set, take, length-set, get_or-set_same, get_or-set_other}
 use Rattle.transport.specs.Limits.{max_side, max_cost}

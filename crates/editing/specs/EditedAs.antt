@@ -1,7 +1,8 @@
 -- An edit of a standing sheet, case by case: what it refuses and what it gives.
-use Rattle.prelude.specs.Words.{◌≡◌, refl, sym, ap, subst, ◌∙◌, Bool, true, false, not, ◌&&◌, ◌||◌, List, none, some}
+use Rattle.std.specs.Prelude.{◌≡◌, ◌&&◌, ◌||◌, ◌+◌}
+use Rattle.prelude.specs.Words.{refl, sym, ap, subst, ◌∙◌, Bool, true, false, not, List, none, some}
 use Rattle.prelude.specs.Words.{by_option}
-use Rattle.prelude.specs.Words.{ℕ, ◌+◌, arith, ltb, eqb, add-one, ℤ, length, some≢none}
+use Rattle.prelude.specs.Words.{ℕ, arith, ltb, eqb, add-one, ℤ, length, some≢none}
 use Rattle.transport.specs.declared.Cell.{Cell}
 use Rattle.transport.specs.declared.Edit.{Edit}
 use Rattle.transport.specs.declared.SolveAnswer.{SolveAnswer}

@@ -1,5 +1,6 @@
 -- The edited sheet, solved from some tableau on, or refused.
-use Rattle.prelude.specs.Words.{◌≡◌, sym, ◌∙◌, List, none, some, ℕ, ◌<◌, arith, ℤ, length, some≢none}
+use Rattle.std.specs.Prelude.{◌≡◌, ◌<◌}
+use Rattle.prelude.specs.Words.{sym, ◌∙◌, List, none, some, ℕ, arith, ℤ, length, some≢none}
 use Rattle.transport.specs.declared.Cell.{Cell}
 use Rattle.transport.specs.declared.SolveAnswer.{SolveAnswer}
 use Rattle.transport.specs.declared.SolveAnswer.TheVariants.{Refused}

@@ -5,7 +5,8 @@
 --     OwnList, OwnCosts, OwnCells   what a list of amounts, of costs or of cells owns
 --     Tok                           the token of a lent list
 --     to-lent, goes-lent            what `lent_tableau` is passed
-use Rattle.prelude.specs.Words.{◌≡◌, ℕ, List, [], ◌∷◌, ℤ, length}
+use Rattle.std.specs.Prelude.{◌≡◌, ◌∷◌}
+use Rattle.prelude.specs.Words.{ℕ, List, [], ℤ, length}
 use seplogic.Ra.Ura.{Ura}
 use mir.Syntax.{named}
 use mir.Val.{Val}

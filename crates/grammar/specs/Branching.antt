@@ -1,6 +1,7 @@
 -- A reader that goes one way after a byte b, and another way on every text that does not begin with b. It is exact where both ways are, and b begins no text of
 -- the other way.
-use Rattle.prelude.specs.Words.{◌≡◌, refl, sym, ◌∙◌, ap, ◌⊎◌, inl, inr, true, false, cond, List, [], ◌∷◌, ◌++◌, ℕ, arith, eqb, eqb-true, eq-eqb, ne_eqb}
+use Rattle.std.specs.Prelude.{◌≡◌, ◌⊎◌, ◌∷◌, ◌++◌}
+use Rattle.prelude.specs.Words.{refl, sym, ◌∙◌, ap, inl, inr, true, false, cond, List, [], ℕ, arith, eqb, eqb-true, eq-eqb, ne_eqb}
 use Rattle.prelude.specs.Words.{by_test}
 use Rattle.transport.specs.SheetText.{stuck, got, Reader}
 use Rattle.grammar.specs.Exact.{Exact, Taken, Stopped, Any, stopped-there, stopped-behind}

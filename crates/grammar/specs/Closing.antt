@@ -1,5 +1,6 @@
 -- Digits and the byte that closes a number. A number alone has no end of its own: its reader is exact with the byte after it.
-use Rattle.prelude.specs.Words.{◌≡◌, refl, sym, ◌∙◌, ap, ◌↔◌, Bool, true, false, ◌&&◌, and-eq-true_iff, List, [], ◌∷◌, ◌++◌, ℕ, zero, suc, ◌+◌, ◌*◌, arith, eqb}
+use Rattle.std.specs.Prelude.{◌≡◌, ◌↔◌, ◌&&◌, ◌∷◌, ◌++◌, ◌+◌, ◌*◌}
+use Rattle.prelude.specs.Words.{refl, sym, ◌∙◌, ap, Bool, true, false, and-eq-true_iff, List, [], ℕ, zero, suc, arith, eqb}
 use Rattle.prelude.specs.Words.{by_test}
 use Rattle.transport.specs.Text.{digits}
 use Rattle.transport.specs.SheetText.{Reading, stuck, got, Reader, ◌>>=◌, ◌>>◌, pure, byte_that, word, is_digit, digit_value_of, more_digits_of}

@@ -1,5 +1,6 @@
 -- The digits of a number are its one decimal numeral with no leading 0, of whatever length (paper 01, "Texts"), and a cost may have a minus before it.
-use Rattle.prelude.specs.Words.{◌≡◌, refl, sym, ◌∙◌, ap, ◌↔◌, ◌⊎◌, inl, inr, Bool, true, List, [], ◌∷◌, ℕ, zero, suc, ◌+◌, ◌*◌, ◌^◌, ◌≤◌, ◌<◌, arith, dec_lt, ℤ}
+use Rattle.std.specs.Prelude.{◌≡◌, ◌↔◌, ◌⊎◌, ◌∷◌, ◌+◌, ◌*◌, ◌^◌, ◌≤◌, ◌<◌}
+use Rattle.prelude.specs.Words.{refl, sym, ◌∙◌, ap, inl, inr, Bool, true, List, [], ℕ, zero, suc, arith, dec_lt, ℤ}
 use Rattle.prelude.specs.Words.{pos, negsuc, neg_ℤ, length, by_cases}
 use mathlib.Core.List.{head-eq_of_cons-eq}
 use Rattle.transport.specs.Text.{bytes, digits, whole_digits}

@@ -1,5 +1,6 @@
 -- Laws of decimal digits: how they grow, how many there are, and the number that they give back.
-use Rattle.prelude.specs.Words.{◌≡◌, sym, ◌∙◌, ap, ◌↔◌, true, List, [], ◌∷◌, ◌++◌, ℕ, zero, suc, ◌+◌, ◌*◌, ◌/◌, ◌%◌, ◌^◌, ◌≤◌, ◌<◌, arith, dec_lt, ltb, eqb}
+use Rattle.std.specs.Prelude.{◌≡◌, ◌↔◌, ◌∷◌, ◌++◌, ◌+◌, ◌*◌, ◌/◌, ◌%◌, ◌^◌, ◌≤◌, ◌<◌}
+use Rattle.prelude.specs.Words.{sym, ◌∙◌, ap, true, List, [], ℕ, zero, suc, arith, dec_lt, ltb, eqb}
 use Rattle.prelude.specs.Words.{length, length-append, ltb-true, ltb-false, by_test, by_cases}
 use Rattle.transport.specs.Lists.{within}
 use Rattle.transport.specs.Text.{kind_of, digits_up_to, digits}

@@ -1,5 +1,6 @@
 -- Lists whose elements are all good.
-use Rattle.prelude.specs.Words.{◌≡◌, refl, List, [], ◌∷◌, ◌++◌, Memᴰ, Memᴰ-head, Memᴰ-tail, ℕ, zero, suc, length, take, drop}
+use Rattle.std.specs.Prelude.{◌≡◌, ◌∷◌, ◌++◌}
+use Rattle.prelude.specs.Words.{refl, List, [], Memᴰ, Memᴰ-head, Memᴰ-tail, ℕ, zero, suc, length, take, drop}
 
 module _ {A : Type 0} where
   abbrev pub Every : (A → Type 0) → List A → Type 0

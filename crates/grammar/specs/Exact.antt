@@ -1,5 +1,6 @@
 -- Exact readers: they take the texts of a language and no others, and are stuck at the first byte with which no text of the language goes on.
-use Rattle.prelude.specs.Words.{◌≡◌, refl, sym, ◌∙◌, ap, subst, fun_ext, ◌↔◌, List, [], ◌∷◌, ◌++◌, append_assoc, ℕ, arith, append-nil}
+use Rattle.std.specs.Prelude.{◌≡◌, ◌↔◌, ◌∷◌, ◌++◌}
+use Rattle.prelude.specs.Words.{refl, sym, ◌∙◌, ap, subst, fun_ext, List, [], append_assoc, ℕ, arith, append-nil}
 use Rattle.std.proofs.Common.{ap₂}
 use Rattle.transport.specs.SheetText.{Reading, stuck, got, Reader, ◌>>=◌, ◌>>◌}
 

@@ -1,5 +1,6 @@
 -- The sheet's reader is exact: it takes the sheet texts, each as its own sheet, and nothing else.
-use Rattle.prelude.specs.Words.{◌≡◌, refl, sym, ◌∙◌, ap, List, [], ◌++◌, append_assoc, append-nil, flat_map, flatten, ℕ, arith, ℤ, pos, length}
+use Rattle.std.specs.Prelude.{◌≡◌, ◌++◌}
+use Rattle.prelude.specs.Words.{refl, sym, ◌∙◌, ap, List, [], append_assoc, append-nil, flat_map, flatten, ℕ, arith, ℤ, pos, length}
 use Rattle.transport.specs.Lists.{at, at_z}
 use Rattle.transport.specs.Limits.{max_sources, max_sinks, max_digits}
 use Rattle.transport.specs.Sheet.{Sheet, roasteries, cafes}

@@ -1,5 +1,6 @@
 -- The readers of lines are exact: of one number, of a count, and of a row of costs.
-use Rattle.prelude.specs.Words.{◌≡◌, refl, sym, ◌∙◌, ap, ◌↔◌, false, List, [], ◌∷◌, ◌++◌, append-nil, ℕ, zero, suc, arith, length}
+use Rattle.std.specs.Prelude.{◌≡◌, ◌↔◌, ◌∷◌, ◌++◌}
+use Rattle.prelude.specs.Words.{refl, sym, ◌∙◌, ap, false, List, [], append-nil, ℕ, zero, suc, arith, length}
 use Rattle.transport.specs.Lists.{within}
 use Rattle.transport.specs.Text.{bytes, kind_of, whole_digits, number_line, row_line}
 use Rattle.transport.specs.Limits.{max_sources, max_sinks}

@@ -1,5 +1,6 @@
 -- The longest sheet text has 9,756 bytes.
-use Rattle.prelude.specs.Words.{◌≡◌, refl, List, [], ◌∷◌, flat_map, ℕ, suc, ◌+◌, ◌*◌, ◌-◌, ◌^◌, ◌≤◌, ◌<◌, arith, mul-le-mul, ℤ, pos, negsuc, neg_ℤ, nat_abs}
+use Rattle.std.specs.Prelude.{◌≡◌, ◌∷◌, ◌+◌, ◌*◌, ◌-◌, ◌^◌, ◌≤◌, ◌<◌}
+use Rattle.prelude.specs.Words.{refl, List, [], flat_map, ℕ, suc, arith, mul-le-mul, ℤ, pos, negsuc, neg_ℤ, nat_abs}
 use Rattle.prelude.specs.Words.{le_z_yes, length, length-append}
 use Rattle.transport.specs.Lists.{at, at_z}
 use Rattle.transport.specs.Limits.{max_sources, max_sinks, max_side, max_digits, max_text, max_amount, max_cost}

@@ -1,5 +1,6 @@
 -- The readers of numbers without a minus are exact with the byte after the number.
-use Rattle.prelude.specs.Words.{◌≡◌, refl, ◌∙◌, Bool, true, false, ◌&&◌, cond, and-eq-true_iff, List, [], ◌∷◌, ℕ, zero, suc, ◌+◌, ◌*◌, ◌-◌, ◌/◌, ◌≤◌, ◌<◌}
+use Rattle.std.specs.Prelude.{◌≡◌, ◌&&◌, ◌∷◌, ◌+◌, ◌*◌, ◌-◌, ◌/◌, ◌≤◌, ◌<◌}
+use Rattle.prelude.specs.Words.{refl, ◌∙◌, Bool, true, false, cond, and-eq-true_iff, List, [], ℕ, zero, suc}
 use Rattle.prelude.specs.Words.{arith, eqb, leb, eqb-false, ne_eqb, leb-true, le-leb}
 use Rattle.transport.specs.Lists.{within}
 use Rattle.transport.specs.Limits.{max_digits}

@@ -1,5 +1,6 @@
 -- The numbers of a sheet text: those of at most seven digits, and the counts of a side.
-use Rattle.prelude.specs.Words.{◌≡◌, ◌↔◌, true, List, [], ◌∷◌, ℕ, zero, suc, ◌^◌, ◌≤◌, ◌<◌, ℤ, nat_abs, get_or}
+use Rattle.std.specs.Prelude.{◌≡◌, ◌↔◌, ◌∷◌, ◌^◌, ◌≤◌, ◌<◌}
+use Rattle.prelude.specs.Words.{true, List, [], ℕ, zero, suc, ℤ, nat_abs, get_or}
 use Rattle.transport.specs.Lists.{within}
 use Rattle.transport.specs.Laws.SheetLaws.{within-true, true-within}
 use Rattle.transport.specs.Limits.{max_digits}

@@ -1,5 +1,6 @@
 -- Numbers as their digits are read, from the front.
-use Rattle.prelude.specs.Words.{◌≡◌, refl, ◌∙◌, Bool, true, List, [], ◌∷◌, ◌++◌, append_assoc, append-nil, ℕ, zero, suc, ◌+◌, ◌*◌, ◌/◌, ◌%◌, ◌^◌, ◌≤◌, ◌<◌}
+use Rattle.std.specs.Prelude.{◌≡◌, ◌∷◌, ◌++◌, ◌+◌, ◌*◌, ◌/◌, ◌%◌, ◌^◌, ◌≤◌, ◌<◌}
+use Rattle.prelude.specs.Words.{refl, ◌∙◌, Bool, true, List, [], append_assoc, append-nil, ℕ, zero, suc}
 use Rattle.prelude.specs.Words.{arith, dec_lt, length, by_cases}
 use Rattle.transport.specs.Text.{digits}
 use Rattle.transport.specs.SheetText.{is_digit, digit_value_of}

@@ -1,5 +1,6 @@
 -- What the sheet's reader takes, and where it is stuck.
-use Rattle.prelude.specs.Words.{◌≡◌, refl, sym, ◌∙◌, ap, ◌↔◌, List, [], ◌∷◌, ◌++◌, append_assoc, append-nil, ℕ, suc, ◌+◌, ◌-◌, ◌≤◌, ◌<◌, arith, dec_le, length}
+use Rattle.std.specs.Prelude.{◌≡◌, ◌↔◌, ◌∷◌, ◌++◌, ◌+◌, ◌-◌, ◌≤◌, ◌<◌}
+use Rattle.prelude.specs.Words.{refl, sym, ◌∙◌, ap, List, [], append_assoc, append-nil, ℕ, suc, arith, dec_le, length}
 use Rattle.prelude.specs.Words.{take, drop, length-append, take-append-drop, take_at}
 use Rattle.std.proofs.Common.{le_antisymm, take-take}
 use Rattle.std.proofs.Math.Seq.{take-append-add}

@@ -1,5 +1,6 @@
 -- The readers that the sheet's reader is made of are exact.
-use Rattle.prelude.specs.Words.{◌≡◌, refl, sym, ◌∙◌, ap, ◌↔◌, Bool, true, List, [], ◌∷◌, append-nil, flat_map, ℕ, zero, suc, arith, eqb, length, eqb-true}
+use Rattle.std.specs.Prelude.{◌≡◌, ◌↔◌, ◌∷◌}
+use Rattle.prelude.specs.Words.{refl, sym, ◌∙◌, ap, Bool, true, List, [], append-nil, flat_map, ℕ, zero, suc, arith, eqb, length, eqb-true}
 use Rattle.prelude.specs.Words.{eq-eqb, by_test}
 use mathlib.Core.List.{cons≢nil, nil≢cons}
 use Rattle.transport.specs.SheetText.{Reading, stuck, got, Reader, ◌>>◌, pure, byte_that, word, end, times}

@@ -1,5 +1,6 @@
 -- Accepted sheets and sheets that have a text.
-use Rattle.prelude.specs.Words.{◌≡◌, ◌∙◌, ◌↔◌, false, ◌∷◌, none, ◌*◌, arith, length, eq-eqb}
+use Rattle.std.specs.Prelude.{◌≡◌, ◌↔◌, ◌∷◌, ◌*◌}
+use Rattle.prelude.specs.Words.{◌∙◌, false, none, arith, length, eq-eqb}
 use Rattle.transport.specs.Limits.{max_sources, max_sinks, max_digits, max_amount, max_cost}
 use Rattle.transport.specs.Sheet.{Sheet, roasteries, cafes, bad_sides, bad_length, number_tests, sheet_tests, refusal}
 use Rattle.transport.specs.Laws.RangeLaws.{abs_between}

@@ -1,5 +1,6 @@
 -- A list cut into rows, and rows laid end to end.
-use Rattle.prelude.specs.Words.{◌≡◌, refl, ◌∙◌, ap, List, [], ◌∷◌, flatten, ℕ, zero, suc, ◌*◌, arith, length, drop, length-append, length-drop}
+use Rattle.std.specs.Prelude.{◌≡◌, ◌∷◌, ◌*◌}
+use Rattle.prelude.specs.Words.{refl, ◌∙◌, ap, List, [], flatten, ℕ, zero, suc, arith, length, drop, length-append, length-drop}
 use Rattle.prelude.specs.Words.{take-append-drop, length-take-le, take_at, drop_at}
 use Rattle.transport.specs.SheetText.{rows_of}
 use Rattle.grammar.specs.Every.{Every, Count, every_append, every_take, every_drop}

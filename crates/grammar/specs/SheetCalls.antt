@@ -1,5 +1,6 @@
 -- Read sheet and write sheet: when they succeed, that they undo each other, and what refusal 9 says.
-use Rattle.prelude.specs.Words.{◌≡◌, refl, sym, ◌∙◌, ap, ◌↔◌, Bool, false, ◌||◌, List, [], none, some, ℕ, suc, ◌*◌, ◌-◌, ◌≤◌, arith, mul-le-mul, dec_le, length}
+use Rattle.std.specs.Prelude.{◌≡◌, ◌↔◌, ◌||◌, ◌*◌, ◌-◌, ◌≤◌}
+use Rattle.prelude.specs.Words.{refl, sym, ◌∙◌, ap, Bool, false, List, [], none, some, ℕ, suc, arith, mul-le-mul, dec_le, length}
 use Rattle.prelude.specs.Words.{take, take_all, by_cases, some≢none}
 use Rattle.transport.specs.Limits.{max_sources, max_sinks, max_text}
 use Rattle.transport.specs.Sheet.{Sheet, roasteries, cafes, refusal, sheet_tests, number_tests}

@@ -1,5 +1,6 @@
 -- The reader of a cost is exact with the byte after it (paper 02, Two): after a minus it goes on as a number from 1, and without one as any number.
-use Rattle.prelude.specs.Words.{◌≡◌, refl, sym, ◌∙◌, ap, fun_ext, ◌⊎◌, inl, inr, Bool, true, false, cond, true≢false, List, [], ◌∷◌, ◌++◌, append-nil, ℕ, zero}
+use Rattle.std.specs.Prelude.{◌≡◌, ◌⊎◌, ◌∷◌, ◌++◌}
+use Rattle.prelude.specs.Words.{refl, sym, ◌∙◌, ap, fun_ext, inl, inr, Bool, true, false, cond, true≢false, List, [], append-nil, ℕ, zero}
 use Rattle.prelude.specs.Words.{suc, arith, eqb, ℤ, pos, negsuc, length, length-append, by_test}
 use Rattle.transport.specs.Text.{bytes, digits, whole_digits, kind_of}
 use Rattle.transport.specs.Lists.{within}

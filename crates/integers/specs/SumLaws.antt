@@ -1,5 +1,6 @@
 -- The laws of finite sums. A function argument is to be written out by the caller: `sum-add n (λ i. ..) (λ i. ..)`.
-use Rattle.prelude.specs.Words.{◌≡◌, refl, ◌≢◌, by_cases, if_pos, if_neg, ℕ, zero, suc, ◌+◌, ◌*◌, ◌<◌, arith, zero-mul, suc-mul, add-zero, add-suc, ℕ_discrete}
+use Rattle.std.specs.Prelude.{◌≡◌, ◌≢◌, ◌+◌, ◌*◌, ◌<◌}
+use Rattle.prelude.specs.Words.{refl, by_cases, if_pos, if_neg, ℕ, zero, suc, arith, zero-mul, suc-mul, add-zero, add-suc, ℕ_discrete}
 use Rattle.integers.specs.Integer.{Z, ◌≈◌, ◌≼◌, ◌≺◌, ≼_dec, ◌⊕◌, ◌⊖◌, ◌⊗◌, neg, nat}
 use Rattle.integers.specs.IntegerLaws.{⊗_cong}
 use Rattle.integers.specs.Sum.{sum, sum₂, sum_n, point}

@@ -1,5 +1,6 @@
 -- The sheet reader by its sections: two lists, the costs and the end.
-use Rattle.prelude.specs.Words.{◌≡◌, refl, sym, ap, ◌∙◌, List, [], ◌∷◌, ◌++◌, flatten, ℕ, zero, suc, ◌*◌, ◌-◌, ◌≤◌, arith, ℤ, length, take, drop, subst}
+use Rattle.std.specs.Prelude.{◌≡◌, ◌∷◌, ◌++◌, ◌*◌, ◌-◌, ◌≤◌}
+use Rattle.prelude.specs.Words.{refl, sym, ap, ◌∙◌, List, [], flatten, ℕ, zero, suc, arith, ℤ, length, take, drop, subst}
 use Rattle.transport.specs.Limits.{max_sources, max_sinks}
 use Rattle.transport.specs.Text.{bytes, digits, head_line}
 use Rattle.transport.specs.Sheet.{Sheet}

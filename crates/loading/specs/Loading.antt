@@ -1,5 +1,6 @@
 -- The front of a call that takes a tableau: what its tests refuse, and what rounds begin with if they refuse nothing.
-use Rattle.prelude.specs.Words.{◌≡◌, refl, sym, ◌∙◌, true, false, not, List, [], ◌∷◌, none, some, ℕ, eqb, ℤ, length}
+use Rattle.std.specs.Prelude.{◌≡◌, ◌∷◌}
+use Rattle.prelude.specs.Words.{refl, sym, ◌∙◌, true, false, not, List, [], none, some, ℕ, eqb, ℤ, length}
 use Rattle.prelude.specs.Words.{take}
 use Rattle.transport.specs.Problem.{sources, sinks}
 use Rattle.transport.specs.Sheet.{Sheet, sheet_of, cafes, sheet_tests, refusal}

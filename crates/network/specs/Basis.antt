@@ -1,6 +1,7 @@
 -- Bases: m + n − 1 cells that join all rows and columns. Each cell alone crosses some cut; so flows on a basis are determined by their margins.
-use Rattle.prelude.specs.Words.{◌≡◌, refl, ap, sym, ◌∙◌, ◌≢◌, ◌⊎◌, inl, inr, ⊎_elim, by_cases, ite, if_pos, if_neg, Bool, true, false, false≢true, ℕ, zero, suc}
-use Rattle.prelude.specs.Words.{◌+◌, ◌-◌, ◌<◌, arith, ℕ_discrete, dec_lt}
+use Rattle.std.specs.Prelude.{◌≡◌, ◌≢◌, ◌⊎◌, ◌+◌, ◌-◌, ◌<◌}
+use Rattle.prelude.specs.Words.{refl, ap, sym, ◌∙◌, inl, inr, ⊎_elim, by_cases, ite, if_pos, if_neg, Bool, true, false, false≢true, ℕ, zero, suc}
+use Rattle.prelude.specs.Words.{arith, ℕ_discrete, dec_lt}
 use Rattle.integers.specs.Integer.{Z, ◌≈◌, ≈_dec, ◌⊖◌, ◌⊗◌, neg, nat, Within}
 use Rattle.integers.specs.Sum.{point}
 use Rattle.integers.specs.SumLaws.{sum-point}

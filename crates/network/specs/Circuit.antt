@@ -1,5 +1,6 @@
 -- Circuits of lanes: bags are taken from lane (r k, c k) and put on lane (r (k + 1), c k), for k below L, back to the first row.
-use Rattle.prelude.specs.Words.{◌≡◌, sym, ◌∙◌, ◌≢◌, ◌⊎◌, inl, inr, ⊎_elim, by_cases, Dec-and, ℕ, zero, suc, ◌<◌, arith, ℕ_discrete}
+use Rattle.std.specs.Prelude.{◌≡◌, ◌≢◌, ◌⊎◌, ◌<◌}
+use Rattle.prelude.specs.Words.{sym, ◌∙◌, inl, inr, ⊎_elim, by_cases, Dec-and, ℕ, zero, suc, arith, ℕ_discrete}
 use Rattle.integers.specs.Integer.{Z, ◌≈◌, ◌≼◌, ≈_dec, ◌⊕◌, ◌⊖◌, ◌⊗◌, neg, nat}
 use Rattle.integers.specs.IntegerLaws.{⊗_cong}
 use Rattle.integers.specs.Sum.{sum, point}

@@ -1,7 +1,8 @@
 -- Many lanes carry a circulation: on m + n lanes or more, among m rows and n columns, some amounts, not all of them 0, add up to 0 in each row and column.
 -- For a lane is a vector with a coordinate for each row and each column, and more vectors than coordinates are not independent.
-use Rattle.prelude.specs.Words.{◌≡◌, sym, ap, ◌∙◌, ◌≢◌, ◌⊎◌, inl, inr, ⊎_elim, by_cases, ite, if_pos, if_neg, Bool, true, false, true≢false, ℕ, zero, suc, ◌+◌}
-use Rattle.prelude.specs.Words.{◌*◌, ◌-◌, ◌≤◌, ◌<◌, arith, ℕ_discrete, dec_lt, get_or, by_test}
+use Rattle.std.specs.Prelude.{◌≡◌, ◌≢◌, ◌⊎◌, ◌+◌, ◌*◌, ◌-◌, ◌≤◌, ◌<◌}
+use Rattle.prelude.specs.Words.{sym, ap, ◌∙◌, inl, inr, ⊎_elim, by_cases, ite, if_pos, if_neg, Bool, true, false, true≢false, ℕ, zero, suc}
+use Rattle.prelude.specs.Words.{arith, ℕ_discrete, dec_lt, get_or, by_test}
 use Rattle.integers.specs.Integer.{Z, ◌≈◌, ≈_dec, ◌⊖◌, ◌⊗◌, nat}
 use Rattle.integers.specs.IntegerLaws.{⊗_cong, ⊗_zero}
 use Rattle.integers.specs.Sum.{sum, point}

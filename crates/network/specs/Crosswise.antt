@@ -1,6 +1,7 @@
 -- Two tableaux with the same margins, each with prices that are feasible everywhere: the cells of
 -- the one are tight for the prices of the other (02, Five and Fourteen).
-use Rattle.prelude.specs.Words.{by_cases, ℕ, suc, ◌+◌, ◌*◌, ◌<◌, arith}
+use Rattle.std.specs.Prelude.{◌+◌, ◌*◌, ◌<◌}
+use Rattle.prelude.specs.Words.{by_cases, ℕ, suc, arith}
 use Rattle.integers.specs.Integer.{Z, ◌≈◌, ≈_dec, ◌⊕◌, ◌⊗◌, nat}
 use Rattle.integers.specs.IntegerLaws.{⊗_cong}
 use Rattle.integers.specs.Sum.{sum, point}

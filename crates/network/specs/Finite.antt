@@ -1,5 +1,6 @@
 -- Numbers below a bound: one of them is so, or all are otherwise; and how many different ones there are.
-use Rattle.prelude.specs.Words.{◌≡◌, sym, ◌∙◌, ◌≢◌, ◌⊎◌, inl, inr, ⊎_elim, by_cases, ite, if_pos, if_neg, ℕ, zero, suc, ◌≤◌, ◌<◌, arith, ℕ_discrete}
+use Rattle.std.specs.Prelude.{◌≡◌, ◌≢◌, ◌⊎◌, ◌≤◌, ◌<◌}
+use Rattle.prelude.specs.Words.{sym, ◌∙◌, inl, inr, ⊎_elim, by_cases, ite, if_pos, if_neg, ℕ, zero, suc, arith, ℕ_discrete}
 
 -- below n one has Q, or each has R
 pub some-or-all : (n : ℕ) (Q R : ℕ → Type 0) → ((k : ℕ) → k < n → Q k ⊎ R k) → ((k : ℕ) × (k < n) × Q k) ⊎ ((k : ℕ) → k < n → R k)

@@ -1,6 +1,7 @@
 -- Cells that join all rows and columns, said by cuts instead of paths; the exchange of one cell.
-use Rattle.prelude.specs.Words.{◌≡◌, refl, ap, sym, ◌∙◌, ◌⊎◌, inl, inr, ⊎_elim, by_cases, Dec-and, Bool, true, false, cond, Bool-discrete, decide, decide_iff}
-use Rattle.prelude.specs.Words.{ℕ, ◌<◌, arith, ℕ_discrete}
+use Rattle.std.specs.Prelude.{◌≡◌, ◌⊎◌, ◌<◌}
+use Rattle.prelude.specs.Words.{refl, ap, sym, ◌∙◌, inl, inr, ⊎_elim, by_cases, Dec-and, Bool, true, false, cond, Bool-discrete, decide, decide_iff}
+use Rattle.prelude.specs.Words.{ℕ, arith, ℕ_discrete}
 use mathlib.Mathlib.Data.Bool.Basic.{decide_congr}
 use Rattle.integers.specs.Integer.{Z, ◌≈◌, ≈_dec, ◌⊕◌, ◌⊖◌, ◌⊗◌, neg, nat}
 use Rattle.integers.specs.IntegerLaws.{⊗_cong}

@@ -1,5 +1,6 @@
 -- The search for bags to bring onto lane (p, q): the rows that it reaches as a tree, the circuit from one of them back to the lane, and its end.
-use Rattle.prelude.specs.Words.{◌≡◌, refl, ap, sym, ◌∙◌, ◌↔◌, ◌≢◌, ◌⊎◌, inl, inr, ⊎_elim, by_cases, Bool, true, Bool-discrete, ℕ, zero, suc, ◌≤◌, ◌<◌, arith}
+use Rattle.std.specs.Prelude.{◌≡◌, ◌↔◌, ◌≢◌, ◌⊎◌, ◌≤◌, ◌<◌}
+use Rattle.prelude.specs.Words.{refl, ap, sym, ◌∙◌, inl, inr, ⊎_elim, by_cases, Bool, true, Bool-discrete, ℕ, zero, suc, arith}
 use Rattle.prelude.specs.Words.{ℕ_discrete, dec_lt}
 use Rattle.integers.specs.Integer.{Z, ◌≈◌, ◌≼◌, ◌≺◌, nat}
 use Rattle.network.specs.Finite.{Once}

@@ -1,10 +1,11 @@
 -- Settling on bags comes to its end: every plan on P leads to one whose lanes are all decided.
-use Rattle.prelude.specs.Words.{◌≡◌, refl, ap, sym, ◌∙◌, ◌≢◌, ◌⊎◌, inl, inr, ⊎_elim, by_cases, Dec-and, ite, if_pos, if_neg, Bool, true, false, cond, decide}
-use Rattle.prelude.specs.Words.{decide_iff, Bool-discrete, false≢true, ℕ, zero, suc, ◌+◌, ◌*◌, ◌≤◌, ◌<◌, arith, ℕ_discrete, dec_lt, by_test}
+use Rattle.std.specs.Prelude.{◌≡◌, ◌≢◌, ◌⊎◌, ◌+◌, ◌*◌, ◌≤◌, ◌<◌}
+use Rattle.prelude.specs.Words.{refl, ap, sym, ◌∙◌, inl, inr, ⊎_elim, by_cases, Dec-and, ite, if_pos, if_neg, Bool, true, false, cond, decide}
+use Rattle.prelude.specs.Words.{decide_iff, Bool-discrete, false≢true, ℕ, zero, suc, arith, ℕ_discrete, dec_lt, by_test}
 use Rattle.integers.specs.Integer.{Z, ◌≈◌, ◌≼◌, ◌≺◌, ≈_dec, ≼_dec, ◌⊕◌, nat}
 use Rattle.integers.specs.SumLaws.{sum-each}
 use Rattle.transport.specs.Problem.{place}
-use Rattle.transport.specs.Laws.ProblemLaws.{place_of}
+use Rattle.transport.specs.Laws.ProblemLaws.{lane_placed}
 use Rattle.network.specs.Flow.{Nonneg}
 use Rattle.network.specs.Finite.{some-or-all, once-few}
 use Rattle.network.specs.Circuit.{moved}
@@ -161,7 +162,7 @@ module _ {m n : ℕ} {a b : ℕ → Z} {P : ℕ → ℕ → Type 0} (dec : (i j 
   settles_next : (t : ℕ) → t < m * n → (x : ℕ → ℕ → Z) → DecidedTo m n a b P t x → (x' : ℕ → ℕ → Z) × DecidedTo m n a b P (suc t) x'
   unfolding place
   settles_next t l x d =
-      let w = place_of m n t l in
+      let w = lane_placed m n t l in
       let d : DecidedTo m n a b P (w.row * n + w.col) x = rw w.placed d in
       rw (← w.placed) (by_cases (dec w.row w.col)
       (λ s. settles_lane (a w.row).up w.row w.col x w.row_below w.col_below s

@@ -1,6 +1,7 @@
 -- Settling on bags: a lane is decided when no more bags can be brought onto it from later lanes, and where all lanes are decided the plan carries more on the
 -- first lane where it differs from any other. Lane (i, j) has the number i * n + j.
-use Rattle.prelude.specs.Words.{◌≡◌, refl, ap, ◌↔◌, ◌≢◌, inl, inr, ⊎_elim, by_cases, Bool, true, cond, Bool-discrete, ℕ, zero, suc, ◌+◌, ◌*◌, ◌-◌, ◌≤◌, ◌<◌}
+use Rattle.std.specs.Prelude.{◌≡◌, ◌↔◌, ◌≢◌, ◌+◌, ◌*◌, ◌-◌, ◌≤◌, ◌<◌}
+use Rattle.prelude.specs.Words.{refl, ap, inl, inr, ⊎_elim, by_cases, Bool, true, cond, Bool-discrete, ℕ, zero, suc}
 use Rattle.prelude.specs.Words.{arith, ℕ_discrete, dec_lt, mul-le-mul_right, by_test}
 use Rattle.integers.specs.Integer.{Z, ◌≈◌, ◌≼◌, ◌≺◌, ≈_dec, ≼_dec, ◌⊕◌, ◌⊖◌, ◌⊗◌, nat}
 use Rattle.integers.specs.IntegerLaws.{⊗_cong}

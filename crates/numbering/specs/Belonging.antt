@@ -1,6 +1,7 @@
 -- A tableau that a caller hands over belongs to the sheet exactly if, under the numbers of those left, it belongs to the problem of these: a cell at a struck
 -- party, or off the sheet, has a number that is off that problem's sheet.
-use Rattle.prelude.specs.Words.{◌≡◌, refl, sym, ap, ◌∙◌, Bool, true, false, ◌&&◌, List, [], ◌∷◌, map, ℕ, ◌≤◌, arith, eqb, ltb, length, lt-ltb, le-ltb, by_test}
+use Rattle.std.specs.Prelude.{◌≡◌, ◌&&◌, ◌∷◌, ◌≤◌}
+use Rattle.prelude.specs.Words.{refl, sym, ap, ◌∙◌, Bool, true, false, List, [], map, ℕ, arith, eqb, ltb, length, lt-ltb, le-ltb, by_test}
 use Rattle.transport.specs.Limits.{max_side, max_cells}
 use Rattle.transport.specs.Lists.{all, at}
 use Rattle.transport.specs.Problem.{Problem, sources, sinks}

@@ -1,5 +1,6 @@
 -- The numbers of those left among themselves, their own numbers, and cells under the one and under the other.
-use Rattle.prelude.specs.Words.{◌≡◌, refl, sym, ap, ◌∙◌, by_cases, true, false, cond, List, [], ◌∷◌, ◌++◌, map, append-nil, ℕ, zero, suc, ◌+◌, ◌-◌, ◌≤◌, ◌<◌}
+use Rattle.std.specs.Prelude.{◌≡◌, ◌∷◌, ◌++◌, ◌+◌, ◌-◌, ◌≤◌, ◌<◌}
+use Rattle.prelude.specs.Words.{refl, sym, ap, ◌∙◌, by_cases, true, false, cond, List, [], map, append-nil, ℕ, zero, suc}
 use Rattle.prelude.specs.Words.{arith, dec_lt, ℕ_discrete, add-one, eqb, ltb, length, take, drop, get_or, set, replicate, length-set, length-map, length-append}
 use Rattle.prelude.specs.Words.{length-replicate, get_or-append, take-append-drop, drop_of_length-le, get_or-drop, get_or-set_same, get_or-set_other, take_at}
 use Rattle.prelude.specs.Words.{take_all, length-take-le, eq-eqb, ne_eqb, lt-ltb, le-ltb}

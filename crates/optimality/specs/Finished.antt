@@ -1,5 +1,6 @@
 -- A finished tableau: its bags are a plan of least cost, and the plans of least cost are exactly those on its tight lanes.
-use Rattle.prelude.specs.Words.{◌≡◌, ◌↔◌, true, List, ℕ, pos, ◌*ℤ◌, ◌≤ℤ◌}
+use Rattle.std.specs.Prelude.{◌≡◌, ◌↔◌, ◌*ℤ◌, ◌≤ℤ◌}
+use Rattle.prelude.specs.Words.{true, List, ℕ, pos}
 use Rattle.transport.specs.Problem.{Problem}
 use Rattle.transport.proofs.Sound.{Sound}
 use Rattle.transport.specs.Potential.{is_finished_of}

@@ -1,6 +1,7 @@
 -- Settling over problems: a plan on the tight lanes of feasible potentials, all of whose lanes are decided, is the optimal plan that carries more on the first
 -- lane where it differs from any other; and from every finished tableau there is one.
-use Rattle.prelude.specs.Words.{◌≡◌, refl, ap, ◌∙◌, ◌↔◌, Bool, true, List, map, ℕ, suc, ◌+◌, ◌*◌, ◌-◌, ◌<◌, arith, pos, ◌*ℤ◌, length, length-map}
+use Rattle.std.specs.Prelude.{◌≡◌, ◌↔◌, ◌+◌, ◌*◌, ◌-◌, ◌<◌, ◌*ℤ◌}
+use Rattle.prelude.specs.Words.{refl, ap, ◌∙◌, Bool, true, List, map, ℕ, suc, arith, pos, length, length-map}
 use Rattle.integers.specs.Integer.{Z, ◌≈◌, ≈_dec, ◌⊕◌, ◌⊗◌, nat}
 use Rattle.integers.specs.IntegerLaws.{⊗_cong}
 use Rattle.integers.specs.Bridge.{to_z, z-mul, z-eq, eq-z, le-z}
@@ -16,7 +17,7 @@ use Rattle.transport.specs.Laws.ListLaws.{get_d_map}
 use Rattle.transport.specs.Problem.{Problem, sources, sinks, Lane, lanes, place}
 use Rattle.transport.specs.Laws.PlanLaws.{scaled_at}
 use Rattle.transport.proofs.Sound.{Sound}
-use Rattle.transport.specs.Laws.ProblemLaws.{lane, length-lanes, get_or-lanes, place-below, place_of}
+use Rattle.transport.specs.Laws.ProblemLaws.{lane, length-lanes, get_or-lanes, place-below, lane_placed}
 use Rattle.transport.specs.Amount.{eq_z}
 use Rattle.transport.specs.Laws.AmountLaws.{eq_z-true, eq_z-same}
 use Rattle.transport.specs.Potential.{reduced_cost, is_finished_of}
@@ -81,7 +82,7 @@ module _ (P : Problem) (u v : ℕ → Z) (feasible : (i j : ℕ) → i < sources
     least = λ k Q l q. le-z (pos k *ℤ flow_cost P plan) (flow_cost P Q)
         (omega (arith, times k, cost-flow_cost P Q, least (costs P) u v d.flow (theirs k Q q)));
     first = λ k Q l q e h f.
-        let w = place_of (sources P) (sinks P) h (omega (arith, f.lane, length-map plan (λ x. k * x), long)) in
+        let w = lane_placed (sources P) (sinks P) h (omega (arith, f.lane, length-map plan (λ x. k * x), long)) in
         rw (← w.placed) (lane-less k Q q e w.row w.col w.row_below w.col_below (rw w.placed f));
   }
     where

@@ -1,5 +1,6 @@
 -- What the program knows of its input: that what was read lies in the buffer. What was read, no contract can say.
-use Rattle.prelude.specs.Words.{◌≡◌, refl, false, true≢false, ℕ, zero, suc, ◌≤◌, ◌<◌, ◌^◌, arith, ℤ, pos, negsuc, nat_abs, lt_z, mag}
+use Rattle.std.specs.Prelude.{◌≡◌, ◌≤◌, ◌<◌, ◌^◌}
+use Rattle.prelude.specs.Words.{refl, false, true≢false, ℕ, zero, suc, arith, ℤ, pos, negsuc, nat_abs, lt_z, mag}
 use Rattle.std.specs.Int.{w64}
 use Rattle.std.proofs.Common.{to_z, of_z}
 use Rattle.transport.specs.Laws.RangeLaws.{back}

@@ -1,5 +1,6 @@
 -- The parties left of a sheet, numbered among themselves: their amounts and their own numbers, at the front of lists that have room for any side.
-use Rattle.prelude.specs.Words.{◌≡◌, refl, sym, ap, ◌∙◌, [], ◌∷◌, ◌++◌, List, map, ℕ, ◌+◌, ◌≤◌, ◌<◌, arith, add-one, ℤ}
+use Rattle.std.specs.Prelude.{◌≡◌, ◌∷◌, ◌++◌, ◌+◌, ◌≤◌, ◌<◌}
+use Rattle.prelude.specs.Words.{refl, sym, ap, ◌∙◌, [], List, map, ℕ, arith, add-one, ℤ}
 use Rattle.prelude.specs.Words.{length, take, get_or, set, length-append}
 use Rattle.prelude.specs.Words.{length-set, length-map, length-take, get_or-append, ext_get_or, get_or_at, length-take-le, take-suc-set}
 use Rattle.std.proofs.lemmas.List.{map-append, take-set-le}

@@ -1,7 +1,8 @@
 -- A pivot on the arrays that hold a tableau: its amounts by lane, and its tree. What the loop's slots, the slot with the least pair and the amounts after the
 -- step are, in the terms of the specification; and that the arrays then hold the next tableau, with its tree.
-use Rattle.prelude.specs.Words.{◌≡◌, refl, sym, ap, ◌∙◌, inl, inr, ⊎_elim, by_cases, Dec-and, Bool, true, false, not, cond, xor, ◌&&◌, List, Memᴰ, ℕ, zero}
-use Rattle.prelude.specs.Words.{suc, ◌+◌, ◌-◌, ◌*◌, ◌/◌, ◌%◌, ◌<◌, ◌≤◌, arith, ℕ_discrete, dec_lt, lt-ltb, le-ltb, ℤ, pos, negsuc, nat_abs, neg_ℤ, ◌+ℤ◌, ◌-ℤ◌}
+use Rattle.std.specs.Prelude.{◌≡◌, ◌&&◌, ◌+◌, ◌-◌, ◌*◌, ◌/◌, ◌%◌, ◌<◌, ◌≤◌, ◌+ℤ◌, ◌-ℤ◌}
+use Rattle.prelude.specs.Words.{refl, sym, ap, ◌∙◌, inl, inr, ⊎_elim, by_cases, Dec-and, Bool, true, false, not, cond, xor, List, Memᴰ, ℕ, zero}
+use Rattle.prelude.specs.Words.{suc, arith, ℕ_discrete, dec_lt, lt-ltb, le-ltb, ℤ, pos, negsuc, nat_abs, neg_ℤ}
 use Rattle.prelude.specs.Words.{+ℤ_idl, lt_z, length, get_or, set, length-set, get_or-set_same, get_or-set_other, by_test, clash}
 use Rattle.integers.specs.Integer.{Z, ◌≈◌, ◌⊕◌, ◌⊖◌, neg, nat, Within}
 use Rattle.integers.specs.Bridge.{to_z, eq-z, z-add, z-neg}

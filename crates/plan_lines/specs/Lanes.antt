@@ -1,6 +1,7 @@
 -- The lanes that carry a bag: what the code writes and counts, place by place, is what the lanes' section of the plan text shows.
-use Rattle.prelude.specs.Words.{◌≡◌, refl, sym, ap, ◌∙◌, by_cases, Bool, not, cond, List, [], ◌∷◌, ◌++◌, flat_map, append-nil, ℕ, zero, suc, ◌+◌, ◌*◌, ◌/◌, ◌%◌}
-use Rattle.prelude.specs.Words.{◌≤◌, ◌<◌, arith, add-one, dec_le, div-add-mod', mod-lt, div-lt_iff_lt-mul, eqb, length, get_or, length-append, ne_eqb}
+use Rattle.std.specs.Prelude.{◌≡◌, ◌∷◌, ◌++◌, ◌+◌, ◌*◌, ◌/◌, ◌%◌, ◌≤◌, ◌<◌}
+use Rattle.prelude.specs.Words.{refl, sym, ap, ◌∙◌, by_cases, Bool, not, cond, List, [], flat_map, append-nil, ℕ, zero, suc}
+use Rattle.prelude.specs.Words.{arith, add-one, dec_le, div-add-mod', mod-lt, div-lt_iff_lt-mul, eqb, length, get_or, length-append, ne_eqb}
 use Rattle.transport.specs.Lists.{at, keep, table}
 use Rattle.transport.specs.Laws.ListLaws.{table_cong, table-get_or, flat_map-append, keep_append, keep_yes, keep_no}
 use Rattle.transport.specs.Problem.{Lane, lanes, place}

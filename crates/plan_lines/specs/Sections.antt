@@ -1,5 +1,6 @@
 -- The plan text by its sections, from the figures that they show.
-use Rattle.prelude.specs.Words.{◌≡◌, List, [], ◌∷◌, ◌++◌, flat_map, append_assoc, append-nil, ℕ, ◌+◌, ◌*◌, ◌≤◌, arith, ℤ, length, length-append}
+use Rattle.std.specs.Prelude.{◌≡◌, ◌∷◌, ◌++◌, ◌+◌, ◌*◌, ◌≤◌}
+use Rattle.prelude.specs.Words.{List, [], flat_map, append_assoc, append-nil, ℕ, arith, ℤ, length, length-append}
 use Prim.Native.String.{String}
 use Rattle.plan_lines.specs.declared.plan_sections.Figures.{Figures}
 use Rattle.transport.specs.Sheet.{Sheet, roasteries, cafes}

@@ -1,5 +1,6 @@
 -- The bags in the arrays as a plan in sheet order.
-use Rattle.prelude.specs.Words.{◌≡◌, refl, ◌∙◌, by_cases, List, ℕ, ◌+◌, ◌*◌, ◌/◌, ◌%◌, ◌<◌, ◌≤◌, arith, mod-lt, div-add-mod', dec_lt, ℕ_discrete, ℤ}
+use Rattle.std.specs.Prelude.{◌≡◌, ◌+◌, ◌*◌, ◌/◌, ◌%◌, ◌<◌, ◌≤◌}
+use Rattle.prelude.specs.Words.{refl, ◌∙◌, by_cases, List, ℕ, arith, mod-lt, div-add-mod', dec_lt, ℕ_discrete, ℤ}
 use Rattle.prelude.specs.Words.{pos, negsuc}
 use Rattle.prelude.specs.Words.{nat_abs, length, get_or, set, drop, length-set, get_or-set_same, get_or-set_other, drop-set-lt, ext_get_or}
 use Rattle.prelude.specs.Words.{get_or-drop, length-drop}

@@ -1,6 +1,7 @@
 -- `plans` lists all plans that meet a sheet, and no others; of two, the one that carries more on the first lane where they differ comes first.
-use Rattle.prelude.specs.Words.{ℕ, zero, suc, ◌+◌, ◌-◌, ◌*◌, ◌≤◌, ◌<◌, arith, zero-mul, suc-mul, zero-add, dec_lt, ◌≡◌, refl, sym, ap, ◌∙◌, true, List, [], ◌∷◌}
-use Rattle.prelude.specs.Words.{◌++◌, map, Memᴰ, Memᴰ-head, Memᴰ-eq_of_singleton, Memᴰ-not_nil, Memᴰ-cast, eqb, length, get_or, take, drop}
+use Rattle.std.specs.Prelude.{◌+◌, ◌-◌, ◌*◌, ◌≤◌, ◌<◌, ◌≡◌, ◌∷◌, ◌++◌}
+use Rattle.prelude.specs.Words.{ℕ, zero, suc, arith, zero-mul, suc-mul, zero-add, dec_lt, refl, sym, ap, ◌∙◌, true, List, []}
+use Rattle.prelude.specs.Words.{map, Memᴰ, Memᴰ-head, Memᴰ-eq_of_singleton, Memᴰ-not_nil, Memᴰ-cast, eqb, length, get_or, take, drop}
 use Rattle.prelude.specs.Words.{length-append, take-append-drop, get_or-append, length-take-le, eqb-true, eq-eqb, by_test, by_cases}
 use mathlib.Core.List.{zip_with}
 use Rattle.transport.specs.Lists.{all, sum_to, at, total}

@@ -1,6 +1,7 @@
 -- The ways to send at least `low` and at most `left` from one source: `row_plans` lists them all, the one that carries more on the first lane where two differ
 -- first.
-use Rattle.prelude.specs.Words.{ℕ, zero, suc, ◌+◌, ◌-◌, ◌≤◌, ◌<◌, min, arith, ◌≡◌, refl, ap, List, [], ◌∷◌, map, Memᴰ, Memᴰ-head}
+use Rattle.std.specs.Prelude.{◌+◌, ◌-◌, ◌≤◌, ◌<◌, ◌≡◌, ◌∷◌}
+use Rattle.prelude.specs.Words.{ℕ, zero, suc, min, arith, refl, ap, List, [], map, Memᴰ, Memᴰ-head}
 use Rattle.prelude.specs.Words.{Memᴰ-eq_of_singleton, Memᴰ-not_nil, Memᴰ-cast, eqb, length, eqb-true, eq-eqb, by_test}
 use Rattle.transport.specs.Lists.{down_to, at, total}
 use Rattle.transport.specs.Laws.ListLaws.{member-table, table-member, member-map, map-member, member-flat_map, flat_map-member, sum_to-le, total-nil}

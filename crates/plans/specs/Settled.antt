@@ -1,5 +1,6 @@
 -- The settled plan is the one of least cost that carries more, on the first lane where they differ, than any other of that cost.
-use Rattle.prelude.specs.Words.{ℕ, ◌<◌, arith, one-mul, ◌≡◌, refl, sym, ◌∙◌, Bool, List, [], ◌∷◌, ℤ, pos, ◌*ℤ◌, lt_z, ◌≤ℤ◌, length, get_or, by_test}
+use Rattle.std.specs.Prelude.{◌<◌, ◌≡◌, ◌∷◌, ◌*ℤ◌, ◌≤ℤ◌}
+use Rattle.prelude.specs.Words.{ℕ, arith, one-mul, refl, sym, ◌∙◌, Bool, List, [], ℤ, pos, lt_z, length, get_or, by_test}
 use Rattle.integers.specs.Bridge.{z-eq, eq-z, z-le, z-mul}
 use Rattle.integers.specs.Tests.{lt_no, no_lt}
 use Rattle.transport.specs.Lists.{at}

@@ -1,5 +1,6 @@
 -- Lists in which every element stands in the relation R to each one after it.
-use Rattle.prelude.specs.Words.{ℕ, zero, suc, ◌<◌, arith, refl, List, [], ◌∷◌, ◌++◌, map, flat_map, Memᴰ, Memᴰ-head, Memᴰ-tail}
+use Rattle.std.specs.Prelude.{◌<◌, ◌∷◌, ◌++◌}
+use Rattle.prelude.specs.Words.{ℕ, zero, suc, arith, refl, List, [], map, flat_map, Memᴰ, Memᴰ-head, Memᴰ-tail}
 use Rattle.prelude.specs.Words.{Memᴰ-append_cases, Memᴰ-not_nil, Memᴰ-eq_of_singleton, length, get_or, ⊎_elim}
 use Rattle.transport.specs.Lists.{table}
 use Rattle.transport.specs.Laws.ListLaws.{member-at, table-member, map-member, flat_map-member}

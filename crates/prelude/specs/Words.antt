@@ -1,9 +1,10 @@
 -- The words of the libraries that theory and proofs use, gathered so that a module names them in one place, with those of `Tests`. Nothing is defined here:
--- each word is the library's. The definitions of `transport`, and those of `border`, do not pass through it; they name the libraries themselves.
+-- each word is the library's. Operators do not pass through it: each module takes them from the library's Prelude. Nor do the definitions of `transport`, and
+-- those of `border`, pass through it; they name the libraries themselves.
 
 -- numbers
-pub use Rattle.std.specs.Prelude.{ℕ, zero, suc, ◌+◌, ◌-◌, ◌*◌, ◌/◌, ◌%◌, ◌^◌, ◌≤◌, ◌<◌, min, max, ℤ, pos, negsuc, nat_abs, neg_ℤ, ◌+ℤ◌, ◌-ℤ◌, ◌*ℤ◌}
-pub use Rattle.std.specs.Prelude.{◌≤ℤ◌, ◌≡◌, refl, ◌↔◌, ◌⊎◌, ◌≢◌, Bool, true, false, cond, not, ◌&&◌, ◌||◌, T, eqb, ltb, leb, length, get_or, set}
+pub use Rattle.std.specs.Prelude.{ℕ, zero, suc, min, max, ℤ, pos, negsuc, nat_abs, neg_ℤ}
+pub use Rattle.std.specs.Prelude.{refl, Bool, true, false, cond, not, T, eqb, ltb, leb, length, get_or, set}
 pub use Rattle.std.specs.Prelude.{take, drop, replicate}
 pub use Rattle.std.proofs.Common.{zero-add, add-zero, add-suc, suc-add, zero-mul, mul-zero, one-mul, suc-mul, mul-add, pow-suc, le_trans}
 pub use Rattle.std.proofs.Common.{eq-or-lt_of_le, mul-le-mul, mul-le-mul_left, mul-le-mul_right, mod-lt, div-add-mod', div-lt_iff_lt-mul, add-one}
@@ -28,7 +29,7 @@ pub use Rattle.std.proofs.Math.Option.{Option, some, none}
 pub use mathlib.Core.List.Memᴰ.{head as Memᴰ-head}
 pub use mathlib.Core.List.Memᴰ.{not-nil as Memᴰ-not_nil}
 pub use mathlib.Core.List.Memᴰ.{tail as Memᴰ-tail}
-pub use mathlib.Core.List.{List, [], ◌∷◌, ◌++◌, map, append-nil, append_assoc, Memᴰ}
+pub use mathlib.Core.List.{List, [], map, append-nil, append_assoc, Memᴰ}
 pub use mathlib.Core.List.Memᴰ.{append_cases as Memᴰ-append_cases}
 pub use mathlib.Core.List.Memᴰ.{append_left as Memᴰ-append_left}
 pub use mathlib.Core.List.Memᴰ.{append_right as Memᴰ-append_right}
@@ -37,7 +38,7 @@ pub use mathlib.Core.List.Memᴰ.{cast as Memᴰ-cast}
 pub use mathlib.Core.List.Memᴰ.{eq_of_singleton as Memᴰ-eq_of_singleton}
 unfoldable pub use mathlib.Core.List.{flat_map, flatten}
 pub use Rattle.std.proofs.lemmas.List.{length-map, length-replicate, get_or-replicate, get_or_at, set_at}
-pub use Rattle.std.proofs.Math.ListN.{get_or-append as get_or-append, get_or-eq_default as get_or-eq_default}
+pub use Rattle.std.proofs.Math.ListN.{get_or-append, get_or-eq_default}
 pub use Rattle.std.proofs.Math.Seq.{take-length, take-append_seam}
 
 -- what the tactics read

@@ -1,6 +1,7 @@
 -- Lists of prices, as the code reads and writes them: prices of nodes written at their own numbers, and those at 0 priced by the least slack.
-use Rattle.prelude.specs.Words.{◌≡◌, refl, sym, ◌∙◌, by_cases, Bool, true, false, cond, List, ℕ, zero, suc, ◌+◌, ◌*◌, ◌≤◌, ◌<◌, arith, add-one, ℕ_discrete, ltb}
-use Rattle.prelude.specs.Words.{ℤ, pos, nat_abs, ◌-ℤ◌, lt_z, length, get_or, set, length-set, get_or-set_same, get_or-set_other}
+use Rattle.std.specs.Prelude.{◌≡◌, ◌+◌, ◌*◌, ◌≤◌, ◌<◌, ◌-ℤ◌}
+use Rattle.prelude.specs.Words.{refl, sym, ◌∙◌, by_cases, Bool, true, false, cond, List, ℕ, zero, suc, arith, add-one, ℕ_discrete, ltb}
+use Rattle.prelude.specs.Words.{ℤ, pos, nat_abs, lt_z, length, get_or, set, length-set, get_or-set_same, get_or-set_other}
 use Rattle.std.specs.Int.{w64}
 use Rattle.std.proofs.Common.{to_z, of_z}
 use Rattle.transport.specs.Limits.{max_side, max_cost, cost_above}

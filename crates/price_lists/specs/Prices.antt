@@ -1,6 +1,7 @@
 -- The prices that a call gives: those of the parties left at their own numbers, then those of struck cafés, then those of struck roasteries.
-use Rattle.prelude.specs.Words.{◌≡◌, refl, sym, ap, ◌∙◌, by_cases, Bool, true, false, cond, List, [], ◌∷◌, ◌++◌, map, ℕ, ◌+◌, ◌-◌, ◌≤◌, ◌<◌, arith, dec_lt, ltb}
-use Rattle.prelude.specs.Words.{ℤ, pos, nat_abs, ◌-ℤ◌, length, take, drop, get_or, replicate, length-replicate, length-append, take_at, get_or_at}
+use Rattle.std.specs.Prelude.{◌≡◌, ◌∷◌, ◌++◌, ◌+◌, ◌-◌, ◌≤◌, ◌<◌, ◌-ℤ◌}
+use Rattle.prelude.specs.Words.{refl, sym, ap, ◌∙◌, by_cases, Bool, true, false, cond, List, [], map, ℕ, arith, dec_lt, ltb}
+use Rattle.prelude.specs.Words.{ℤ, pos, nat_abs, length, take, drop, get_or, replicate, length-replicate, length-append, take_at, get_or_at}
 use Rattle.prelude.specs.Words.{length-take-le}
 use Rattle.prelude.specs.Words.{lt-ltb, le-ltb, by_test}
 use Rattle.transport.specs.Limits.{max_side}

@@ -1,6 +1,7 @@
 -- The least of some numbers: taken number by number, kept where all of them rise or some fall, and the first place that has it.
-use Rattle.prelude.specs.Words.{◌≡◌, refl, sym, ap, ◌∙◌, ◌≢◌, ◌⊎◌, inl, inr, ⊎_elim, by_cases, true, false, cond, ℕ, zero, suc, ◌+◌, ◌-◌, ◌<◌, ◌≤◌, arith}
-use Rattle.prelude.specs.Words.{add-one, ℕ_discrete, eq-or-lt_of_le, ne_eqb, ℤ, ◌+ℤ◌, lt_z, clash, by_test}
+use Rattle.std.specs.Prelude.{◌≡◌, ◌≢◌, ◌⊎◌, ◌+◌, ◌-◌, ◌<◌, ◌≤◌, ◌+ℤ◌}
+use Rattle.prelude.specs.Words.{refl, sym, ap, ◌∙◌, inl, inr, ⊎_elim, by_cases, true, false, cond, ℕ, zero, suc, arith}
+use Rattle.prelude.specs.Words.{add-one, ℕ_discrete, eq-or-lt_of_le, ne_eqb, ℤ, lt_z, clash, by_test}
 use Rattle.std.specs.Int.Bits.{bit_and}
 use Rattle.integers.specs.Integer.{◌≼◌, ◌≺◌}
 use Rattle.integers.specs.Bridge.{to_z, eq-z, z-eq, z-add}

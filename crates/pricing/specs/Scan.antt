@@ -1,6 +1,7 @@
 -- The scan: the lane of least reduced cost, and the first such in the order of rows and columns, from the least slack of each row.
-use Rattle.prelude.specs.Words.{◌≡◌, sym, ap, true, false, true≢false, by_cases, List, ℕ, ◌+◌, ◌*◌, ◌<◌, ◌≤◌, arith, dec_lt, ℤ, pos, nat_abs, neg_ℤ}
-use Rattle.prelude.specs.Words.{◌-ℤ◌, get_or}
+use Rattle.std.specs.Prelude.{◌≡◌, ◌+◌, ◌*◌, ◌<◌, ◌≤◌, ◌-ℤ◌}
+use Rattle.prelude.specs.Words.{sym, ap, true, false, true≢false, by_cases, List, ℕ, arith, dec_lt, ℤ, pos, nat_abs, neg_ℤ}
+use Rattle.prelude.specs.Words.{get_or}
 use Rattle.prelude.specs.Words.{lt_z, clash}
 use Rattle.transport.specs.Limits.{cost_above}
 use Rattle.integers.specs.Integer.{◌≈◌, ◌≼◌, ◌≺◌, ◌⊖◌}

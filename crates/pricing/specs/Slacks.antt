@@ -1,8 +1,9 @@
 -- Slacks: what is left of a lane's cost when the potential of its sink is taken off. The least slack of each row is kept between rounds. Where the prices of
 -- some columns rise, it falls to the least of what it was and of the new slacks of those columns. Where they fall, all slacks are raised by as much, and it is
 -- the other columns that are lower then.
-use Rattle.prelude.specs.Words.{◌≡◌, refl, sym, ap, ◌∙◌, inl, ⊎_elim, by_cases, true, false, cond, not, xor, List, ℕ, ◌+◌, ◌-◌, ◌*◌, ◌/◌, ◌^◌, ◌<◌, ◌≤◌, arith}
-use Rattle.prelude.specs.Words.{ℕ_discrete, dec_lt, ltb-true, lt-ltb, le-ltb, not-true, not-false, eqb, ltb, ℤ, pos, nat_abs, neg_ℤ, ◌+ℤ◌, ◌-ℤ◌}
+use Rattle.std.specs.Prelude.{◌≡◌, ◌+◌, ◌-◌, ◌*◌, ◌/◌, ◌^◌, ◌<◌, ◌≤◌, ◌+ℤ◌, ◌-ℤ◌}
+use Rattle.prelude.specs.Words.{refl, sym, ap, ◌∙◌, inl, ⊎_elim, by_cases, true, false, cond, not, xor, List, ℕ, arith}
+use Rattle.prelude.specs.Words.{ℕ_discrete, dec_lt, ltb-true, lt-ltb, le-ltb, not-true, not-false, eqb, ltb, ℤ, pos, nat_abs, neg_ℤ}
 use Rattle.prelude.specs.Words.{length, get_or, set}
 use Rattle.prelude.specs.Words.{replicate, length-set, get_or-replicate, get_or-set_same, get_or-set_other, lt_z, clash, by_test, false≢true}
 use Rattle.std.specs.Int.Bits.{bit_and, bit_xor}

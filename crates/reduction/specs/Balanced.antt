@@ -1,5 +1,6 @@
 -- Balanced sheets: nothing stays at home, so plans are those of 01, and the extended problem is the one of the same lists.
-use Rattle.prelude.specs.Words.{◌≡◌, ◌↔◌, List, ℕ, ◌*◌, arith, ℤ, pos, length}
+use Rattle.std.specs.Prelude.{◌≡◌, ◌↔◌, ◌*◌}
+use Rattle.prelude.specs.Words.{List, ℕ, arith, ℤ, pos, length}
 use Rattle.transport.specs.Lists.{at_z, grid}
 use Rattle.transport.specs.Sheet.{Sheet, roasteries, cafes}
 use Rattle.transport.specs.Extended.{surplus, cost_at, extended}

@@ -1,5 +1,6 @@
 -- From a plan of the sheet to one of the extended problem: what a roastery does not send stays at home, and goes to the extra café.
-use Rattle.prelude.specs.Words.{◌≡◌, sym, ap, ◌∙◌, ⊎_elim, by_cases, cond, List, ℕ, ◌+◌, ◌*◌, ◌-◌, ◌≤◌, ◌<◌, arith, mul-zero, mul-add, dec_lt, ltb, lt-ltb}
+use Rattle.std.specs.Prelude.{◌≡◌, ◌+◌, ◌*◌, ◌-◌, ◌≤◌, ◌<◌}
+use Rattle.prelude.specs.Words.{sym, ap, ◌∙◌, ⊎_elim, by_cases, cond, List, ℕ, arith, mul-zero, mul-add, dec_lt, ltb, lt-ltb}
 use Rattle.prelude.specs.Words.{le-ltb}
 use Rattle.transport.specs.Lists.{at, grid, sum_to, total}
 use Rattle.transport.specs.Problem.{sources, sinks, place}

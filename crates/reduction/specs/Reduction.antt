@@ -1,6 +1,7 @@
 -- From the extended problem back to the sheet: its plans are the sheet's at the same cost, so what is optimal there is best here. So is what is optimal for
 -- the problem behind the sheet, of the parties left, and it is the settled plan.
-use Rattle.prelude.specs.Words.{◌≡◌, sym, ap, ◌∙◌, cond, List, [], ◌∷◌, ℕ, ◌*◌, ◌≤◌, ◌<◌, arith, one-mul, eqb, ℤ, pos, ◌*ℤ◌, length, length-map}
+use Rattle.std.specs.Prelude.{◌≡◌, ◌∷◌, ◌*◌, ◌≤◌, ◌<◌, ◌*ℤ◌}
+use Rattle.prelude.specs.Words.{sym, ap, ◌∙◌, cond, List, [], ℕ, arith, one-mul, eqb, ℤ, pos, length, length-map}
 use Rattle.transport.specs.Lists.{at, grid, sum_to, total}
 use Rattle.transport.specs.Problem.{sources, sinks, place}
 use Rattle.transport.specs.Sheet.{Sheet, roasteries, cafes}
@@ -9,7 +10,7 @@ use Rattle.transport.specs.Parties.{among, rows_left_of, columns_left, struck, p
 use Rattle.transport.specs.Plan.{plan_cost_of, settled}
 use Rattle.transport.specs.Statements.{Meets, FirstDifference, scaled, Best}
 use Rattle.transport.specs.Laws.ListLaws.{sum_to_cong, sum_to_scale, sum_to-part, total-append}
-use Rattle.transport.specs.Laws.ProblemLaws.{place_of, length-grid, get_or-grid}
+use Rattle.transport.specs.Laws.ProblemLaws.{lane_placed, length-grid, get_or-grid}
 use Rattle.transport.specs.Laws.PlanLaws.{scaled_at}
 use Rattle.transport.proofs.ExtendedLaws.{without, with, extra, width_low, wanted-at}
 use Rattle.transport.specs.Laws.PartiesLaws.{struck-sinks, among-more, total_left}
@@ -97,7 +98,7 @@ module _ (S : Sheet) (x : List ℕ) (c : ℤ) (enough : total S.demand ≤ total
     shown = b.shown ∙ sym (sheet_plan-cost S x);
     least = λ k Q l q. rw (cost-same S Q (extended_plan S k Q) (extended-same S k Q)) (b.least k (extended_plan S k Q) l (fulfilled k Q q));
     first = λ k Q l q e h d.
-        let w = place_of (roasteries S) (cafes S) h
+        let w = lane_placed (roasteries S) (cafes S) h
         (omega (arith, d.lane, length-map (sheet_plan S x) (λ t. k * t), (fulfils-meets S x b.fulfils).quantities)) in
         rw (← w.placed) (carries-more k Q q l e w.row w.col w.row_below w.col_below (rw w.placed d));
   }

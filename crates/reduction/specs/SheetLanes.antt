@@ -1,6 +1,7 @@
 -- A plan of the sheet and one of the extended problem that carry the same on the sheet's lanes: they cost the same, and two of each differ first on the same
 -- lane.
-use Rattle.prelude.specs.Words.{◌≡◌, sym, ap, ◌∙◌, ◌⊎◌, inl, inr, ⊎_elim, by_cases, List, [], ◌∷◌, ℕ, ◌+◌, ◌*◌, ◌<◌, arith, mul-le-mul_right, add-one, dec_lt}
+use Rattle.std.specs.Prelude.{◌≡◌, ◌⊎◌, ◌∷◌, ◌+◌, ◌*◌, ◌<◌}
+use Rattle.prelude.specs.Words.{sym, ap, ◌∙◌, inl, inr, ⊎_elim, by_cases, List, [], ℕ, arith, mul-le-mul_right, add-one, dec_lt}
 use Rattle.prelude.specs.Words.{length, length-append}
 use Rattle.integers.specs.Integer.{Z, ◌≈◌, ◌⊗◌, nat}
 use Rattle.integers.specs.Bridge.{to_z, eq-z}
@@ -13,7 +14,7 @@ use Rattle.transport.specs.Extended.{surplus, wanted, extended}
 use Rattle.transport.specs.Plan.{plan_cost_of}
 use Rattle.transport.specs.Statements.{FirstDifference, scaled}
 use Rattle.transport.specs.Laws.ListLaws.{sum_to-one, sum_to_cong}
-use Rattle.transport.specs.Laws.ProblemLaws.{place-below, place_of}
+use Rattle.transport.specs.Laws.ProblemLaws.{place-below, lane_placed}
 use Rattle.transport.proofs.ExtendedLaws.{without, with, extra, width_low, cost-cafe, cost-extra, lane_cost-at}
 use Rattle.transport.specs.Laws.PlanLaws.{scaled_at}
 use Rattle.tableaux.specs.ProblemPlans.{flow_cost}
@@ -95,7 +96,7 @@ first-at {x} {y} m n long i j l h differ before =
       lane = omega arith;
       differ = differ;
       before = λ t b.
-          let w = place_of m n t (omega arith) in
+          let w = lane_placed m n t (omega arith) in
           rw (← w.placed) (before w.row w.col w.row_below w.col_below (place_earlier n w.row w.col i j h (rw w.placed b)));
     }
 

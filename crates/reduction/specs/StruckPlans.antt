@@ -1,7 +1,8 @@
 -- Plans of a problem E, whose amounts may be 0, and plans of the problem of the parties left. No plan carries anything from or to a party at 0, so these are
 -- the same plans under other numbers: at the same cost, and two of each differ first on the same lane. What is optimal there is optimal here.
-use Rattle.prelude.specs.Words.{◌≡◌, sym, ap, ◌∙◌, ⊎_elim, inl, inr, by_cases, ◌&&◌, cond, and-false, List, ℕ, zero, suc, ◌*◌, ◌-◌, ◌≤◌, ◌<◌, arith, mul-zero}
-use Rattle.prelude.specs.Words.{ℕ_discrete, ℤ, pos, ◌*ℤ◌, length, length-map}
+use Rattle.std.specs.Prelude.{◌≡◌, ◌&&◌, ◌*◌, ◌-◌, ◌≤◌, ◌<◌, ◌*ℤ◌}
+use Rattle.prelude.specs.Words.{sym, ap, ◌∙◌, ⊎_elim, inl, inr, by_cases, cond, and-false, List, ℕ, zero, suc, arith, mul-zero}
+use Rattle.prelude.specs.Words.{ℕ_discrete, ℤ, pos, length, length-map}
 use Rattle.integers.specs.Integer.{Z, ◌≈◌, ◌⊖◌, ◌⊗◌, nat}
 use Rattle.integers.specs.Bridge.{eq-z}
 use Rattle.integers.specs.Sum.{sum, sum₂}
@@ -11,7 +12,7 @@ use Rattle.transport.specs.Problem.{Problem, sources, sinks, place}
 use Rattle.transport.specs.Parties.{is_left, left, among, rows_left_of, columns_left, struck}
 use Rattle.transport.specs.Statements.{FirstDifference, scaled}
 use Rattle.transport.specs.Laws.ListLaws.{sum_to_cong, sum_to-none, sum_to-each}
-use Rattle.transport.specs.Laws.ProblemLaws.{place_of, length-grid, get_or-grid}
+use Rattle.transport.specs.Laws.ProblemLaws.{lane_placed, length-grid, get_or-grid}
 use Rattle.transport.specs.Laws.PlanLaws.{scaled_at}
 use Rattle.transport.specs.Laws.PartiesLaws.{left_yes, left_no, left_at, among-at, left-grows, sum_left, among-left, struck-sources, struck-sinks}
 use Rattle.transport.specs.Laws.PartiesLaws.{struck-supply, struck-demand, struck-lane}
@@ -275,7 +276,7 @@ module _ (E : Problem) (x : List ℕ) (c : ℤ) (b : Optimal (struck E) x c) whe
     shown = b.shown ∙ sym (left-cost E (own_plan-same E x));
     least = λ k Q l q. rw (left-cost E (left_plan-same E q)) (b.least k (left_plan E Q) l (left_plan-fulfils E q));
     first = λ k Q l q e t d.
-        let w = place_of (sources E) (sinks E) t (omega (arith, d.lane, length-map (own_plan E x) (λ t. k * t), ours-fulfils.quantities)) in
+        let w = lane_placed (sources E) (sinks E) t (omega (arith, d.lane, length-map (own_plan E x) (λ t. k * t), ours-fulfils.quantities)) in
         let (some, any) = differ-left E (ours_same k Q q) (theirs-same k Q q) w.row w.col w.row_below w.col_below (rw w.placed d.differ) in
         let (a, r) = row-among E w.row some in
         let (h, s) = column-among E w.col any in

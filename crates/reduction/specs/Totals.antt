@@ -1,6 +1,7 @@
 -- Totals: what the plans of a sheet cost in size at most, and sheets that reach it at both ends.
-use Rattle.prelude.specs.Words.{◌≡◌, refl, ap, ◌∙◌, List, ℕ, zero, suc, ◌+◌, ◌*◌, ◌≤◌, ◌<◌, arith, suc-mul, mul-le-mul_left, one-mul, ℤ, pos, nat_abs, ◌+ℤ◌}
-use Rattle.prelude.specs.Words.{◌*ℤ◌, replicate, length-replicate, get_or-replicate}
+use Rattle.std.specs.Prelude.{◌≡◌, ◌+◌, ◌*◌, ◌≤◌, ◌<◌, ◌+ℤ◌, ◌*ℤ◌}
+use Rattle.prelude.specs.Words.{refl, ap, ◌∙◌, List, ℕ, zero, suc, arith, suc-mul, mul-le-mul_left, one-mul, ℤ, pos, nat_abs}
+use Rattle.prelude.specs.Words.{replicate, length-replicate, get_or-replicate}
 use Rattle.integers.specs.Bridge.{eq-z, z-add, z-mul}
 use Rattle.transport.specs.Lists.{at, at_z, sum_to, sum_z, total}
 use Rattle.transport.specs.Limits.{max_side, max_amount, max_bags, max_cost}

@@ -1,5 +1,6 @@
 -- Round, case by case: the answers of the call.
-use Rattle.prelude.specs.Words.{ℕ, ◌+◌, ◌<◌, arith, ◌≡◌, refl, Bool, true, false, cond, none, some, List, ◌++◌, ℤ, pos, take, drop, get_or, replicate}
+use Rattle.std.specs.Prelude.{◌+◌, ◌<◌, ◌≡◌, ◌++◌}
+use Rattle.prelude.specs.Words.{ℕ, arith, refl, Bool, true, false, cond, none, some, List, ℤ, pos, take, drop, get_or, replicate}
 use Rattle.transport.specs.declared.RoundOutcome.TheVariants as RoundOutcome
 use Rattle.transport.specs.declared.Cell.{Cell}
 use Rattle.transport.specs.declared.Tableau.{Tableau}

@@ -1,5 +1,6 @@
 -- How rounds begin: a tableau laid out over arrays, with the costs of its problem by column, becomes what a run keeps. What one round gives.
-use Rattle.prelude.specs.Words.{ℕ, ◌+◌, ◌-◌, ◌<◌, ◌≤◌, arith, ◌≡◌, ◌∙◌, Bool, true, cond, List, Memᴰ, ℤ, pos, length, get_or}
+use Rattle.std.specs.Prelude.{◌+◌, ◌-◌, ◌<◌, ◌≤◌, ◌≡◌}
+use Rattle.prelude.specs.Words.{ℕ, arith, ◌∙◌, Bool, true, cond, List, Memᴰ, ℤ, pos, length, get_or}
 use Rattle.integers.specs.Bridge.{z-eq}
 use Rattle.transport.specs.Problem.{Problem, sources, sinks, Lane, lane_cost}
 use Rattle.transport.proofs.Sound.{Sound}

@@ -1,6 +1,7 @@
 -- What a run keeps from round to round: the board of a tableau with its prices and the least slacks of its rows. What the scan finds on it, and one round.
-use Rattle.prelude.specs.Words.{ℕ, ◌+◌, ◌*◌, ◌^◌, ◌<◌, ◌≤◌, arith, dec_lt, ◌≡◌, refl, sym, ap, ◌∙◌, by_cases, Bool, true, false, not, cond, true≢false, List, ℤ}
-use Rattle.prelude.specs.Words.{pos, negsuc, nat_abs, neg_ℤ, ◌+ℤ◌, ◌-ℤ◌, lt_z, le_z, non_neg, mag, ltb, length, get_or, lt-ltb, le-ltb, le-leb, by_test, clash}
+use Rattle.std.specs.Prelude.{◌+◌, ◌*◌, ◌^◌, ◌<◌, ◌≤◌, ◌≡◌, ◌+ℤ◌, ◌-ℤ◌}
+use Rattle.prelude.specs.Words.{ℕ, arith, dec_lt, refl, sym, ap, ◌∙◌, by_cases, Bool, true, false, not, cond, true≢false, List, ℤ}
+use Rattle.prelude.specs.Words.{pos, negsuc, nat_abs, neg_ℤ, lt_z, le_z, non_neg, mag, ltb, length, get_or, lt-ltb, le-ltb, le-leb, by_test, clash}
 use Rattle.std.specs.Int.{w32}
 use mir.Val as bits
 use Rattle.integers.specs.Integer.{◌≈◌, ◌⊕◌, ◌⊖◌, neg, nat}
@@ -11,7 +12,7 @@ use Rattle.transport.specs.Laws.ListLaws.{by_key, first_least_unique}
 use Rattle.transport.specs.Laws.AmountLaws.{lt_z_weak}
 use Rattle.transport.specs.Laws.RangeLaws.{abs_diff, back}
 use Rattle.transport.specs.Problem.{Problem, sources, sinks, Lane, lanes, place}
-use Rattle.transport.specs.Laws.ProblemLaws.{lane, Placed, place_of, place-below, length-lanes, get_or-lanes, all_lanes, all-lanes-at}
+use Rattle.transport.specs.Laws.ProblemLaws.{lane, Placed, lane_placed, place-below, length-lanes, get_or-lanes, all_lanes, all-lanes-at}
 use Rattle.transport.specs.Tableau.{lane_of, no_cell}
 use Rattle.transport.specs.Potential.{potential, reduced_cost, is_finished_of}
 use Rattle.transport.specs.Round.{entering, pivot, next}
@@ -122,7 +123,7 @@ module _ {P : Problem} {T : List Cell} {cost price : List ℤ} {m n : ℕ} (b : 
     -- What holds of the lane at each place.
     at_place : (k : ℕ) → k < length (lanes (sources P) (sinks P)) → (Q : Lane → Type 0)
         → ((i j : ℕ) → i < m → j < n → place (sinks P) i j ≡ k → Q (lane i j)) → Q (get_or (lanes (sources P) (sinks P)) k (lane_of no_cell))
-    at_place k l Q f = let t : Placed (sources P) (sinks P) k = place_of (sources P) (sinks P) k (omega (arith, length-lanes (sources P) (sinks P))) in
+    at_place k l Q f = let t : Placed (sources P) (sinks P) k = lane_placed (sources P) (sinks P) k (omega (arith, length-lanes (sources P) (sinks P))) in
         rw (← t.placed, get_or-lanes (sources P) (sinks P) t.row t.col (lane_of no_cell) t.row_below t.col_below)
         (f t.row t.col (omega (arith, b.rows, t.row_below)) (omega (arith, b.columns, t.col_below)) t.placed)
 

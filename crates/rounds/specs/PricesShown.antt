@@ -1,5 +1,6 @@
 -- The prices that the arrays hold: none is greater in size than a price can be, and after the last round they are those of the finished tableau.
-use Rattle.prelude.specs.Words.{ℕ, ◌+◌, ◌<◌, ◌≤◌, arith, ◌≡◌, ◌∙◌, Bool, true, false, List, ℤ, pos, nat_abs, get_or}
+use Rattle.std.specs.Prelude.{◌+◌, ◌<◌, ◌≤◌, ◌≡◌}
+use Rattle.prelude.specs.Words.{ℕ, arith, ◌∙◌, Bool, true, false, List, ℤ, pos, nat_abs, get_or}
 use Rattle.transport.specs.declared.Cell.{Cell}
 use Rattle.transport.specs.Limits.{max_cost, cost_above}
 use Rattle.transport.specs.Problem.{Problem}

@@ -1,5 +1,6 @@
 -- Run, case by case: the answers of the call.
-use Rattle.prelude.specs.Words.{ℕ, ◌≡◌, refl, Bool, true, false, none, some, List}
+use Rattle.std.specs.Prelude.{◌≡◌}
+use Rattle.prelude.specs.Words.{ℕ, refl, Bool, true, false, none, some, List}
 use Rattle.transport.specs.declared.RunOutcome.TheVariants as RunOutcome
 use Rattle.transport.specs.declared.Cell.{Cell}
 use Rattle.transport.specs.declared.Tableau.{Tableau}

@@ -1,5 +1,6 @@
 -- Runs on what is kept: what falls in each round, and how they end.
-use Rattle.prelude.specs.Words.{ℕ, zero, suc, ◌+◌, ◌*◌, ◌-◌, ◌<◌, arith, mul-le-mul_left, ◌≡◌, refl, ap, ◌∙◌, Bool, true, false, List, ℤ, pos, get_or, clash}
+use Rattle.std.specs.Prelude.{◌+◌, ◌*◌, ◌-◌, ◌<◌, ◌≡◌}
+use Rattle.prelude.specs.Words.{ℕ, zero, suc, arith, mul-le-mul_left, refl, ap, ◌∙◌, Bool, true, false, List, ℤ, pos, get_or, clash}
 use Rattle.integers.specs.Integer.{Z, ◌≈◌, ◌⊗◌}
 use Rattle.integers.specs.Bridge.{to_z}
 use Rattle.integers.specs.SumLaws.{sum₂_cong}

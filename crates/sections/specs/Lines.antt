@@ -1,6 +1,7 @@
 -- Numbers in lines of `width` of them. A column (width 1) and the rows of the costs are such lines: number after number, each with the byte that ends it.
 -- `left` counts the numbers of a line from the present one to the line's last. `write` gives the bytes of a number: `digits` or `whole_digits`.
-use Rattle.prelude.specs.Words.{◌≡◌, refl, sym, ◌∙◌, cond, List, [], ◌∷◌, ◌++◌, flat_map, append_assoc, ℕ, zero, suc, ◌+◌, ◌*◌, ◌-◌, ◌≤◌, ◌<◌, arith, add-one}
+use Rattle.std.specs.Prelude.{◌≡◌, ◌∷◌, ◌++◌, ◌+◌, ◌*◌, ◌-◌, ◌≤◌, ◌<◌}
+use Rattle.prelude.specs.Words.{refl, sym, ◌∙◌, cond, List, [], flat_map, append_assoc, ℕ, zero, suc, arith, add-one}
 use Rattle.prelude.specs.Words.{suc-mul, dec_lt, eqb, ℤ, length, take, drop, get_or, length-append, length-take, length-drop, take-append-drop}
 use Rattle.prelude.specs.Words.{drop_of_length-le}
 use Rattle.prelude.specs.Words.{drop-cons, ne_eqb, by_cases}

@@ -1,5 +1,6 @@
 -- Numbers in lines, written one after the other: what a loop that writes them keeps, whatever its numbers are.
-use Rattle.prelude.specs.Words.{◌≡◌, refl, sym, ap, ◌∙◌, List, ◌++◌, ℕ, ◌+◌, ◌-◌, ◌≤◌, ◌<◌, arith, length, take, drop, get_or, length-take}
+use Rattle.std.specs.Prelude.{◌≡◌, ◌++◌, ◌+◌, ◌-◌, ◌≤◌, ◌<◌}
+use Rattle.prelude.specs.Words.{refl, sym, ap, ◌∙◌, List, ℕ, arith, length, take, drop, get_or, length-take}
 use Rattle.prelude.specs.Words.{length-drop, take_all}
 use borrow.Rule.Slice.PartMut.{mid_of, put_mid}
 use Rattle.decimals.specs.Front.{front, front-nil, length_front, FirstWritten, both-written, piece_room, take_piece, drop_piece, piece_next}

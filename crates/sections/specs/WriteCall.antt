@@ -1,6 +1,7 @@
 -- A call that writes a text, case by case: the sheet check refuses, the output is too short, or the text stands at its front. Write sheet and write plan are
 -- such calls.
-use Rattle.prelude.specs.Words.{◌≡◌, sym, ap, ◌∙◌, List, [], ◌∷◌, ◌++◌, none, some, ℕ, ◌≤◌, ◌<◌, length}
+use Rattle.std.specs.Prelude.{◌≡◌, ◌∷◌, ◌++◌, ◌≤◌, ◌<◌}
+use Rattle.prelude.specs.Words.{sym, ap, ◌∙◌, List, [], none, some, ℕ, length}
 use Rattle.transport.specs.declared.WriteAnswer.{WriteAnswer}
 use Rattle.transport.specs.declared.WriteAnswer.TheVariants.{Written, Refused}
 use Rattle.transport.specs.Sheet.{Sheet, refusal, sheet_tests}

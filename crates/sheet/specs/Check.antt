@@ -1,5 +1,6 @@
 -- The answer of the sheet check.
-use Rattle.prelude.specs.Words.{◌≡◌, refl, Option, none, some, ℕ, arith}
+use Rattle.std.specs.Prelude.{◌≡◌}
+use Rattle.prelude.specs.Words.{refl, Option, none, some, ℕ, arith}
 pub use Rattle.sheet.specs.declared.SheetCheck.{SheetCheck}
 pub use Rattle.sheet.specs.declared.SheetCheck.TheVariants.{Accepted, Refused}
 

@@ -1,5 +1,6 @@
 -- The product of two sides fits a word.
-use Rattle.prelude.specs.Words.{ℕ, ◌*◌, ◌≤◌, ◌<◌, ◌^◌, arith, mul-le-mul}
+use Rattle.std.specs.Prelude.{◌*◌, ◌≤◌, ◌<◌, ◌^◌}
+use Rattle.prelude.specs.Words.{ℕ, arith, mul-le-mul}
 use Rattle.std.proofs.Common.{lt_of_le_of_lt}
 use Rattle.transport.specs.Limits.{max_sources, max_sinks}
 

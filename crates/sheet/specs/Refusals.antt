@@ -1,5 +1,6 @@
 -- What the sheet check refuses, case by case, and what a sheet within the limits is known to be.
-use Rattle.prelude.specs.Words.{◌≡◌, Bool, true, false, none, some, ◌*◌, ◌≤◌, arith, mul-le-mul, eqb, pos, neg_ℤ, length}
+use Rattle.std.specs.Prelude.{◌≡◌, ◌*◌, ◌≤◌}
+use Rattle.prelude.specs.Words.{Bool, true, false, none, some, arith, mul-le-mul, eqb, pos, neg_ℤ, length}
 use Rattle.transport.specs.Lists.{all, at_most, within, within_z}
 use Rattle.transport.specs.Limits.{max_sources, max_sinks, max_amount, max_cost}
 use Rattle.transport.specs.Sheet.{Sheet, roasteries, cafes, bad_sides, bad_length, bad_amount, bad_cost, lacking, crowded, idle, number_tests}

@@ -1,5 +1,6 @@
 -- What an answer says was read up to the end of the text: by the reader of the whole, and by those of what comes after its first sections.
-use Rattle.prelude.specs.Words.{◌≡◌, ap, ◌∙◌, List, [], ℕ, ◌*◌, ◌≤◌, ◌<◌, arith, le_trans, mul-le-mul, ℤ, length, take, drop, drop_of_length-le, drop-cons}
+use Rattle.std.specs.Prelude.{◌≡◌, ◌*◌, ◌≤◌, ◌<◌}
+use Rattle.prelude.specs.Words.{ap, ◌∙◌, List, [], ℕ, arith, le_trans, mul-le-mul, ℤ, length, take, drop, drop_of_length-le, drop-cons}
 use Rattle.prelude.specs.Words.{length-take-le}
 use Rattle.transport.specs.declared.ReadAnswer.{ReadAnswer}
 use Rattle.transport.specs.Limits.{max_sources, max_sinks}

@@ -1,5 +1,6 @@
 -- Read sheet: a sheet that was read and is stored, and the call case by case.
-use Rattle.prelude.specs.Words.{◌≡◌, refl, ap, ◌∙◌, List, ℕ, ◌*◌, ◌-◌, ◌≤◌, arith, Bool, true, false, not, ◌&&◌, ◌||◌, and-eq-true_iff, none, some, leb-true}
+use Rattle.std.specs.Prelude.{◌≡◌, ◌*◌, ◌-◌, ◌≤◌, ◌&&◌, ◌||◌}
+use Rattle.prelude.specs.Words.{refl, ap, ◌∙◌, List, ℕ, arith, Bool, true, false, not, and-eq-true_iff, none, some, leb-true}
 use Rattle.prelude.specs.Words.{leb, ℤ, length, drop, length-drop, by_test}
 use Rattle.std.proofs.Common.{leb-false}
 use Rattle.transport.specs.declared.ReadAnswer.{ReadAnswer}

@@ -1,5 +1,6 @@
 -- The sections of the sheet text.
-use Rattle.prelude.specs.Words.{◌≡◌, List, ◌++◌, append_assoc, ℕ, ◌*◌, ◌≤◌, ℤ, length}
+use Rattle.std.specs.Prelude.{◌≡◌, ◌++◌, ◌*◌, ◌≤◌}
+use Rattle.prelude.specs.Words.{List, append_assoc, ℕ, ℤ, length}
 use Rattle.transport.specs.Text.{bytes, digits, whole_digits}
 use Rattle.transport.specs.Sheet.{Sheet, roasteries, cafes}
 use Rattle.transport.specs.SheetText.{sheet_text}

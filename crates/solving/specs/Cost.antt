@@ -1,12 +1,13 @@
 -- The cost of a plan as a sum that fits, and that of the settled plan.
-use Rattle.prelude.specs.Words.{◌≡◌, sym, ap, ◌∙◌, List, ◌++◌, ℕ, ◌*◌, ◌<◌, ◌≤◌, ◌^◌, arith, mul-le-mul, ℤ, pos, nat_abs, ◌*ℤ◌, length, length-append}
+use Rattle.std.specs.Prelude.{◌≡◌, ◌++◌, ◌*◌, ◌<◌, ◌≤◌, ◌^◌, ◌*ℤ◌}
+use Rattle.prelude.specs.Words.{sym, ap, ◌∙◌, List, ℕ, arith, mul-le-mul, ℤ, pos, nat_abs, length, length-append}
 use Rattle.prelude.specs.Words.{get_or-append}
 use Rattle.transport.specs.Lists.{at, at_z, sum_z}
 use Rattle.transport.specs.Laws.ListLaws.{sum_z_cong, sum_to-each, sum_to_bound}
 use Rattle.transport.specs.Limits.{max_sources, max_sinks, max_amount, max_cost}
 use Rattle.transport.specs.Sheet.{Sheet, roasteries, cafes}
 use Rattle.transport.specs.Problem.{place}
-use Rattle.transport.specs.Laws.ProblemLaws.{place_of}
+use Rattle.transport.specs.Laws.ProblemLaws.{lane_placed}
 use Rattle.transport.specs.Statements.{Accepted, Meets}
 use Rattle.transport.proofs.Sound.{sound}
 use Rattle.transport.specs.Laws.RangeLaws.{abs_times, abs_between, abs_sum}
@@ -42,7 +43,7 @@ module _ {plan : List ℕ} {cost : List ℤ} (s : Summable plan cost) (l : ℕ) 
 
 -- A lane of a plan that meets the sheet carries no more than its roastery's supply.
 pub meets-small : {S : Sheet} {Q : List ℕ} → Accepted S → Meets S 1 Q → (l : ℕ) → l < roasteries S * cafes S → at Q l ≤ max_amount
-meets-small {S} {Q} ok meets l p = let w = place_of (roasteries S) (cafes S) l p in
+meets-small {S} {Q} ok meets l p = let w = lane_placed (roasteries S) (cafes S) l p in
     let most = sum_to-each (cafes S) (λ j. at Q (place (cafes S) w.row j)) w.col w.col_below in
     rw (← w.placed) (omega (arith, most, meets.rows w.row w.row_below, ok.limits.supply_high w.row))
 

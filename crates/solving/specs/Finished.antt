@@ -1,5 +1,6 @@
 -- The board of a finished tableau: from it settling starts, and what it ends with are the bags of the optimal plan.
-use Rattle.prelude.specs.Words.{◌≡◌, ◌∙◌, ◌↔◌, by_cases, true, List, ℕ, ◌+◌, ◌*◌, ◌-◌, ◌<◌, arith, dec_lt, ℤ, pos, get_or, clash}
+use Rattle.std.specs.Prelude.{◌≡◌, ◌↔◌, ◌+◌, ◌*◌, ◌-◌, ◌<◌}
+use Rattle.prelude.specs.Words.{◌∙◌, by_cases, true, List, ℕ, arith, dec_lt, ℤ, pos, get_or, clash}
 use Rattle.integers.specs.Integer.{◌≈◌, nat}
 use Rattle.integers.specs.IntegerLaws.{⊗_cong}
 use Rattle.network.specs.Flow.{Plan, Tight}

@@ -1,5 +1,6 @@
 -- The first tableau of a sheet, as code gives it, and the arrays that hold it.
-use Rattle.prelude.specs.Words.{◌≡◌, refl, sym, ap, ◌∙◌, subst, List, ℕ, ◌≤◌, arith, ℤ, length, take}
+use Rattle.std.specs.Prelude.{◌≡◌, ◌≤◌}
+use Rattle.prelude.specs.Words.{refl, sym, ap, ◌∙◌, subst, List, ℕ, arith, ℤ, length, take}
 use Rattle.transport.specs.Problem.{Problem, sources, sinks}
 use Rattle.transport.specs.Sheet.{Sheet, cafes}
 use Rattle.transport.specs.Extended.{extended}

@@ -1,5 +1,6 @@
 -- The settled plan of a sheet, as it is stored: on each lane between two parties left the bags of their lane, and nothing on all others.
-use Rattle.prelude.specs.Words.{◌≡◌, sym, ap, ◌∙◌, by_cases, List, [], ◌∷◌, ◌++◌, ℕ, ◌*◌, ◌≤◌, ◌<◌, arith, ℕ_discrete, ℤ, length, take, drop, length-append}
+use Rattle.std.specs.Prelude.{◌≡◌, ◌∷◌, ◌++◌, ◌*◌, ◌≤◌, ◌<◌}
+use Rattle.prelude.specs.Words.{sym, ap, ◌∙◌, by_cases, List, [], ℕ, arith, ℕ_discrete, ℤ, length, take, drop, length-append}
 use Rattle.prelude.specs.Words.{take-append-drop, ext_get_or, get_or-take, length-take-le}
 use Rattle.transport.specs.Lists.{at, table}
 use Rattle.transport.specs.Problem.{place}
@@ -9,7 +10,7 @@ use Rattle.transport.specs.Parties.{left, among, rows_left_of, columns_left, pro
 use Rattle.transport.specs.Plan.{settled}
 use Rattle.transport.specs.Statements.{Accepted}
 use Rattle.transport.specs.Laws.ListLaws.{get_or-table}
-use Rattle.transport.specs.Laws.ProblemLaws.{place_of, place-below}
+use Rattle.transport.specs.Laws.ProblemLaws.{lane_placed, place-below}
 use Rattle.transport.proofs.ExtendedLaws.{without, with, extra}
 use Rattle.transport.specs.Laws.PartiesLaws.{left_at, left-append, among-left, struck-sources, struck-sinks}
 use Rattle.transport.proofs.Sound.{sound}
@@ -66,7 +67,7 @@ module _ {S : Sheet} (ok : Accepted S) {q : List ℤ} {m n : ℕ} (b : SettledBa
     front = let size : ℕ = roasteries S * cafes S in
         let long : length (take size new) ≡ size = length-take-le size new (omega (arith, w.long)) in
         ext_get_or 0 _ _ (long ∙ sym (length-own_sheet_plan S x)) (λ l h.
-        let p = place_of (roasteries S) (cafes S) l (omega arith) in
+        let p = lane_placed (roasteries S) (cafes S) l (omega arith) in
         get_or-take size new l 0 (omega arith) ∙ rw (← p.placed) (lane_stored p.row p.col p.row_below p.col_below))
 
     pub stored_settled : new ≡ settled S ++ drop (roasteries S * cafes S) old

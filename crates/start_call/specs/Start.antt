@@ -1,5 +1,6 @@
 -- Start, case by case.
-use Rattle.prelude.specs.Words.{◌≡◌, none, some, ℕ}
+use Rattle.std.specs.Prelude.{◌≡◌}
+use Rattle.prelude.specs.Words.{none, some, ℕ}
 use Rattle.transport.specs.declared.StartOutcome.TheVariants.{Started, Refused}
 use Rattle.transport.specs.Sheet.{Sheet, refusal, sheet_tests}
 use Rattle.transport.specs.Extended.{extended}

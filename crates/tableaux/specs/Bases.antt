@@ -1,5 +1,6 @@
 -- Lanes that span are a basis, in the sense of the theory of networks.
-use Rattle.prelude.specs.Words.{◌≡◌, ap, sym, ◌↔◌, true, List, Memᴰ-cast, ℕ, ◌+◌, ◌-◌, ◌≤◌, arith, length, get_or}
+use Rattle.std.specs.Prelude.{◌≡◌, ◌↔◌, ◌+◌, ◌-◌, ◌≤◌}
+use Rattle.prelude.specs.Words.{ap, sym, true, List, Memᴰ-cast, ℕ, arith, length, get_or}
 use Rattle.transport.specs.Laws.ListLaws.{member-at, member-place}
 use Rattle.transport.specs.Problem.{Lane}
 use Rattle.transport.specs.Laws.ProblemLaws.{lane}

@@ -1,6 +1,7 @@
 -- Belonging, as it is computed and as the paper says it; and what it gives to the theory: a basis, a flow of bags and a flow of marks.
-use Rattle.prelude.specs.Words.{◌≡◌, refl, ap, sym, ◌∙◌, ◌↔◌, ◌⊎◌, inl, inr, ⊎_elim, by_cases, Dec-and, Bool, true, false, ◌&&◌, false≢true, List, [], ◌∷◌, ℕ}
-use Rattle.prelude.specs.Words.{zero, suc, ◌+◌, ◌-◌, ◌≤◌, ◌<◌, arith, ℕ_discrete, ltb-true, lt-ltb, ltb, ℤ, pos, ◌+ℤ◌, length, length-map}
+use Rattle.std.specs.Prelude.{◌≡◌, ◌↔◌, ◌⊎◌, ◌&&◌, ◌∷◌, ◌+◌, ◌-◌, ◌≤◌, ◌<◌, ◌+ℤ◌}
+use Rattle.prelude.specs.Words.{refl, ap, sym, ◌∙◌, inl, inr, ⊎_elim, by_cases, Dec-and, Bool, true, false, false≢true, List, [], ℕ}
+use Rattle.prelude.specs.Words.{zero, suc, arith, ℕ_discrete, ltb-true, lt-ltb, ltb, ℤ, pos, length, length-map}
 use Rattle.integers.specs.Integer.{◌≈◌, nat, neg}
 use Rattle.integers.specs.Bridge.{to_z, z-eq}
 use Rattle.integers.specs.Sum.{sum, point}

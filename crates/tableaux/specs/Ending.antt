@@ -1,5 +1,6 @@
 -- Rounds end: the valued cost falls in each of them and stays within bounds.
-use Rattle.prelude.specs.Words.{◌≡◌, ◌∙◌, ⊎_elim, true, false, List, ℕ, zero, suc, ◌+◌, ◌*◌, ◌^◌, ◌≤◌, ◌<◌, arith, mul-le-mul_left, mul-le-mul_right, pos}
+use Rattle.std.specs.Prelude.{◌≡◌, ◌+◌, ◌*◌, ◌^◌, ◌≤◌, ◌<◌}
+use Rattle.prelude.specs.Words.{◌∙◌, ⊎_elim, true, false, List, ℕ, zero, suc, arith, mul-le-mul_left, mul-le-mul_right, pos}
 use Rattle.prelude.specs.Words.{by_test}
 use Rattle.integers.specs.Integer.{Z, ◌≈◌, ◌≼◌, ◌⊕◌, ◌⊗◌, neg, nat}
 use Rattle.integers.specs.Bridge.{z-le, z-neg}

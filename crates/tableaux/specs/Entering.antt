@@ -1,5 +1,6 @@
 -- The entering lane: it is on the sheet, and on an unfinished tableau its reduced cost is negative, so that it is not basic.
-use Rattle.prelude.specs.Words.{◌≡◌, refl, ap, sym, ◌∙◌, Bool, true, false, List, ℕ, ◌<◌, arith, mul-le-mul_right, ℤ, pos, negsuc, lt_z, non_neg}
+use Rattle.std.specs.Prelude.{◌≡◌, ◌<◌}
+use Rattle.prelude.specs.Words.{refl, ap, sym, ◌∙◌, Bool, true, false, List, ℕ, arith, mul-le-mul_right, ℤ, pos, negsuc, lt_z, non_neg}
 use Rattle.prelude.specs.Words.{get_or, by_test}
 use Rattle.prelude.specs.Words.{clash}
 use Rattle.integers.specs.Integer.{◌≺◌, ◌⊕◌}
@@ -7,7 +8,7 @@ use Rattle.integers.specs.Tests.{lt_yes, lt_no}
 use Rattle.transport.specs.Laws.ListLaws.{by_key, FirstLeast, first_least-is}
 use Rattle.transport.specs.Laws.AmountLaws.{lt_z_weak}
 use Rattle.transport.specs.Problem.{Problem, sources, sinks, Lane, lanes, place}
-use Rattle.transport.specs.Laws.ProblemLaws.{lane, place-below, Placed, place_of, length-lanes, get_or-lanes, all_lanes}
+use Rattle.transport.specs.Laws.ProblemLaws.{lane, place-below, Placed, lane_placed, length-lanes, get_or-lanes, all_lanes}
 use Rattle.transport.proofs.Sound.{Sound}
 use Rattle.transport.specs.Tableau.{lane_of, no_cell}
 use Rattle.transport.specs.Potential.{reduced_cost, is_finished_of}
@@ -41,7 +42,7 @@ module _ {P : Problem} (ok : Sound P) (T : List Cell) where
   pub entering-inside : ((entering P T).row < sources P) × ((entering P T).col < sinks P)
   entering-inside =
       let (k, f) = chosen in
-      let w : Placed m n k = place_of m n k (omega (arith, f.inside, length-lanes m n)) in
+      let w : Placed m n k = lane_placed m n k (omega (arith, f.inside, length-lanes m n)) in
       let e : entering P T ≡ lane w.row w.col = sym f.stands ∙ ap (λ x. get_or (lanes m n) x (lane_of no_cell)) (sym w.placed)
       ∙ get_or-lanes m n w.row w.col (lane_of no_cell) w.row_below w.col_below in
       rw e (w.row_below, w.col_below)

@@ -1,6 +1,7 @@
 -- Any two finished tableaux that belong to the same problem have the same potentials, however they
 -- were reached (02, Five and Fourteen).
-use Rattle.prelude.specs.Words.{◌≡◌, refl, sym, true, List, ℕ, suc, ◌+◌, ◌-◌, ◌<◌, arith, length}
+use Rattle.std.specs.Prelude.{◌≡◌, ◌+◌, ◌-◌, ◌<◌}
+use Rattle.prelude.specs.Words.{refl, sym, true, List, ℕ, suc, arith, length}
 use Rattle.network.specs.Flow.{Tight}
 use Rattle.network.specs.Basis.{in_cells}
 use Rattle.network.specs.Crosswise.{tight_crosswise}

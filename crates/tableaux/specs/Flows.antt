@@ -1,6 +1,7 @@
 -- Flows through the strikes have the margins asked for; and so the loop's signs are the flow of −1 at the two nodes of the entering lane.
-use Rattle.prelude.specs.Words.{◌≡◌, refl, ap, sym, ◌∙◌, ◌≢◌, ⊎_elim, by_cases, true, List, [], ◌∷◌, Memᴰ, Memᴰ-head, Memᴰ-tail}
-use Rattle.prelude.specs.Words.{Memᴰ-not_nil, Memᴰ-cases_cons, ℕ, suc, ◌+◌, ◌-◌, ◌≤◌, ◌<◌, arith, ℕ_discrete, eq-eqb, ne_eqb, ℤ, pos, neg_ℤ, ◌-ℤ◌}
+use Rattle.std.specs.Prelude.{◌≡◌, ◌≢◌, ◌∷◌, ◌+◌, ◌-◌, ◌≤◌, ◌<◌, ◌-ℤ◌}
+use Rattle.prelude.specs.Words.{refl, ap, sym, ◌∙◌, ⊎_elim, by_cases, true, List, [], Memᴰ, Memᴰ-head, Memᴰ-tail}
+use Rattle.prelude.specs.Words.{Memᴰ-not_nil, Memᴰ-cases_cons, ℕ, suc, arith, ℕ_discrete, eq-eqb, ne_eqb, ℤ, pos, neg_ℤ}
 use Rattle.integers.specs.Integer.{Z, ◌≈◌, ◌⊕◌, ◌⊖◌, ◌⊗◌, neg, nat}
 use Rattle.integers.specs.Bridge.{to_z, z-add, z-neg, z-eq}
 use Rattle.integers.specs.Sum.{sum, point}

@@ -1,6 +1,7 @@
 -- Lanes: those in a list, and an amount on one lane alone.
-use Rattle.prelude.specs.Words.{ap, sym, ◌∙◌, ◌↔◌, ◌≢◌, ⊎_elim, by_cases, List, [], ◌∷◌, Memᴰ-cast, Memᴰ, Memᴰ-head, Memᴰ-tail}
-use Rattle.prelude.specs.Words.{Memᴰ-not_nil, Memᴰ-cases_cons, ℕ, ◌<◌, arith, ℕ_discrete}
+use Rattle.std.specs.Prelude.{◌↔◌, ◌≢◌, ◌∷◌, ◌<◌}
+use Rattle.prelude.specs.Words.{ap, sym, ◌∙◌, ⊎_elim, by_cases, List, [], Memᴰ-cast, Memᴰ, Memᴰ-head, Memᴰ-tail}
+use Rattle.prelude.specs.Words.{Memᴰ-not_nil, Memᴰ-cases_cons, ℕ, arith, ℕ_discrete}
 use Rattle.integers.specs.Integer.{Z, ◌≈◌, ◌⊗◌, nat}
 use Rattle.integers.specs.Sum.{sum, point}
 use Rattle.integers.specs.SumLaws.{sum_cong, sum-point, point_at, point-off}

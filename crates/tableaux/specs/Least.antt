@@ -1,6 +1,7 @@
 -- The bags of a finished tableau are a plan of least cost, and the plans of least cost are exactly those on lanes with reduced cost 0.
-use Rattle.prelude.specs.Words.{ℕ, suc, ◌+◌, ◌*◌, ◌<◌, arith, ℕ_discrete, ◌≡◌, ap, ◌∙◌, ◌↔◌, by_cases, Dec-and, ⊎_elim, true, false≢true, List, [], ◌∷◌, map, ℤ}
-use Rattle.prelude.specs.Words.{pos, negsuc, nat_abs, ◌*ℤ◌, non_neg, ◌≤ℤ◌, length, get_or, length-map}
+use Rattle.std.specs.Prelude.{◌+◌, ◌*◌, ◌<◌, ◌≡◌, ◌↔◌, ◌∷◌, ◌*ℤ◌, ◌≤ℤ◌}
+use Rattle.prelude.specs.Words.{ℕ, suc, arith, ℕ_discrete, ap, ◌∙◌, by_cases, Dec-and, ⊎_elim, true, false≢true, List, [], map, ℤ}
+use Rattle.prelude.specs.Words.{pos, negsuc, nat_abs, non_neg, length, get_or, length-map}
 use Rattle.integers.specs.Integer.{Z, ◌≈◌, ◌≼◌, ≈_dec, ◌⊖◌, ◌⊗◌, nat}
 use Rattle.integers.specs.IntegerLaws.{⊗_cong}
 use Rattle.integers.specs.Bridge.{to_z, z-mul, z-eq, eq-z, le-z, z-ev, !, ◌-'◌}

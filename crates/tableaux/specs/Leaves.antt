@@ -1,8 +1,9 @@
 -- Leaves: while any of the lanes that join the nodes left is there, a node but the root has a single one; and after striking it off the lanes join the nodes
 -- left.
-use Rattle.prelude.specs.Words.{◌≡◌, refl, ap, sym, ◌∙◌, ◌↔◌, ◌≢◌, ◌⊎◌, inl, inr, ⊎_elim, by_cases, Bool, true, false, not, ◌&&◌, cond, true≢false, List, []}
-use Rattle.prelude.specs.Words.{◌∷◌, Memᴰ, Memᴰ-head, Memᴰ-tail, Memᴰ-not_nil, Memᴰ-cases_cons, Memᴰ-eq_of_singleton, none, some}
-use Rattle.prelude.specs.Words.{ℕ, zero, suc, ◌+◌, ◌*◌, ◌≤◌, ◌<◌, arith, ℕ_discrete, eqb-true, eqb-false, eq-eqb, ne_eqb, not-true, eqb, length, by_test}
+use Rattle.std.specs.Prelude.{◌≡◌, ◌↔◌, ◌≢◌, ◌⊎◌, ◌&&◌, ◌∷◌, ◌+◌, ◌*◌, ◌≤◌, ◌<◌}
+use Rattle.prelude.specs.Words.{refl, ap, sym, ◌∙◌, inl, inr, ⊎_elim, by_cases, Bool, true, false, not, cond, true≢false, List, []}
+use Rattle.prelude.specs.Words.{Memᴰ, Memᴰ-head, Memᴰ-tail, Memᴰ-not_nil, Memᴰ-cases_cons, Memᴰ-eq_of_singleton, none, some}
+use Rattle.prelude.specs.Words.{ℕ, zero, suc, arith, ℕ_discrete, eqb-true, eqb-false, eq-eqb, ne_eqb, not-true, eqb, length, by_test}
 use Rattle.prelude.specs.Words.{by_option, some≢none}
 use Rattle.transport.specs.Lists.{keep, sum_to}
 use Rattle.transport.specs.Laws.ListLaws.{member-place, keep_yes, keep_no, keep-member, member-keep, and_left, and_right, sum_to_cong, sum_to-none, sum_to-add}

@@ -1,6 +1,7 @@
 -- The loop that the entering lane closes with the basic lanes: there is one, and the signs alternate round it and are 0 off it.
-use Rattle.prelude.specs.Words.{◌≡◌, refl, ap, sym, ◌∙◌, ◌≢◌, ⊎_elim, by_cases, List, [], ◌∷◌, ◌++◌, Memᴰ, Memᴰ-head, Memᴰ-tail}
-use Rattle.prelude.specs.Words.{Memᴰ-not_nil, Memᴰ-cases_cons, Memᴰ-append_cases, Memᴰ-eq_of_singleton, Memᴰ-cast, ℕ, ◌+◌, ◌<◌, arith}
+use Rattle.std.specs.Prelude.{◌≡◌, ◌≢◌, ◌∷◌, ◌++◌, ◌+◌, ◌<◌}
+use Rattle.prelude.specs.Words.{refl, ap, sym, ◌∙◌, ⊎_elim, by_cases, List, [], Memᴰ, Memᴰ-head, Memᴰ-tail}
+use Rattle.prelude.specs.Words.{Memᴰ-not_nil, Memᴰ-cases_cons, Memᴰ-append_cases, Memᴰ-eq_of_singleton, Memᴰ-cast, ℕ, arith}
 use Rattle.prelude.specs.Words.{ℕ_discrete, ℤ, pos, negsuc}
 use Rattle.integers.specs.Integer.{Z, ◌≈◌, ◌⊕◌, neg, nat}
 use Rattle.integers.specs.Bridge.{to_z, z-eq, eq-z}

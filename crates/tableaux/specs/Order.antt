@@ -1,6 +1,7 @@
 -- Cells in sheet order, said of members instead of indices: each cell stands before all that come after it in the list.
-use Rattle.prelude.specs.Words.{◌≡◌, refl, ap, sym, ◌∙◌, ◌⊎◌, inl, inr, ⊎_elim, Dec-and, Bool, List, [], ◌∷◌, map, Memᴰ, Memᴰ-head, Memᴰ-tail}
-use Rattle.prelude.specs.Words.{Memᴰ-not_nil, Memᴰ-cases_cons, ℕ, zero, suc, ◌<◌, arith, ℕ_discrete, ltb-true, ltb-false, ltb, length, get_or, by_cases}
+use Rattle.std.specs.Prelude.{◌≡◌, ◌⊎◌, ◌∷◌, ◌<◌}
+use Rattle.prelude.specs.Words.{refl, ap, sym, ◌∙◌, inl, inr, ⊎_elim, Dec-and, Bool, List, [], map, Memᴰ, Memᴰ-head, Memᴰ-tail}
+use Rattle.prelude.specs.Words.{Memᴰ-not_nil, Memᴰ-cases_cons, ℕ, zero, suc, arith, ℕ_discrete, ltb-true, ltb-false, ltb, length, get_or, by_cases}
 use Rattle.prelude.specs.Words.{by_test}
 use Rattle.transport.specs.Lists.{keep}
 use Rattle.transport.specs.Laws.ListLaws.{member-at, member-place, map-member, keep-member}

@@ -1,5 +1,6 @@
 -- Pairs over the integers of the theory: their parts, their sums and differences, and their order as `PairLess`; and those of paired supplies and demands.
-use Rattle.prelude.specs.Words.{ℕ, suc, ◌-◌, ◌<◌, arith, ℕ_discrete, ◌≡◌, refl, ap, sym, ◌∙◌, ◌⊎◌, inl, inr, ⊎_elim, by_cases, true, false, eq-eqb, ne_eqb}
+use Rattle.std.specs.Prelude.{◌-◌, ◌<◌, ◌≡◌, ◌⊎◌}
+use Rattle.prelude.specs.Words.{ℕ, suc, arith, ℕ_discrete, refl, ap, sym, ◌∙◌, inl, inr, ⊎_elim, by_cases, true, false, eq-eqb, ne_eqb}
 use Rattle.prelude.specs.Words.{clash}
 use Rattle.integers.specs.Integer.{Z, ◌≈◌, ◌≼◌, ◌≺◌, ◌⊕◌, ◌⊖◌, nat}
 use Rattle.integers.specs.Bridge.{to_z, z-eq, eq-z, z-add, z-ev, !, ◌-'◌}

@@ -1,6 +1,7 @@
 -- What a pivot holds: its cells, their amounts, their order and their number. Only lists are reasoned about: no sum, no tree.
-use Rattle.prelude.specs.Words.{◌≡◌, refl, ap, sym, ◌∙◌, subst, ◌⊎◌, inl, inr, ⊎_elim, Dec-and, ◌↔◌, Bool, true, false, not, true≢false, List, [], ◌∷◌, map}
-use Rattle.prelude.specs.Words.{Memᴰ, Memᴰ-not_nil, Memᴰ-cases_cons, ℕ, suc, ◌<◌, arith, ℕ_discrete, ℤ, pos, lt_z, length, get_or, length-map}
+use Rattle.std.specs.Prelude.{◌≡◌, ◌⊎◌, ◌↔◌, ◌∷◌, ◌<◌}
+use Rattle.prelude.specs.Words.{refl, ap, sym, ◌∙◌, subst, inl, inr, ⊎_elim, Dec-and, Bool, true, false, not, true≢false, List, [], map}
+use Rattle.prelude.specs.Words.{Memᴰ, Memᴰ-not_nil, Memᴰ-cases_cons, ℕ, suc, arith, ℕ_discrete, ℤ, pos, lt_z, length, get_or, length-map}
 use Rattle.transport.specs.Lists.{keep}
 use Rattle.transport.specs.Laws.ListLaws.{member-at, member-place, member-keep, keep-member, member-map, map-member, keep_yes, keep_no, keep_all, all_of}
 use Rattle.transport.specs.Laws.ListLaws.{by_key, first_least-is}

@@ -1,5 +1,6 @@
 -- The pivot of a tableau that belongs to a sheet belongs to it: the abstract round, read off the lists.
-use Rattle.prelude.specs.Words.{◌≡◌, refl, ap, sym, ◌∙◌, subst, inl, inr, Dec-and, true, true≢false, List, Memᴰ, ℕ, zero, suc, ◌+◌, ◌*◌, ◌-◌, ◌<◌, arith}
+use Rattle.std.specs.Prelude.{◌≡◌, ◌+◌, ◌*◌, ◌-◌, ◌<◌}
+use Rattle.prelude.specs.Words.{refl, ap, sym, ◌∙◌, subst, inl, inr, Dec-and, true, true≢false, List, Memᴰ, ℕ, zero, suc, arith}
 use Rattle.prelude.specs.Words.{by_cases, ℕ_discrete, ℤ, pos, negsuc, lt_z, length, get_or}
 use Rattle.integers.specs.Integer.{Z, ◌≈◌, ◌≼◌, ◌≺◌, ◌⊕◌, ◌⊖◌, ◌⊗◌, neg, nat, Within}
 use Rattle.integers.specs.IntegerLaws.{⊗_cong}

@@ -1,5 +1,6 @@
 -- A plan as amounts on rows and columns: the view in which the theory of networks speaks of plans and their cost.
-use Rattle.prelude.specs.Words.{ℕ, zero, suc, ◌*◌, arith, ◌≡◌, List, ℤ, pos, ◌*ℤ◌, length}
+use Rattle.std.specs.Prelude.{◌*◌, ◌≡◌, ◌*ℤ◌}
+use Rattle.prelude.specs.Words.{ℕ, zero, suc, arith, List, ℤ, pos, length}
 use Rattle.integers.specs.Integer.{Z, ◌≈◌, ◌⊗◌, nat}
 use Rattle.integers.specs.Bridge.{to_z, z-add, z-mul}
 use Rattle.integers.specs.Sum.{sum}

@@ -1,7 +1,8 @@
 -- Potentials through the strikes: tight on every lane, 0 at the root, the only such numbers, and bounded.
-use Rattle.prelude.specs.Words.{◌≡◌, refl, ap, sym, ◌∙◌, ◌≢◌, by_cases, true, List, [], ◌∷◌, Memᴰ, Memᴰ-head, Memᴰ-tail, inl, inr}
-use Rattle.prelude.specs.Words.{Memᴰ-not_nil, Memᴰ-cases_cons, ℕ, ◌+◌, ◌*◌, ◌-◌, ◌≤◌, ◌<◌, arith, mul-le-mul_right, ℕ_discrete, dec_lt, eq-eqb, ne_eqb}
-use Rattle.prelude.specs.Words.{ℤ, pos, neg_ℤ, nat_abs, ◌-ℤ◌, length}
+use Rattle.std.specs.Prelude.{◌≡◌, ◌≢◌, ◌∷◌, ◌+◌, ◌*◌, ◌-◌, ◌≤◌, ◌<◌, ◌-ℤ◌}
+use Rattle.prelude.specs.Words.{refl, ap, sym, ◌∙◌, by_cases, true, List, [], Memᴰ, Memᴰ-head, Memᴰ-tail, inl, inr}
+use Rattle.prelude.specs.Words.{Memᴰ-not_nil, Memᴰ-cases_cons, ℕ, arith, mul-le-mul_right, ℕ_discrete, dec_lt, eq-eqb, ne_eqb}
+use Rattle.prelude.specs.Words.{ℤ, pos, neg_ℤ, nat_abs, length}
 use Rattle.integers.specs.Integer.{◌≈◌, ◌⊕◌}
 use Rattle.integers.specs.Bridge.{to_z, z-add, z-neg, z-eq, eq-z}
 use Rattle.transport.specs.Limits.{max_side, max_cost, cost_below, cost_above, max_cells}

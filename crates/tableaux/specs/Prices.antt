@@ -1,5 +1,6 @@
 -- The prices of a tableau that belongs, in the paper's words: they are prices, and the only ones.
-use Rattle.prelude.specs.Words.{◌≡◌, sym, ◌∙◌, List, ℕ, ◌+◌, ◌<◌, arith, ℤ, pos}
+use Rattle.std.specs.Prelude.{◌≡◌, ◌+◌, ◌<◌}
+use Rattle.prelude.specs.Words.{sym, ◌∙◌, List, ℕ, arith, ℤ, pos}
 use Rattle.integers.specs.Bridge.{to_z, z-add, z-eq, eq-z}
 use Rattle.transport.specs.Lists.{at_z}
 use Rattle.transport.specs.Problem.{Problem, sources, sinks, lane_cost}

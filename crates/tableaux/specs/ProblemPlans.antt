@@ -1,5 +1,6 @@
 -- Plans of a balanced problem: what Meets, plan_cost_of and Best of Statements are for the problem that stands behind a sheet.
-use Rattle.prelude.specs.Words.{◌≡◌, List, ℕ, ◌*◌, ◌≤◌, ◌<◌, ℤ, pos, ◌*ℤ◌, ◌≤ℤ◌, length}
+use Rattle.std.specs.Prelude.{◌≡◌, ◌*◌, ◌≤◌, ◌<◌, ◌*ℤ◌, ◌≤ℤ◌}
+use Rattle.prelude.specs.Words.{List, ℕ, ℤ, pos, length}
 use Rattle.transport.specs.Lists.{at, at_z, sum_to, sum_z}
 use Rattle.transport.specs.Problem.{Problem, sources, sinks, place}
 use Rattle.transport.specs.Statements.{FirstDifference, scaled}

@@ -1,5 +1,6 @@
 -- Runs of rounds: a run ends at the first finished tableau, if that comes within its allowance, and else after exactly its allowance.
-use Rattle.prelude.specs.Words.{◌≡◌, ap, ◌∙◌, ◌⊎◌, inl, inr, ⊎_elim, ◌↔◌, true, false, List, ℕ, zero, suc, ◌≤◌, ◌<◌, arith, clash, by_test}
+use Rattle.std.specs.Prelude.{◌≡◌, ◌⊎◌, ◌↔◌, ◌≤◌, ◌<◌}
+use Rattle.prelude.specs.Words.{ap, ◌∙◌, inl, inr, ⊎_elim, true, false, List, ℕ, zero, suc, arith, clash, by_test}
 use Rattle.transport.specs.Problem.{Problem}
 use Rattle.transport.specs.Potential.{is_finished_of}
 use Rattle.transport.specs.Round.{next, run}

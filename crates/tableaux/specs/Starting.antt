@@ -1,6 +1,7 @@
 -- The start belongs to its sheet, and the corner rule empties a row and a column together at the last cell only.
-use Rattle.prelude.specs.Words.{ℕ, zero, suc, ◌+◌, ◌-◌, ◌≤◌, ◌<◌, arith, dec_lt, ℕ_discrete, ◌≡◌, refl, ap, sym, ◌∙◌, ◌≢◌, ◌↔◌, ◌⊎◌, inl, inr, ⊎_elim, by_cases}
-use Rattle.prelude.specs.Words.{true, false, true≢false, List, [], ◌∷◌, map, eq-eqb, ne_eqb, eqb, length, get_or, drop, drop-cons, by_test, clash}
+use Rattle.std.specs.Prelude.{◌+◌, ◌-◌, ◌≤◌, ◌<◌, ◌≡◌, ◌≢◌, ◌↔◌, ◌⊎◌, ◌∷◌}
+use Rattle.prelude.specs.Words.{ℕ, zero, suc, arith, dec_lt, ℕ_discrete, refl, ap, sym, ◌∙◌, inl, inr, ⊎_elim, by_cases}
+use Rattle.prelude.specs.Words.{true, false, true≢false, List, [], map, eq-eqb, ne_eqb, eqb, length, get_or, drop, drop-cons, by_test, clash}
 use Rattle.integers.specs.Integer.{◌≈◌, ◌≼◌, ≼_dec, ◌⊕◌, nat}
 use Rattle.network.specs.Basis.{Basis}
 use Rattle.network.specs.Staircase.{Step, staircase}

@@ -1,8 +1,9 @@
 -- Striking off leaf after leaf: lanes join all nodes without a loop exactly if all of them are struck off, and what the list of strikes then is.
 use Rattle.tableaux.specs.Leaves.{unless}
-use Rattle.prelude.specs.Words.{◌≡◌, refl, ap, sym, ◌∙◌, ◌↔◌, ◌≢◌, ◌⊎◌, inl, inr, ⊎_elim, by_cases, Bool, true, false, cond, List, [], ◌∷◌, Memᴰ}
-use Rattle.prelude.specs.Words.{Memᴰ-head, Memᴰ-tail, Memᴰ-not_nil, Memᴰ-cases_cons, Memᴰ-cast, none, some, ℕ, zero, suc, ◌+◌, ◌-◌, ◌≤◌}
-use Rattle.prelude.specs.Words.{◌<◌, arith, ℕ_discrete, dec_lt, lt-ltb, le-ltb, eqb-true, eq-eqb, eqb, ltb, length, by_test, by_option, some≢none}
+use Rattle.std.specs.Prelude.{◌≡◌, ◌↔◌, ◌≢◌, ◌⊎◌, ◌∷◌, ◌+◌, ◌-◌, ◌≤◌, ◌<◌}
+use Rattle.prelude.specs.Words.{refl, ap, sym, ◌∙◌, inl, inr, ⊎_elim, by_cases, Bool, true, false, cond, List, [], Memᴰ}
+use Rattle.prelude.specs.Words.{Memᴰ-head, Memᴰ-tail, Memᴰ-not_nil, Memᴰ-cases_cons, Memᴰ-cast, none, some, ℕ, zero, suc}
+use Rattle.prelude.specs.Words.{arith, ℕ_discrete, dec_lt, lt-ltb, le-ltb, eqb-true, eq-eqb, eqb, ltb, length, by_test, by_option, some≢none}
 use Rattle.transport.specs.Lists.{table, sum_to}
 use Rattle.transport.specs.Laws.ListLaws.{member-at, member-place, get_or-table, length-table, and_left, and_right, sum_to-none, sum_to-add, sum_to-le}
 use Rattle.transport.specs.Problem.{Lane}

@@ -1,5 +1,6 @@
 -- A tableau of a sheet as one of the theory of networks.
-use Rattle.prelude.specs.Words.{◌≡◌, refl, List, Memᴰ, ℕ, suc, ◌+◌, ◌-◌, ◌<◌, arith, length, get_or}
+use Rattle.std.specs.Prelude.{◌≡◌, ◌+◌, ◌-◌, ◌<◌}
+use Rattle.prelude.specs.Words.{refl, List, Memᴰ, ℕ, suc, arith, length, get_or}
 use Rattle.integers.specs.Integer.{Z, ◌≼◌, nat, Within}
 use Rattle.integers.specs.SumLaws.{sum-each}
 use Rattle.tableaux.specs.Bases.{joined-on}

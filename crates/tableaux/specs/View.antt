@@ -1,6 +1,7 @@
 -- A tableau as amounts on rows and columns: the view in which the theory of networks speaks of it.
-use Rattle.prelude.specs.Words.{◌≡◌, refl, sym, ◌∙◌, ◌↔◌, by_cases, Dec-and, ◌&&◌, cond, List, [], ◌∷◌, map, ℕ, zero, suc, ◌<◌, arith, ℕ_discrete, eq-eqb}
-use Rattle.prelude.specs.Words.{ne_eqb, eqb, ℤ, pos, ◌+ℤ◌, length, get_or, subst}
+use Rattle.std.specs.Prelude.{◌≡◌, ◌↔◌, ◌&&◌, ◌∷◌, ◌<◌, ◌+ℤ◌}
+use Rattle.prelude.specs.Words.{refl, sym, ◌∙◌, by_cases, Dec-and, cond, List, [], map, ℕ, zero, suc, arith, ℕ_discrete, eq-eqb}
+use Rattle.prelude.specs.Words.{ne_eqb, eqb, ℤ, pos, length, get_or, subst}
 use Rattle.integers.specs.Integer.{Z, ◌≈◌, ◌⊕◌, ◌⊗◌, nat}
 use Rattle.integers.specs.Bridge.{to_z, z-add}
 use Rattle.integers.specs.Sum.{sum, point}

@@ -1,6 +1,7 @@
 -- The lanes of reduced cost 0 as masks of the rows.
-use Rattle.prelude.specs.Words.{◌≡◌, refl, sym, ◌∙◌, by_cases, Bool, true, false, List, ℕ, ◌+◌, ◌*◌, ◌<◌, ◌≤◌, arith, ℕ_discrete, eq-eqb, ne_eqb, ℤ, pos}
-use Rattle.prelude.specs.Words.{nat_abs, ◌-ℤ◌, length, get_or, set, replicate, length-set, get_or-set_same, get_or-set_other}
+use Rattle.std.specs.Prelude.{◌≡◌, ◌+◌, ◌*◌, ◌<◌, ◌≤◌, ◌-ℤ◌}
+use Rattle.prelude.specs.Words.{refl, sym, ◌∙◌, by_cases, Bool, true, false, List, ℕ, arith, ℕ_discrete, eq-eqb, ne_eqb, ℤ, pos}
+use Rattle.prelude.specs.Words.{nat_abs, length, get_or, set, replicate, length-set, get_or-set_same, get_or-set_other}
 use Rattle.integers.specs.Bridge.{eq-z, z-eq, z-ev, !, ◌-'◌}
 use Rattle.transport.specs.Laws.ListLaws.{is_false}
 use Rattle.transport.specs.Limits.{max_cost, cost_above}

@@ -1,6 +1,7 @@
 -- What a reader of the code found, as a reading of the specification; and the readers' laws, by what comes next in the text.
-use Rattle.prelude.specs.Words.{◌≡◌, refl, sym, ◌∙◌, by_cases, Bool, true, false, not, ◌&&◌, cond, true≢false, List, [], ◌∷◌, ℕ, zero, suc, ◌+◌, ◌*◌, ◌-◌, ◌≤◌}
-use Rattle.prelude.specs.Words.{◌<◌, ◌^◌, arith, ℕ_discrete, dec_lt, pow-suc, add-one, eqb, leb, length, drop, get_or, drop_of_length-le, drop-cons, drop-drop}
+use Rattle.std.specs.Prelude.{◌≡◌, ◌&&◌, ◌∷◌, ◌+◌, ◌*◌, ◌-◌, ◌≤◌, ◌<◌, ◌^◌}
+use Rattle.prelude.specs.Words.{refl, sym, ◌∙◌, by_cases, Bool, true, false, not, cond, true≢false, List, [], ℕ, zero, suc}
+use Rattle.prelude.specs.Words.{arith, ℕ_discrete, dec_lt, pow-suc, add-one, eqb, leb, length, drop, get_or, drop_of_length-le, drop-cons, drop-drop}
 use Rattle.prelude.specs.Words.{ne_eqb, le-leb, lt-leb, by_test, clash}
 use Rattle.std.proofs.Math.Nat.{pow-le-pow_right}
 use Rattle.std.proofs.Common.{lt_of_lt_of_le}

@@ -1,5 +1,6 @@
 -- The laws of Extended: whether there is an extra café, what each column wants, and what each lane costs.
-use Rattle.prelude.specs.Words.{◌≡◌, refl, ap, by_cases, cond, [], ◌∷◌, ◌++◌, append-nil, ℕ, ◌+◌, ◌≤◌, ◌<◌, arith, dec_lt, eqb, ℤ, pos, length, length-append}
+use Rattle.std.specs.Prelude.{◌≡◌, ◌∷◌, ◌++◌, ◌+◌, ◌≤◌, ◌<◌}
+use Rattle.prelude.specs.Words.{refl, ap, by_cases, cond, [], append-nil, ℕ, arith, dec_lt, eqb, ℤ, pos, length, length-append}
 use Rattle.prelude.specs.Words.{get_or-append, eqb-true, eqb-false, lt-ltb, le-ltb, by_test}
 use Rattle.transport.specs.Lists.{at, at_z, total}
 use Rattle.transport.specs.Problem.{sinks, place, lane_cost}

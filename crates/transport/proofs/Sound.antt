@@ -1,6 +1,7 @@
 -- What the theory of rounds asks of a balanced problem; and the problem of the parties left of an accepted sheet has it. The bound on amounts is one on the
 -- total, and costs are bounded from both sides, so that the theory serves problems that are more than a sheet's.
-use Rattle.prelude.specs.Words.{ℕ, ◌*◌, ◌≤◌, ◌<◌, arith, mul-le-mul_right, ◌≡◌, sym, ◌∙◌, by_cases, List, dec_lt, ℕ_discrete, pos, neg_ℤ, ◌≤ℤ◌, le_z_yes, none}
+use Rattle.std.specs.Prelude.{◌*◌, ◌≤◌, ◌<◌, ◌≡◌, ◌≤ℤ◌}
+use Rattle.prelude.specs.Words.{ℕ, arith, mul-le-mul_right, sym, ◌∙◌, by_cases, List, dec_lt, ℕ_discrete, pos, neg_ℤ, le_z_yes, none}
 use Rattle.prelude.specs.Words.{length, length-append}
 use Rattle.transport.specs.Lists.{at, at_z, total}
 use Rattle.transport.specs.Limits.{max_sources, max_sinks, max_side, max_amount, max_bags, max_cost, cost_below, cost_above}
@@ -40,16 +41,16 @@ sinks-room = omega arith
 
 -- ---- no amount is more than all bags
 
-at_most : (xs : List ℕ) (k : ℕ) → at xs k ≤ total xs
+at-total : (xs : List ℕ) (k : ℕ) → at xs k ≤ total xs
 unfolding total
-at_most xs k = by_cases (dec_lt k (length xs)) (λ l. sum_to-each (length xs) (at xs) k l) (λ l. omega (arith, at-past xs k (omega arith)))
+at-total xs k = by_cases (dec_lt k (length xs)) (λ l. sum_to-each (length xs) (at xs) k l) (λ l. omega (arith, at-past xs k (omega arith)))
 
 module _ {P : Problem} (ok : Sound P) where
   pub supply-most : (i : ℕ) → at P.supply i ≤ max_bags
-  supply-most i = omega (arith, at_most P.supply i, ok.bags)
+  supply-most i = omega (arith, at-total P.supply i, ok.bags)
 
   pub demand-most : (j : ℕ) → at P.demand j ≤ max_bags
-  demand-most j = omega (arith, at_most P.demand j, ok.bags, ok.balance)
+  demand-most j = omega (arith, at-total P.demand j, ok.bags, ok.balance)
 
 -- ---- the problem behind a sheet
 

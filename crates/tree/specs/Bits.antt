@@ -1,8 +1,9 @@
 -- The bits of a mask, one after the other, least first: a mask without its least bit, and a change of the array at each bit.
-use Rattle.prelude.specs.Words.{◌≡◌, refl, sym, ap, ◌∙◌, ◌≢◌, by_cases, Bool, true, false, not, cond, xor, ◌&&◌, ◌||◌, or-false, List, ℕ, zero, suc, ◌-◌, ◌/◌}
-use Rattle.prelude.specs.Words.{◌<◌, min, max, arith, ℕ_discrete, dec_lt, eqb, ltb, length, get_or, set, length-set, eqb-true, eqb-false, eq-eqb}
+use Rattle.std.specs.Prelude.{◌≡◌, ◌≢◌, ◌&&◌, ◌||◌, ◌-◌, ◌/◌, ◌<◌, ◌⊎◌}
+use Rattle.prelude.specs.Words.{refl, sym, ap, ◌∙◌, by_cases, Bool, true, false, not, cond, xor, or-false, List, ℕ, zero, suc}
+use Rattle.prelude.specs.Words.{min, max, arith, ℕ_discrete, dec_lt, eqb, ltb, length, get_or, set, length-set, eqb-true, eqb-false, eq-eqb}
 use Rattle.prelude.specs.Words.{ne_eqb, lt-ltb}
-use Rattle.prelude.specs.Words.{le-ltb, get_or-set_same, get_or-set_other, by_test, and_comm, ◌⊎◌, inl, inr}
+use Rattle.prelude.specs.Words.{le-ltb, get_or-set_same, get_or-set_other, by_test, and_comm, inl, inr}
 use Rattle.transport.specs.Laws.ListLaws.{and_right}
 use Rattle.std.specs.Int.Bits.{bit_and, bit_or, bit_xor, differ}
 use Rattle.std.proofs.lemmas.Nat.{and_le_r}

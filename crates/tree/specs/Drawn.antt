@@ -1,5 +1,6 @@
 -- Lanes drawn into masks: which bits are set, and that the masks are then those of the lanes.
-use Rattle.prelude.specs.Words.{◌≡◌, ◌↔◌, ◌≢◌, true, List, ℕ, ◌+◌, ◌<◌, ◌≤◌, length, get_or}
+use Rattle.std.specs.Prelude.{◌≡◌, ◌↔◌, ◌≢◌, ◌+◌, ◌<◌, ◌≤◌}
+use Rattle.prelude.specs.Words.{true, List, ℕ, length, get_or}
 use Rattle.transport.specs.Problem.{Lane}
 use Rattle.transport.specs.Laws.ProblemLaws.{lane}
 use Rattle.tree.specs.Layout.{stride}

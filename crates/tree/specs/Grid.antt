@@ -1,5 +1,6 @@
 -- A list that is filled row by row: the one law of a loop over the rows of a grid, in a loop over their columns, that writes at a spot of each lane.
-use Rattle.prelude.specs.Words.{ℕ, ◌+◌, ◌*◌, ◌<◌, ◌≤◌, arith, dec_lt, ◌≡◌, refl, sym, ◌∙◌, by_cases, List, length, get_or, set, length-set, get_or-set_same}
+use Rattle.std.specs.Prelude.{◌+◌, ◌*◌, ◌<◌, ◌≤◌, ◌≡◌}
+use Rattle.prelude.specs.Words.{ℕ, arith, dec_lt, refl, sym, ◌∙◌, by_cases, List, length, get_or, set, length-set, get_or-set_same}
 use Rattle.prelude.specs.Words.{get_or-set_other}
 use Rattle.tree.specs.Layout.{stride}
 

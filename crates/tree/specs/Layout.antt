@@ -1,5 +1,6 @@
 -- How a round's numbers lie in the flat arrays, and what the arrays stand for.
-use Rattle.prelude.specs.Words.{◌≡◌, refl, cond, List, [], ◌∷◌, ℕ, zero, suc, ◌+◌, ◌*◌, ◌/◌, ◌%◌, ◌<◌, ◌≤◌, arith, div-add-mod', ℤ, pos, ◌-ℤ◌, eqb, length}
+use Rattle.std.specs.Prelude.{◌≡◌, ◌∷◌, ◌+◌, ◌*◌, ◌/◌, ◌%◌, ◌<◌, ◌≤◌, ◌-ℤ◌}
+use Rattle.prelude.specs.Words.{refl, cond, List, [], ℕ, zero, suc, arith, div-add-mod', ℤ, pos, eqb, length}
 use Rattle.prelude.specs.Words.{drop, get_or, set, replicate, drop_of_length-le, drop-cons, get_or-set_same, get_or-set_other, eqb-true, eqb-false, by_test}
 use Rattle.transport.specs.Limits.{max_side, cost_above}
 use Rattle.transport.specs.Lists.{table}

@@ -1,6 +1,7 @@
 -- Masks as lanes: bit y of the mask of node x is the lane from x to the node `other_end_of m x y`.
-use Rattle.prelude.specs.Words.{◌≡◌, refl, sym, ap, ◌∙◌, ◌↔◌, ◌≢◌, by_cases, Bool, true, false, not, ◌&&◌, cond, List, ℕ, zero, suc, ◌+◌, ◌-◌, ◌*◌, ◌/◌, ◌<◌}
-use Rattle.prelude.specs.Words.{◌≤◌, arith, ℕ_discrete, dec_lt, lt-ltb, le-ltb, eqb-true, eqb-false, eq-eqb, ne_eqb, not-true, eqb, ltb, length, get_or, set}
+use Rattle.std.specs.Prelude.{◌≡◌, ◌↔◌, ◌≢◌, ◌&&◌, ◌+◌, ◌-◌, ◌*◌, ◌/◌, ◌<◌, ◌≤◌}
+use Rattle.prelude.specs.Words.{refl, sym, ap, ◌∙◌, by_cases, Bool, true, false, not, cond, List, ℕ, zero, suc}
+use Rattle.prelude.specs.Words.{arith, ℕ_discrete, dec_lt, lt-ltb, le-ltb, eqb-true, eqb-false, eq-eqb, ne_eqb, not-true, eqb, ltb, length, get_or, set}
 use Rattle.prelude.specs.Words.{length-set, get_or-set_same, get_or-set_other, clash}
 use Rattle.std.specs.Int.Count.{ones, ones_step, count_trailing_zeros}
 use Rattle.transport.specs.Problem.{Lane}

@@ -1,6 +1,7 @@
 -- A mask: a number as the set of its bits. Bit k is in the mask x where the binary digit k of x is 1.
-use Rattle.prelude.specs.Words.{ℕ, zero, suc, ◌+◌, ◌-◌, ◌*◌, ◌/◌, ◌%◌, ◌^◌, ◌<◌, ◌≤◌, min, max, arith, pow-suc, div-eq_of_lt, one-mul, dec_lt, ◌≡◌, refl, sym}
-use Rattle.prelude.specs.Words.{ap, ◌∙◌, subst, Bool, false, not, ◌&&◌, ◌||◌, eqb-true, eqb-false, eqb, by_test, by_cases, ℕ_discrete}
+use Rattle.std.specs.Prelude.{◌+◌, ◌-◌, ◌*◌, ◌/◌, ◌%◌, ◌^◌, ◌<◌, ◌≤◌, ◌≡◌, ◌&&◌, ◌||◌}
+use Rattle.prelude.specs.Words.{ℕ, zero, suc, min, max, arith, pow-suc, div-eq_of_lt, one-mul, dec_lt, refl, sym}
+use Rattle.prelude.specs.Words.{ap, ◌∙◌, subst, Bool, false, not, eqb-true, eqb-false, eqb, by_test, by_cases, ℕ_discrete}
 use Rattle.std.specs.Int.Bits.{bit_and, bit_or, bit_xor, differ, or_step, and_step, xor_step}
 use Rattle.std.proofs.lemmas.Nat.{or_shr, and_shr, xor_shr, shl-shr, trailing_le}
 use Rattle.std.proofs.Common.{one-add, shr-shr, shl_exact, pow-add}

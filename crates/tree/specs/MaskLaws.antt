@@ -1,5 +1,6 @@
 -- Masks as sets: the first n bits, the bits of one mask without those of another, and where there is a bit at all.
-use Rattle.prelude.specs.Words.{◌≡◌, refl, ◌∙◌, ℕ, zero, suc, ◌+◌, ◌-◌, ◌*◌, ◌/◌, ◌%◌, ◌^◌, ◌<◌, ◌≤◌, min, max, arith, pow-suc, div-eq_of_lt}
+use Rattle.std.specs.Prelude.{◌≡◌, ◌+◌, ◌-◌, ◌*◌, ◌/◌, ◌%◌, ◌^◌, ◌<◌, ◌≤◌}
+use Rattle.prelude.specs.Words.{refl, ◌∙◌, ℕ, zero, suc, min, max, arith, pow-suc, div-eq_of_lt}
 use Rattle.std.specs.Int.Bits.{bit_or, bit_xor, differ}
 use Rattle.std.proofs.Common.{pow_pos, pow_mono, shl_exact, shr-shr}
 use Rattle.std.specs.Int.Count.{count_trailing_zeros}

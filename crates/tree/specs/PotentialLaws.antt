@@ -1,6 +1,7 @@
 -- The laws of potentials by strikes: the step back through one strike, and a bound on their size.
-use Rattle.prelude.specs.Words.{ℕ, suc, ◌+◌, ◌*◌, ◌-◌, ◌/◌, ◌%◌, ◌<◌, ◌≤◌, arith, suc-mul, mul-le-mul_right, ◌≡◌, refl, ap, ◌∙◌, cond, List, [], ◌∷◌, eqb, ℤ}
-use Rattle.prelude.specs.Words.{pos, nat_abs, ◌-ℤ◌, length, get_or, set, length-drop, get_or-drop, by_test}
+use Rattle.std.specs.Prelude.{◌+◌, ◌*◌, ◌-◌, ◌/◌, ◌%◌, ◌<◌, ◌≤◌, ◌≡◌, ◌∷◌, ◌-ℤ◌}
+use Rattle.prelude.specs.Words.{ℕ, suc, arith, suc-mul, mul-le-mul_right, refl, ap, ◌∙◌, cond, List, [], eqb, ℤ}
+use Rattle.prelude.specs.Words.{pos, nat_abs, length, get_or, set, length-drop, get_or-drop, by_test}
 use Rattle.transport.specs.Problem.{Lane}
 use Rattle.transport.specs.Leaf.{Strike}
 use Rattle.transport.specs.Potential.{potential_by}

@@ -1,7 +1,8 @@
 -- The queue of leaves: distinct nodes, those before place k struck and without a lane, those from k up to tail with at most one. Every leaf that is left
 -- waits in it.
-use Rattle.prelude.specs.Words.{◌≡◌, refl, sym, ap, ◌∙◌, ◌≢◌, ◌⊎◌, inl, inr, ⊎_elim, by_cases, Bool, true, false, not, ◌&&◌, cond, true≢false, List, ℕ, zero}
-use Rattle.prelude.specs.Words.{suc, ◌+◌, ◌<◌, ◌≤◌, arith, ℕ_discrete, dec_lt, eqb-true, eqb-false, eq-eqb, ne_eqb, not-true, eqb, length, get_or, set}
+use Rattle.std.specs.Prelude.{◌≡◌, ◌≢◌, ◌⊎◌, ◌&&◌, ◌+◌, ◌<◌, ◌≤◌}
+use Rattle.prelude.specs.Words.{refl, sym, ap, ◌∙◌, inl, inr, ⊎_elim, by_cases, Bool, true, false, not, cond, true≢false, List, ℕ, zero}
+use Rattle.prelude.specs.Words.{suc, arith, ℕ_discrete, dec_lt, eqb-true, eqb-false, eq-eqb, ne_eqb, not-true, eqb, length, get_or, set}
 use Rattle.prelude.specs.Words.{get_or-set_same, get_or-set_other, by_test, clash}
 use Rattle.std.specs.Int.Count.{ones}
 use Rattle.transport.specs.Lists.{sum_to}

@@ -1,6 +1,7 @@
 -- Prices that move on one side of a cut: rows up, columns down.
-use Rattle.prelude.specs.Words.{◌≡◌, refl, sym, ◌∙◌, Bool, true, false, not, cond, xor, ◌&&◌, false≢true, List, ℕ, ◌≤◌, ltb, ℤ, pos, nat_abs, neg_ℤ}
-use Rattle.prelude.specs.Words.{◌+ℤ◌, length}
+use Rattle.std.specs.Prelude.{◌≡◌, ◌&&◌, ◌≤◌, ◌+ℤ◌}
+use Rattle.prelude.specs.Words.{refl, sym, ◌∙◌, Bool, true, false, not, cond, xor, false≢true, List, ℕ, ltb, ℤ, pos, nat_abs, neg_ℤ}
+use Rattle.prelude.specs.Words.{length}
 use Rattle.prelude.specs.Words.{get_or}
 use Rattle.std.specs.Int.Bits.{bit_and, bit_xor}
 use Rattle.transport.specs.Laws.RangeLaws.{abs_neg}

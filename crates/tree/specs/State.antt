@@ -1,5 +1,6 @@
 -- What the arrays hold while leaves are struck off: at the start, after one strike more, and at the end.
-use Rattle.prelude.specs.Words.{◌≡◌, ap, ◌∙◌, true, cond, List, [], ◌∷◌, ◌++◌, ℕ, ◌+◌, ◌-◌, ◌<◌, ◌≤◌, arith, length, get_or, set, length-set, get_or-set_same}
+use Rattle.std.specs.Prelude.{◌≡◌, ◌∷◌, ◌++◌, ◌+◌, ◌-◌, ◌<◌, ◌≤◌}
+use Rattle.prelude.specs.Words.{ap, ◌∙◌, true, cond, List, [], ℕ, arith, length, get_or, set, length-set, get_or-set_same}
 use Rattle.prelude.specs.Words.{get_or-set_other}
 use Rattle.transport.specs.Lists.{table}
 use Rattle.transport.specs.Laws.ListLaws.{table-zero, table-one, table_cong}

@@ -1,5 +1,6 @@
 -- The strikes in the arrays: their nodes and lanes are within the room, and no lane comes twice.
-use Rattle.prelude.specs.Words.{◌≡◌, ap, ◌≢◌, List, ℕ, zero, suc, ◌+◌, ◌<◌, ◌≤◌, arith, length, get_or}
+use Rattle.std.specs.Prelude.{◌≡◌, ◌≢◌, ◌+◌, ◌<◌, ◌≤◌}
+use Rattle.prelude.specs.Words.{ap, List, ℕ, zero, suc, arith, length, get_or}
 use Rattle.transport.specs.Laws.ListLaws.{member-at}
 use Rattle.transport.specs.Problem.{Lane}
 use Rattle.transport.specs.Leaf.{Strike}

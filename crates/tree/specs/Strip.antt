@@ -1,7 +1,8 @@
 -- The lanes B while leaves are struck off: what is struck, what is left, and that all is struck exactly if the lanes span.
-use Rattle.prelude.specs.Words.{◌≡◌, refl, sym, ap, ◌∙◌, ◌≢◌, ◌⊎◌, inl, inr, ⊎_elim, by_cases, Bool, true, not, ◌&&◌, cond, true≢false, List, [], ◌∷◌, ◌++◌}
+use Rattle.std.specs.Prelude.{◌≡◌, ◌≢◌, ◌⊎◌, ◌&&◌, ◌∷◌, ◌++◌, ◌+◌, ◌-◌, ◌<◌, ◌≤◌}
+use Rattle.prelude.specs.Words.{refl, sym, ap, ◌∙◌, inl, inr, ⊎_elim, by_cases, Bool, true, not, cond, true≢false, List, []}
 use Rattle.prelude.specs.Words.{Memᴰ, Memᴰ-head, Memᴰ-tail, Memᴰ-not_nil, Memᴰ-cases_cons, Memᴰ-append_cases, Memᴰ-append_left}
-use Rattle.prelude.specs.Words.{Memᴰ-append_right, Memᴰ-eq_of_singleton, Memᴰ-cast, ℕ, suc, ◌+◌, ◌-◌, ◌<◌, ◌≤◌, arith, dec_lt, lt-ltb, le-ltb, eq-eqb}
+use Rattle.prelude.specs.Words.{Memᴰ-append_right, Memᴰ-eq_of_singleton, Memᴰ-cast, ℕ, suc, arith, dec_lt, lt-ltb, le-ltb, eq-eqb}
 use Rattle.prelude.specs.Words.{ne_eqb, not-true, ltb, length, get_or, set, get_or-set_other, clash, by_test}
 use Rattle.transport.specs.Lists.{keep, table}
 use Rattle.transport.specs.Laws.ListLaws.{keep_yes, keep_no, keep-none, keep_all, keep_cong, keep-keep, keep-member, member-keep, all_members, member-place}

@@ -1,6 +1,7 @@
 -- Whole numbers: a number that was read, with the sign before it.
-use Rattle.prelude.specs.Words.{◌≡◌, refl, sym, ap, ◌∙◌, Bool, true, false, cond, List, [], ◌∷◌, ℕ, zero, suc, ◌+◌, ◌≤◌, ◌<◌, ◌^◌, arith, eqb, ℤ, pos, negsuc}
-use Rattle.prelude.specs.Words.{neg_ℤ, ◌-ℤ◌, length, drop, drop-drop, lt-ltb, by_test}
+use Rattle.std.specs.Prelude.{◌≡◌, ◌∷◌, ◌+◌, ◌≤◌, ◌<◌, ◌^◌, ◌-ℤ◌}
+use Rattle.prelude.specs.Words.{refl, sym, ap, ◌∙◌, Bool, true, false, cond, List, [], ℕ, zero, suc, arith, eqb, ℤ, pos, negsuc}
+use Rattle.prelude.specs.Words.{neg_ℤ, length, drop, drop-drop, lt-ltb, by_test}
 use Rattle.std.specs.Int.{w64}
 use mir.Val.{to_z, of_z, SFits, bool_byte}
 use Rattle.std.proofs.Common.{to_z-of_z}

@@ -1,5 +1,6 @@
 -- `belonging::balances` meets its contract: with the cells a tree, the two flows decide (`balanced-is`).
-use Rattle.prelude.specs.Words.{◌+◌, ◌-◌, arith, ◌≡◌, sym, ◌∙◌, ◌&&◌, List, rules, not-true, not-false, ℤ, length}
+use Rattle.std.specs.Prelude.{◌+◌, ◌-◌, ◌≡◌, ◌&&◌}
+use Rattle.prelude.specs.Words.{arith, sym, ◌∙◌, List, rules, not-true, not-false, ℤ, length}
 use Rattle.transport.specs.declared.Cell.{Cell}
 use Rattle.transport.specs.Belonging.{balanced}
 use Rattle.transport.specs.Laws.ProblemLaws.{problem}

@@ -1,5 +1,6 @@
 -- `belonging::load` meets its contract: each test refuses what does not belong (`other-count`, `other-cells`), and the last one decides (`belongs-whole`).
-use Rattle.prelude.specs.Words.{◌≤◌, arith, ◌≡◌, sym, ◌∙◌, true, false≢true, rules, not-true, not-false, length}
+use Rattle.std.specs.Prelude.{◌≤◌, ◌≡◌}
+use Rattle.prelude.specs.Words.{arith, sym, ◌∙◌, true, false≢true, rules, not-true, not-false, length}
 use Rattle.transport.specs.Tableau.{cells_of, basis_size}
 use Rattle.transport.specs.Laws.ListLaws.{length_mapped}
 use Rattle.board.specs.Cells.{cell_room, length-cells}

@@ -1,5 +1,6 @@
 -- Each way out is a case of the answer.
-use Rattle.prelude.specs.Words.{◌≡◌, sym, ap, ◌∙◌, ℤ, rules}
+use Rattle.std.specs.Prelude.{◌≡◌}
+use Rattle.prelude.specs.Words.{sym, ap, ◌∙◌, ℤ, rules}
 use mir.Syntax.{w64}
 use mir.Val.{to_z, of_z}
 use Rattle.transport.specs.declared.SolveAnswer.TheVariants as SolveAnswer

@@ -1,5 +1,6 @@
 -- `cells::lent_tableau` meets its contract: the loop adds the cells one by one, and all of them make the tableau that the list is.
-use Rattle.prelude.specs.Words.{◌≡◌, sym, ◌∙◌, arith, add-one, length}
+use Rattle.std.specs.Prelude.{◌≡◌}
+use Rattle.prelude.specs.Words.{sym, ◌∙◌, arith, add-one, length}
 use Rattle.transport.specs.Amount.{nothing}
 use Rattle.transport.specs.Tableau.{no_cell}
 use Rattle.cells.specs.LentLaws.{added_none, added-one, added-all}

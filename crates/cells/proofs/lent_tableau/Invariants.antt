@@ -1,5 +1,6 @@
 -- The tableau has the cells before k.
-use Rattle.prelude.specs.Words.{◌≡◌, ◌-◌, ◌≤◌, length}
+use Rattle.std.specs.Prelude.{◌≡◌, ◌-◌, ◌≤◌}
+use Rattle.prelude.specs.Words.{length}
 use Rattle.cells.specs.Lent.{added}
 use Rattle.cells.proofs.lent_tableau.Given as goal
 

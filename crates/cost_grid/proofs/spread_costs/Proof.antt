@@ -1,5 +1,6 @@
 -- `cost_grid::spread_costs` meets its contract. The loops' invariants: the rows before i are filled in, and of row i the columns before j.
-use Rattle.prelude.specs.Words.{ℕ, ◌+◌, ◌-◌, ◌*◌, ◌≤◌, ◌<◌, ◌^◌, arith, rules, eqb-true, ◌≡◌, true, List, ℤ, pos, nat_abs, length, get_or}
+use Rattle.std.specs.Prelude.{◌+◌, ◌-◌, ◌*◌, ◌≤◌, ◌<◌, ◌^◌, ◌≡◌}
+use Rattle.prelude.specs.Words.{ℕ, arith, rules, eqb-true, true, List, ℤ, pos, nat_abs, length, get_or}
 use mir.Syntax.{w32, w64}
 use mir.Val.{to_z, of_z}
 use mir.Facts.{to_z-of_z}

@@ -1,5 +1,6 @@
 -- The loop's invariant: the count so far and the digits of what is left make up the digits of n, one of them counted twice.
-use Rattle.prelude.specs.Words.{rules, ◌≡◌, ◌≤◌, ◌+◌, arith, length}
+use Rattle.std.specs.Prelude.{◌≡◌, ◌≤◌, ◌+◌}
+use Rattle.prelude.specs.Words.{rules, arith, length}
 use Rattle.transport.specs.Text.{digits}
 use Rattle.decimals.specs.Digits.{length-digits-small, length-digits-more}
 use Rattle.decimals.proofs.digit_count.Statement.{statement}

@@ -1,5 +1,6 @@
 -- −1 − z is in range for every negative z, the least one too, and one less than its magnitude.
-use Rattle.prelude.specs.Words.{◌≡◌, true, ◌<◌, ◌^◌, arith, pos, lt_z, mag, rules}
+use Rattle.std.specs.Prelude.{◌≡◌, ◌<◌, ◌^◌}
+use Rattle.prelude.specs.Words.{true, arith, pos, lt_z, mag, rules}
 use mir.Syntax.{w64}
 use Rattle.transport.specs.Laws.RangeLaws.{back}
 use Rattle.decimals.specs.Whole.{turned-fits, turned-back, magnitude_le, magnitude_pos, not_negative}

@@ -1,5 +1,6 @@
 -- The digits of the magnitude, and one byte for the minus.
-use Rattle.prelude.specs.Words.{◌≡◌, sym, ap, ◌∙◌, true, false, ◌<◌, ◌^◌, arith, pos, nat_abs, length, lt_z, mag, rules}
+use Rattle.std.specs.Prelude.{◌≡◌, ◌<◌, ◌^◌}
+use Rattle.prelude.specs.Words.{sym, ap, ◌∙◌, true, false, arith, pos, nat_abs, length, lt_z, mag, rules}
 use mir.Syntax.{w64}
 use Rattle.transport.specs.Laws.RangeLaws.{back}
 use Rattle.transport.specs.Text.{digits}

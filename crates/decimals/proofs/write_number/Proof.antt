@@ -1,5 +1,6 @@
 -- The loop's invariant: the output holds the digits from place `at` on, and those before are the digits of what is left of n, which are one or more.
-use Rattle.prelude.specs.Words.{rules, ◌≡◌, refl, ◌∙◌, ◌++◌, ◌≤◌, ◌<◌, ◌-◌, ◌/◌, suc, arith, length, take, drop, length-set, take-length}
+use Rattle.std.specs.Prelude.{◌≡◌, ◌++◌, ◌≤◌, ◌<◌, ◌-◌, ◌/◌}
+use Rattle.prelude.specs.Words.{rules, refl, ◌∙◌, suc, arith, length, take, drop, length-set, take-length}
 use lib.Seq.{drop-length}
 use Rattle.transport.specs.Text.{digits}
 use Rattle.grammar.specs.Digits.{digits-some}

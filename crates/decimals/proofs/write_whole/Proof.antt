@@ -1,5 +1,6 @@
 -- A negative number is its minus, and then its magnitude in what is left of the output.
-use Rattle.prelude.specs.Words.{◌≡◌, refl, sym, ap, ◌∙◌, [], ◌∷◌, ◌≤◌, ◌+◌, ℤ, arith, nat_abs, length, length-set, length-take, length-drop, rules}
+use Rattle.std.specs.Prelude.{◌≡◌, ◌∷◌, ◌≤◌, ◌+◌}
+use Rattle.prelude.specs.Words.{refl, sym, ap, ◌∙◌, [], ℤ, arith, nat_abs, length, length-set, length-take, length-drop, rules}
 use borrow.Rule.Slice.PartMut.{same_len_mid}
 use mir.Syntax.{w64}
 use mir.Val.{to_z, of_z}

@@ -1,5 +1,6 @@
 -- Each way out is a case of what the reader says of the bytes that are read.
-use Rattle.prelude.specs.Words.{◌≡◌, List, ℕ, ℤ, sym, ap, subst, ◌∙◌, suc, ◌*◌, ◌≤◌, arith, mul-le-mul, length, take, length-take-le, rules}
+use Rattle.std.specs.Prelude.{◌≡◌, ◌*◌, ◌≤◌}
+use Rattle.prelude.specs.Words.{List, ℕ, ℤ, sym, ap, subst, ◌∙◌, suc, arith, mul-le-mul, length, take, length-take-le, rules}
 use Rattle.transport.specs.Limits.{max_sources, max_sinks, max_text}
 use Rattle.transport.specs.Sheet.{sheet_of}
 use Rattle.transport.specs.Text.{bytes}

@@ -1,5 +1,6 @@
 -- Too short, or written.
-use Rattle.prelude.specs.Words.{◌++◌, arith, rules}
+use Rattle.std.specs.Prelude.{◌++◌}
+use Rattle.prelude.specs.Words.{arith, rules}
 use Rattle.transport.specs.Text.{digits}
 use Rattle.decimals.specs.Fitting.{put-nothing, put_whole}
 use Rattle.sections.specs.Lines.{ended}

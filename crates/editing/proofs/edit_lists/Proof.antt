@@ -1,5 +1,6 @@
 -- `editing::edit_lists` meets its contract: each way out is a case of the call.
-use Rattle.prelude.specs.Words.{◌≡◌, sym, ap, ◌∙◌, true, none, arith, rules, mul-le-mul, not-true, not-false}
+use Rattle.std.specs.Prelude.{◌≡◌}
+use Rattle.prelude.specs.Words.{sym, ap, ◌∙◌, true, none, arith, rules, mul-le-mul, not-true, not-false}
 use Rattle.transport.specs.Limits.{max_sources, max_sinks}
 use Rattle.transport.specs.Sheet.{Sheet, sheet_of, roasteries, cafes, refusal}
 use Rattle.transport.specs.Calls.{inside, finished_tests}

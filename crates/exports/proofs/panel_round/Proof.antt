@@ -1,5 +1,6 @@
 -- `exports::panel_round` meets its contract: a walk of its MIR, by hand: two calls (`Lending` has what it shares with run and settle).
-use Rattle.prelude.specs.Words.{◌≡◌, ap, ◌∙◌, refl, ℕ, List, [], ◌∷◌, ℤ, length}
+use Rattle.std.specs.Prelude.{◌≡◌, ◌∷◌}
+use Rattle.prelude.specs.Words.{ap, ◌∙◌, refl, ℕ, List, [], ℤ, length}
 use seplogic.Ra.Ura.{Ura}
 use mir.Syntax.{named}
 use mir.Val.{Val}

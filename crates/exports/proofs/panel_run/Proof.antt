@@ -1,5 +1,6 @@
 -- `exports::panel_run` meets its contract: a walk of its MIR, by hand: two calls (`Lending` has what it shares with round and settle).
-use Rattle.prelude.specs.Words.{◌≡◌, ap, ◌∙◌, refl, ℕ, ◌<◌, ◌^◌, List, [], ◌∷◌, ℤ, length}
+use Rattle.std.specs.Prelude.{◌≡◌, ◌<◌, ◌^◌, ◌∷◌}
+use Rattle.prelude.specs.Words.{ap, ◌∙◌, refl, ℕ, List, [], ℤ, length}
 use seplogic.Ra.Ura.{Ura}
 use mir.Syntax.{named, w32}
 use mir.Val.{Val, vint}

@@ -1,6 +1,7 @@
 -- `exports::panel_settle` meets its contract: a walk of its MIR, by hand: two calls (`Lending` has what it shares with round and run). The plan is not
 -- needed after the second call, which is given it at its own lifetime, share and name: what `settle_from` says of the last plan is what `panel_settle` says.
-use Rattle.prelude.specs.Words.{◌≡◌, refl, subst, ℕ, List, [], ◌∷◌, ℤ, length}
+use Rattle.std.specs.Prelude.{◌≡◌, ◌∷◌}
+use Rattle.prelude.specs.Words.{refl, subst, ℕ, List, [], ℤ, length}
 use seplogic.Ra.Ura.{Ura}
 use mir.Syntax.{named, w8}
 use mir.Val.{Val}

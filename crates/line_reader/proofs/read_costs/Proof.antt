@@ -1,6 +1,7 @@
 -- The head line that must come is written first; then it is read as a word, and the lines after it.
 -- The head of either count has room: a program that writes the other one (must-fail/other_row_count) fails only where the line is read.
-use Rattle.prelude.specs.Words.{◌≡◌, sym, ap, ◌∙◌, ℕ, ◌*◌, ◌≤◌, arith, length, drop, length-take-le, rules}
+use Rattle.std.specs.Prelude.{◌≡◌, ◌*◌, ◌≤◌}
+use Rattle.prelude.specs.Words.{sym, ap, ◌∙◌, ℕ, arith, length, drop, length-take-le, rules}
 use Rattle.transport.specs.Limits.{max_sources, max_sinks, max_side}
 use Rattle.transport.specs.Text.{bytes, digits, head_line}
 use Rattle.transport.specs.SheetText.{got, word}

@@ -1,5 +1,6 @@
 -- The loop's invariant: the numbers read so far stand in the list, and the others are to be read from the present place on.
-use Rattle.prelude.specs.Words.{rules, ◌≡◌, refl, ap, ◌∙◌, ◌-◌, arith, length, drop, length-set}
+use Rattle.std.specs.Prelude.{◌≡◌, ◌-◌}
+use Rattle.prelude.specs.Words.{rules, refl, ap, ◌∙◌, arith, length, drop, length-set}
 use Rattle.transport.specs.SheetText.{number}
 use Rattle.sections.specs.Lines.{ending}
 use Rattle.tokens.specs.Reading.{reading_of, ValueIs, end_reading}

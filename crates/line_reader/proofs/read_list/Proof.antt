@@ -1,5 +1,6 @@
 -- The word, the count and the lines, each from the place where the one before it ended.
-use Rattle.prelude.specs.Words.{◌≡◌, ◌∙◌, ℕ, ◌≤◌, arith, length, drop, rules}
+use Rattle.std.specs.Prelude.{◌≡◌, ◌≤◌}
+use Rattle.prelude.specs.Words.{◌∙◌, ℕ, arith, length, drop, rules}
 use Rattle.transport.specs.SheetText.{got, word, line, side}
 use Rattle.transport.specs.Laws.SheetLaws.{within-true}
 use Rattle.sections.specs.Lines.{ending-last}

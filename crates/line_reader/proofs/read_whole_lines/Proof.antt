@@ -1,5 +1,6 @@
 -- The loop's invariant is that of `read_lines`, with whole numbers.
-use Rattle.prelude.specs.Words.{rules, ◌≡◌, refl, ◌∙◌, ◌-◌, arith, length, length-set}
+use Rattle.std.specs.Prelude.{◌≡◌, ◌-◌}
+use Rattle.prelude.specs.Words.{rules, refl, ◌∙◌, arith, length, length-set}
 use mir.Syntax.{w64}
 use Rattle.transport.specs.Laws.RangeLaws.{back}
 use Rattle.transport.specs.SheetText.{whole}

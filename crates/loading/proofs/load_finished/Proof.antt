@@ -1,5 +1,6 @@
 -- `loading::load_finished` meets its contract: each way out is a case of the tests.
-use Rattle.prelude.specs.Words.{◌≡◌, sym, ap, ◌∙◌, none, rules, some≢none}
+use Rattle.std.specs.Prelude.{◌≡◌}
+use Rattle.prelude.specs.Words.{sym, ap, ◌∙◌, none, rules, some≢none}
 use Rattle.transport.specs.Sheet.{Sheet, refusal, sheet_of}
 use Rattle.transport.specs.Parties.{problem_of}
 use Rattle.transport.specs.Potential.{is_finished_of}

@@ -1,5 +1,6 @@
 -- `loading::load_tableau` meets its contract: among those left the caller's tableau belongs exactly if it belongs to the sheet under own numbers.
-use Rattle.prelude.specs.Words.{◌≡◌, sym, ap, ◌∙◌, map, not-true, not-false, some≢none}
+use Rattle.std.specs.Prelude.{◌≡◌}
+use Rattle.prelude.specs.Words.{sym, ap, ◌∙◌, map, not-true, not-false, some≢none}
 use Rattle.transport.specs.Sheet.{Sheet, cafes, sheet_of}
 use Rattle.transport.specs.Extended.{extended}
 use Rattle.transport.specs.Parties.{rows_left_of, columns_left, problem_of}

@@ -1,5 +1,6 @@
 -- The loop's invariant: the rest of the digits is to be read from the present place on; `count` digits make a value below 10 ^ count.
-use Rattle.prelude.specs.Words.{rules, ◌≡◌, refl, sym, ◌∙◌, ◌≤◌, ◌<◌, ◌+◌, ◌*◌, ◌-◌, ◌^◌, suc, arith, not-true, not-false, length, drop, get_or}
+use Rattle.std.specs.Prelude.{◌≡◌, ◌≤◌, ◌<◌, ◌+◌, ◌*◌, ◌-◌, ◌^◌}
+use Rattle.prelude.specs.Words.{rules, refl, sym, ◌∙◌, suc, arith, not-true, not-false, length, drop, get_or}
 use Rattle.transport.specs.SheetText.{more_digits_of}
 use Rattle.tokens.specs.Reading.{always, DigitAt, digit_at, more-none, more_stop, more-step, value-next, value-fits}
 use Rattle.number_reader.proofs.more_digits.Statement.{statement}

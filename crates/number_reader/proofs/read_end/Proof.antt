@@ -1,5 +1,6 @@
 -- A number that was not read stays as it is; else what comes next decides.
-use Rattle.prelude.specs.Words.{◌≡◌, sym, ◌∙◌, true, ◌≤◌, arith, not-true, not-false, length, drop, rules}
+use Rattle.std.specs.Prelude.{◌≡◌, ◌≤◌}
+use Rattle.prelude.specs.Words.{sym, ◌∙◌, true, arith, not-true, not-false, length, drop, rules}
 use Rattle.sections.specs.Lines.{ending}
 use Rattle.tokens.specs.Reading.{byte_next, byte_inside, drop-next, end-stuck, end_no, end_yes}
 use Rattle.tokens.specs.declared.Taken.TheVariants.{Got}

@@ -1,5 +1,6 @@
 -- The first digit decides whether there is a side, and the second belongs to it as long as it stays within the limit.
-use Rattle.prelude.specs.Words.{sym, ◌∙◌, ◌+◌, arith, not-true, not-false, rules}
+use Rattle.std.specs.Prelude.{◌+◌}
+use Rattle.prelude.specs.Words.{sym, ◌∙◌, arith, not-true, not-false, rules}
 use Rattle.transport.specs.Laws.SheetLaws.{true-within, within-high}
 use Rattle.tokens.specs.Reading.{DigitAt, digit_at, more-none, more_stop, more-step, more_over, side-stuck, side-zero, side-more}
 use Rattle.number_reader.proofs.read_side.Statement.{statement}

@@ -1,5 +1,6 @@
 -- `numbering::numbers` meets its contract. The loop's invariant: the numbers of the first k are in the list, and nobody else's.
-use Rattle.prelude.specs.Words.{◌-◌, ◌≤◌, ◌<◌, ◌≡◌, arith, length}
+use Rattle.std.specs.Prelude.{◌-◌, ◌≤◌, ◌<◌, ◌≡◌}
+use Rattle.prelude.specs.Words.{arith, length}
 use Rattle.transport.specs.Limits.{max_side}
 use Rattle.transport.specs.Lists.{at}
 use Rattle.numbering.specs.Numbers.{NumberedTo, numbered_none, numbered_one, numbered_all}

@@ -1,5 +1,6 @@
 -- `numbering::own_tableau` meets its contract. The loop's invariant: the first k cells have own numbers, and the rest is as it was.
-use Rattle.prelude.specs.Words.{◌-◌, ◌≤◌, ◌<◌, arith}
+use Rattle.std.specs.Prelude.{◌-◌, ◌≤◌, ◌<◌}
+use Rattle.prelude.specs.Words.{arith}
 use Rattle.transport.specs.Limits.{max_side, max_cells}
 use Rattle.transport.specs.Amount.{nothing}
 use Rattle.transport.specs.Tableau.{no_cell}

@@ -1,6 +1,7 @@
 -- `numbering::renumber` meets its contract. The loop's invariant: the first k cells of the array have the numbers of those left, and the rest is as it was; no
 -- more are counted than the array has.
-use Rattle.prelude.specs.Words.{◌-◌, ◌≤◌, ◌<◌, ◌≡◌, ◌∙◌, arith, rules, length}
+use Rattle.std.specs.Prelude.{◌-◌, ◌≤◌, ◌<◌, ◌≡◌}
+use Rattle.prelude.specs.Words.{◌∙◌, arith, rules, length}
 use Rattle.transport.specs.Limits.{max_side, max_cells}
 use Rattle.transport.specs.Amount.{nothing}
 use Rattle.transport.specs.Tableau.{no_cell}

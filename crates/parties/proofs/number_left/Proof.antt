@@ -1,5 +1,6 @@
 -- The loop's invariant: of the parties before k, those that are left are listed.
-use Rattle.prelude.specs.Words.{rules, refl, ◌≤◌, ◌<◌, ◌-◌, arith, length}
+use Rattle.std.specs.Prelude.{◌≤◌, ◌<◌, ◌-◌}
+use Rattle.prelude.specs.Words.{rules, refl, arith, length}
 use Rattle.transport.specs.Lists.{at}
 use Rattle.transport.specs.Limits.{max_side}
 use Rattle.parties.specs.Parties.{ListedBefore, listed-none, listed-room, listed_yes, listed_no, listed-all}

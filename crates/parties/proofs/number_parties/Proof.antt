@@ -1,5 +1,6 @@
 -- Both sides are numbered, and a surplus is put after the cafés left.
-use Rattle.prelude.specs.Words.{rules, ◌≡◌, List, ◌-◌, ◌≤◌, ◌<◌, arith, ℤ, length}
+use Rattle.std.specs.Prelude.{◌≡◌, ◌-◌, ◌≤◌, ◌<◌}
+use Rattle.prelude.specs.Words.{rules, List, arith, ℤ, length}
 use Rattle.transport.specs.Limits.{max_side}
 use Rattle.transport.specs.Sheet.{Sheet, roasteries, cafes, sheet_of}
 use Rattle.transport.specs.Extended.{surplus}

@@ -1,6 +1,7 @@
 -- `plan_store::store_plan` meets its contract. The loops' invariants: the places before l are cleared; then the rows before i are stored, and of row i the
 -- columns before j.
-use Rattle.prelude.specs.Words.{ℕ, ◌+◌, ◌-◌, ◌*◌, ◌≤◌, ◌<◌, ◌^◌, arith, mul-le-mul, rules, eqb-true, ◌≡◌, ap, ◌∙◌, true, List, pos, nat_abs, mag}
+use Rattle.std.specs.Prelude.{◌+◌, ◌-◌, ◌*◌, ◌≤◌, ◌<◌, ◌^◌, ◌≡◌}
+use Rattle.prelude.specs.Words.{ℕ, arith, mul-le-mul, rules, eqb-true, ap, ◌∙◌, true, List, pos, nat_abs, mag}
 use Rattle.prelude.specs.Words.{length, get_or}
 use mir.Syntax.{w64}
 use mir.Val.{to_z, of_z}

@@ -1,5 +1,6 @@
 -- `price_lists::cafe_price` meets its contract. The loop's invariant: the least of the first k is found; the measure is how many are left.
-use Rattle.prelude.specs.Words.{ℕ, ◌-◌, ◌≤◌, ◌<◌, arith, ◌≡◌, sym, ◌∙◌, rules, ℤ, nat_abs, ◌-ℤ◌, length}
+use Rattle.std.specs.Prelude.{◌-◌, ◌≤◌, ◌<◌, ◌≡◌, ◌-ℤ◌}
+use Rattle.prelude.specs.Words.{ℕ, arith, sym, ◌∙◌, rules, ℤ, nat_abs, length}
 use mir.Syntax.{w64}
 use mir.Val.{to_z, of_z}
 use Rattle.transport.specs.Lists.{at, at_z, table, least_for}

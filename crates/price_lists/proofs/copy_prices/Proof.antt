@@ -1,5 +1,6 @@
 -- `price_lists::copy_prices` meets its contract. The loop's invariant: the list holds the first k prices.
-use Rattle.prelude.specs.Words.{rules, ◌≡◌, refl, ◌∙◌, ◌++◌, ◌≤◌, ◌-◌, arith, pos, length, drop, get_or, length-set}
+use Rattle.std.specs.Prelude.{◌≡◌, ◌++◌, ◌≤◌, ◌-◌}
+use Rattle.prelude.specs.Words.{rules, refl, ◌∙◌, arith, pos, length, drop, get_or, length-set}
 use mir.Syntax.{w64}
 use Rattle.transport.specs.Lists.{table}
 use Rattle.transport.specs.Laws.ListLaws.{table-zero, table-get_or, fill_one}

@@ -1,5 +1,6 @@
 -- `price_lists::lesser` meets its contract: the test of the code is that of the definition.
-use Rattle.prelude.specs.Words.{◌≡◌, ◌∙◌, true, false, rules, lt_z}
+use Rattle.std.specs.Prelude.{◌≡◌}
+use Rattle.prelude.specs.Words.{◌∙◌, true, false, rules, lt_z}
 use mir.Syntax.{w64}
 use mir.Val.{to_z, of_z}
 use Rattle.price_lists.proofs.lesser.Statement.{statement}

@@ -1,5 +1,6 @@
 -- `price_lists::place_prices` meets its contract. The loop's invariant: the first k prices are written, and nothing else has changed.
-use Rattle.prelude.specs.Words.{◌+◌, ◌-◌, ◌≤◌, ◌<◌, ◌^◌, arith, ◌≡◌, ap, ◌∙◌, ℤ, pos, nat_abs, length, get_or}
+use Rattle.std.specs.Prelude.{◌+◌, ◌-◌, ◌≤◌, ◌<◌, ◌^◌, ◌≡◌}
+use Rattle.prelude.specs.Words.{arith, ap, ◌∙◌, ℤ, pos, nat_abs, length, get_or}
 use mir.Syntax.{w32, w64}
 use mir.Val.{to_z, of_z}
 use Rattle.transport.specs.Limits.{max_cost, cost_above}

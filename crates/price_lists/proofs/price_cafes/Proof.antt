@@ -1,5 +1,6 @@
 -- `price_lists::price_cafes` meets its contract. The loop's invariant: of the first j cafés the struck ones have their prices.
-use Rattle.prelude.specs.Words.{◌-◌, ◌<◌, arith, ◌≡◌, ◌∙◌, rules, length}
+use Rattle.std.specs.Prelude.{◌-◌, ◌<◌, ◌≡◌}
+use Rattle.prelude.specs.Words.{arith, ◌∙◌, rules, length}
 use mir.Syntax.{w64}
 use Rattle.transport.specs.Limits.{max_side}
 use Rattle.transport.specs.Lists.{at}

@@ -1,5 +1,6 @@
 -- `price_lists::price_roasteries` meets its contract. The loop's invariant: from where it began to i the struck roasteries have their prices.
-use Rattle.prelude.specs.Words.{◌-◌, ◌<◌, arith, ◌∙◌, rules, length}
+use Rattle.std.specs.Prelude.{◌-◌, ◌<◌}
+use Rattle.prelude.specs.Words.{arith, ◌∙◌, rules, length}
 use mir.Syntax.{w64}
 use Rattle.transport.specs.Lists.{at}
 use Rattle.transport.specs.Laws.RangeLaws.{back}

@@ -1,5 +1,6 @@
 -- `price_lists::roastery_price` meets its contract. The loop's invariant: the least of the first j columns is found.
-use Rattle.prelude.specs.Words.{ℕ, ◌-◌, ◌≤◌, ◌<◌, arith, ◌≡◌, sym, ◌∙◌, rules, ℤ, nat_abs, ◌-ℤ◌}
+use Rattle.std.specs.Prelude.{◌-◌, ◌≤◌, ◌<◌, ◌≡◌, ◌-ℤ◌}
+use Rattle.prelude.specs.Words.{ℕ, arith, sym, ◌∙◌, rules, ℤ, nat_abs}
 use mir.Syntax.{w64}
 use mir.Val.{to_z, of_z}
 use Rattle.transport.specs.Limits.{max_side}

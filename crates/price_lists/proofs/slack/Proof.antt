@@ -1,5 +1,6 @@
 -- `price_lists::slack` meets its contract: the cost is that of the lane, and the difference is in range.
-use Rattle.prelude.specs.Words.{◌+◌, ◌*◌, ◌<◌, ◌^◌, arith, ◌≡◌, ◌∙◌, lt-ltb, le-ltb, ℤ, nat_abs, length}
+use Rattle.std.specs.Prelude.{◌+◌, ◌*◌, ◌<◌, ◌^◌, ◌≡◌}
+use Rattle.prelude.specs.Words.{arith, ◌∙◌, lt-ltb, le-ltb, ℤ, nat_abs, length}
 use mir.Syntax.{w64}
 use mir.Val.{of_z, to_z}
 use Rattle.transport.specs.Limits.{max_cost, cost_above}

@@ -1,5 +1,6 @@
 -- Too short, or written. The number is passed on as it is.
-use Rattle.prelude.specs.Words.{◌≡◌, arith, rules}
+use Rattle.std.specs.Prelude.{◌≡◌}
+use Rattle.prelude.specs.Words.{arith, rules}
 use mir.Syntax.{w64}
 use mir.Val.{to_z, of_z}
 use Rattle.transport.specs.Laws.RangeLaws.{back}

@@ -1,5 +1,6 @@
 -- `round_call::round` meets its contract: each way out is a case of the call.
-use Rattle.prelude.specs.Words.{◌≡◌, refl, sym, ap, ◌∙◌, none, rules}
+use Rattle.std.specs.Prelude.{◌≡◌}
+use Rattle.prelude.specs.Words.{refl, sym, ap, ◌∙◌, none, rules}
 use Rattle.transport.specs.Lists.{padded}
 use Rattle.transport.specs.Limits.{max_side}
 use Rattle.transport.specs.Sheet.{Sheet, refusal, sheet_of}

@@ -1,5 +1,6 @@
 -- `run_call::run` meets its contract: each way out is a case of the call.
-use Rattle.prelude.specs.Words.{◌≡◌, refl, sym, ap, ◌∙◌, none, rules}
+use Rattle.std.specs.Prelude.{◌≡◌}
+use Rattle.prelude.specs.Words.{refl, sym, ap, ◌∙◌, none, rules}
 use Rattle.transport.specs.Sheet.{Sheet, refusal, sheet_of}
 use Rattle.transport.specs.Tableau.{tableau_of}
 use Rattle.transport.specs.Calls.{given, tableau_tests, inside}

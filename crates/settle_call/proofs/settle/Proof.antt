@@ -1,5 +1,6 @@
 -- `settle_call::settle` meets its contract: each way out is a case of the call.
-use Rattle.prelude.specs.Words.{arith, ℕ, ◌≤◌, mul-le-mul_left, ◌≡◌, refl, sym, subst, ◌∙◌, Bool, true, none, rules, length}
+use Rattle.std.specs.Prelude.{◌≤◌, ◌≡◌}
+use Rattle.prelude.specs.Words.{arith, ℕ, mul-le-mul_left, refl, sym, subst, ◌∙◌, Bool, true, none, rules, length}
 use Rattle.transport.specs.Limits.{max_side}
 use Rattle.transport.specs.Sheet.{Sheet, roasteries, cafes, refusal, sheet_of}
 use Rattle.transport.specs.Parties.{problem_of}

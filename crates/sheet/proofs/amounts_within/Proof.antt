@@ -1,5 +1,6 @@
 -- The loop's invariant: the test of the whole list is the test of what is left of it.
-use Rattle.prelude.specs.Words.{rules, le-leb, lt-leb, ◌≡◌, refl, sym, ap, ◌∙◌, List, ◌∷◌, ℕ, ◌≤◌, ◌-◌, suc, arith, add-one, length, drop, get_or}
+use Rattle.std.specs.Prelude.{◌≡◌, ◌∷◌, ◌≤◌, ◌-◌}
+use Rattle.prelude.specs.Words.{rules, le-leb, lt-leb, refl, sym, ap, ◌∙◌, List, ℕ, suc, arith, add-one, length, drop, get_or}
 use Rattle.prelude.specs.Words.{drop_of_length-le, drop-cons}
 use Rattle.transport.specs.Lists.{all, at_most}
 use Rattle.transport.specs.Limits.{max_amount}

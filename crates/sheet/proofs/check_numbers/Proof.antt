@@ -1,5 +1,6 @@
 -- Each way out is a case of `refusal`; the totals are taken where both lists are known to be within their limits.
-use Rattle.prelude.specs.Words.{◌≡◌, sym, ap, ◌∙◌, ◌↔◌, true, false, not, true≢false, ◌≤◌, arith, ltb, pos, neg_ℤ, not-true, not-false, eqb-true}
+use Rattle.std.specs.Prelude.{◌≡◌, ◌↔◌, ◌≤◌}
+use Rattle.prelude.specs.Words.{sym, ap, ◌∙◌, true, false, not, true≢false, arith, ltb, pos, neg_ℤ, not-true, not-false, eqb-true}
 use Rattle.prelude.specs.Words.{eqb-false, eq-eqb, ltb-true, ltb-false, rules, clash}
 use Rattle.transport.specs.Lists.{all, at_most, within_z, total}
 use Rattle.transport.specs.Limits.{max_side, max_amount, max_cost}

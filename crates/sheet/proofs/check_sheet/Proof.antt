@@ -1,5 +1,6 @@
 -- Each way out is a case of `refusal`; what is left of the tests is check_numbers.
-use Rattle.prelude.specs.Words.{◌≡◌, sym, ◌∙◌, true, ◌≤◌, arith, length, not-true, not-false, eq-eqb, ne_eqb, rules}
+use Rattle.std.specs.Prelude.{◌≡◌, ◌≤◌}
+use Rattle.prelude.specs.Words.{sym, ◌∙◌, true, arith, length, not-true, not-false, eq-eqb, ne_eqb, rules}
 use Rattle.transport.specs.Lists.{within}
 use Rattle.transport.specs.Limits.{max_sources, max_sinks}
 use Rattle.transport.specs.Sheet.{Sheet, sheet_of}

@@ -1,5 +1,6 @@
 -- The loop's invariant: the test of the whole list is the test of what is left of it.
-use Rattle.prelude.specs.Words.{rules, ◌≡◌, refl, sym, ap, ◌∙◌, Bool, true, false, List, ◌∷◌, ◌≤◌, ◌-◌, suc, arith, add-one, ℤ, pos, neg_ℤ, length}
+use Rattle.std.specs.Prelude.{◌≡◌, ◌∷◌, ◌≤◌, ◌-◌}
+use Rattle.prelude.specs.Words.{rules, refl, sym, ap, ◌∙◌, Bool, true, false, List, suc, arith, add-one, ℤ, pos, neg_ℤ, length}
 use Rattle.prelude.specs.Words.{drop, get_or}
 use Rattle.prelude.specs.Words.{drop_of_length-le, drop-cons, lt_z}
 use mir.Syntax.{w64}

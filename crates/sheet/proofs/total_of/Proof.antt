@@ -1,5 +1,6 @@
 -- The loop's invariant: the sum of the first i amounts, each of which is within its limit.
-use Rattle.prelude.specs.Words.{rules, ◌≡◌, ap, ◌∙◌, ℕ, ◌≤◌, ◌-◌, ◌*◌, arith, length, get_or}
+use Rattle.std.specs.Prelude.{◌≡◌, ◌≤◌, ◌-◌, ◌*◌}
+use Rattle.prelude.specs.Words.{rules, ap, ◌∙◌, ℕ, arith, length, get_or}
 use Rattle.transport.specs.Lists.{sum_to, at, total}
 use Rattle.transport.specs.Limits.{max_side, max_amount}
 use Rattle.transport.specs.Laws.ListLaws.{sum_to-zero, sum_to-one}

@@ -1,5 +1,6 @@
 -- What the sections say is a case of the call, and a sheet that was read is left to store_sheet.
-use Rattle.prelude.specs.Words.{◌≡◌, refl, sym, List, ℕ, arith, ℤ, rules}
+use Rattle.std.specs.Prelude.{◌≡◌}
+use Rattle.prelude.specs.Words.{refl, sym, List, ℕ, arith, ℤ, rules}
 use Rattle.transport.specs.declared.ReadAnswer.{ReadAnswer}
 use Rattle.transport.specs.Limits.{max_sources, max_sinks}
 use Rattle.transport.specs.SheetText.{sheet_reader}

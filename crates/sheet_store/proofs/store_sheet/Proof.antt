@@ -1,7 +1,8 @@
 -- A number that is refused is one case of the call. Past that, a flag is the verdict on the three rooms: by it each list is stored or kept, and the sheet is
 -- given or refused. Where the first copy's flag has to be set, `search` also takes the flag of its own room alone: a program that copies by that one
 -- (must-fail/refusal_after_store) fails only at the return that refuses.
-use Rattle.prelude.specs.Words.{◌≡◌, sym, ap, ◌∙◌, Bool, true, false, ◌&&◌, none, rules, leb-true, not-true, not-false, leb, length, le_trans}
+use Rattle.std.specs.Prelude.{◌≡◌, ◌&&◌}
+use Rattle.prelude.specs.Words.{sym, ap, ◌∙◌, Bool, true, false, none, rules, leb-true, not-true, not-false, leb, length, le_trans}
 use Rattle.transport.proofs.Sound.{sources-room, sinks-room}
 use Rattle.transport.specs.Sheet.{Sheet, refusal, number_tests, sheet_of}
 use Rattle.sheet.specs.Check.{accepted-none, refused-some}

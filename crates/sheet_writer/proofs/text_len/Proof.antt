@@ -1,5 +1,6 @@
 -- The lengths of the three sections.
-use Rattle.prelude.specs.Words.{ap, arith, ◌++◌, ◌≤◌, length, length-append}
+use Rattle.std.specs.Prelude.{◌++◌, ◌≤◌}
+use Rattle.prelude.specs.Words.{ap, arith, length, length-append}
 use Rattle.transport.specs.Limits.{max_sources, max_sinks}
 use Rattle.transport.specs.Text.{bytes, digits, whole_digits}
 use Rattle.transport.specs.Sheet.{Sheet, sheet_of}

@@ -1,5 +1,6 @@
 -- Each way out is a case of the call.
-use Rattle.prelude.specs.Words.{◌≡◌, sym, ◌∙◌, none, arith, rules}
+use Rattle.std.specs.Prelude.{◌≡◌}
+use Rattle.prelude.specs.Words.{sym, ◌∙◌, none, arith, rules}
 use Rattle.transport.specs.Sheet.{Sheet, refusal, sheet_tests, sheet_of}
 use Rattle.transport.specs.SheetText.{sheet_text, write_sheet_call}
 use Rattle.transport.specs.Laws.SheetLaws.{accepted}

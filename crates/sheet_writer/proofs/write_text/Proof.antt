@@ -1,5 +1,6 @@
 -- The supplies, and then the other sections in what is left of the output.
-use Rattle.prelude.specs.Words.{◌≡◌, List, ◌++◌, ℕ, ◌≤◌, arith, length, rules}
+use Rattle.std.specs.Prelude.{◌≡◌, ◌++◌, ◌≤◌}
+use Rattle.prelude.specs.Words.{List, ℕ, arith, length, rules}
 use Rattle.transport.specs.Text.{bytes}
 use Rattle.transport.specs.Sheet.{Sheet, sheet_of}
 use Rattle.transport.specs.SheetText.{sheet_text}

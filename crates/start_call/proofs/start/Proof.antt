@@ -1,5 +1,6 @@
 -- Each way out is a case of the call; the first tableau is the start of the problem of the parties left, whatever its costs, under their own numbers.
-use Rattle.prelude.specs.Words.{◌≡◌, sym, ◌∙◌, none, rules}
+use Rattle.std.specs.Prelude.{◌≡◌}
+use Rattle.prelude.specs.Words.{sym, ◌∙◌, none, rules}
 use Rattle.transport.proofs.Sound.{sound}
 use Rattle.transport.specs.Sheet.{Sheet, refusal, sheet_tests, sheet_of}
 use Rattle.transport.specs.Parties.{problem_of}

@@ -1,6 +1,7 @@
 -- `tight::tight_in_row` meets its contract. The loop's invariant: of the columns before j just the tight ones are in; the measure is what is left of
 -- them.
-use Rattle.prelude.specs.Words.{◌+◌, ◌-◌, ◌*◌, ◌≤◌, ◌<◌, ◌^◌, arith, rules, ◌≡◌, sym, ap, ◌∙◌, pos, nat_abs, ℤ, ◌-ℤ◌, get_or}
+use Rattle.std.specs.Prelude.{◌+◌, ◌-◌, ◌*◌, ◌≤◌, ◌<◌, ◌^◌, ◌≡◌, ◌-ℤ◌}
+use Rattle.prelude.specs.Words.{arith, rules, sym, ap, ◌∙◌, pos, nat_abs, ℤ, get_or}
 use mir.Syntax.{w32}
 use mir.Val.{to_z, of_z}
 use mir.Facts.{to_z-of_z}

@@ -1,5 +1,6 @@
 -- `tight::tight_lanes` meets its contract. The loop's invariant: the rows before i are done; the measure is how many are left.
-use Rattle.prelude.specs.Words.{◌-◌, ◌≤◌, arith, ◌≡◌}
+use Rattle.std.specs.Prelude.{◌-◌, ◌≤◌, ◌≡◌}
+use Rattle.prelude.specs.Words.{arith}
 use Rattle.tight.specs.Tight.{TightLanes, lanes-none, tight-more}
 use Rattle.tight.proofs.tight_lanes.Statement.{statement}
 use Rattle.tight.proofs.tight_lanes.Tie as tie

@@ -1,6 +1,7 @@
 -- The laws of paired amounts: what the tests of whole numbers and of pairs say, and that pairs are strictly ordered.
-use Rattle.prelude.specs.Words.{ℕ, suc, ◌+◌, ◌≤◌, ◌<◌, arith, ◌≡◌, refl, sym, ap, ◌∙◌, Bool, true, false, ◌&&◌, ◌||◌, true≢false, false≢true, not, List}
-use Rattle.prelude.specs.Words.{Memᴰ, ℤ, pos, negsuc, lt_z, ◌≤ℤ◌, length, ltb-true, ltb-false, lt-ltb, le-ltb, eqb-true, eq-eqb, by_test, clash}
+use Rattle.std.specs.Prelude.{◌+◌, ◌≤◌, ◌<◌, ◌≡◌, ◌&&◌, ◌||◌, ◌≤ℤ◌}
+use Rattle.prelude.specs.Words.{ℕ, suc, arith, refl, sym, ap, ◌∙◌, Bool, true, false, true≢false, false≢true, not, List}
+use Rattle.prelude.specs.Words.{Memᴰ, ℤ, pos, negsuc, lt_z, length, ltb-true, ltb-false, lt-ltb, le-ltb, eqb-true, eq-eqb, by_test, clash}
 use Rattle.std.specs.Int.Signed.{lt_z_no}
 use Rattle.transport.specs.Laws.ListLaws.{member-at, member-place, and_left, and_right, StrictWeak, first_least-is}
 use Rattle.transport.specs.Lists.{least_for}

@@ -1,5 +1,6 @@
 -- Laws of Calls: the value or the first refusal, what a lent list then holds, and rooms.
-use Rattle.prelude.specs.Words.{◌≡◌, refl, sym, ◌∙◌, ap, ◌↔◌, Bool, true, false, ◌||◌, true≢false, List, [], ◌∷◌, ◌++◌, none, some, ℕ, ◌*◌, ◌≤◌, ◌<◌, arith}
+use Rattle.std.specs.Prelude.{◌≡◌, ◌↔◌, ◌||◌, ◌∷◌, ◌++◌, ◌*◌, ◌≤◌, ◌<◌}
+use Rattle.prelude.specs.Words.{refl, sym, ◌∙◌, ap, Bool, true, false, true≢false, List, [], none, some, ℕ, arith}
 use Rattle.prelude.specs.Words.{ltb-false, lt-ltb, le-ltb, length, drop, by_option, some≢none}
 use Rattle.transport.specs.Sheet.{Sheet, roasteries, cafes, refusal}
 use Rattle.transport.specs.Laws.SheetLaws.{refusal_yes, refusal_no, refusal-clear, refusal-pass, refusal-stands}

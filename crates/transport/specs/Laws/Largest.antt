@@ -1,5 +1,6 @@
 -- The largest sheets: every count and amount at its limit, and every lane at one cost. The longest text, and the least and the greatest total, are of such.
-use Rattle.prelude.specs.Words.{◌≡◌, by_cases, ℕ, ◌*◌, ◌≤◌, arith, dec_lt, ℤ, pos, neg_ℤ, ◌≤ℤ◌, le_z_yes, length, get_or, replicate, length-replicate}
+use Rattle.std.specs.Prelude.{◌≡◌, ◌*◌, ◌≤◌, ◌≤ℤ◌}
+use Rattle.prelude.specs.Words.{by_cases, ℕ, arith, dec_lt, ℤ, pos, neg_ℤ, le_z_yes, length, get_or, replicate, length-replicate}
 use Rattle.prelude.specs.Words.{get_or-replicate, get_or-eq_default}
 use Rattle.transport.specs.Lists.{at, at_z, total}
 use Rattle.transport.specs.Limits.{max_sources, max_sinks, max_side, max_amount, max_cost}

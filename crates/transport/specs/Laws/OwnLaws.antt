@@ -1,5 +1,6 @@
 -- The laws of OwnNumbers: own numbers and numbers among those left undo each other, and cells add up to the same under either.
-use Rattle.prelude.specs.Words.{◌≡◌, sym, ap, ◌∙◌, ◌↔◌, by_cases, Bool, true, ◌&&◌, List, map, Memᴰ, ℕ, ◌≤◌, ◌<◌, arith, dec_lt, ℕ_discrete, eqb, length}
+use Rattle.std.specs.Prelude.{◌≡◌, ◌↔◌, ◌&&◌, ◌≤◌, ◌<◌}
+use Rattle.prelude.specs.Words.{sym, ap, ◌∙◌, by_cases, Bool, true, List, map, Memᴰ, ℕ, arith, dec_lt, ℕ_discrete, eqb, length}
 use Rattle.prelude.specs.Words.{get_or, length-map, ext_get_or, eq-eqb, ne_eqb}
 use Rattle.std.proofs.lemmas.Simd.{map-map}
 use Rattle.transport.specs.Lists.{all, keep, at}

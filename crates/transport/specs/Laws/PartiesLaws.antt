@@ -1,6 +1,7 @@
 -- The laws of Parties: the own numbers of those left grow with their numbers among those left, the two undo each other, and a sum over all is one over those
 -- left, where a party at 0 adds nothing.
-use Rattle.prelude.specs.Words.{◌≡◌, refl, sym, ap, ◌∙◌, by_cases, Bool, true, false, List, [], ◌∷◌, ◌++◌, map, append-nil, ℕ, zero, suc, ◌+◌, ◌≤◌, ◌<◌, arith}
+use Rattle.std.specs.Prelude.{◌≡◌, ◌∷◌, ◌++◌, ◌+◌, ◌≤◌, ◌<◌}
+use Rattle.prelude.specs.Words.{refl, sym, ap, ◌∙◌, by_cases, Bool, true, false, List, [], map, append-nil, ℕ, zero, suc, arith}
 use Rattle.prelude.specs.Words.{add-zero, dec_lt, ℕ_discrete, ltb, pos, length, get_or, length-append, length-map, get_or-append, eqb-true, eqb-false, ne_eqb}
 use Rattle.prelude.specs.Words.{lt-ltb, le-ltb, not-true, not-false, by_test}
 use Rattle.transport.specs.Lists.{keep, below, table, at, at_z, sum_to, total}

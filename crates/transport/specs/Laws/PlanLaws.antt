@@ -1,5 +1,6 @@
 -- The laws of Plan: of plans taken k times.
-use Rattle.prelude.specs.Words.{◌≡◌, refl, sym, List, [], ◌∷◌, ℕ, zero, suc, ◌*◌, mul-zero}
+use Rattle.std.specs.Prelude.{◌≡◌, ◌∷◌, ◌*◌}
+use Rattle.prelude.specs.Words.{refl, sym, List, [], ℕ, zero, suc, mul-zero}
 use Rattle.transport.specs.Lists.{at}
 use Rattle.transport.specs.Statements.{scaled}
 

@@ -1,6 +1,7 @@
 -- The laws of Problem: places and lanes in sheet order.
-use Rattle.prelude.specs.Words.{ℕ, zero, suc, ◌+◌, ◌*◌, ◌/◌, ◌%◌, ◌<◌, arith, mul-le-mul_right, suc-mul, zero-mul, div-add-mod', mod-lt, div-lt_iff_lt-mul}
-use Rattle.prelude.specs.Words.{mul-zero, eq-or-lt_of_le, dec_lt, ◌≡◌, sym, ap, ◌∙◌, ⊎_elim, Bool, true, List, [], ◌∷◌, ◌++◌, flat_map, append-nil, ℤ, length}
+use Rattle.std.specs.Prelude.{◌+◌, ◌*◌, ◌/◌, ◌%◌, ◌<◌, ◌≡◌, ◌∷◌, ◌++◌}
+use Rattle.prelude.specs.Words.{ℕ, zero, suc, arith, mul-le-mul_right, suc-mul, zero-mul, div-add-mod', mod-lt, div-lt_iff_lt-mul}
+use Rattle.prelude.specs.Words.{mul-zero, eq-or-lt_of_le, dec_lt, sym, ap, ◌∙◌, ⊎_elim, Bool, true, List, [], flat_map, append-nil, ℤ, length}
 use Rattle.prelude.specs.Words.{get_or, length-append, get_or-append, ext_get_or, by_cases, pos, subst, get_or-eq_default}
 use Rattle.std.proofs.Common.{eq-zero-or-pos}
 use Rattle.transport.specs.Lists.{all, table, below, grid, at_z}
@@ -31,9 +32,9 @@ pub record Placed (m n l : ℕ) : Type 0 where
   pub col_below : col < n
   pub placed : place n row col ≡ l
 
-pub place_of : (m n l : ℕ) → l < m * n → Placed m n l
+pub lane_placed : (m n l : ℕ) → l < m * n → Placed m n l
 unfolding place
-place_of m n l p = ⊎_elim
+lane_placed m n l p = ⊎_elim
     (λ e. absurd (omega (arith, ap (λ (t : ℕ). m * t) e, mul-zero m)))
     (λ q. record { row = l / n; col = l % n; row_below = (div-lt_iff_lt-mul q).1 p; col_below = mod-lt l q; placed = div-add-mod' l n })
     (eq-zero-or-pos n)
@@ -64,7 +65,7 @@ module _ {A : Type 0} (n : ℕ) (f : ℕ → ℕ → A) where
   -- A list that has the elements of a grid is that grid.
   pub grid-is : (m : ℕ) (xs : List A) (d : A) → length xs ≡ m * n → ((i j : ℕ) → i < m → j < n → f i j ≡ get_or xs (place n i j) d) → grid m n f ≡ xs
   grid-is m xs d e h = ext_get_or d (grid m n f) xs (length-grid m ∙ sym e) (λ l b.
-      let w = place_of m n l (omega (arith, length-grid m)) in
+      let w = lane_placed m n l (omega (arith, length-grid m)) in
       rw (← w.placed) (get_or-grid m w.row w.col d w.row_below w.col_below ∙ h w.row w.col w.row_below w.col_below))
 
 -- Every number of a grid is 0 or one of its own: what holds of these holds of all.
@@ -72,7 +73,7 @@ pub grid-each : (m n : ℕ) (f : ℕ → ℕ → ℤ) (Good : ℤ → Type 0) �
 unfolding at_z
 grid-each m n f Good none each l = by_cases (dec_lt l (m * n))
     (λ h.
-    let w = place_of m n l h in
+    let w = lane_placed m n l h in
     subst Good (sym (ap (λ (k : ℕ). get_or (grid m n f) k (pos 0)) (sym w.placed) ∙ get_or-grid n f m w.row w.col (pos 0) w.row_below w.col_below))
     (each w.row w.col))
     (λ h. rw (get_or-eq_default (grid m n f) (pos 0) {n = l} (omega (arith, length-grid n f m))) none)
@@ -93,7 +94,7 @@ get_or-lanes m n i j d p q = get_or-grid n lane m i j d p q
 
 pub all_lanes : (p : Lane → Bool) (m n : ℕ) → ((i j : ℕ) → i < m → j < n → p (lane i j) ≡ true) → all p (lanes m n) ≡ true
 all_lanes p m n h = all_of p (lanes m n) (lane 0 0) (λ l q.
-    let w = place_of m n l (omega (arith, length-lanes m n)) in
+    let w = lane_placed m n l (omega (arith, length-lanes m n)) in
     rw (← w.placed, get_or-lanes m n w.row w.col (lane 0 0) w.row_below w.col_below) (h w.row w.col w.row_below w.col_below))
 
 pub all-lanes-at : (p : Lane → Bool) (m n i j : ℕ) → all p (lanes m n) ≡ true → i < m → j < n → p (lane i j) ≡ true

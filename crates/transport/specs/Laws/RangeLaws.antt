@@ -1,6 +1,7 @@
 -- The range of signed numbers: bounds by absolute value, which `omega` reads, and what the code's tests and sums on bits say of the numbers.
-use Rattle.prelude.specs.Words.{ℕ, zero, suc, ◌+◌, ◌*◌, ◌<◌, ◌≤◌, ◌^◌, arith, mul-le-mul_left, ◌≡◌, refl, ◌∙◌, T, ltb, leb→le, ℤ, pos, negsuc, nat_abs, neg_ℤ}
-use Rattle.prelude.specs.Words.{sub_ℕ, ◌+ℤ◌, ◌-ℤ◌, ◌*ℤ◌, mag, le_z, ◌≤ℤ◌, ltb-true, by_test}
+use Rattle.std.specs.Prelude.{◌+◌, ◌*◌, ◌<◌, ◌≤◌, ◌^◌, ◌≡◌, ◌+ℤ◌, ◌-ℤ◌, ◌*ℤ◌, ◌≤ℤ◌}
+use Rattle.prelude.specs.Words.{ℕ, zero, suc, arith, mul-le-mul_left, refl, ◌∙◌, T, ltb, leb→le, ℤ, pos, negsuc, nat_abs, neg_ℤ}
+use Rattle.prelude.specs.Words.{sub_ℕ, mag, le_z, ltb-true, by_test}
 use Rattle.std.specs.Int.{Width}
 use mir.Val.{SFits, hbits, to_z, of_z}
 use Rattle.std.proofs.Common.{to_z-of_z}

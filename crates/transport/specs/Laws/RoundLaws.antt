@@ -1,5 +1,6 @@
 -- The laws of Round: the same lane, and the flow through one strike.
-use Rattle.prelude.specs.Words.{◌≡◌, refl, sym, ap, ◌∙◌, ◌≢◌, true, false, true≢false, List, ◌∷◌, ℕ, eqb-true, eq-eqb, eqb, ℤ, by_test}
+use Rattle.std.specs.Prelude.{◌≡◌, ◌≢◌, ◌∷◌}
+use Rattle.prelude.specs.Words.{refl, sym, ap, ◌∙◌, true, false, true≢false, List, ℕ, eqb-true, eq-eqb, eqb, ℤ, by_test}
 use Rattle.transport.specs.Laws.ListLaws.{and_left, and_right}
 use Rattle.transport.specs.Problem.{Lane}
 use Rattle.transport.specs.Laws.ProblemLaws.{lane}

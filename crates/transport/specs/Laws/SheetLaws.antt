@@ -1,6 +1,7 @@
 -- The laws of Sheet: the first refusal, and what the sheet check says.
-use Rattle.prelude.specs.Words.{ℕ, ◌*◌, ◌≤◌, ◌<◌, arith, dec_lt, ◌≡◌, refl, sym, ap, ◌∙◌, Bool, true, false, not, ◌&&◌, and-false, List, [], ◌∷◌, ◌++◌}
-use Rattle.prelude.specs.Words.{append-nil, none, some, leb, ltb, T, ℤ, pos, negsuc, neg_ℤ, le_z, lt_z, ◌≤ℤ◌, le_z_yes, length, leb-true, le-leb}
+use Rattle.std.specs.Prelude.{◌*◌, ◌≤◌, ◌<◌, ◌≡◌, ◌&&◌, ◌∷◌, ◌++◌, ◌≤ℤ◌}
+use Rattle.prelude.specs.Words.{ℕ, arith, dec_lt, refl, sym, ap, ◌∙◌, Bool, true, false, not, and-false, List, []}
+use Rattle.prelude.specs.Words.{append-nil, none, some, leb, ltb, T, ℤ, pos, negsuc, neg_ℤ, le_z, lt_z, le_z_yes, length, leb-true, le-leb}
 use Rattle.prelude.specs.Words.{lt-leb, eqb-true}
 use Rattle.prelude.specs.Words.{eq-eqb, ne_eqb, le-ltb, lt-ltb, ltb-true, ltb-false, not-false, by_test, clash, by_cases, some≢none}
 use Rattle.transport.specs.Lists.{all, at, at_z, total, at_most, within, within_z}

@@ -1,5 +1,6 @@
 -- A number that was read is below 2 ^ 63, so that it and its opposite have 64 bits.
-use Rattle.prelude.specs.Words.{◌<◌, ◌^◌, rules}
+use Rattle.std.specs.Prelude.{◌<◌, ◌^◌}
+use Rattle.prelude.specs.Words.{rules}
 use Rattle.whole_reader.specs.Wholes.{number_fits, number-back, opposite_fits, opposite_back}
 use Rattle.whole_reader.proofs.signed.Statement.{statement}
 use Rattle.whole_reader.proofs.signed.Tie as tie

@@ -1,5 +1,6 @@
 -- `augment::bags::add_bags` meets its contract: one lane is written, and the masks of its column and its row say whether bags are left on it.
-use Rattle.prelude.specs.Words.{◌≡◌, ◌+◌, ◌*◌, arith, rules, pos, ◌+ℤ◌, get_or, set, get_or-set_same}
+use Rattle.std.specs.Prelude.{◌≡◌, ◌+◌, ◌*◌, ◌+ℤ◌}
+use Rattle.prelude.specs.Words.{arith, rules, pos, get_or, set, get_or-set_same}
 use mir.Syntax.{w64}
 use mir.Val.{to_z, of_z}
 use Rattle.transport.specs.Laws.RangeLaws.{abs_add, mag_abs, back, sum_in, sum_back}

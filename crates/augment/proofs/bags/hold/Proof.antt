@@ -1,5 +1,6 @@
 -- `augment::bags::hold` meets its contract. The loop's invariant: the columns that are not left have the row; the measure is the mask of those left.
-use Rattle.prelude.specs.Words.{ℕ, ◌<◌, arith}
+use Rattle.std.specs.Prelude.{◌<◌}
+use Rattle.prelude.specs.Words.{ℕ, arith}
 use Rattle.tree.specs.Mask.{put}
 use Rattle.tree.specs.Bits.{Least, has-least, Touching, touch-start, touch-still, touch_step, touch-end, rest-less}
 use Rattle.tree.specs.Layout.{stride}

@@ -1,6 +1,7 @@
 -- `augment::bags::mask_bags` meets its contract. The loop's invariant: the masks are right for the first i rows, and the others stand in no column's; the
 -- measure is what is left of the rows.
-use Rattle.prelude.specs.Words.{ℕ, ◌-◌, ◌≤◌, ◌<◌, ◌≡◌, sym, ◌∙◌, true, arith}
+use Rattle.std.specs.Prelude.{◌-◌, ◌≤◌, ◌<◌, ◌≡◌}
+use Rattle.prelude.specs.Words.{ℕ, sym, ◌∙◌, true, arith}
 use Rattle.transport.specs.Laws.ListLaws.{and_left}
 use Rattle.tree.specs.Mask.{has}
 use Rattle.tree.specs.Layout.{stride}

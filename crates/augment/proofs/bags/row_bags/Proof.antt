@@ -1,6 +1,7 @@
 -- `augment::bags::row_bags` meets its contract. The loop's invariant: of the basic columns that are not left, just those with bags are in; the measure is the
 -- mask of those left.
-use Rattle.prelude.specs.Words.{◌≡◌, ◌<◌, ◌*◌, ◌+◌, arith, rules, pos, get_or}
+use Rattle.std.specs.Prelude.{◌≡◌, ◌<◌, ◌*◌, ◌+◌}
+use Rattle.prelude.specs.Words.{arith, rules, pos, get_or}
 use mir.Syntax.{w64}
 use mir.Val.{to_z, of_z}
 use Rattle.tree.specs.Bits.{Least, has-least, rest-less}

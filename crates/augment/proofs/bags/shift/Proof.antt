@@ -1,5 +1,6 @@
 -- `augment::bags::shift` meets its contract: x less on one lane, and x more on the other.
-use Rattle.prelude.specs.Words.{◌≡◌, ◌∙◌, ◌+◌, ◌*◌, ◌<◌, ◌^◌, arith, rules, ℤ, pos, nat_abs, neg_ℤ, ◌-ℤ◌, +ℤ_idl}
+use Rattle.std.specs.Prelude.{◌≡◌, ◌+◌, ◌*◌, ◌<◌, ◌^◌, ◌-ℤ◌}
+use Rattle.prelude.specs.Words.{◌∙◌, arith, rules, ℤ, pos, nat_abs, neg_ℤ, +ℤ_idl}
 use mir.Syntax.{w64}
 use mir.Val.{to_z, of_z}
 use Rattle.transport.specs.Laws.RangeLaws.{abs_neg, diff_in, diff_back}

@@ -1,6 +1,7 @@
 -- `augment::search::reach` meets its contract. The loop's invariant: the columns that are not left hang on the position, and their rows are gathered; the
 -- measure is the mask of those left.
-use Rattle.prelude.specs.Words.{ℕ, ◌<◌, arith}
+use Rattle.std.specs.Prelude.{◌<◌}
+use Rattle.prelude.specs.Words.{ℕ, arith}
 use Rattle.tree.specs.MaskLaws.{minus}
 use Rattle.tree.specs.Bits.{Least, has-least, Touching, touch-start, touch_step, touch-end, rest-less}
 use Rattle.tree.specs.Layout.{stride}

@@ -1,6 +1,7 @@
 -- `augment::search::search` meets its contract. The loop's invariant: whatever the bags are, the search has come so far (`Sweeping`). Each turn reaches a row,
 -- and the measure is what is left of the positions.
-use Rattle.prelude.specs.Words.{◌≡◌, ◌-◌, ◌<◌, arith, add-one, rules}
+use Rattle.std.specs.Prelude.{◌≡◌, ◌-◌, ◌<◌}
+use Rattle.prelude.specs.Words.{arith, add-one, rules}
 use lib.Bits.{bit_and}
 use Rattle.tree.specs.Bits.{Least}
 use Rattle.tree.specs.Layout.{stride, node_room}

@@ -1,6 +1,7 @@
 -- `augment::way::bring` meets its contract. The loop's invariant: whatever the bags were before the first move, they have moved along the way up to the
 -- position (`Bringing`), which is the measure.
-use Rattle.prelude.specs.Words.{◌≡◌, List, ℕ, ◌<◌, arith, rules, ℤ}
+use Rattle.std.specs.Prelude.{◌≡◌, ◌<◌}
+use Rattle.prelude.specs.Words.{List, ℕ, arith, rules, ℤ}
 use mir.Syntax.{w64}
 use mir.Val.{to_z, of_z}
 use Rattle.tree.specs.Layout.{stride, node_room}

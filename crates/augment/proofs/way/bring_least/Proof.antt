@@ -1,5 +1,6 @@
 -- `augment::way::bring_least` meets its contract: the least bags on the way are what each lane has that it takes from.
-use Rattle.prelude.specs.Words.{◌≡◌, arith, rules, pos, get_or}
+use Rattle.std.specs.Prelude.{◌≡◌}
+use Rattle.prelude.specs.Words.{arith, rules, pos, get_or}
 use mir.Syntax.{w64}
 use mir.Val.{to_z, of_z}
 use Rattle.augment.specs.Way.{way-rooted, least-inside, least-few}

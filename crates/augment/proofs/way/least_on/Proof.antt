@@ -1,6 +1,7 @@
 -- `augment::way::least_on` meets its contract. The loop's invariant: `least` is the place of the least of the lanes passed (`LeastTo`); the measure is the
 -- position.
-use Rattle.prelude.specs.Words.{◌≡◌, ◌+◌, ◌*◌, ◌<◌, arith, rules, pos, get_or}
+use Rattle.std.specs.Prelude.{◌≡◌, ◌+◌, ◌*◌, ◌<◌}
+use Rattle.prelude.specs.Words.{arith, rules, pos, get_or}
 use mir.Syntax.{w64}
 use mir.Val.{to_z, of_z}
 use Rattle.tree.specs.Layout.{stride}

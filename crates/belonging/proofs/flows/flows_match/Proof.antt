@@ -1,5 +1,6 @@
 -- `belonging::flows::flows_match` meets its contract: `passed-more` is a turn of the loop. The measure is what is left of the strikes.
-use Rattle.prelude.specs.Words.{◌+◌, ◌-◌, ◌<◌, ◌^◌, ◌≡◌, sym, ap, ◌∙◌, pos, nat_abs, get_or, set, arith, rules}
+use Rattle.std.specs.Prelude.{◌+◌, ◌-◌, ◌<◌, ◌^◌, ◌≡◌}
+use Rattle.prelude.specs.Words.{sym, ap, ◌∙◌, pos, nat_abs, get_or, set, arith, rules}
 use mir.Syntax.{w64}
 use mir.Val.{of_z}
 use Rattle.transport.specs.Laws.RangeLaws.{diff_in, diff_back}

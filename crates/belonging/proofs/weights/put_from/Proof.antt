@@ -1,5 +1,6 @@
 -- `belonging::weights::put_from` meets its contract: `put-more` is a turn of the loop. The measure is what is left of the amounts.
-use Rattle.prelude.specs.Words.{◌-◌, ◌≤◌, ◌≡◌, arith, length}
+use Rattle.std.specs.Prelude.{◌-◌, ◌≤◌, ◌≡◌}
+use Rattle.prelude.specs.Words.{arith, length}
 use mir.Syntax.{w64}
 use mir.Facts.{to_z_pos}
 use Rattle.transport.specs.Lists.{at}

@@ -1,6 +1,7 @@
 -- `belonging::weights::weigh_marks` meets its contract: `marked_more` is a turn of the loop, and `marks-put` what follows it. The measure is what is left of
 -- the rows.
-use Rattle.prelude.specs.Words.{◌-◌, ◌≤◌, arith, ◌≡◌, refl, pos, replicate}
+use Rattle.std.specs.Prelude.{◌-◌, ◌≤◌, ◌≡◌}
+use Rattle.prelude.specs.Words.{arith, refl, pos, replicate}
 use mir.Syntax.{w64}
 use mir.Facts.{to_z_pos}
 use Rattle.tree.specs.Layout.{node_room, get_or-all}

@@ -1,5 +1,6 @@
 -- `board::fit::cell_fits` meets its contract: on each way through the code its tests decide those of the definition.
-use Rattle.prelude.specs.Words.{◌+◌, ◌*◌, ◌≤◌, arith, lt-ltb, le-ltb, le-leb, lt-leb, rules}
+use Rattle.std.specs.Prelude.{◌+◌, ◌*◌, ◌≤◌}
+use Rattle.prelude.specs.Words.{arith, lt-ltb, le-ltb, le-leb, lt-leb, rules}
 use Rattle.transport.specs.Amount.{nothing}
 use Rattle.transport.specs.Problem.{place}
 use Rattle.transport.specs.Belonging.{above_zero}

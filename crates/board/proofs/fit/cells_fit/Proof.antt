@@ -1,6 +1,7 @@
 -- `board::fit::cells_fit` meets its contract. The loop's invariant: all cells fit where those from number k on do, at `least` or later; the measure is how many
 -- are left.
-use Rattle.prelude.specs.Words.{suc, ◌*◌, ◌-◌, ◌≤◌, ◌<◌, ◌≡◌, refl, sym, ap, ◌∙◌, true, false, [], arith, add-one, rules, not-true, not-false, length, drop}
+use Rattle.std.specs.Prelude.{◌*◌, ◌-◌, ◌≤◌, ◌<◌, ◌≡◌}
+use Rattle.prelude.specs.Words.{suc, refl, sym, ap, ◌∙◌, true, false, [], arith, add-one, rules, not-true, not-false, length, drop}
 use Rattle.prelude.specs.Words.{get_or, drop_of_length-le}
 use Rattle.transport.specs.Amount.{nothing}
 use Rattle.transport.specs.Problem.{place}

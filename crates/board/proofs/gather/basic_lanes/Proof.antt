@@ -1,5 +1,6 @@
 -- `board::gather::basic_lanes` meets its contract. The loop's invariant: the lanes of the first i rows are listed; the measure is how many rows are left.
-use Rattle.prelude.specs.Words.{◌-◌, ◌≤◌, ◌≡◌, sym, arith}
+use Rattle.std.specs.Prelude.{◌-◌, ◌≤◌, ◌≡◌}
+use Rattle.prelude.specs.Words.{sym, arith}
 use Rattle.board.specs.Lanes.{lanes_of-zero, Lanes, lanes-room, lanes-more}
 use Rattle.board.proofs.gather.basic_lanes.Statement.{statement}
 use Rattle.board.proofs.gather.basic_lanes.Tie as tie

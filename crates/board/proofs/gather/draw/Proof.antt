@@ -1,5 +1,6 @@
 -- `board::gather::draw` meets its contract: `redraw-step` is a turn of the loop.
-use Rattle.prelude.specs.Words.{arith, rules, ◌-◌, ◌≤◌, ◌≡◌, refl}
+use Rattle.std.specs.Prelude.{◌-◌, ◌≤◌, ◌≡◌}
+use Rattle.prelude.specs.Words.{arith, rules, refl}
 use Rattle.tree.specs.Layout.{node_room, get_or-all}
 use Rattle.board.specs.Drawing.{Redrawn, redraw_start, redraw_step}
 use Rattle.board.proofs.gather.draw.Statement.{statement}

@@ -1,5 +1,6 @@
 -- `board::gather::gather` meets its contract: with the masks drawn from the slots the arrays hold the tableau (`board-gathered`).
-use Rattle.prelude.specs.Words.{◌≤◌, arith, ◌∙◌, ap}
+use Rattle.std.specs.Prelude.{◌≤◌}
+use Rattle.prelude.specs.Words.{arith, ◌∙◌, ap}
 use Rattle.transport.specs.Tableau.{tableau_of}
 use Rattle.tree.specs.Layout.{stride}
 use Rattle.board.specs.Arrays.{sound-sides}

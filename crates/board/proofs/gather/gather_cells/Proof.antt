@@ -1,5 +1,6 @@
 -- `board::gather::gather_cells` meets its contract. The loop's invariant: the first k cells are those on the first k lanes; the measure is how many are left.
-use Rattle.prelude.specs.Words.{◌-◌, ◌≤◌, ◌<◌, ◌≡◌, refl, ap, arith, get_or, rules}
+use Rattle.std.specs.Prelude.{◌-◌, ◌≤◌, ◌<◌, ◌≡◌}
+use Rattle.prelude.specs.Words.{refl, ap, arith, get_or, rules}
 use Rattle.transport.specs.Amount.{nothing}
 use Rattle.transport.specs.Tableau.{no_cell}
 use Rattle.transport.specs.declared.Pair.{Pair}

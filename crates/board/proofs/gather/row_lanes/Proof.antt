@@ -1,6 +1,7 @@
 -- `board::gather::row_lanes` meets its contract. The loop's invariant: the lanes listed so far, and those of the bits that are left, make up the list; the
 -- measure is how many bits are left.
-use Rattle.prelude.specs.Words.{◌+◌, ◌≡◌, refl, sym, ap, ◌∙◌, [], ◌∷◌, ◌++◌, append_assoc, append-nil, arith, add-one, take-suc-set, length, take, length-set}
+use Rattle.std.specs.Prelude.{◌+◌, ◌≡◌, ◌∷◌, ◌++◌}
+use Rattle.prelude.specs.Words.{refl, sym, ap, ◌∙◌, [], append_assoc, append-nil, arith, add-one, take-suc-set, length, take, length-set}
 use Rattle.tree.specs.Layout.{node_room}
 use Rattle.board.specs.Lanes.{row_lanes_of, row_lanes-zero, row_lanes-first}
 use Rattle.board.proofs.gather.row_lanes.Statement.{statement}

@@ -1,5 +1,6 @@
 -- `board::spread::spread` meets its contract. The loop's invariant: the arrays hold the cells from number k on; the measure is k.
-use Rattle.prelude.specs.Words.{suc, ◌-◌, ◌≤◌, ◌<◌, ◌≡◌, arith, rules, length, drop, get_or, drop_of_length-le}
+use Rattle.std.specs.Prelude.{◌-◌, ◌≤◌, ◌<◌, ◌≡◌}
+use Rattle.prelude.specs.Words.{suc, arith, rules, length, drop, get_or, drop_of_length-le}
 use Rattle.transport.specs.Amount.{nothing}
 use Rattle.transport.specs.Tableau.{no_cell, cells_of}
 use Rattle.tree.specs.Layout.{stride}

@@ -1,5 +1,6 @@
 -- `cuts::cut::hang` meets its contract: `hang-step` is a turn of the loop, from the last strike back.
-use Rattle.prelude.specs.Words.{◌≡◌, refl, suc, ◌-◌, arith, rules, get_or, ◌<◌}
+use Rattle.std.specs.Prelude.{◌≡◌, ◌-◌, ◌<◌}
+use Rattle.prelude.specs.Words.{refl, suc, arith, rules, get_or}
 use Rattle.tree.specs.Layout.{node_room, get_or-all}
 use Rattle.cuts.specs.Planting.{Hanging, hang_start, hang_step}
 use Rattle.cuts.proofs.cut.hang.Statement.{statement}

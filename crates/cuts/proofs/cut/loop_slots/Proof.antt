@@ -1,5 +1,6 @@
 -- `cuts::cut::loop_slots` meets its contract: `far-step` is a turn of the loop. The measure is the bits that are left, as a number.
-use Rattle.prelude.specs.Words.{◌≡◌, ◌/◌, ◌<◌, arith, get_or, rules}
+use Rattle.std.specs.Prelude.{◌≡◌, ◌/◌, ◌<◌}
+use Rattle.prelude.specs.Words.{arith, get_or, rules}
 use Rattle.tree.specs.Layout.{stride, node_room}
 use Rattle.tree.specs.Bits.{Least, rest-less, has-least}
 use Rattle.cuts.specs.Cycle.{FarRows, far-start, far-step, loop-slots}

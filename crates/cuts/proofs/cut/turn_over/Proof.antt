@@ -1,5 +1,6 @@
 -- `cuts::cut::turn_over` meets its contract: `turning-step` is a turn of the loop.
-use Rattle.prelude.specs.Words.{◌≡◌, refl, arith, rules, ◌-◌, ◌≤◌}
+use Rattle.std.specs.Prelude.{◌≡◌, ◌-◌, ◌≤◌}
+use Rattle.prelude.specs.Words.{refl, arith, rules}
 use Rattle.tree.specs.Layout.{node_room, get_or-all}
 use Rattle.cuts.specs.Planting.{Turning, turning_start, turning_step}
 use Rattle.cuts.proofs.cut.turn_over.Statement.{statement}

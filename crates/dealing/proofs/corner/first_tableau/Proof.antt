@@ -1,5 +1,6 @@
 -- The loop's invariant: the rule stands at cell k of the start, and the array holds the cells before it.
-use Rattle.prelude.specs.Words.{◌+◌, ◌-◌, ◌<◌, arith, ◌≡◌, refl, sym, ap, ◌∙◌, rules, length, get_or, set}
+use Rattle.std.specs.Prelude.{◌+◌, ◌-◌, ◌<◌, ◌≡◌}
+use Rattle.prelude.specs.Words.{arith, refl, sym, ap, ◌∙◌, rules, length, get_or, set}
 use Rattle.transport.specs.Limits.{max_side, max_cells}
 use Rattle.transport.specs.Problem.{Problem, sources, sinks}
 use Rattle.transport.specs.Tableau.{start, no_cell}

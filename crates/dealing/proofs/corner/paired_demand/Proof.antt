@@ -1,5 +1,6 @@
 -- The numbers are in range, so their bits are the numbers; the test is that of the last column.
-use Rattle.prelude.specs.Words.{arith, ◌-◌, eq-eqb, ne_eqb, length, rules}
+use Rattle.std.specs.Prelude.{◌-◌}
+use Rattle.prelude.specs.Words.{arith, eq-eqb, ne_eqb, length, rules}
 use mir.Syntax.{w64}
 use mir.Facts.{to_z_pos}
 use Rattle.transport.specs.Lists.{at}

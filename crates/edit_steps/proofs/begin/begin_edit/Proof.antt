@@ -1,6 +1,7 @@
 -- `edit_steps::begin::begin_edit` meets its contract: the new cost is put among the costs, or the
 -- first tableau is laid out.
-use Rattle.prelude.specs.Words.{◌≡◌, sym, ap, ◌∙◌, List, rules}
+use Rattle.std.specs.Prelude.{◌≡◌}
+use Rattle.prelude.specs.Words.{sym, ap, ◌∙◌, List, rules}
 use mir.Syntax.{w64}
 use mir.Val.{to_z, of_z}
 use Rattle.transport.specs.Sheet.{Sheet, sheet_of}

@@ -1,6 +1,7 @@
 -- `edit_steps::begin::respread_lane` meets its contract: a struck party has no number, and the lane
 -- of two others has a place in the array.
-use Rattle.prelude.specs.Words.{◌≡◌, sym, ap, ◌∙◌, ◌<◌, ◌^◌, arith, ℤ, nat_abs, rules}
+use Rattle.std.specs.Prelude.{◌≡◌, ◌<◌, ◌^◌}
+use Rattle.prelude.specs.Words.{sym, ap, ◌∙◌, arith, ℤ, nat_abs, rules}
 use mir.Syntax.{w32, w64}
 use mir.Val.{to_z, of_z}
 use mir.Facts.{to_z-of_z}

@@ -1,6 +1,7 @@
 -- `edit_steps::lists::check_edited` meets its contract: the amounts are tested, and of the costs
 -- the new one.
-use Rattle.prelude.specs.Words.{◌≡◌, sym, ap, ◌∙◌, List, ℕ, ◌+◌, ◌-◌, ◌*◌, ◌≤◌, ◌<◌, arith, length, take, drop, rules}
+use Rattle.std.specs.Prelude.{◌≡◌, ◌+◌, ◌-◌, ◌*◌, ◌≤◌, ◌<◌}
+use Rattle.prelude.specs.Words.{sym, ap, ◌∙◌, List, ℕ, arith, length, take, drop, rules}
 use Rattle.transport.specs.Problem.{place}
 use Rattle.transport.specs.Sheet.{roasteries, cafes}
 use Rattle.transport.proofs.Sound.{sources-room, sinks-room}

@@ -1,7 +1,8 @@
 -- `edit_steps::lists::set_lists` meets its contract: the lane, or the two parties, that the edit
 -- names are in the lists; what is stored there is what the edit says, and what stood there before
 -- takes it back.
-use Rattle.prelude.specs.Words.{refl, ap, ◌∙◌, ◌+◌, ◌*◌, ◌≤◌, ◌<◌, ℤ, pos, arith, length, set, get_or, rules}
+use Rattle.std.specs.Prelude.{◌+◌, ◌*◌, ◌≤◌, ◌<◌}
+use Rattle.prelude.specs.Words.{refl, ap, ◌∙◌, ℤ, pos, arith, length, set, get_or, rules}
 use mir.Syntax.{w64}
 use Rattle.transport.specs.declared.Change.TheVariants as Change
 use Rattle.transport.specs.declared.Edit.{Edit}

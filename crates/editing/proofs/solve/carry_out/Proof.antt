@@ -1,6 +1,7 @@
 -- `editing::solve::carry_out` meets its contract: the edited sheet is refused, or solved from where
 -- the edit begins.
-use Rattle.prelude.specs.Words.{◌≡◌, sym, ◌∙◌, none, ◌*◌, ◌≤◌, arith, length, rules}
+use Rattle.std.specs.Prelude.{◌≡◌, ◌*◌, ◌≤◌}
+use Rattle.prelude.specs.Words.{sym, ◌∙◌, none, arith, length, rules}
 use Rattle.transport.specs.Sheet.{Sheet, sheet_of, roasteries, cafes, refusal, sheet_tests}
 use Rattle.transport.specs.Laws.SheetLaws.{accepted}
 use Rattle.transport.proofs.Sound.{sources-room, sinks-room}

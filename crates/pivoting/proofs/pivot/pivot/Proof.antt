@@ -1,6 +1,7 @@
 -- `pivoting::pivot::pivot` meets its contract: the loop's slots, the least of the minus slots and the amounts carried round the loop are those of the pivot
 -- (`pivot-is`).
-use Rattle.prelude.specs.Words.{◌<◌, ◌≤◌, arith, ◌∙◌}
+use Rattle.std.specs.Prelude.{◌<◌, ◌≤◌}
+use Rattle.prelude.specs.Words.{arith, ◌∙◌}
 use Rattle.transport.specs.Amount.{nothing}
 use Rattle.tree.specs.Layout.{stride, node_room}
 use Rattle.pivoting.specs.Pivoting.{pivot-room, loop-rows, loses_some, minus-slots, plus_slots, slot_room, held-inside, back_fits, minus-fits, plus_fits}

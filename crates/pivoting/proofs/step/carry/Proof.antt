@@ -1,6 +1,7 @@
 -- `pivoting::step::carry` meets its contract: `add_step` is a turn of the loop, for the bags and for the marks. The measure is the bits that are left, as a
 -- number.
-use Rattle.prelude.specs.Words.{◌≡◌, true, arith, rules}
+use Rattle.std.specs.Prelude.{◌≡◌}
+use Rattle.prelude.specs.Words.{true, arith, rules}
 use Rattle.transport.specs.Amount.{add}
 use Rattle.tree.specs.Mask.{has}
 use Rattle.tree.specs.Bits.{Least, rest-less, has-least}

@@ -1,6 +1,7 @@
 -- `pivoting::step::least_slot` meets its contract: `least-less` and `least_stays` are the turns of the loop. The measure is the bits that are left, as a
 -- number.
-use Rattle.prelude.specs.Words.{◌≡◌, sym, ◌∙◌, arith, rules}
+use Rattle.std.specs.Prelude.{◌≡◌}
+use Rattle.prelude.specs.Words.{sym, ◌∙◌, arith, rules}
 use Rattle.tree.specs.Bits.{Least, rest-less, has-least}
 use Rattle.board.specs.Slots.{slot_pair_of, LeastSlot, least_start, least-here, least-less, least_stays}
 use Rattle.pivoting.proofs.step.least_slot.Statement.{statement}

@@ -1,5 +1,6 @@
 -- The loop's invariant: the length is that of the lines so far, none of which has more than 63 bytes.
-use Rattle.prelude.specs.Words.{◌≡◌, refl, ◌≤◌, ◌*◌, ◌-◌, arith, length, length-append, rules}
+use Rattle.std.specs.Prelude.{◌≡◌, ◌≤◌, ◌*◌, ◌-◌}
+use Rattle.prelude.specs.Words.{refl, arith, length, length-append, rules}
 use Rattle.transport.specs.Limits.{max_side}
 use Rattle.transport.specs.Lists.{at}
 use Rattle.plan_lines.specs.Lanes.{lane_text, used_text, text-zero, text-next}

@@ -1,5 +1,6 @@
 -- The loop's invariant: the count is that of the lanes so far.
-use Rattle.prelude.specs.Words.{◌≡◌, sym, ◌≤◌, ◌-◌, arith, length, rules}
+use Rattle.std.specs.Prelude.{◌≡◌, ◌≤◌, ◌-◌}
+use Rattle.prelude.specs.Words.{sym, arith, length, rules}
 use Rattle.transport.specs.Lists.{at}
 use Rattle.plan_lines.specs.Lanes.{used_count_of, count-zero, count_none, count-one}
 use Rattle.plan_lines.proofs.lanes.used_count.Statement.{statement}

@@ -1,5 +1,6 @@
 -- The two cases of the definition.
-use Rattle.prelude.specs.Words.{◌≡◌, refl, sym, ap, arith, length, rules}
+use Rattle.std.specs.Prelude.{◌≡◌}
+use Rattle.prelude.specs.Words.{refl, sym, ap, arith, length, rules}
 use Rattle.transport.specs.Text.{digits}
 use Rattle.decimals.specs.Front.{front-nil}
 use Rattle.sections.specs.Lines.{lines_from}

@@ -1,5 +1,6 @@
 -- The loop's invariant: the output holds the lines of the lanes so far.
-use Rattle.prelude.specs.Words.{◌≡◌, refl, sym, ap, ◌∙◌, ◌≤◌, ◌+◌, ◌-◌, arith, length, rules}
+use Rattle.std.specs.Prelude.{◌≡◌, ◌≤◌, ◌+◌, ◌-◌}
+use Rattle.prelude.specs.Words.{refl, sym, ap, ◌∙◌, arith, length, rules}
 use Rattle.transport.specs.Lists.{at}
 use Rattle.decimals.specs.Front.{front, front-nil, length_front, FirstWritten, second-start, second-room, both-length, both-written}
 use Rattle.plan_lines.specs.Lanes.{lane_text, used_text, text-zero, text-next, text-grows}

@@ -1,5 +1,6 @@
 -- The lengths of the sections, added up; all of them together are far below 2 ^ 64.
-use Rattle.prelude.specs.Words.{◌≡◌, [], ◌∷◌, arith, length, rules}
+use Rattle.std.specs.Prelude.{◌≡◌, ◌∷◌}
+use Rattle.prelude.specs.Words.{[], arith, length, rules}
 use mir.Syntax.{w64}
 use mir.Val.{to_z, of_z}
 use Rattle.transport.specs.Laws.RangeLaws.{back}

@@ -1,5 +1,6 @@
 -- The cost, and then the rounds in what is left of the output.
-use Rattle.prelude.specs.Words.{◌≡◌, [], ◌∷◌, arith, rules}
+use Rattle.std.specs.Prelude.{◌≡◌, ◌∷◌}
+use Rattle.prelude.specs.Words.{[], arith, rules}
 use mir.Syntax.{w64}
 use mir.Val.{to_z, of_z}
 use Rattle.transport.specs.Laws.RangeLaws.{back}

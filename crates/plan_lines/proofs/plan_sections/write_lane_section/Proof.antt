@@ -1,5 +1,6 @@
 -- The head line, and then the lines of the lanes in what is left of the output.
-use Rattle.prelude.specs.Words.{◌++◌, arith, length, rules}
+use Rattle.std.specs.Prelude.{◌++◌}
+use Rattle.prelude.specs.Words.{arith, length, rules}
 use Rattle.transport.specs.Text.{bytes, digits}
 use Rattle.decimals.specs.Front.{FirstWritten, first-room, second-start, second-room, both-length, both-written}
 use Rattle.sections.specs.Lines.{ended}

@@ -1,5 +1,6 @@
 -- The figures, and then the other sections in what is left of the output.
-use Rattle.prelude.specs.Words.{List, ◌++◌, ℕ, arith, length, rules}
+use Rattle.std.specs.Prelude.{◌++◌}
+use Rattle.prelude.specs.Words.{List, ℕ, arith, length, rules}
 use Rattle.decimals.specs.Front.{FirstWritten, first-room, second-start, second-room, both-length, both-written}
 use Rattle.plan_lines.specs.Sections.{figures_text, prices_text, lanes_text, plan_sections_of}
 use Rattle.plan_lines.proofs.plan_sections.write_plan_sections.Statement.{statement}

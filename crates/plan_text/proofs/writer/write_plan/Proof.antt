@@ -1,5 +1,6 @@
 -- Each way out is a case of the call; the sections that are written are those of what solve found.
-use Rattle.prelude.specs.Words.{◌≡◌, sym, ap, ◌∙◌, List, ℕ, ◌*◌, ◌≤◌, arith, mul-le-mul, ℤ, length, take, length-take-le, rules}
+use Rattle.std.specs.Prelude.{◌≡◌, ◌*◌, ◌≤◌}
+use Rattle.prelude.specs.Words.{sym, ap, ◌∙◌, List, ℕ, arith, mul-le-mul, ℤ, length, take, length-take-le, rules}
 use mir.Syntax.{w64}
 use mir.Val.{to_z, of_z}
 use Rattle.transport.specs.Laws.RangeLaws.{back}

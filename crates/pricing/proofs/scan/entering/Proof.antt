@@ -1,5 +1,6 @@
 -- `pricing::scan::entering` meets its contract: the row of the least reduced cost, and its column, are those of the laws of the scan.
-use Rattle.prelude.specs.Words.{◌<◌, ◌≡◌, ◌∙◌, arith, rules, get_or, pos}
+use Rattle.std.specs.Prelude.{◌<◌, ◌≡◌}
+use Rattle.prelude.specs.Words.{◌∙◌, arith, rules, get_or, pos}
 use mir.Syntax.{w32}
 use mir.Val.{to_z, of_z}
 use mir.Facts.{to_z-of_z}

@@ -1,6 +1,7 @@
 -- `pricing::scan::first_column` meets its contract. The loop's invariant: every column from where it began up to `col` has a
 -- greater slack; the measure is what is left of them.
-use Rattle.prelude.specs.Words.{◌+◌, ◌-◌, ◌*◌, ◌<◌, ◌^◌, ◌≡◌, arith, rules, get_or, pos, nat_abs, ◌-ℤ◌}
+use Rattle.std.specs.Prelude.{◌+◌, ◌-◌, ◌*◌, ◌<◌, ◌^◌, ◌≡◌, ◌-ℤ◌}
+use Rattle.prelude.specs.Words.{arith, rules, get_or, pos, nat_abs}
 use mir.Syntax.{w32}
 use mir.Val.{to_z, of_z}
 use Rattle.transport.specs.Limits.{max_cost, cost_above}

@@ -1,5 +1,6 @@
 -- `pricing::scan::least_reduced` meets its contract. The loop's invariant: the least of the rows before i; the measure is what is left of them.
-use Rattle.prelude.specs.Words.{◌+◌, ◌-◌, ◌≤◌, ◌<◌, ◌^◌, ◌≡◌, sym, ◌∙◌, arith, rules, get_or, pos, nat_abs}
+use Rattle.std.specs.Prelude.{◌+◌, ◌-◌, ◌≤◌, ◌<◌, ◌^◌, ◌≡◌}
+use Rattle.prelude.specs.Words.{sym, ◌∙◌, arith, rules, get_or, pos, nat_abs}
 use mir.Syntax.{w32}
 use mir.Val.{to_z}
 use mir.Facts.{to_z-of_z}

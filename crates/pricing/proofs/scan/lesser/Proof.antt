@@ -1,5 +1,6 @@
 -- `pricing::scan::lesser` meets its contract: the test of the code is that of the definition.
-use Rattle.prelude.specs.Words.{◌≡◌, ◌∙◌, rules}
+use Rattle.std.specs.Prelude.{◌≡◌}
+use Rattle.prelude.specs.Words.{◌∙◌, rules}
 use mir.Syntax.{w32}
 use mir.Val.{to_z, of_z}
 use Rattle.pricing.proofs.scan.lesser.Statement.{statement}

@@ -1,5 +1,6 @@
 -- `pricing::scan::raised` meets its contract. The loop's invariant: the rows before i are raised; the measure is what is left of them.
-use Rattle.prelude.specs.Words.{◌+◌, ◌-◌, ◌≤◌, ◌<◌, ◌^◌, ◌≡◌, sym, ap, ◌∙◌, arith, rules, get_or, pos, nat_abs, ◌+ℤ◌}
+use Rattle.std.specs.Prelude.{◌+◌, ◌-◌, ◌≤◌, ◌<◌, ◌^◌, ◌≡◌, ◌+ℤ◌}
+use Rattle.prelude.specs.Words.{sym, ap, ◌∙◌, arith, rules, get_or, pos, nat_abs}
 use mir.Syntax.{w32}
 use mir.Val.{to_z, of_z}
 use Rattle.transport.specs.Laws.RangeLaws.{sum_in, sum_back}

@@ -1,6 +1,7 @@
 -- `pricing::scan::refresh_slacks` meets its contract: where the row is among the nodes that moved, the columns rose (`slacks-risen`); where it is not, they
 -- fell (`slacks-fallen`).
-use Rattle.prelude.specs.Words.{◌+◌, ◌^◌, ◌<◌, ◌≡◌, sym, ◌∙◌, true, false, arith, rules, pos, nat_abs, neg_ℤ, ◌-ℤ◌, +ℤ_idl}
+use Rattle.std.specs.Prelude.{◌+◌, ◌^◌, ◌<◌, ◌≡◌, ◌-ℤ◌}
+use Rattle.prelude.specs.Words.{sym, ◌∙◌, true, false, arith, rules, pos, nat_abs, neg_ℤ, +ℤ_idl}
 use mir.Syntax.{w32}
 use mir.Val.{to_z, of_z}
 use Rattle.transport.specs.Laws.RangeLaws.{abs_neg, diff_in, diff_back}

@@ -1,5 +1,6 @@
 -- `pricing::scan::relax_slacks` meets its contract. The loop's invariant: the columns of `bits` are still to be taken in; the measure is `bits`.
-use Rattle.prelude.specs.Words.{◌+◌, ◌<◌, ◌≡◌, arith, rules, get_or, pos}
+use Rattle.std.specs.Prelude.{◌+◌, ◌<◌, ◌≡◌}
+use Rattle.prelude.specs.Words.{arith, rules, get_or, pos}
 use mir.Syntax.{w32}
 use mir.Val.{to_z, of_z}
 use Rattle.tree.specs.Layout.{node_room}

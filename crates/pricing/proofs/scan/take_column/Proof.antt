@@ -1,5 +1,6 @@
 -- `pricing::scan::take_column` meets its contract. The loop's invariant: the column is taken in for the rows before i; the measure is what is left of them.
-use Rattle.prelude.specs.Words.{◌+◌, ◌-◌, ◌*◌, ◌≤◌, ◌<◌, ◌^◌, ◌≡◌, ◌∙◌, arith, rules, get_or, pos, nat_abs, ◌-ℤ◌}
+use Rattle.std.specs.Prelude.{◌+◌, ◌-◌, ◌*◌, ◌≤◌, ◌<◌, ◌^◌, ◌≡◌, ◌-ℤ◌}
+use Rattle.prelude.specs.Words.{◌∙◌, arith, rules, get_or, pos, nat_abs}
 use mir.Syntax.{w32}
 use mir.Val.{to_z, of_z}
 use mir.Facts.{to_z-of_z}

@@ -1,6 +1,7 @@
 -- `rounds::round::advance` meets its contract: what the pivot asks follows from what the scan ensures on a tableau that is not finished. The hops lead from
 -- each call back to the one before it.
-use Rattle.prelude.specs.Words.{◌^◌, ◌<◌, arith, ◌≡◌, sym, ◌∙◌, true, rules, not-true, not-false, pos, lt_z, mag}
+use Rattle.std.specs.Prelude.{◌^◌, ◌<◌, ◌≡◌}
+use Rattle.prelude.specs.Words.{arith, sym, ◌∙◌, true, rules, not-true, not-false, pos, lt_z, mag}
 use mir.Syntax.{w32}
 use mir.Val.{to_z, of_z}
 use Rattle.transport.specs.Laws.RangeLaws.{back, mag_abs}

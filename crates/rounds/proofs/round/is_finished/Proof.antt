@@ -1,5 +1,6 @@
 -- `rounds::round::is_finished` meets its contract: what the scan finds on what `begin` gives.
-use Rattle.prelude.specs.Words.{◌^◌, ◌<◌, sym, ◌∙◌, rules, mag}
+use Rattle.std.specs.Prelude.{◌^◌, ◌<◌}
+use Rattle.prelude.specs.Words.{sym, ◌∙◌, rules, mag}
 use Rattle.rounds.specs.Kept.{sign-is, kept-priced, kept-range, scanned_done}
 use Rattle.rounds.specs.Begun.{verdict}
 use Rattle.rounds.proofs.round.is_finished.Statement.{statement}

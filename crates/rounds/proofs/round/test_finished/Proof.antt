@@ -1,6 +1,7 @@
 -- `rounds::round::test_finished` meets its contract: what the scan finds on the prices of the
 -- tableau.
-use Rattle.prelude.specs.Words.{◌^◌, ◌<◌, sym, ◌∙◌, arith, rules, mag}
+use Rattle.std.specs.Prelude.{◌^◌, ◌<◌}
+use Rattle.prelude.specs.Words.{sym, ◌∙◌, arith, rules, mag}
 use Rattle.rounds.specs.Kept.{sign-is, in_range, scanned_done}
 use Rattle.rounds.specs.Begun.{begun-sides, begun-room, begun-priced}
 use Rattle.rounds.proofs.round.test_finished.Statement.{statement}

@@ -1,6 +1,7 @@
 -- `runs::run::finish` meets its contract. The loop's invariant: the run of the bound of rounds has come to the tableau that is kept; the measure is that
 -- tableau's valued cost, which falls in each round. That run ends, so there is a round left of the bound wherever one is made, and their count fits.
-use Rattle.prelude.specs.Words.{◌+◌, ◌-◌, arith, sub-zero, ◌≡◌, refl, ◌∙◌, false, List, not-true, not-false}
+use Rattle.std.specs.Prelude.{◌+◌, ◌-◌, ◌≡◌}
+use Rattle.prelude.specs.Words.{arith, sub-zero, refl, ◌∙◌, false, List, not-true, not-false}
 use Rattle.transport.specs.Problem.{Problem}
 use Rattle.transport.specs.Round.{round_bound}
 use Rattle.transport.specs.declared.Cell.{Cell}

@@ -1,6 +1,7 @@
 -- `runs::run::rounds` meets its contract. The loop's invariant: the run of the allowance has come to the tableau that is kept; the measure is the rounds
 -- left.
-use Rattle.prelude.specs.Words.{◌+◌, ◌-◌, ◌^◌, ◌<◌, arith, ◌≡◌, refl, sym, ◌∙◌, List, rules, mag}
+use Rattle.std.specs.Prelude.{◌+◌, ◌-◌, ◌^◌, ◌<◌, ◌≡◌}
+use Rattle.prelude.specs.Words.{arith, refl, sym, ◌∙◌, List, rules, mag}
 use Rattle.transport.specs.Problem.{Problem}
 use Rattle.transport.specs.declared.Cell.{Cell}
 use Rattle.rounds.specs.Kept.{sign-is, kept-priced, kept-range, scanned_done, kept-still, kept_next}

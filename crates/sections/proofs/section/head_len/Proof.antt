@@ -1,5 +1,6 @@
 -- The lengths of the parts; a count has at most 20 digits.
-use Rattle.prelude.specs.Words.{◌≤◌, arith, length-append, rules}
+use Rattle.std.specs.Prelude.{◌≤◌}
+use Rattle.prelude.specs.Words.{arith, length-append, rules}
 use Rattle.transport.specs.Text.{digits}
 use Rattle.grammar.specs.Digits.{digits-length}
 use Rattle.sections.specs.Lines.{ended, length-ended}

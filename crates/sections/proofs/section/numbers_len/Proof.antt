@@ -1,5 +1,6 @@
 -- The loop's invariant: the length so far and that of the numbers left make up the whole; no number has more than 20 digits.
-use Rattle.prelude.specs.Words.{rules, ◌≡◌, ◌≤◌, ◌+◌, ◌-◌, ◌*◌, arith, length, drop, get_or}
+use Rattle.std.specs.Prelude.{◌≡◌, ◌≤◌, ◌+◌, ◌-◌, ◌*◌}
+use Rattle.prelude.specs.Words.{rules, arith, length, drop, get_or}
 use Rattle.transport.specs.Text.{digits}
 use Rattle.grammar.specs.Digits.{digits-length}
 use Rattle.sections.specs.Lines.{numbers_length, numbers-next, numbers-end}

@@ -1,5 +1,6 @@
 -- The loop's invariant: the output holds the first i bytes.
-use Rattle.prelude.specs.Words.{rules, ◌≡◌, refl, sym, ◌∙◌, ◌≤◌, ◌-◌, arith, add-one, length, take, get_or, length-set, take_all, take-suc, length-take-le}
+use Rattle.std.specs.Prelude.{◌≡◌, ◌≤◌, ◌-◌}
+use Rattle.prelude.specs.Words.{rules, refl, sym, ◌∙◌, arith, add-one, length, take, get_or, length-set, take_all, take-suc, length-take-le}
 use Rattle.decimals.specs.Front.{front, front-nil, front-byte}
 use Rattle.sections.proofs.section.write_bytes.Statement.{statement}
 use Rattle.sections.proofs.section.write_bytes.Tie as tie

@@ -1,5 +1,6 @@
 -- The digits, and one byte more.
-use Rattle.prelude.specs.Words.{◌<◌, arith, length, rules}
+use Rattle.std.specs.Prelude.{◌<◌}
+use Rattle.prelude.specs.Words.{arith, length, rules}
 use Rattle.transport.specs.Text.{digits}
 use Rattle.decimals.specs.Front.{front-byte}
 use Rattle.sections.specs.Lines.{ended, length-ended}

@@ -1,5 +1,6 @@
 -- The loop's invariant: the output holds the lines of the numbers so far.
-use Rattle.prelude.specs.Words.{rules, refl, ◌-◌, arith, length, take, get_or}
+use Rattle.std.specs.Prelude.{◌-◌}
+use Rattle.prelude.specs.Words.{rules, refl, arith, length, take, get_or}
 use Rattle.transport.specs.Text.{digits}
 use Rattle.decimals.specs.Front.{FirstWritten, second-start, second-room, both-length}
 use Rattle.sections.specs.Lines.{ended, lines_from}

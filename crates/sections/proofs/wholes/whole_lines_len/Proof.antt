@@ -1,5 +1,6 @@
 -- The loop's invariant: the length so far and that of the numbers left make up the whole; no number has more than 20 bytes.
-use Rattle.prelude.specs.Words.{rules, ◌≡◌, ◌≤◌, ◌+◌, ◌-◌, ◌*◌, arith, pos, length, drop, get_or}
+use Rattle.std.specs.Prelude.{◌≡◌, ◌≤◌, ◌+◌, ◌-◌, ◌*◌}
+use Rattle.prelude.specs.Words.{rules, arith, pos, length, drop, get_or}
 use mir.Syntax.{w64}
 use Rattle.transport.specs.Laws.RangeLaws.{back}
 use Rattle.transport.specs.Text.{whole_digits}

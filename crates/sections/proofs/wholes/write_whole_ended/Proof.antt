@@ -1,5 +1,6 @@
 -- The number, and one byte more.
-use Rattle.prelude.specs.Words.{◌≡◌, ◌<◌, ◌^◌, arith, length, mag, rules}
+use Rattle.std.specs.Prelude.{◌≡◌, ◌<◌, ◌^◌}
+use Rattle.prelude.specs.Words.{arith, length, mag, rules}
 use mir.Syntax.{w64}
 use Rattle.transport.specs.Laws.RangeLaws.{back}
 use Rattle.transport.specs.Text.{whole_digits}

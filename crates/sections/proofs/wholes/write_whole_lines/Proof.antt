@@ -1,5 +1,6 @@
 -- The loop's invariant: the output holds the lines of the numbers so far.
-use Rattle.prelude.specs.Words.{rules, ◌-◌, arith, pos, length, take, get_or}
+use Rattle.std.specs.Prelude.{◌-◌}
+use Rattle.prelude.specs.Words.{rules, arith, pos, length, take, get_or}
 use mir.Syntax.{w64}
 use mir.Val.{to_z, of_z}
 use Rattle.transport.specs.Laws.RangeLaws.{back}

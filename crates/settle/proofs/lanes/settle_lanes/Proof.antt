@@ -1,5 +1,6 @@
 -- `settle::lanes::settle_lanes` meets its contract. The loop's invariant: the lanes are decided of all rows but those left; the measure is how many these are.
-use Rattle.prelude.specs.Words.{◌≡◌, refl, ◌+◌, ◌-◌, ◌*◌, ◌≤◌, arith}
+use Rattle.std.specs.Prelude.{◌≡◌, ◌+◌, ◌-◌, ◌*◌, ◌≤◌}
+use Rattle.prelude.specs.Words.{refl, arith}
 use Rattle.augment.specs.Sought.{Rooms}
 use Rattle.settle.specs.Stage.{Stage, Reaches, reaches-none, reaches-on}
 use Rattle.settle.specs.Rows.{settleable_done, settleable_stage}

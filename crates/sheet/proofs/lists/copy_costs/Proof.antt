@@ -1,5 +1,6 @@
 -- The loop's invariant: the list holds the first i numbers.
-use Rattle.prelude.specs.Words.{rules, ◌≡◌, refl, ◌∙◌, ◌++◌, ◌≤◌, ◌-◌, arith, length, drop, get_or, length-set, pos}
+use Rattle.std.specs.Prelude.{◌≡◌, ◌++◌, ◌≤◌, ◌-◌}
+use Rattle.prelude.specs.Words.{rules, refl, ◌∙◌, arith, length, drop, get_or, length-set, pos}
 use mir.Syntax.{w64}
 use Rattle.transport.specs.Laws.RangeLaws.{back}
 use Rattle.transport.specs.Lists.{table}

@@ -1,5 +1,6 @@
 -- The loop's invariant: the list holds the first i numbers.
-use Rattle.prelude.specs.Words.{rules, ◌≡◌, refl, ◌∙◌, ◌++◌, ◌≤◌, ◌-◌, arith, length, drop, get_or, length-set}
+use Rattle.std.specs.Prelude.{◌≡◌, ◌++◌, ◌≤◌, ◌-◌}
+use Rattle.prelude.specs.Words.{rules, refl, ◌∙◌, arith, length, drop, get_or, length-set}
 use Rattle.transport.specs.Lists.{table}
 use Rattle.transport.specs.Laws.ListLaws.{table-zero, table-get_or, fill_one}
 use Rattle.sheet.proofs.lists.copy_list.Statement.{statement}

@@ -1,5 +1,6 @@
 -- `solving::cost::plan_cost` meets its contract. The loop's invariant: the sum over the lanes before l.
-use Rattle.prelude.specs.Words.{ℕ, ◌+◌, ◌-◌, ◌≤◌, ◌<◌, ◌^◌, arith, rules, ◌≡◌, refl, sym, ap, ◌∙◌, List, ℤ, pos, nat_abs, ◌+ℤ◌, ◌*ℤ◌, length, get_or}
+use Rattle.std.specs.Prelude.{◌+◌, ◌-◌, ◌≤◌, ◌<◌, ◌^◌, ◌≡◌, ◌+ℤ◌, ◌*ℤ◌}
+use Rattle.prelude.specs.Words.{ℕ, arith, rules, refl, sym, ap, ◌∙◌, List, ℤ, pos, nat_abs, length, get_or}
 use mir.Syntax.{w64}
 use mir.Val.{SFits, to_z, of_z}
 use mir.Facts.{to_z_pos, to_z-of_z}

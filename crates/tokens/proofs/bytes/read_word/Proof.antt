@@ -1,5 +1,6 @@
 -- The loop's invariant: what is left of the word is to be read from the present place on.
-use Rattle.prelude.specs.Words.{rules, ◌≡◌, refl, sym, ◌∙◌, true, ◌∷◌, ◌≤◌, ◌-◌, suc, arith, add-one, not-true, not-false, length, drop, get_or}
+use Rattle.std.specs.Prelude.{◌≡◌, ◌∷◌, ◌≤◌, ◌-◌}
+use Rattle.prelude.specs.Words.{rules, refl, sym, ◌∙◌, true, suc, arith, add-one, not-true, not-false, length, drop, get_or}
 use Rattle.prelude.specs.Words.{drop_of_length-le, drop-cons}
 use Rattle.transport.specs.SheetText.{word}
 use Rattle.tokens.specs.Reading.{byte_next, byte_inside, drop-next, word-nil, word_yes, word_no}

@@ -1,5 +1,6 @@
 -- `tree::potential::potentials` meets its contract. The loop's invariant: each node has its potential by the strikes from number k on; the measure is k.
-use Rattle.prelude.specs.Words.{suc, ◌+◌, ◌-◌, ◌≤◌, ◌<◌, ◌^◌, ◌≡◌, refl, ◌∙◌, arith, length, get_or, get_or-replicate, length-set, pos, nat_abs, rules}
+use Rattle.std.specs.Prelude.{◌+◌, ◌-◌, ◌≤◌, ◌<◌, ◌^◌, ◌≡◌}
+use Rattle.prelude.specs.Words.{suc, refl, ◌∙◌, arith, length, get_or, get_or-replicate, length-set, pos, nat_abs, rules}
 use mir.Syntax.{w32}
 use Rattle.transport.specs.Limits.{max_cost, cost_above}
 use Rattle.transport.specs.Laws.RangeLaws.{diff_in, diff_back}

@@ -1,5 +1,6 @@
 -- `tree::potential::raise` meets its contract: `touch_step` is a turn of the loop.
-use Rattle.prelude.specs.Words.{arith, rules, ◌+◌, ◌<◌, ◌^◌, ◌≡◌, pos, nat_abs, ◌+ℤ◌, get_or}
+use Rattle.std.specs.Prelude.{◌+◌, ◌<◌, ◌^◌, ◌≡◌, ◌+ℤ◌}
+use Rattle.prelude.specs.Words.{arith, rules, pos, nat_abs, get_or}
 use mir.Syntax.{w32}
 use mir.Val.{to_z, of_z}
 use Rattle.transport.specs.Laws.RangeLaws.{sum_in, sum_back}

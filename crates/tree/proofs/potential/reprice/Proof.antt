@@ -1,5 +1,6 @@
 -- `tree::potential::reprice` meets its contract: first the rows, then the columns.
-use Rattle.prelude.specs.Words.{cond, pos, nat_abs, neg_ℤ, ◌+ℤ◌, ◌-ℤ◌, +ℤ_idl, ◌≡◌, ◌∙◌, ◌^◌, ◌≤◌, arith, rules}
+use Rattle.std.specs.Prelude.{◌+ℤ◌, ◌-ℤ◌, ◌≡◌, ◌^◌, ◌≤◌}
+use Rattle.prelude.specs.Words.{cond, pos, nat_abs, neg_ℤ, +ℤ_idl, ◌∙◌, arith, rules}
 use mir.Val.{to_z, of_z}
 use mir.Syntax.{w32}
 use lib.Bits.{bit_and}

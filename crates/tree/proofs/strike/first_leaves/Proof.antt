@@ -1,6 +1,7 @@
 -- `tree::strike::first_leaves` meets its contract. The loop's invariant: the queue holds the leaves among the nodes passed; the measure is what is left of the
 -- nodes.
-use Rattle.prelude.specs.Words.{◌≡◌, ◌+◌, ◌-◌, ◌≤◌, ◌<◌, arith, rules, length, set, length-set}
+use Rattle.std.specs.Prelude.{◌≡◌, ◌+◌, ◌-◌, ◌≤◌, ◌<◌}
+use Rattle.prelude.specs.Words.{arith, rules, length, set, length-set}
 use Rattle.tree.specs.Layout.{node_room}
 use Rattle.tree.specs.Queue.{Queue, room, queue-start, queue-next}
 use Rattle.tree.proofs.strike.first_leaves.Statement.{statement}

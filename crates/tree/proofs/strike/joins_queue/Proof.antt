@@ -1,5 +1,6 @@
 -- `tree::strike::joins_queue` meets its contract, by the cases of its tests. Assumes nothing.
-use Rattle.prelude.specs.Words.{◌≡◌, sym, ◌∙◌, true, false, rules, eq-eqb, ne_eqb, eqb}
+use Rattle.std.specs.Prelude.{◌≡◌}
+use Rattle.prelude.specs.Words.{sym, ◌∙◌, true, false, rules, eq-eqb, ne_eqb, eqb}
 use lib.Count.{ones}
 use Rattle.tree.proofs.strike.joins_queue.Statement.{statement}
 use Rattle.tree.proofs.strike.joins_queue.Tie as tie

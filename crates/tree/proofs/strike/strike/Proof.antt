@@ -1,5 +1,6 @@
 -- `tree::strike::strike` meets its contract. The loop's invariant is `StrikeState`; the measure is what is left of the room for nodes.
-use Rattle.prelude.specs.Words.{◌≡◌, true, ◌+◌, ◌-◌, ◌<◌, arith, rules, eq-eqb, get_or, set}
+use Rattle.std.specs.Prelude.{◌≡◌, ◌+◌, ◌-◌, ◌<◌}
+use Rattle.prelude.specs.Words.{true, arith, rules, eq-eqb, get_or, set}
 use Rattle.tree.specs.Layout.{node_room}
 use Rattle.tree.specs.Mask.{bit}
 use Rattle.tree.specs.Links.{tied, end_below, own-le}
