@@ -2,7 +2,6 @@
 use Rattle.std.specs.Prelude.{◌≡◌}
 use Rattle.prelude.specs.Words.{refl, pos}
 use Rattle.transport.specs.declared.SolveAnswer.{SolveAnswer}
-use Rattle.transport.specs.declared.SolveAnswer.TheVariants as SolveAnswer
 use Rattle.transport.specs.Calls.{Answer, refused, given, Solution}
 use Rattle.transport.specs.Answers.{solve_answer}
 use Rattle.border.specs.declared.SolveOut.{SolveOut}

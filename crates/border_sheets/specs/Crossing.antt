@@ -2,9 +2,7 @@
 use Rattle.std.specs.Prelude.{◌≡◌, ◌-◌}
 use Rattle.prelude.specs.Words.{refl, sym, ap, ◌∙◌, List, Option, none, some, ℕ, length, some≢none}
 use Rattle.transport.specs.declared.ReadAnswer.{ReadAnswer}
-use Rattle.transport.specs.declared.ReadAnswer.TheVariants as ReadAnswer
 use Rattle.transport.specs.declared.WriteAnswer.{WriteAnswer}
-use Rattle.transport.specs.declared.WriteAnswer.TheVariants as WriteAnswer
 use Rattle.transport.specs.Sheet.{Sheet}
 use Rattle.transport.specs.Calls.{Answer, refused, given, Refusal}
 use Rattle.transport.specs.Laws.CallLaws.{unless_placeless}
@@ -15,7 +13,6 @@ use Rattle.border.specs.declared.StartOut.{StartOut}
 use Rattle.transport.specs.declared.Tableau.{Tableau}
 use Rattle.transport.specs.declared.Cell.{Cell}
 use Rattle.transport.specs.declared.StartOutcome.{StartOutcome}
-use Rattle.transport.specs.declared.StartOutcome.TheVariants as StartOutcome
 use Rattle.border.specs.declared.ReadOut.{ReadOut}
 use Rattle.border.specs.declared.WriteOut.{WriteOut}
 use Rattle.border.specs.Border.{start_out_of, read_out_of, write_out_of}
@@ -51,8 +48,7 @@ pub read_is : (text : List ℕ) (a b c : ℕ) → read_as (read_answer (read_she
 unfolding read_answer read_out_of
 read_is text a b c = go (read_sheet_call text a b c) refl
   where
-    place : (r : Refusal) → read_sheet_call text a b c ≡ refused r → (o : Option ℕ) → r.position ≡ o → read_as (read_answer (refused r))
-        ≡ read_out_of (refused r)
+    place : (r : Refusal) → read_sheet_call text a b c ≡ refused r → (o : Option ℕ) → r.position ≡ o → read_as (read_answer (refused r)) ≡ read_out_of (refused r)
     place r e none h = rw (h, read_answer, read_out_of)
     place r e (some p) h = rw (h, read_answer, read_out_of, placed_nine text a b c r p e h)
 

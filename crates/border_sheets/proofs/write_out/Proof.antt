@@ -4,11 +4,11 @@ use Rattle.border_sheets.specs.Crossing.{written}
 use Rattle.border_sheets.proofs.write_out.Statement.{statement}
 use Rattle.border_sheets.proofs.write_out.Tie as tie
 
-returns : tie.Need-returns
-returns c = ap written (sym c.before.answer.given.1)
+returns : tie.Need-returns-in-Written
+returns c = ap written (sym c.in-Written.is)
 
-returns-2 : tie.Need-returns-2
-returns-2 c = ap written (sym c.before.answer2.given.1)
+returns-2 : tie.Need-returns-in-Refused
+returns-2 c = ap written (sym c.in-Refused.is)
 
-pub write-out-spec : {M : Type 1} → statement M
-write-out-spec = tie.close (tie.spec (λ c. search rules) (λ c. search rules) returns returns-2)
+pub write_out_spec : {M : Type 1} → statement M
+write_out_spec = tie.close (tie.spec (λ c. search rules) (λ c. search rules) returns returns-2)

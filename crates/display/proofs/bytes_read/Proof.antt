@@ -4,13 +4,13 @@ use Rattle.transport.specs.Limits.{max_text}
 use Rattle.display.proofs.bytes_read.Statement.{statement}
 use Rattle.display.proofs.bytes_read.Tie as tie
 
-returns : tie.Need-returns
+returns : tie.Need-returns-then-len-lt-MAX_READ
 unfolding max_text
 returns c = omega arith
 
-returns-2 : tie.Need-returns-2
+returns-2 : tie.Need-returns-else-len-lt-MAX_READ
 unfolding max_text
 returns-2 c = omega arith
 
-pub bytes-read-spec : {M : Type 1} → statement M
-bytes-read-spec = tie.close (tie.spec returns returns-2)
+pub bytes_read_spec : {M : Type 1} → statement M
+bytes_read_spec = tie.close (tie.spec returns returns-2)

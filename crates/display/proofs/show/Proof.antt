@@ -12,12 +12,12 @@ use Rattle.display.proofs.show.Statement.{statement}
 use Rattle.display.proofs.show.Tie as tie
 
 -- What is known where the reader's answer is looked at.
-module _ (c : tie.After-cost2) where
-  abbrev read : tie.After-read-sections
+module _ (c : tie.After-cost-2-1) where
+  abbrev read : tie.After-read_sections-answer
   read = c.before.before.before
 
-  abbrev counted : tie.After-bytes-read
-  counted = read.before.before.before.before.before
+  abbrev counted : tie.After-bytes_read-end
+  counted = read.before.before.before.before
 
   abbrev start : tie.Start
   start = counted.before.before.before
@@ -26,28 +26,28 @@ module _ (c : tie.After-cost2) where
   input = start.args.input.now
 
   -- What is read of the input.
-  text-read : take counted.bytes_read.result input ≡ take (suc max_text) input
-  text-read = ap (λ (k : ℕ). take k input) counted.bytes_read.ensures ∙ take_min input (suc max_text)
+  text-read : take counted.bytes_read-end.result input ≡ take (suc max_text) input
+  text-read = ap (λ (k : ℕ). take k input) counted.bytes_read-end.ensures ∙ take_min input (suc max_text)
 
 -- A sheet that was read.
-module _ (c : tie.After-answer) where
-  abbrev known : tie.After-cost2
-  known = c.before.before
+module _ (c : tie.In-Sheet) where
+  abbrev known : tie.After-cost-2-1
+  known = c.before
 
   abbrev lists : List ℕ × List ℕ × List ℤ
-  lists = let last = (read known).read-sections.last in (last.1.0, last.1.1.0, last.1.1.1.0)
+  lists = let new = (read known).read_sections-answer.new in (new.supply, new.demand, new.cost)
 
   abbrev m : ℕ
-  m = c.answer.given.0.0
+  m = c.in-Sheet.m
 
   abbrev n : ℕ
-  n = c.answer.given.0.1.0
+  n = c.in-Sheet.n
 
-  the-sheet : SheetIn (take (counted known).bytes_read.result (input known)) lists.0 lists.1 lists.2 m n
+  the-sheet : SheetIn (take (counted known).bytes_read-end.result (input known)) lists.0 lists.1 lists.2 m n
   unfolding max_sources max_sinks
   the-sheet =
-      let r = (read known).read-sections in
-      sheet_in r.ensures.0 r.ensures.1 c.answer.given.1 (omega arith) (omega arith) (omega arith)
+      let r = (read known).read_sections-answer in
+      sheet_in r.ensures.0 r.ensures.1 c.in-Sheet.is (omega arith) (omega arith) (omega arith)
 
   the-plan : printed (input known) ≡ sheet_shown (sheet_of (take m lists.0) (take n lists.1) (take (m * n) lists.2))
   the-plan =
@@ -64,34 +64,31 @@ module _ (c : tie.After-answer) where
   unfolding max_sources max_sinks
   few = let p = the-sheet.m-few in let q = the-sheet.n-few in (p, q, mul-le-mul p q, mul-le-mul p p)
 
-abbrev answered : tie.After-demand3 → tie.After-answer
-answered c = c.before.before.before
+abbrev answered : tie.After-demand-in-Sheet-1 → tie.In-Sheet
+answered c = c.before.before
 
-returns : tie.Need-returns
+returns : tie.Need-returns-in-Sheet
 unfolding front
 returns c =
-    let p = c.before.before in
-    let a = answered p.before.before.before in
-    rw (shown-is (input (known a)) (length (start (known a)).args.out.now) _ (the-plan a)) p.show-plan.ensures
+    let a = answered c.before.before.before.before.before in
+    rw (shown-is (input (known a)) (length (start (known a)).args.out.now) _ (the-plan a)) c.show_plan.ensures
 
-returns-2 : tie.Need-returns-2
+returns-2 : tie.Need-returns-in-NotSheetText
 unfolding front bytes
 returns-2 c =
-    let r = c.before.before in
-    let a = r.before.before.before.before in
-    let k = a.before.before in
-    let e = (read k).read-sections.ensures in
-    rw (shown-is (input k) (length (start k).args.out.now) _ (printed-stuck (input k) _ (text-read k) e.0 e.1 a.answer2.given.1))
-    r.show-refusal.ensures
+    let k = c.before.before.before.before.before.before.before in
+    let e = (read k).read_sections-answer.ensures in
+    rw (shown-is (input k) (length (start k).args.out.now) _ (printed-stuck (input k) _ (text-read k) e.0 e.1 c.in-NotSheetText.is))
+    c.show_refusal.ensures
 
-pub show-spec : {M : Type 1} → statement M
+pub show_spec : {M : Type 1} → statement M
 unfolding max_sources max_sinks
-show-spec =
-    tie.close (tie.spec (λ c κs. search rules) (λ c. sym (length-take-le _ _ (omega (arith, c.before.bytes_read.ensures)))) (λ c. search rules)
-    (λ c. search rules) (λ c. search rules) (λ c κs. omega arith) (λ c. search rules) (λ c. omega (arith, few c.before))
-    (λ c. omega (arith, few c.before)) (λ c. sym (length-take-le _ _ (omega (arith, few c.before.before))))
-    (λ c. omega (arith, few c.before.before)) (λ c. sym (length-take-le _ _ (omega (arith, few (answered c)))))
+show_spec =
+    tie.close (tie.spec (λ c κs. search rules) (λ c. sym (length-take-le _ _ (omega (arith, c.bytes_read-end.ensures)))) (λ c. search rules)
+    (λ c. search rules) (λ c. search rules) (λ c κs. omega arith) (λ c. search rules) (λ c. omega (arith, few c))
+    (λ c. omega (arith, few c)) (λ c. sym (length-take-le _ _ (omega (arith, few c.before))))
+    (λ c. omega (arith, few c.before)) (λ c. sym (length-take-le _ _ (omega (arith, few (answered c)))))
     (λ c. omega (arith, few (answered c))) (λ c. sym (length-take-le _ _ (omega (arith, few (answered c.before)))))
-    (λ c κs. search rules) (λ c. search rules) (λ c. search rules) (λ c κs. search rules) (λ c. search rules) (λ c. search rules)
+    (λ c κs. search rules) (λ c. search rules) (λ c κs. search rules) (λ c. search rules) (λ c. search rules)
     returns (λ c. search rules) returns-2
-    (λ c. absurd (subst (ReadFits _) c.enum_told.given.1 (read c.before.before).read-sections.ensures.1)))
+    (λ c. absurd (subst (ReadFits _) c.in-Refused.is (read c.before).read_sections-answer.ensures.1)))

@@ -18,47 +18,47 @@ use Rattle.plan_text.proofs.writer.write_plan.Tie as tie
 
 -- From solve to the start, and from each step to the one before it: the answer of solve that was matched, the count of the lanes, the length of the
 -- text, and the text.
-abbrev solve_start : tie.After-solve → tie.Start
+abbrev solve_start : tie.After-solve-answer → tie.Start
 solve_start c = c.before.before.before.before.before.before.before
 
-abbrev solved : tie.After-plan2 → tie.After-solve
+abbrev solved : tie.After-plan-2-1 → tie.After-solve-answer
 solved c = c.before.before.before
 
-abbrev solve_of : tie.After-answer2 → tie.After-solve
-solve_of c = solved c.before.before
+abbrev solve_of : tie.In-Solved → tie.After-solve-answer
+solve_of c = solved c.before
 
-abbrev answer_of : tie.After-used-count → tie.After-answer2
-answer_of c = c.before.before.before
+abbrev answer_of : tie.After-used_count → tie.In-Solved
+answer_of c = c.before.before
 
-abbrev lent_for : tie.After-plan4 → tie.After-used-count
+abbrev lent_for : tie.After-plan-in-Solved-2-1 → tie.After-used_count
 lent_for c = c.before.before.before
 
-abbrev count_of : tie.After-plan-sections-len → tie.After-used-count
+abbrev count_of : tie.After-plan_sections_len → tie.After-used_count
 count_of c = lent_for c.before
 
-abbrev length_of : tie.After-v4 → tie.After-plan-sections-len
+abbrev length_of : tie.After-v-in-Solved-2-1 → tie.After-plan_sections_len
 length_of c = c.before.before.before
 
-abbrev start_of : tie.After-answer2 → tie.Start
+abbrev start_of : tie.In-Solved → tie.Start
 start_of c = solve_start (solve_of c)
 
 abbrev sheet_at : (t : tie.Start) → Sheet
 sheet_at t = sheet_of t.args.supply.now t.args.demand.now t.args.cost.now
 
 -- What solve found.
-module _ (c : tie.After-answer2) where
+module _ (c : tie.In-Solved) where
   abbrev total : ℤ
-  total = c.answer2.given.0.0
+  total = c.in-Solved.total
 
   abbrev made : ℕ
-  made = c.answer2.given.0.1.0
+  made = c.in-Solved.rounds
 
-  plan-found : FoundPlan (sheet_at (start_of c)) total made (solve_of c).solve.new.1.1.1.0 (solve_of c).solve.new.1.1.1.1.0
-      (solve_of c).solve.new.1.1.1.1.1.0
+  plan-found : FoundPlan (sheet_at (start_of c)) total made (solve_of c).solve-answer.new.u (solve_of c).solve-answer.new.v
+      (solve_of c).solve-answer.new.plan
   unfolding max_side
   plan-found =
-      let e = (solve_of c).solve.ensures in
-      found _ _ _ (sym c.answer2.given.1 ∙ e.0) e.1 e.2 e.3
+      let e = (solve_of c).solve-answer.ensures in
+      found _ _ _ (sym c.in-Solved.is ∙ e.0) e.1 e.2 e.3
 
   ok : Accepted (sheet_at (start_of c))
   ok = accepted (sheet_at (start_of c)) plan-found.passes
@@ -69,20 +69,20 @@ module _ (c : tie.After-answer2) where
   few = let l = ok.limits in let p = l.roasteries_high in (p, l.cafes_low, l.cafes_high, mul-le-mul p l.cafes_high, mul-le-mul p p)
 
 -- The total is passed on as it is.
-total_kept : (c : tie.After-known-told2) → to_z w64 (of_z w64 (total c.before)) ≡ total c.before
-total_kept c = back w64 (total c.before) (search rules)
+total_kept : (c : tie.In-Solved) → to_z w64 (of_z w64 (total c)) ≡ total c
+total_kept c = back w64 (total c) (search rules)
 
 -- The needs of the slices hold whatever two sides the count of lanes is made of, so that a program that leaves out lanes is refused by the contract.
-slice-aggregate-plan-sections-len : tie.Need-slice-aggregate-plan-sections-len
+slice-aggregate-plan-sections-len : tie.Need-slice_bounds-plan_sections_len-end
 slice-aggregate-plan-sections-len c = sym (length-take-le _ _ (omega (arith, few (answer_of c.before))))
 
-slice-aggregate-plan-sections-len-2 : tie.Need-slice-aggregate-plan-sections-len-2
+slice-aggregate-plan-sections-len-2 : tie.Need-slice_bounds-plan_sections_len-end-in-Solved
 slice-aggregate-plan-sections-len-2 c = sym (length-take-le _ _ (omega (arith, few (answer_of c.before.before))))
 
-slice-aggregate-plan-sections-len-3 : tie.Need-slice-aggregate-plan-sections-len-3
+slice-aggregate-plan-sections-len-3 : tie.Need-slice_bounds-plan_sections_len-end-in-Solved-2
 slice-aggregate-plan-sections-len-3 c = sym (length-take-le _ _ (omega (arith, few (answer_of (lent_for c)))))
 
-plan-sections-len-requires : tie.Need-plan-sections-len-requires
+plan-sections-len-requires : tie.Need-plan_sections_len-requires
 unfolding max_side
 plan-sections-len-requires c κs =
     omega (
@@ -94,62 +94,62 @@ plan-sections-len-requires c κs =
     )
 
 -- If the lanes are counted in the plan of the sheet, the sections are the plan text.
-module _ (c : tie.After-used-count) where
+module _ (c : tie.After-used_count) where
   abbrev plan : List ℕ
   plan = take (length (start_of (answer_of c)).args.supply.now * length (start_of (answer_of c)).args.demand.now)
-      (solve_of (answer_of c)).solve.new.1.1.1.1.1.0
+      (solve_of (answer_of c)).solve-answer.new.plan
 
-  the-text : c.used-count.result ≡ used_count_of plan (length plan) → plan_text (sheet_at (start_of (answer_of c)))
+  the-text : c.used_count.result ≡ used_count_of plan (length plan) → plan_text (sheet_at (start_of (answer_of c)))
       ≡ plan_sections_of (record {
         total = to_z w64 (of_z w64 (total (answer_of c)));
         rounds = made (answer_of c);
-        used = c.used-count.result;
+        used = c.used_count.result;
       })
-      (take (length (start_of (answer_of c)).args.supply.now) (solve_of (answer_of c)).solve.new.1.1.1.0)
-      (take (length (start_of (answer_of c)).args.demand.now) (solve_of (answer_of c)).solve.new.1.1.1.1.0)
+      (take (length (start_of (answer_of c)).args.supply.now) (solve_of (answer_of c)).solve-answer.new.u)
+      (take (length (start_of (answer_of c)).args.demand.now) (solve_of (answer_of c)).solve-answer.new.v)
       plan
   unfolding roasteries cafes
-  the-text count = found_sections (plan-found (answer_of c)) _ _ (total_kept c.before.before) count
+  the-text count = found_sections (plan-found (answer_of c)) _ _ (total_kept (answer_of c)) count
 
-returns : tie.Need-returns
+returns : tie.Need-returns-then-out-plan_sections_len
 unfolding write_plan_call
 returns c =
     let k = count_of c.before in
     let t = start_of (answer_of k) in
     wrote_short (sheet_at t) (plan_text (sheet_at t)) t.args.out.now (plan-found (answer_of k)).passes
-    (omega (arith, c.before.plan-sections-len.ensures, ap length (the-text k k.used-count.ensures)))
+    (omega (arith, c.plan_sections_len.ensures, ap length (the-text k k.used_count.ensures)))
 
-write-plan-sections-requires : tie.Need-write-plan-sections-requires
+write-plan-sections-requires : tie.Need-write_plan_sections-len-requires
 write-plan-sections-requires c κs =
     let l = length_of c.before.before in
-    let p = plan-sections-len-requires l.before l.plan-sections-len.lifetimes in
+    let p = plan-sections-len-requires l.before l.plan_sections_len.lifetimes in
     (p.2, p.3, search rules)
 
-returns-2 : tie.Need-returns-2
+returns-2 : tie.Need-returns-in-Refused
 unfolding write_plan_call max_side
 returns-2 c =
-    let s = solved c.before.before.before in
+    let s = solved c.before in
     let S = sheet_at (solve_start s) in
-    wrote_check S (plan_text S) (solve_start s).args.out.now _ (refused-check S _ (sym c.before.answer.given.1 ∙ s.solve.ensures.0))
+    wrote_check S (plan_text S) (solve_start s).args.out.now _ (refused-check S _ (sym c.in-Refused.is ∙ s.solve-answer.ensures.0))
 
-returns-3 : tie.Need-returns-3
+returns-3 : tie.Need-returns-else-out-plan_sections_len
 unfolding write_plan_call
 returns-3 c =
-    let w = c.before.before in
-    let v = w.before.before.before in
+    let w = c in
+    let v = w.before.before.before.before.before in
     let l = length_of v in
     let k = count_of l in
     let t = start_of (answer_of k) in
-    let text = the-text k k.used-count.ensures in
-    rw (w.write-plan-sections.ensures.0, w.write-plan-sections.ensures.1, ← text)
+    let text = the-text k k.used_count.ensures in
+    rw (w.write_plan_sections-len.ensures.0, w.write_plan_sections-len.ensures.1, ← text)
     (wrote_given (sheet_at t) (plan_text (sheet_at t)) t.args.out.now (plan-found (answer_of k)).passes
-    (omega (arith, l.plan-sections-len.ensures, ap length text, v.before.before.if1.false)))
+    (omega (arith, l.plan_sections_len.ensures, ap length text, v.if-out-plan_sections_len.false)))
 
-pub write-plan-spec : {M : Type 1} → statement M
-write-plan-spec =
+pub write_plan_spec : {M : Type 1} → statement M
+write_plan_spec =
     tie.close (tie.spec (λ c. search rules) (λ c. search rules) (λ c. search rules) (λ c κs. search rules) (λ c. search rules)
-    (λ c. search rules) (λ c. omega (arith, few c.before)) (λ c. omega (arith, few c.before))
-    (λ c. sym (length-take-le _ _ (omega (arith, few c.before.before)))) (λ c κs. search rules) (λ c. omega (arith, few (answer_of c)))
+    (λ c. search rules) (λ c. omega (arith, few c)) (λ c. omega (arith, few c))
+    (λ c. sym (length-take-le _ _ (omega (arith, few c.before)))) (λ c κs. search rules) (λ c. omega (arith, few (answer_of c)))
     slice-aggregate-plan-sections-len (λ c. omega (arith, few (answer_of c.before))) slice-aggregate-plan-sections-len-2
     (λ c. omega (arith, few (answer_of c.before.before))) slice-aggregate-plan-sections-len-3 plan-sections-len-requires returns
     (λ c. omega (arith, few (answer_of (count_of c.before))))
