@@ -156,7 +156,7 @@ module _ {m n s j : ℕ} {row col up : List ℕ} {q : List ℤ} {holds owns : Li
   -- The first move, from row `row 0` at the goal.
   pub bring_first : (entry row 0 < stride) × (entry row s < stride) × (j < stride)
       × (nat_abs (get_or q (entry row 0 * stride + j) (pos 0)) + nat_abs x < 2 ^ 62)
-          × (nat_abs (get_or q (entry row s * stride + j) (pos 0)) + nat_abs x < 2 ^ 62)
+      × (nat_abs (get_or q (entry row s * stride + j) (pos 0)) + nat_abs x < 2 ^ 62)
   bring_first = let w = v.walkable in
       let r : entry row 0 < m = w.rows 0 (omega arith) in let r' : entry row s < m = w.rows s (omega arith) in
       omega (arith, w.rows_high, w.cols_high, w.goal, few-small (entry row 0) j r w.goal, small, few-small (entry row s) j r' w.goal)
@@ -192,7 +192,7 @@ module _ {m n s j : ℕ} {row col up : List ℕ} {q : List ℤ} {holds owns : Li
 
     pub bringing_next : (from < stride) × (to < stride) × (across < stride)
         × (nat_abs (get_or q' (from * stride + across) (pos 0)) + nat_abs x < 2 ^ 62)
-            × (nat_abs (get_or q' (to * stride + across) (pos 0)) + nat_abs x < 2 ^ 62)
+        × (nat_abs (get_or q' (to * stride + across) (pos 0)) + nat_abs x < 2 ^ 62)
     bringing_next = let r : from < m = v.walkable.rows at few-steps in
         let r' : to < m = v.walkable.rows (entry up at) (omega (arith, falls, few-steps)) in
         let c : across < n = v.walkable.cols at some few-steps in

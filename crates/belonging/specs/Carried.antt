@@ -65,10 +65,10 @@ passed_none leaf other lane count amount weight l =
 -- If lane k carries what its leaf needs, that is taken from both its ends.
 pub passed-more : {start : ℕ → ℤ} {leaf other lane : List ℕ} {count : ℕ} {amount weight : List ℤ} {k : ℕ} → StrikesInRoom leaf other lane count → k < count
     → Passed start leaf other lane count amount weight k → LanesApart lane count → get_or amount (get_or lane k 0) (pos 0)
-        ≡ get_or weight (get_or leaf k 0) (pos 0)
+    ≡ get_or weight (get_or leaf k 0) (pos 0)
     → let mid = set weight (get_or leaf k 0) (pos 0) in
     Passed start leaf other lane count amount
-        (set mid (get_or other k 0) (get_or mid (get_or other k 0) (pos 0) -ℤ get_or weight (get_or leaf k 0) (pos 0))) (k + 1)
+    (set mid (get_or other k 0) (get_or mid (get_or other k 0) (pos 0) -ℤ get_or weight (get_or leaf k 0) (pos 0))) (k + 1)
 passed-more {k = k} w p h d e = record {
   needed = needed-step w p h.needed d;
   done = λ i q. by_cases (dec_lt i k) (h.done i) (λ r. let t : i ≡ k = omega arith in rw t (e ∙ sym (flow-now w p h.needed)));

@@ -35,9 +35,11 @@ number_digits b ds d f = go (eqb (digit_value_of b) 0) refl ds f
     go true e [] i = (omega (arith, v.1), digits-small (digit_value_of b) v.1 ∙ rw v.0)
     go true e (c ∷ es) i = absurd i
     go false e es i = let n : digit_value_of b ≡ 0 → ⊥ = eqb-false (digit_value_of b) 0 e in
-        let w : digits (value (digit_value_of b) es) ≡ b ∷ es = first-digits (λ x. true) (max_digits - 1) b es d (omega arith) i in
-        ((digits-length (max_digits - 1) (value (digit_value_of b) es)).0
-            (rw w (omega (arith, follows-length (λ x. true) (max_digits - 1) (digit_value_of b) es i))), w)
+        let w : digits (value (digit_value_of b) es) ≡ b ∷ es = first-digits (λ x. true) (max_digits - 1) b es d (omega arith) i in (
+          (digits-length (max_digits - 1) (value (digit_value_of b) es)).0
+              (rw w (omega (arith, follows-length (λ x. true) (max_digits - 1) (digit_value_of b) es i))),
+          w,
+        )
 
 -- No digit makes a number smaller.
 value_grows : (x : ℕ) (ds : List ℕ) → x ≤ value x ds

@@ -171,8 +171,8 @@ module _ (m : ℕ) (supply : List ℕ) where
   demands-then t =
       list_then (bytes "demand ") max_sinks cost_rows _ costs-then t
       ∙ sym
-          (bind_assoc (list_reader (bytes "demand ") max_sinks) (sheet_with supply) t
-              (λ demand. after_demand m (length demand) >>= λ cost. pure (demand, cost)))
+      (bind_assoc (list_reader (bytes "demand ") max_sinks) (sheet_with supply) t
+      (λ demand. after_demand m (length demand) >>= λ cost. pure (demand, cost)))
 
 -- The sheet reader, one section at a time: the supplies, and then what comes after them, which needs their count alone.
 pub sheet-then : (t : List ℕ) → sheet_reader t ≡ (list_reader (bytes "supply ") max_sources >>= λ supply. after_supply (length supply) >>= sheet_with supply) t

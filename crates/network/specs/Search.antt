@@ -28,8 +28,11 @@ at-root up s e = record { root = e; below = λ k l. absurd (omega arith); falls 
 
 under_root : (up : ℕ → ℕ) (s d : ℕ) → up s < s → Rooted up (up s) d → Rooted up s (suc d)
 under_root up s d less w =
-    record { root = w.root; below = λ k. elim k as (λ k. k < suc d → 0 < above up s k) [ zero ↦ λ l. omega arith | suc k ↦ λ l. w.below k (omega arith) ];
-        falls = falls }
+    record {
+      root = w.root;
+      below = λ k. elim k as (λ k. k < suc d → 0 < above up s k) [ zero ↦ λ l. omega arith | suc k ↦ λ l. w.below k (omega arith) ];
+      falls = falls;
+    }
   where
     falls : (h k : ℕ) → h < k → k < suc (suc d) → above up s k < above up s h
     falls h zero l l' = absurd (omega arith)
@@ -92,8 +95,11 @@ module _ {m n p q N s j d : ℕ} {P : ℕ → ℕ → Type 0} {x : ℕ → ℕ �
     some = omega arith;
     rows =
         λ k.
-            elim k as (λ k. k < suc d → r k < m) [ zero ↦ λ l. rw t.root hp | suc k ↦ λ l. t.rows (above up s k) (w.below k (omega arith))
-                (low k (omega arith)) ];
+        elim k as (λ k. k < suc d → r k < m) [
+          | zero ↦ λ l. rw t.root hp
+          | suc k ↦ λ l. t.rows (above up s k) (w.below k (omega arith))
+              (low k (omega arith))
+        ];
     cols = λ k. elim k as (λ k. k < suc d → c k < n) [ zero ↦ λ l. hj | suc k ↦ λ l. t.cols (above up s k) (w.below k (omega arith)) (low k (omega arith)) ];
     back = ap row w.root;
     once = once;
@@ -121,8 +127,11 @@ module _ {m n p q N s j d : ℕ} {P : ℕ → ℕ → Type 0} {x : ℕ → ℕ �
         start = t.root;
         later =
             λ k.
-                elim k as (λ k. 0 < k → k < suc d → p < r k) [ zero ↦ λ l l'. absurd (omega arith) | suc k ↦ λ l l'. t.later (above up s k)
-                    (w.below k (omega arith)) (low k (omega arith)) ];
+            elim k as (λ k. 0 < k → k < suc d → p < r k) [
+              | zero ↦ λ l l'. absurd (omega arith)
+              | suc k ↦ λ l l'. t.later (above up s k)
+                  (w.below k (omega arith)) (low k (omega arith))
+            ];
         goal = goal;
         ends = ends d refl deep;
         lanes = λ k. elim k as (λ k. k < suc d → P (r (suc k)) (c k)) [

@@ -75,8 +75,11 @@ module _ (n : ℕ) (xs p : List ℕ) (e : length xs ≡ n) where
       size = omega (arith, length-append xs p, g.size, suc-mul (length ss) n);
       rows =
           λ i.
-              elim i as (λ i. i < suc (length ss) → sum_to n (λ j. at (xs ++ p) (place n i j)) ≤ at (s ∷ ss) i) [ zero ↦ λ l.
-                  omega (arith, first-row, r.most) | suc i ↦ λ l. omega (arith, other_row i, g.rows i (omega arith)) ];
+          elim i as (λ i. i < suc (length ss) → sum_to n (λ j. at (xs ++ p) (place n i j)) ≤ at (s ∷ ss) i) [
+            | zero ↦ λ l.
+                omega (arith, first-row, r.most)
+            | suc i ↦ λ l. omega (arith, other_row i, g.rows i (omega arith))
+          ];
       columns = λ j l. omega (arith, column (length ss) j l, g.columns j l, at-taken ds xs j r.size, r.wanted j);
     }
 

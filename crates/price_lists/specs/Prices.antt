@@ -253,7 +253,7 @@ module _ {S : Sheet} {T : List Cell} {rows cols : List ℕ} {price : List ℤ} (
       unfolding cafe_prices at_z
       cafes-front =
           ap (take (cafes S))
-              (filled_is (cafe_price_of E T) columns columns (cafes S) (pos 0) (omega (arith, columns-long, n_room)) refl cafe-here (λ k l. refl))
+          (filled_is (cafe_price_of E T) columns columns (cafes S) (pos 0) (omega (arith, columns-long, n_room)) refl cafe-here (λ k l. refl))
           ∙ take_at (table (cafes S) (cafe_price_of E T)) (drop (cafes S) columns) (cafes S) (length-table (cafe_price_of E T) (cafes S))
 
       pub cafes-given : (v : List ℤ) {v' : List ℤ} → v' ≡ take (cafes S) columns ++ drop (length (take (cafes S) columns)) v

@@ -40,7 +40,7 @@ module _ (S : Sheet) (x : List ℕ) where
     quantities = length-grid (cafes S) (λ i j. at x (place (width_of S) i j)) (roasteries S);
     rows = λ i l.
         let same = sum_to_cong (cafes S) (λ j. at (sheet_plan S x) (place (cafes S) i j)) (λ j. at x (place (width_of S) i j))
-            (λ j h. sheet_plan-same i j l h) in
+        (λ j h. sheet_plan-same i j l h) in
         omega (arith, sum_to-part (cafes S) (width_of S) (λ j. at x (place (width_of S) i j)) (width_low S), f.rows i l);
     columns = λ j h.
         sum_to_cong (roasteries S) (λ i. at (sheet_plan S x) (place (cafes S) i j)) (λ i. at x (place (width_of S) i j)) (λ i l. sheet_plan-same i j l h)

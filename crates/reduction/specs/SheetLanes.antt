@@ -103,7 +103,7 @@ first-at {x} {y} m n long i j l h differ before =
 -- Two plans of the extended problem that send as much from each row.
 module _ (S : Sheet) (x y : List ℕ)
     (rows : (i : ℕ) → i < roasteries S → sum_to (width_of S) (λ j. at x (place (width_of S) i j))
-        ≡ sum_to (width_of S) (λ j. at y (place (width_of S) i j))) where
+    ≡ sum_to (width_of S) (λ j. at y (place (width_of S) i j))) where
   -- What goes to the extra café is decided by the rest of its row: where they agree on all lanes of the sheet in a row, they agree on the whole row.
   row_agrees : (i : ℕ) → i < roasteries S → ((j : ℕ) → j < cafes S → at x (place (width_of S) i j) ≡ at y (place (width_of S) i j))
       → (j : ℕ) → j < width_of S → at x (place (width_of S) i j) ≡ at y (place (width_of S) i j)

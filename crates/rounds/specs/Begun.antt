@@ -64,7 +64,7 @@ module _ {P : Problem} {T : List Cell} {q e cost : List ℤ} {leaf other tree : 
             let low : 1 ≤ m = begun-sides.rows_low in
             by k (omega (arith, begun-sides.rows_high, begun-sides.cols_high)) ∙ potential_any low fits spanned (cost_of cost) d.loaded.struck k l
             ∙ potential-only low fits spanned (lane_cost P) (potential_by (cost_of cost) (strikes m n (basis_for T)))
-                (potential-root low fits spanned (cost_of cost))
+            (potential-root low fits spanned (cost_of cost))
             (λ t r. omega (arith, potential-tight low fits spanned (cost_of cost) t r, z-eq (same t r))) k l ∙ rw (d.rows, d.columns)
 
         none : (k : ℕ) → m + n ≤ k → k < node_room → get_or price k (pos 0) ≡ pos 0

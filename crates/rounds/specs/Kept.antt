@@ -142,7 +142,7 @@ module _ {P : Problem} {T : List Cell} {cost price : List ℤ} {m n : ℕ} (b : 
       unfolding entering
       scanned_enters = let M = sources P in let N = sinks P in let below = place-below M N row col on-sheet.0 on-sheet.1 in
           first_least_unique (λ k l. lt_z (reduced_cost P T k) (reduced_cost P T l)) (by_key (reduced_cost P T) lt_z_weak) (lane_of no_cell) (lanes M N)
-              (lane row col)
+          (lane row col)
           (place N row col) (record {
             inside = omega (arith, below, length-lanes M N);
             stands = get_or-lanes M N row col (lane_of no_cell) on-sheet.0 on-sheet.1;

@@ -135,7 +135,7 @@ module _ {P : Problem} (ok : Sound P) {T : List Cell} (w : Belongs P T) {e : Lan
     least = λ k l s p. true≢false
         (sym (true-less (get_or T k no_cell).amount out.amount (rw (amount-at T (distinct_of ok w) k (omega (arith, many)), at_out) at p))
         ∙ pivot-leaves.least (get_or T k no_cell) (member-at T no_cell k (omega (arith, many)))
-            (yes_lt (signs m n T e (lane (row_of T k) (col_of T k))) (pos 0) s));
+        (yes_lt (signs m n T e (lane (row_of T k) (col_of T k))) (pos 0) s));
   }
 
   -- ---- the cells after the pivot

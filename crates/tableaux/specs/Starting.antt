@@ -186,7 +186,7 @@ start_stairs : (P : Problem) → Sound P → Stairs P 0 0 (paired_supply_of P 0)
 unfolding start
 start_stairs P ok =
     rw (size-suc P ok)
-        (corner_stairs P ok (basis_size (sources P) (sinks P) - 1) 0 0 (paired_supply_of P 0) (paired_demand_of P 0) (begin P ok _ (size-suc P ok)))
+    (corner_stairs P ok (basis_size (sources P) (sinks P) - 1) 0 0 (paired_supply_of P 0) (paired_demand_of P 0) (begin P ok _ (size-suc P ok)))
 
 -- ---- the shape of the stairs
 

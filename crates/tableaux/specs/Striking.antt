@@ -344,7 +344,7 @@ linked-leaves {m} {n} {left} (suc size) (l ∷ ls) p w q =
     let (s, o) = leaf_exists w p others l (Memᴰ-head refl) in
     let f = found m (table (basis_size m n) suc) (l ∷ ls) s o in
     leaf s.leaf s.lane f.only
-        (linked-leaves {left = unless s.leaf left} size (without m s.leaf (l ∷ ls)) p (leaf-struck w others f) (omega (arith, length_without f)))
+    (linked-leaves {left = unless s.leaf left} size (without m s.leaf (l ∷ ls)) p (leaf-struck w others f) (omega (arith, length_without f)))
 
 -- The sentence of the paper on single basic cells: joined lanes have a leaf, and what is left without it is joined again.
 pub leaf_again : {m n : ℕ} {B : List Lane} → 1 ≤ m → Fits m n B → length B ≡ basis_size m n → Joined m n (Has B) → Strikable m B

@@ -317,7 +317,7 @@ module _ (low : ℕ) where
     first-digit : low ≤ get_or text at 0 - 48 → number_from low (drop at text) ≡ after_first (get_or text at 0) (drop (at + 1) text)
     first-digit p = number_is _
         ∙ bind-got (byte_that (starts_by (leb low))) (drop at text) (drop (at + 1) text) after_first (get_or text at 0)
-            (starts_yes (leb low) d (le-leb low _ p))
+        (starts_yes (leb low) d (le-leb low _ p))
 
     pub number-zero : low ≤ get_or text at 0 - 48 → get_or text at 0 - 48 ≡ 0 → number_from low (drop at text) ≡ got 0 (drop (at + 1) text)
     number-zero p e = first-digit p ∙ (rw e (more-none always 0 (drop (at + 1) text)))
@@ -417,7 +417,7 @@ module _ (most : ℕ) where
         let first : within 1 most (get_or text at 0 - 48) ≡ true = true-within 1 most (get_or text at 0 - 48) (omega arith) (omega (arith, d.high)) in
         side-is _
         ∙ bind-got (byte_that (starts_by (within 1 most))) (drop at text) (drop (at + 1) text) after_side (get_or text at 0)
-            (starts_yes (within 1 most) d first)
+        (starts_yes (within 1 most) d first)
 
   -- A side that was read is within its limit.
   side-within : (m : ℕ) (rest t : List ℕ) → side most t ≡ got m rest → within 1 most m ≡ true

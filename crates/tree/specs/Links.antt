@@ -177,10 +177,12 @@ module _ {m n : ℕ} {live : List ℕ} (w : Links m n live) (p b : ℕ) (len : l
           (t, s, λ f. d (sym (own-end w x y l t) ∙ ap (own_bit_of m) f))
 
       off : x ≢ p → x ≢ other_end_of m p b → (tied live x y ≡ true) × (x ≢ p) × (other_end_of m x y ≢ p)
-      off s r = let t : tied live x y ≡ true = ap (λ z. has z y) (sym (at_rest x s r)) ∙ h in
-          (t, s,
-              λ f. r (sym (end-end w x y l t) ∙ ap (λ z. other_end_of m z (own_bit_of m x)) f
-                  ∙ ap (other_end_of m p) (few (own_bit_of m x) (rw f at (end_back w x y l t)))))
+      off s r = let t : tied live x y ≡ true = ap (λ z. has z y) (sym (at_rest x s r)) ∙ h in (
+        t,
+        s,
+        λ f. r (sym (end-end w x y l t) ∙ ap (λ z. other_end_of m z (own_bit_of m x)) f
+            ∙ ap (other_end_of m p) (few (own_bit_of m x) (rw f at (end_back w x y l t)))),
+      )
 
   pub gone_to : (x y : ℕ) → x < m + n → tied live x y ≡ true → x ≢ p → other_end_of m x y ≢ p → tied (without-lane m live p b) x y ≡ true
   gone_to x y l t s f = by_cases (ℕ_discrete x (other_end_of m p b)) at (λ r. ap (λ z. has z y) (at_rest x s r) ∙ t)

@@ -175,7 +175,7 @@ module _ {m n : ℕ} {live leaf : List ℕ} {k tail : ℕ} (w : Links m n live) 
       lone : (y : ℕ) × (tied live-next (other_end_of m leaf-now b) y ≡ true) → k ≤ t → ⊥
       lone (y, h) r = let f : not (eqb y (own_bit_of m leaf-now)) && tied live (other_end_of m leaf-now b) y ≡ true =
           sym (has-unset (get_or live (other_end_of m leaf-now b) 0) (own_bit_of m leaf-now) y)
-              ∙ ap (λ z. has z y) (sym (at-end w leaf-now b len leaf-low e leaf-few))
+          ∙ ap (λ z. has z y) (sym (at-end w leaf-now b len leaf-low e leaf-few))
           ∙ h in
           let g : tied live (get_or leaf t 0) y ≡ true = rw s (and_right (not (eqb y (own_bit_of m leaf-now))) (tied live (other_end_of m leaf-now b) y) f) in
           let g' : tied live (get_or leaf t 0) (own_bit_of m leaf-now) ≡ true = rw s back in

@@ -6,11 +6,11 @@ use Rattle.transport.specs.Laws.RangeLaws.{back}
 use Rattle.exports.proofs.change_of.Statement.{statement}
 use Rattle.exports.proofs.change_of.Tie as tie
 
-returns : tie.Need-returns
-returns c = rw c.if1.true
+returns : tie.Need-returns-then-amounts
+returns c = rw c.if-amounts.true
 
-returns-2 : tie.Need-returns-2
-returns-2 c = rw c.if1.false (ap Cost (back w64 c.before.args.cost (search rules)))
+returns-2 : tie.Need-returns
+returns-2 c = rw c.if-amounts.false (ap Cost (back w64 c.args.cost (search rules)))
 
-pub change-of-spec : {M : Type 1} → statement M
-change-of-spec = tie.close (tie.spec returns returns-2)
+pub change_of_spec : {M : Type 1} → statement M
+change_of_spec = tie.close (tie.spec returns returns-2)

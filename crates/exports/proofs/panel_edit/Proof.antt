@@ -12,14 +12,14 @@ returns : tie.Need-returns
 returns c =
     let o = c.before.before.before.before in
     let m = o.before.before.before.before in
-    let a = m.before.before.args in
-    let x = o.edit.new.1.1 in
+    let a = m.args in
+    let x = o.edit.new in
     let says : Change → Type 0 = λ change. Says a.standing (record { row = a.row; col = a.col; change = change })
-    a.u.now a.v.now a.plan.now o.edit.result x.0 x.1.0 x.1.1.0 in
+    a.u.now a.v.now a.plan.now o.edit.result x.u x.v x.plan in
     let crossed = ap (λ (cost : ℤ). cond a.amounts (Amounts a.supply a.demand) (Cost cost))
     (back w64 a.cost (search rules)) in
-    subst says (m.change-of.ensures ∙ crossed) o.edit.ensures
+    subst says (m.change_of-change.ensures ∙ crossed) o.edit.ensures
 
-pub panel-edit-spec : {M : Type 1} → statement M
-panel-edit-spec =
+pub panel_edit_spec : {M : Type 1} → statement M
+panel_edit_spec =
     tie.close (tie.spec (λ c κs. tt) (λ c κs. tt) (λ c. search rules) (λ c. search rules) (λ c. search rules) returns)

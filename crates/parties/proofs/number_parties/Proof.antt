@@ -71,7 +71,7 @@ returns-2 c = λ cost.
     let p = c.before.before.before in
     let t = totals_at p in
     parties-extra (sheet_at (start_of p) cost) (t.before.total_of.result - t.total_of-2.result) (home-is p cost) (some-home c.before.before)
-        (room c.before.before)
+    (room c.before.before)
     (rows_at p).number_left-m.ensures p.number_left-n.ensures
 
 pub number_parties_spec : {M : Type 1} → statement M

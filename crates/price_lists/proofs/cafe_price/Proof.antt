@@ -78,9 +78,12 @@ loop-again c =
     let turn = c.before.before.before.before in
     let here = turn.before in
     let slack = c.before.slack in
-    let fresh = back w64 slack.result (search rules) ∙ slack-is (start here) here.loop-k.k (next turn) slack.result slack.ensures in
-    (omega arith, omega arith, back w64 c.lesser-least.result (search rules)
-        ∙ least_step _ here.loop-k.invariant.0 here.loop-k.invariant.2 fresh c.lesser-least.ensures)
+    let fresh = back w64 slack.result (search rules) ∙ slack-is (start here) here.loop-k.k (next turn) slack.result slack.ensures in (
+      omega arith,
+      omega arith,
+      back w64 c.lesser-least.result (search rules)
+          ∙ least_step _ here.loop-k.invariant.0 here.loop-k.invariant.2 fresh c.lesser-least.ensures,
+    )
 
 returns : tie.Need-returns invariant-loop decreases-loop
 returns c =

@@ -57,9 +57,12 @@ unfolding at_z
 loop-again c =
     let here = c.before.before.before.before in
     let slack = c.before.slack in
-    let fresh = back w64 slack.result (search rules) ∙ slack-is (start here) here.loop-j.j slack.result slack.ensures in
-    (omega arith, omega arith, back w64 c.lesser-least.result (search rules)
-        ∙ least_step _ here.loop-j.invariant.0 here.loop-j.invariant.2 fresh c.lesser-least.ensures)
+    let fresh = back w64 slack.result (search rules) ∙ slack-is (start here) here.loop-j.j slack.result slack.ensures in (
+      omega arith,
+      omega arith,
+      back w64 c.lesser-least.result (search rules)
+          ∙ least_step _ here.loop-j.invariant.0 here.loop-j.invariant.2 fresh c.lesser-least.ensures,
+    )
 
 returns : tie.Need-returns invariant-loop decreases-loop
 returns c =

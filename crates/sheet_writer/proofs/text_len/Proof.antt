@@ -50,6 +50,6 @@ returns c =
 pub text_len_spec : {M : Type 1} → statement M
 text_len_spec =
     tie.close
-        (tie.spec (λ c κs. omega (arith, few c.before.before.before.before)) (λ c κs. omega (arith, few (start c.before.before)))
-            (λ c. omega (arith, few (start (first c)))) (λ c κs. omega (arith, few (start (first c.before.before))))
-                (λ c. omega (arith, few (start (first c.before.before.before)))) returns)
+    (tie.spec (λ c κs. omega (arith, few c.before.before.before.before)) (λ c κs. omega (arith, few (start c.before.before)))
+    (λ c. omega (arith, few (start (first c)))) (λ c κs. omega (arith, few (start (first c.before.before))))
+    (λ c. omega (arith, few (start (first c.before.before.before)))) returns)

@@ -31,5 +31,5 @@ loop-again c = let b = c.before.before.before.before in let s = b.before.before 
 pub hold_spec : {M : Type 1} → statement M
 hold_spec = tie.close (tie.spec invariant-loop decreases-loop (λ c. touch-start _ 0 c.args.holds.now c.args.cols) (λ c κs. omega arith)
     (λ c. omega (arith, inside c)) (λ c. inside c.before) (λ c κs. omega arith) (λ c. omega (arith, inside c.before.before.before))
-        (λ c. inside c.before.before.before)
+    (λ c. inside c.before.before.before)
     (λ c κs. omega arith) loop-less loop-again (λ c. touch-end c.before.loop-left.invariant (omega arith)))

@@ -40,5 +40,5 @@ returns c = λ n b. let e : c.before.loop-i.i ≡ c.before.before.before.before.
 pub mask_bags_spec : {M : Type 1} → statement M
 mask_bags_spec = tie.close (tie.spec invariant-loop decreases-loop loop-holds (λ c. omega (arith, low c)) (λ c. omega (arith, low c.before))
     (λ c κs. (low c.before.before, basics c.before.before)) (λ c. omega (arith, low c.before.before.before)) (λ c. low c.before.before.before.before)
-        hold-requires
+    hold-requires
     (λ c. omega (arith, low c.before.before.before.before.before.before)) (λ c. omega arith) loop-again returns)

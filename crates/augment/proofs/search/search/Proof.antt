@@ -70,10 +70,10 @@ returns c = let r = c.before.before.before.before.before.before.before.before.be
 reach-requires : tie.Need-reach-requires invariant-loop decreases-loop
 reach-requires c κs = let r = c.before.before.before.before.before.before.before.before.before.before.before.before.before in let l =
     (turn (next r)).loop-rows in (
-  l.invariant.rooms.from_long,
-  λ k h. sweep_fresh l.invariant (a (next r)).requires.0.1 (next r).first_bit-i.result (least-row (next r)) k
-      (rw c.before.before.before.before.without-fresh.ensures at h),
-)
+      l.invariant.rooms.from_long,
+      λ k h. sweep_fresh l.invariant (a (next r)).requires.0.1 (next r).first_bit-i.result (least-row (next r)) k
+          (rw c.before.before.before.before.without-fresh.ensures at h),
+    )
 
 loop-again : tie.Need-loop-rows-preserved invariant-loop decreases-loop
 loop-again c = let w = c.before.before.before.before.before in let r = w.before.before.before.before.before.before.before.before.before in let fresh =
@@ -92,16 +92,16 @@ pub search_spec : {M : Type 1} → statement M
 search_spec =
     tie.close (tie.spec invariant-loop decreases-loop (λ c. omega (arith, c.requires.1.row_long)) (λ c. omega (arith, low c.before)) (λ c. low c.before.before)
     (λ c κs. omega (arith, low c.before.before)) (λ c. omega (arith, low c.before.before.before)) (λ c. low c.before.before.before.before) loop-holds
-        (λ c κs. omega arith)
+    (λ c κs. omega arith)
     (λ c. omega (arith, row_low c)) (λ c. row_low c.before)
     (λ c κs. let n = c.before.before in sweep_some (turn n).loop-rows.invariant (a n).requires.0.1 n.first_bit-i.result (least-row n))
     (λ c. omega (arith, count_low (next c))) (λ c. count_low (next c.before)) (λ c. omega (arith, count_low (next c.before)))
-        (λ c. count_low (next c.before.before))
+    (λ c. count_low (next c.before.before))
     (λ c. omega (arith, col-low c.before.before)) (λ c. col-low c.before.before.before)
-        (λ c. omega (arith, count_low (next c.before.before.before.before))) (λ c. count_low (next c.before.before.before.before.before))
+    (λ c. omega (arith, count_low (next c.before.before.before.before))) (λ c. count_low (next c.before.before.before.before.before))
     (λ c. omega (arith, row_low (next c.before.before.before.before.before))) (λ c. row_low (next c.before.before.before.before.before.before))
-        (λ c κs. search rules) (λ c κs. omega arith) returns
+    (λ c κs. search rules) (λ c κs. omega arith) returns
     (λ c κs. omega (arith, row_low (next c.before.before.before.before.before.before.before.before.before.before.before))) reach-requires
     (λ c. omega (arith, count_low (next c.before.before.before.before.before.before.before.before.before.before.before.before.before.before)))
     (λ c. omega (arith, count_low (next c.before.before.before.before.before.before.before.before.before.before.before.before.before.before))) loop-again
-        returns-2)
+    returns-2)

@@ -29,7 +29,7 @@ module _ (c : tie.In-loop-k invariant-loop decreases-loop) where
 loop-again : tie.Need-loop-k-preserved invariant-loop decreases-loop
 loop-again c = let i = c.before.before.before.before.before.before.before.before.loop-k in let e : suc (i.k - 1) ≡ i.k = omega arith in
     rw c.set_bit.ensures
-        (hang_step c.before.before.before.before.before.before.before.before.before.before.requires {path = i.path} (rw e i.invariant) (omega arith))
+    (hang_step c.before.before.before.before.before.before.before.before.before.before.requires {path = i.path} (rw e i.invariant) (omega arith))
 
 returns : tie.Need-returns invariant-loop decreases-loop
 returns c = let e : c.before.loop-k.k ≡ 0 = omega arith in rw e at c.before.loop-k.invariant
@@ -38,5 +38,5 @@ pub hang_spec : {M : Type 1} → statement M
 hang_spec = tie.close (tie.spec invariant-loop decreases-loop loop-holds (λ c. search rules) (λ c. search rules) (λ c. search rules) (λ c. search rules)
     (λ c. search rules) (λ c. omega (arith, other_in c.before.before.before.before)) (λ c. other_in c.before.before.before.before.before) (λ c κs. search rules)
     (λ c. omega (arith, leaf_in c.before.before.before.before.before.before.before)) (λ c. leaf_in c.before.before.before.before.before.before.before)
-        (λ c. search rules)
+    (λ c. search rules)
     loop-again returns)

@@ -77,5 +77,5 @@ returns c = let h = c.before in let v = cafes h in let u = roasteries v in let r
 pub plan_sections_len_spec : {M : Type 1} → statement M
 plan_sections_len_spec = tie.close (tie.spec (λ c. search rules) (λ c κs. search rules) (λ c. search rules)
     (λ c κs. search rules) (λ c. search rules) whole-section-len-requires-2 add-result-2 whole-section-len-requires-3 add-result-3 (λ c κs. search rules)
-        add-result-4
+    add-result-4
     (λ c κs. omega (arith, (start (rounds (roasteries (cafes c)))).requires)) add-result-5 returns)

@@ -34,6 +34,6 @@ returns c = let b = begun c.before.before.before.before.before.before.before.bef
 pub write_price_sections_spec : {M : Type 1} → statement M
 write_price_sections_spec =
     tie.close
-        (tie.spec write-whole-section-requires (λ c. second-start (begun c.before.before.before.before))
-            (λ c. second-start (begun c.before.before.before.before)) (λ c. search rules)
+    (tie.spec write-whole-section-requires (λ c. second-start (begun c.before.before.before.before))
+    (λ c. second-start (begun c.before.before.before.before)) (λ c. search rules)
     write-whole-section-requires-2 add-result (λ c. search rules) returns)

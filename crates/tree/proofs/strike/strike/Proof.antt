@@ -95,6 +95,6 @@ strike_spec = tie.close (tie.spec invariant-loop decreases-loop (λ c κs. (c.be
     (λ c. omega (arith, node-room (turn (found c.before.before.before)))) (λ c. node-room (turn (found c.before.before.before)))
     (λ c. omega (arith, end-in c.before.before.before.before.before)) (λ c. end-in c.before.before.before.before.before)
     (λ c. omega (arith, tail-room (turn (found c.before.before.before)).before)) (λ c. tail-room (turn (found c.before.before.before)).before)
-        (λ c κs. search rules)
+    (λ c κs. search rules)
     add-tail (λ c. omega (arith, k_room (turn (found c.before.before.before.before)))) (λ c. omega (arith, k_room (turn (found c.before.before.before.before))))
     loop-again returns-2)
