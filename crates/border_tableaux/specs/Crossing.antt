@@ -3,11 +3,8 @@ use Rattle.std.specs.Prelude.{◌≡◌}
 use Rattle.prelude.specs.Words.{refl, true, false, List, ℕ, ℤ, by_test}
 use Rattle.transport.specs.declared.Tableau.{Tableau}
 use Rattle.transport.specs.declared.RoundOutcome.{RoundOutcome}
-use Rattle.transport.specs.declared.RoundOutcome.TheVariants as RoundOutcome
 use Rattle.transport.specs.declared.RunOutcome.{RunOutcome}
-use Rattle.transport.specs.declared.RunOutcome.TheVariants as RunOutcome
 use Rattle.transport.specs.declared.SettleAnswer.{SettleAnswer}
-use Rattle.transport.specs.declared.SettleAnswer.TheVariants as SettleAnswer
 use Rattle.transport.specs.Round.{Run}
 use Rattle.transport.specs.Calls.{Answer, refused, given, Round, finished, moved}
 use Rattle.transport.specs.Answers.{round_answer, run_outcome, run_answer, settle_answer}

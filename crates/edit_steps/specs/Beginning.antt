@@ -1,6 +1,6 @@
 -- Where the rounds of an edit begin, laid out over the arrays.
-use Rattle.std.specs.Prelude.{◌≡◌, ◌<◌, ◌≤◌}
-use Rattle.prelude.specs.Words.{refl, sym, ap, ◌∙◌, List, ℕ, arith, ℤ, pos, nat_abs, length, take, set}
+use Rattle.std.specs.Prelude.{◌≡◌, ◌≤◌}
+use Rattle.prelude.specs.Words.{ap, ◌∙◌, List, ℕ, arith, ℤ, pos, nat_abs, length, take, set}
 use Rattle.prelude.specs.Words.{get_or-set_same}
 use Rattle.transport.specs.declared.Cell.{Cell}
 use Rattle.transport.specs.declared.Change.TheVariants as Change
@@ -10,14 +10,13 @@ use Rattle.transport.specs.Lists.{at_z}
 use Rattle.transport.specs.Problem.{place}
 use Rattle.transport.specs.Sheet.{Sheet, sheet_of, roasteries, cafes}
 use Rattle.transport.specs.Extended.{extended}
-use Rattle.transport.specs.Parties.{left, rows_left_of, problem_of}
+use Rattle.transport.specs.Parties.{rows_left_of, problem_of}
 use Rattle.transport.specs.Tableau.{start}
 use Rattle.transport.specs.Statements.{Accepted}
 use Rattle.transport.specs.Laws.PartiesLaws.{left_at}
 use Rattle.transport.specs.Laws.RangeLaws.{abs_between}
 use Rattle.transport.proofs.Sound.{sources-room, sinks-room}
 use Rattle.parties.specs.declared.Parties.{Parties}
-use Rattle.parties.specs.Parties.{PartiesOf}
 use Rattle.numbering.specs.Numbers.{left_growing}
 use Rattle.cost_grid.specs.Costs.{Spread}
 use Rattle.loading.specs.Loading.{Admitted, admitted_respread}

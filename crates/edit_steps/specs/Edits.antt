@@ -1,12 +1,11 @@
 -- The steps of an edit: what is set in the lists, what the edited sheet is refused by, and where
 -- its rounds begin.
 use Rattle.std.specs.Prelude.{◌≡◌, ◌&&◌, ◌∷◌, ◌+◌, ◌*◌, ◌≤◌, ◌<◌}
-use Rattle.prelude.specs.Words.{refl, sym, ap, ◌∙◌, Bool, true, false, not, List, [], ℕ}
+use Rattle.prelude.specs.Words.{refl, sym, ap, ◌∙◌, Bool, true, not, List, [], ℕ}
 use Rattle.prelude.specs.Words.{zero, suc, arith, ltb-true, eqb, ltb, ℤ, pos, length}
 use Rattle.prelude.specs.Words.{set, get_or, take, drop, length-set, not-false, mul-le-mul}
 use Rattle.transport.specs.declared.Cell.{Cell}
 use Rattle.transport.specs.declared.Change.{Change}
-use Rattle.transport.specs.declared.Change.TheVariants as Change
 use Rattle.transport.specs.declared.Edit.{Edit}
 use Rattle.transport.specs.Limits.{max_sources, max_sinks}
 use Rattle.transport.specs.Lists.{all}

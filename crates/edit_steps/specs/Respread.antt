@@ -17,7 +17,7 @@ use Rattle.transport.specs.Laws.ProblemLaws.{place_injective}
 use Rattle.transport.specs.Laws.PartiesLaws.{left-whole}
 use Rattle.parties.specs.declared.Parties.{Parties}
 use Rattle.parties.specs.Parties.{PartiesOf, cafes-lent}
-use Rattle.tree.specs.Layout.{stride, stride-is, lane_room}
+use Rattle.tree.specs.Layout.{stride, stride-is}
 use Rattle.numbering.specs.Numbers.{Growing, number_in, number_in-at, number_in-found}
 use Rattle.cost_grid.specs.Costs.{Spread}
 use Rattle.edit_steps.specs.Edits.{EditOf, same-costs, same-roasteries, same-cafes}

@@ -1,6 +1,6 @@
 -- `edit_steps::begin::begin_afresh` meets its contract: the first tableau is dealt, the costs lie
 -- by column for its parties, and it is laid out over empty arrays.
-use Rattle.prelude.specs.Words.{refl, length}
+use Rattle.prelude.specs.Words.{refl}
 use Rattle.transport.specs.Sheet.{Sheet, sheet_of, roasteries, cafes}
 use Rattle.transport.specs.Extended.{extended}
 use Rattle.transport.specs.Parties.{rows_left_of}
