@@ -36,8 +36,8 @@ loop-again c =
     let long : length (start here).args.v ≡ 32 = search rules in
     elim c.if-demand-j-eq0.branch [
       | then-demand-j-eq0 w ↦
-        priced-struck inv (omega arith) (omega (arith, inv.long, room here)) w.if-demand-j-eq0.true w.priced-is
-        (back w64 w.cafe_price.result (search rules) ∙ w.cafe_price.ensures)
+          priced-struck inv (omega arith) (omega (arith, inv.long, room here)) w.if-demand-j-eq0.true w.priced-is
+          (back w64 w.cafe_price.result (search rules) ∙ w.cafe_price.ensures)
       | else-demand-j-eq0 w ↦ priced-left inv (omega arith) w.if-demand-j-eq0.false w.priced-is
     ]
 

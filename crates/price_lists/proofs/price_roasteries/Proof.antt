@@ -36,8 +36,8 @@ loop-again c =
     let inv = here.before.loop-i.invariant in
     elim c.if-supply-i-eq0.branch [
       | then-supply-i-eq0 w ↦
-        priced-struck inv (omega arith) (room here) w.if-supply-i-eq0.true w.u-is
-        (back w64 w.roastery_price.result (search rules) ∙ w.roastery_price.ensures)
+          priced-struck inv (omega arith) (room here) w.if-supply-i-eq0.true w.u-is
+          (back w64 w.roastery_price.result (search rules) ∙ w.roastery_price.ensures)
       | else-supply-i-eq0 w ↦ priced-left inv (omega arith) w.if-supply-i-eq0.false w.u-is
     ]
 
