@@ -55,7 +55,7 @@ loop-again c =
       elim c.if-cost-j.branch [
         | then-cost-j w ↦ rw (w.tight-is, w.set_bit-tight.ensures) (tight_in i (sym (slack-is k) ∙ ap (to_z w32) w.if-cost-j.true ∙ own))
         | else-cost-j w ↦
-          rw w.tight-is (tight-out i (λ e. w.if-cost-j.false (ap (of_z w32) (sym (to_z-of_z {w = w32} (sub-if1 k)) ∙ slack-is k ∙ e))))
+            rw w.tight-is (tight-out i (λ e. w.if-cost-j.false (ap (of_z w32) (sym (to_z-of_z {w = w32} (sub-if1 k)) ∙ slack-is k ∙ e))))
       ],
       own,
     )
