@@ -3,7 +3,6 @@ use Rattle.prelude.specs.Words.{◌≡◌, refl, ap, ◌∙◌, List, ℕ, ◌*�
 use Rattle.prelude.specs.Words.{leb, ℤ, length, drop, length-drop, by_test}
 use Rattle.std.proofs.Common.{leb-false}
 use Rattle.transport.specs.declared.ReadAnswer.{ReadAnswer}
-use Rattle.transport.specs.declared.ReadAnswer.TheVariants as ReadAnswer
 use Rattle.transport.specs.Sheet.{Sheet as SheetRecord, roasteries, cafes, refusal, number_tests}
 use Rattle.transport.specs.Calls.{Answer, refused, given, refused_by, unless, lent_after, too_short}
 use Rattle.transport.specs.Answers.{read_answer}
