@@ -1,5 +1,4 @@
-// A tableau that is lent as a list of its cells. The borrow checker does not cover a lent list of structs, so a function that takes one is proved by hand: the
-// loop is thin, and the work is done by a function that takes structs by value.
+// A tableau that is lent as a list of its cells. The loop is thin, and the work is done by a function that takes structs by value.
 #![tactic(auto)]
 
 ghost use Rattle.std.specs.Prelude.{◌≡◌};

@@ -1,5 +1,5 @@
--- The theorems about the sheet text: `reader-iff` and `place` (Place), `text-length` (Longest), `readSheet-iff`, `writeSheet-iff`, `undo`, `nine-iff` and
--- `read-cut` (SheetCalls), and `digits-iff` and `whole-iff` (Decimal) and `digits-length` (Digits). They rest on `sheet-exact` (Grammar).
+-- The theorems about the sheet text: `reader_iff` and `place` (Place), `text-length` (Longest), `read_sheet_iff`, `write_sheet_iff`, `undo`, `nine_iff` and
+-- `read_cut` (SheetCalls), and `digits_iff` and `whole_iff` (Decimal) and `digits-length` (Digits). They rest on `sheet_exact` (Grammar).
 pub mod Every
 pub mod Numbers
 pub mod Digits

@@ -23,7 +23,7 @@ reader_iff text S rest = (
 -- ---- the place
 --
 -- The grammar has no dead ends: what the reader has read when it is stuck can be completed to a sheet text, and no sheet text goes on with the byte at which it
--- is stuck (both by `sheet-exact`). So the number of bytes read is the place in the paper's words.
+-- is stuck (both by `sheet_exact`). So the number of bytes read is the place in the paper's words.
 
 -- A text that shares more with another than its beginning `part` goes on there with the same byte.
 next-byte : (part old other : List ℕ) (b q : ℕ) → suc (length part) ≤ q → take q (part ++ b ∷ old) ≡ take q other

@@ -79,7 +79,7 @@ on-sheet P T e k l =
 
 -- ---- belonging
 
--- The tests of belonging say what the paper says; that the cells join all, by `spans-iff`.
+-- The tests of belonging say what the paper says; that the cells join all, by `spans_iff`.
 pub belongs_iff : (P : Problem) (T : List Cell) → 1 ≤ sources P → 1 ≤ sinks P → (cells_belong P T ≡ true) ↔ Belongs P T
 unfolding cells_belong balanced on_sheet above_zero basis_for
 belongs_iff P T p q =

@@ -1,21 +1,21 @@
 -- What the paper and the demands say, in their own words: the types that the theorems and contracts inhabit. Of the algorithm they cite no more than what a
 -- sentence speaks of, as the signs, the cell that leaves and the next tableau.
 --
--- In the paper's order, with the theorem that proves each (CRATE/MODULE.NAME, all in specs/). Problems are those of accepted sheets (Laws.Sound), tableaux are
+-- In the paper's order, with the theorem that proves each (CRATE/MODULE.NAME, in specs/). Problems are those of accepted sheets (proofs/Sound), tableaux are
 -- any that belong, and an entering lane is any that is not basic, as the definition's is (tableaux/Entering.entering-inside, entering-new).
 --   Accepted                 exactly the sheets that pass the sheet check: transport/Laws.SheetLaws.accepted, passes
 --   Meets                    exactly the plans that the definition lists: plans/Plans.plans-sound, plans-complete
---   MeetsExactly             on a balanced sheet exactly the plans that meet it: reduction/Balanced.meets-exactly
---   Belongs                  exactly the cells that the test lets pass: tableaux/Belonging.belongs-iff
+--   MeetsExactly             on a balanced sheet exactly the plans that meet it: reduction/Balanced.meets_exactly
+--   Belongs                  exactly the cells that the test lets pass: tableaux/Belonging.belongs_iff
 --                            the start, and the next tableau: tableaux/Starting.start-belongs, tableaux/Ending.next-belongs
---   BelongsTo                exactly the cells under own numbers that the test of the calls lets pass: reduction/OwnBelonging.belongsTo-iff
---                            the start and the next tableau as calls give them: reduction/OwnBelonging.start-belongsTo, next-belongsTo
+--   BelongsTo                exactly the cells under own numbers that the test of the calls lets pass: reduction/OwnBelonging.belongs_to_iff
+--                            the start and the next tableau as calls give them: reduction/OwnBelonging.start-belongs_to, next-belongs_to
 --   OnlyPrices               the definition's potentials, and the prices that calls give: tableaux/Prices.only-prices, listed-prices
 --   OneLoop                  the definition's signs: tableaux/Loop.one-loop
 --   OneStep                  the definition's leaving cell: tableaux/Pivoting.one-step
 --   FirstFinished            there is one, from the start on: tableaux/Ending.start-ends
 --   Best                     the definition's solution: demands/Demand3.solution-best
---   Certified                the definition's solution, by the prices that calls give: demands/Certificate.solution-certified
+--   Certified                the definition's solution, by the prices that calls give: demands/Certificate.solution_certified
 --   PricesWithin             the prices that calls give, of any tableau that belongs: demands/GivenPrices.given-within
 --   RunOf                    the definition's run: tableaux/Running.run-of
 --   FromFirstFinished        the definition's solution: demands/Demand3.solution-finished
@@ -24,8 +24,8 @@
 --   EqualPrices              of any two finished tableaux: demands/EqualPrices.equal-prices
 --   FromNothing              an accepted edit: demands/FromNothing.from-nothing
 --   Passes (Standing)        what is set up, and what stands after any edit:
---                            demands/FromNothing.set-up-stands, edit-stands
---   SheetTextOf              exactly the texts that the definition reads: grammar/Place.reader-iff
+--                            demands/FromNothing.set-up-stands, edit_stands
+--   SheetTextOf              exactly the texts that the definition reads: grammar/Place.reader_iff
 --   Place                    the place that read sheet gives with 9: grammar/Place.place
 --   Undo                     write sheet and read sheet: grammar/SheetCalls.undo
 use Rattle.std.specs.Prelude.{◌≡◌, ◌↔◌, ◌⊎◌, Bool, true, false, cond, ℕ, zero, suc, ◌+◌, ◌*◌, ◌^◌, ◌≤◌, ◌<◌, ℤ, pos, negsuc, nat_abs, neg_ℤ, ◌+ℤ◌}

@@ -1,4 +1,4 @@
--- `board::gather::draw` meets its contract: `redraw-step` is a turn of the loop.
+-- `board::gather::draw` meets its contract: `redraw_step` is a turn of the loop.
 use Rattle.std.specs.Prelude.{◌-◌, ◌≤◌, ◌≡◌}
 use Rattle.prelude.specs.Words.{arith, rules, refl}
 use Rattle.tree.specs.Layout.{node_room, get_or-all}

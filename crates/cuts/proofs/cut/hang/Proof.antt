@@ -1,4 +1,4 @@
--- `cuts::cut::hang` meets its contract: `hang-step` is a turn of the loop, from the last strike back.
+-- `cuts::cut::hang` meets its contract: `hang_step` is a turn of the loop, from the last strike back.
 use Rattle.std.specs.Prelude.{◌≡◌, ◌-◌, ◌<◌}
 use Rattle.prelude.specs.Words.{refl, suc, arith, rules, get_or}
 use Rattle.tree.specs.Layout.{node_room, get_or-all}

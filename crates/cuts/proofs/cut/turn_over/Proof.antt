@@ -1,4 +1,4 @@
--- `cuts::cut::turn_over` meets its contract: `turning-step` is a turn of the loop.
+-- `cuts::cut::turn_over` meets its contract: `turning_step` is a turn of the loop.
 use Rattle.std.specs.Prelude.{◌≡◌, ◌-◌, ◌≤◌}
 use Rattle.prelude.specs.Words.{refl, arith, rules}
 use Rattle.tree.specs.Layout.{node_room, get_or-all}

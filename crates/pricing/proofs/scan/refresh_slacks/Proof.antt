@@ -1,5 +1,5 @@
--- `pricing::scan::refresh_slacks` meets its contract: where the row is among the nodes that moved, the columns rose (`slacks-risen`); where it is not, they
--- fell (`slacks-fallen`).
+-- `pricing::scan::refresh_slacks` meets its contract: where the row is among the nodes that moved, the columns rose (`slacks_risen`); where it is not, they
+-- fell (`slacks_fallen`).
 use Rattle.std.specs.Prelude.{◌+◌, ◌^◌, ◌<◌, ◌≡◌, ◌-ℤ◌}
 use Rattle.prelude.specs.Words.{sym, ◌∙◌, true, false, arith, rules, pos, nat_abs, neg_ℤ, +ℤ_idl}
 use mir.Syntax.{w32}

@@ -1,4 +1,4 @@
--- `tree::mask::clear_bit` meets its contract: `unset-shl`. Assumes nothing.
+-- `tree::mask::clear_bit` meets its contract: `unset_shl`. Assumes nothing.
 use Rattle.prelude.specs.Words.{rules}
 use Rattle.tree.specs.Mask.{unset_shl}
 use Rattle.tree.proofs.mask.clear_bit.Statement.{statement}

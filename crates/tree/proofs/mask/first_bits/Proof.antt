@@ -1,4 +1,4 @@
--- `tree::mask::first_bits` meets its contract: `first-shl`.
+-- `tree::mask::first_bits` meets its contract: `first_shl`.
 use Rattle.prelude.specs.Words.{arith, rules}
 use lib.Pow.{pow_pos, shl_exact}
 use Rattle.tree.specs.MaskLaws.{first_shl}

@@ -1,4 +1,4 @@
--- `tree::mask::set_bit` meets its contract: `put-shl`. Assumes nothing.
+-- `tree::mask::set_bit` meets its contract: `put_shl`. Assumes nothing.
 use Rattle.prelude.specs.Words.{rules}
 use Rattle.tree.specs.Mask.{put_shl}
 use Rattle.tree.proofs.mask.set_bit.Statement.{statement}
