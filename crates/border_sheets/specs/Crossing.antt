@@ -48,7 +48,8 @@ pub read_is : (text : List ℕ) (a b c : ℕ) → read_as (read_answer (read_she
 unfolding read_answer read_out_of
 read_is text a b c = go (read_sheet_call text a b c) refl
   where
-    place : (r : Refusal) → read_sheet_call text a b c ≡ refused r → (o : Option ℕ) → r.position ≡ o → read_as (read_answer (refused r)) ≡ read_out_of (refused r)
+    place : (r : Refusal) → read_sheet_call text a b c ≡ refused r → (o : Option ℕ) → r.position ≡ o → read_as (read_answer (refused r))
+        ≡ read_out_of (refused r)
     place r e none h = rw (h, read_answer, read_out_of)
     place r e (some p) h = rw (h, read_answer, read_out_of, placed_nine text a b c r p e h)
 
