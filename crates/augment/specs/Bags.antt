@@ -1,32 +1,32 @@
 -- Bags by lane, and the masks that say where there are any.
-use Rattle·prelude.specs.Words.{_≡_, refl, sym, _∙_, _↔_, _≢_, by-cases, Dec·and, Bool, true, false, not, cond, _&&_, and-false, Bool-discrete, List, ℕ, _+_}
-use Rattle·prelude.specs.Words.{_-_, _*_, _<_, _≤_, arith, ℕ-discrete, eq-eqb, ne-eqb, eqb, ℤ, pos, natAbs, negℤ, _+ℤ_, length, getD, set, replicate}
-use Rattle·prelude.specs.Words.{length-set, getD-set-same, getD-set-other, ltZ, by-test}
-use lib.Bits.{bitAnd}
-use Rattle·integers.specs.Integer.{Z, _≈_, _≺_, _⊕_, _⊖_, _⊗_, neg, nat}
-use Rattle·integers.specs.IntegerLaws.{⊗-cong}
-use Rattle·integers.specs.Bridge.{toZ, z-add, z-neg}
-use Rattle·integers.specs.Tests.{lt-yes, yes-lt}
-use Rattle·network.specs.Circuit.{spot, spot-at, spot-off}
-use Rattle·transport.specs.Laws.RangeLaws.{abs-add, abs-neg}
-use Rattle·transport.specs.Laws.ListLaws.{and-right}
-use Rattle·tree.specs.Layout.{stride, laneRoom, getD-all}
-use Rattle·tree.specs.Mask.{has, put, has-put, unset, has-unset, has-zero}
-use Rattle·tree.specs.Bits.{Least, has-rest, has-least, Touched}
+use Rattle.prelude.specs.Words.{◌≡◌, refl, sym, ◌∙◌, ◌↔◌, ◌≢◌, by_cases, Dec-and, Bool, true, false, not, cond, ◌&&◌, and-false, Bool-discrete, List, ℕ, ◌+◌}
+use Rattle.prelude.specs.Words.{◌-◌, ◌*◌, ◌<◌, ◌≤◌, arith, ℕ_discrete, eq-eqb, ne_eqb, eqb, ℤ, pos, nat_abs, neg_ℤ, ◌+ℤ◌, length, get_or, set, replicate}
+use Rattle.prelude.specs.Words.{length-set, get_or-set_same, get_or-set_other, lt_z, by_test}
+use Rattle.std.specs.Int.Bits.{bit_and}
+use Rattle.integers.specs.Integer.{Z, ◌≈◌, ◌≺◌, ◌⊕◌, ◌⊖◌, ◌⊗◌, neg, nat}
+use Rattle.integers.specs.IntegerLaws.{⊗_cong}
+use Rattle.integers.specs.Bridge.{to_z, z-add, z-neg}
+use Rattle.integers.specs.Tests.{lt_yes, yes_lt}
+use Rattle.network.specs.Circuit.{spot, spot-at, spot-off}
+use Rattle.transport.specs.Laws.RangeLaws.{abs_add, abs_neg}
+use Rattle.transport.specs.Laws.ListLaws.{and_right}
+use Rattle.tree.specs.Layout.{stride, lane_room, get_or-all}
+use Rattle.tree.specs.Mask.{has, put, has-put, unset, has-unset, has-zero}
+use Rattle.tree.specs.Bits.{Least, has_rest, has-least, Touched}
 
 -- The bags on lane (i, j).
-abbrev pub laneBags : List ℤ → ℕ → ℕ → Z
-laneBags q i j = toZ (getD q (i * stride + j) (pos 0))
+abbrev pub lane_bags : List ℤ → ℕ → ℕ → Z
+lane_bags q i j = to_z (get_or q (i * stride + j) (pos 0))
 
 -- Whether there are any.
 abbrev pub carries : List ℤ → ℕ → ℕ → Bool
-carries q i j = ltZ (pos 0) (getD q (i * stride + j) (pos 0))
+carries q i j = lt_z (pos 0) (get_or q (i * stride + j) (pos 0))
 
-pub carries-some : (q : List ℤ) (i j : ℕ) → (carries q i j ≡ true) ↔ (nat 0 ≺ laneBags q i j)
-carries-some q i j = (lt-yes (pos 0) (getD q (i * stride + j) (pos 0)), yes-lt (pos 0) (getD q (i * stride + j) (pos 0)))
+pub carries-some : (q : List ℤ) (i j : ℕ) → (carries q i j ≡ true) ↔ (nat 0 ≺ lane_bags q i j)
+carries-some q i j = (lt_yes (pos 0) (get_or q (i * stride + j) (pos 0)), yes_lt (pos 0) (get_or q (i * stride + j) (pos 0)))
 
 abbrev pub entry : List ℕ → ℕ → ℕ
-entry xs k = getD xs k 0
+entry xs k = get_or xs k 0
 
 -- Lane (i, j) is in the masks of the rows.
 abbrev pub InMask : List ℕ → ℕ → ℕ → Type 0
@@ -36,97 +36,97 @@ InMask masks i j = has (entry masks i) j ≡ true
 pub record Masked (m n : ℕ) (q : List ℤ) (holds owns : List ℕ) : Type 0 where
   pub rows : m ≤ stride
   pub cols : n ≤ stride
-  pub qLong : length q ≡ laneRoom
-  pub holdsLong : length holds ≡ stride
-  pub ownsLong : length owns ≡ stride
+  pub q_long : length q ≡ lane_room
+  pub holds_long : length holds ≡ stride
+  pub owns_long : length owns ≡ stride
   pub hold : (i j : ℕ) → i < m → j < n → has (entry holds j) i ≡ carries q i j
   pub own : (i j : ℕ) → i < m → j < n → has (entry owns i) j ≡ carries q i j
 
 -- Where the masks were right before, they are right after.
-pub record Follow (q : List ℤ) (holds owns : List ℕ) (q′ : List ℤ) (holds′ owns′ : List ℕ) : Type 0 where
-  pub masked : {m n : ℕ} → Masked m n q holds owns → Masked m n q′ holds′ owns′
+pub record Follow (q : List ℤ) (holds owns : List ℕ) (q' : List ℤ) (holds' owns' : List ℕ) : Type 0 where
+  pub masked : {m n : ℕ} → Masked m n q holds owns → Masked m n q' holds' owns'
 
-pub follow-both : {q q′ q″ : List ℤ} {holds owns holds′ owns′ holds″ owns″ : List ℕ}
-    → Follow q holds owns q′ holds′ owns′ → Follow q′ holds′ owns′ q″ holds″ owns″ → Follow q holds owns q″ holds″ owns″
-follow-both f g = record { masked = λ w. g .masked (f .masked w) }
+pub follow-both : {q q' q'' : List ℤ} {holds owns holds' owns' holds'' owns'' : List ℕ}
+    → Follow q holds owns q' holds' owns' → Follow q' holds' owns' q'' holds'' owns'' → Follow q holds owns q'' holds'' owns''
+follow-both f g = record { masked = λ w. g.masked (f.masked w) }
 
 -- ---- a bit put into a mask, or taken out of it
 
 pub bit-on : (x k h : ℕ) → has (put x k) h ≡ cond (eqb h k) true (has x h)
-bit-on x k h = has-put x k h ∙ by-test (eqb h k) (λ e. rw e) (λ e. rw e)
+bit-on x k h = has-put x k h ∙ by_test (eqb h k) (λ e. rw e) (λ e. rw e)
 
 pub bit-off : (x k h : ℕ) → has (unset x k) h ≡ cond (eqb h k) false (has x h)
-bit-off x k h = has-unset x k h ∙ by-test (eqb h k) (λ e. rw e) (λ e. rw e)
+bit-off x k h = has-unset x k h ∙ by_test (eqb h k) (λ e. rw e) (λ e. rw e)
 
 -- ---- one lane is written
 
-module _ (q : List ℤ) (i j : ℕ) (z : ℤ) (hi : i < stride) (hj : j < stride) (long : length q ≡ laneRoom) where
-  lane-same : getD (set q (i * stride + j) z) (i * stride + j) (pos 0) ≡ z
-  lane-same = getD-set-same q (i * stride + j) z (pos 0) (omega arith)
+module _ (q : List ℤ) (i j : ℕ) (z : ℤ) (hi : i < stride) (hj : j < stride) (long : length q ≡ lane_room) where
+  lane-same : get_or (set q (i * stride + j) z) (i * stride + j) (pos 0) ≡ z
+  lane-same = get_or-set_same q (i * stride + j) z (pos 0) (omega arith)
 
   -- Two lanes lie at one place only if they are one.
-  lane-other : (h k : ℕ) → k < stride → ¬ ((h ≡ i) × (k ≡ j)) → getD (set q (i * stride + j) z) (h * stride + k) (pos 0) ≡ getD q (h * stride + k) (pos 0)
-  lane-other h k hk d = getD-set-other q (i * stride + j) (h * stride + k) z (pos 0) (λ e. d (omega arith))
+  lane-other : (h k : ℕ) → k < stride → ¬ ((h ≡ i) × (k ≡ j)) → get_or (set q (i * stride + j) z) (h * stride + k) (pos 0) ≡ get_or q (h * stride + k) (pos 0)
+  lane-other h k hk d = get_or-set_other q (i * stride + j) (h * stride + k) z (pos 0) (λ e. d (omega arith))
 
   -- The masks of its row and of its column follow.
   pub masked-set : {m n : ℕ} {holds owns : List ℕ} (down along : ℕ) → Masked m n q holds owns
-      → ((k : ℕ) → has down k ≡ cond (eqb k i) (ltZ (pos 0) z) (has (entry holds j) k))
-      → ((k : ℕ) → has along k ≡ cond (eqb k j) (ltZ (pos 0) z) (has (entry owns i) k))
+      → ((k : ℕ) → has down k ≡ cond (eqb k i) (lt_z (pos 0) z) (has (entry holds j) k))
+      → ((k : ℕ) → has along k ≡ cond (eqb k j) (lt_z (pos 0) z) (has (entry owns i) k))
       → Masked m n (set q (i * stride + j) z) (set holds j down) (set owns i along)
   masked-set {m} {n} {holds} {owns} down along w d a = record {
-    rows = w .rows;
-    cols = w .cols;
-    qLong = simp length-set long;
-    holdsLong = simp length-set (w .holdsLong);
-    ownsLong = simp length-set (w .ownsLong);
-    hold = λ h k hh hk. by-cases (ℕ-discrete k j)
-        (λ e. rw (e, getD-set-same holds j down 0 (omega (arith, w .holdsLong))) (d h ∙ in-column h (rw e at hk) hh))
-        (λ e. rw (getD-set-other holds j k down 0 e, lane-other h k (omega (arith, w .cols)) (λ s. e (s .1))) (w .hold h k hh hk));
-    own = λ h k hh hk. by-cases (ℕ-discrete h i)
-        (λ e. rw (e, getD-set-same owns i along 0 (omega (arith, w .ownsLong))) (a k ∙ in-row k (rw e at hh) hk))
-        (λ e. rw (getD-set-other owns i h along 0 e, lane-other h k (omega (arith, w .cols)) (λ s. e (s .0))) (w .own h k hh hk));
+    rows = w.rows;
+    cols = w.cols;
+    q_long = simp length-set long;
+    holds_long = simp length-set w.holds_long;
+    owns_long = simp length-set w.owns_long;
+    hold = λ h k hh hk. by_cases (ℕ_discrete k j)
+        (λ e. rw (e, get_or-set_same holds j down 0 (omega (arith, w.holds_long))) (d h ∙ in_column h (rw e at hk) hh))
+        (λ e. rw (get_or-set_other holds j k down 0 e, lane-other h k (omega (arith, w.cols)) (λ s. e s.1)) (w.hold h k hh hk));
+    own = λ h k hh hk. by_cases (ℕ_discrete h i)
+        (λ e. rw (e, get_or-set_same owns i along 0 (omega (arith, w.owns_long))) (a k ∙ in_row k (rw e at hh) hk))
+        (λ e. rw (get_or-set_other owns i h along 0 e, lane-other h k (omega (arith, w.cols)) (λ s. e s.0)) (w.own h k hh hk));
   }
     where
-      in-column : (h : ℕ) → j < n → h < m → cond (eqb h i) (ltZ (pos 0) z) (has (entry holds j) h) ≡ carries (set q (i * stride + j) z) h j
-      in-column h hk hh = by-cases (ℕ-discrete h i) (λ e. rw (e, eq-eqb i i refl, lane-same))
-          (λ e. rw (ne-eqb h i e, lane-other h j hj (λ s. e (s .0))) (w .hold h j hh hk))
+      in_column : (h : ℕ) → j < n → h < m → cond (eqb h i) (lt_z (pos 0) z) (has (entry holds j) h) ≡ carries (set q (i * stride + j) z) h j
+      in_column h hk hh = by_cases (ℕ_discrete h i) (λ e. rw (e, eq-eqb i i refl, lane-same))
+          (λ e. rw (ne_eqb h i e, lane-other h j hj (λ s. e s.0)) (w.hold h j hh hk))
 
-      in-row : (k : ℕ) → i < m → k < n → cond (eqb k j) (ltZ (pos 0) z) (has (entry owns i) k) ≡ carries (set q (i * stride + j) z) i k
-      in-row k hh hk = by-cases (ℕ-discrete k j) (λ e. rw (e, eq-eqb j j refl, lane-same))
-          (λ e. rw (ne-eqb k j e, lane-other i k (omega (arith, w .cols)) (λ s. e (s .1))) (w .own i k hh hk))
+      in_row : (k : ℕ) → i < m → k < n → cond (eqb k j) (lt_z (pos 0) z) (has (entry owns i) k) ≡ carries (set q (i * stride + j) z) i k
+      in_row k hh hk = by_cases (ℕ_discrete k j) (λ e. rw (e, eq-eqb j j refl, lane-same))
+          (λ e. rw (ne_eqb k j e, lane-other i k (omega (arith, w.cols)) (λ s. e s.1)) (w.own i k hh hk))
 
 -- x more on lane (i, j).
 abbrev added : List ℤ → ℕ → ℕ → ℤ → List ℤ
-added q i j x = set q (i * stride + j) (getD q (i * stride + j) (pos 0) +ℤ x)
+added q i j x = set q (i * stride + j) (get_or q (i * stride + j) (pos 0) +ℤ x)
 
-module _ (q : List ℤ) (i j : ℕ) (x : ℤ) (hi : i < stride) (hj : j < stride) (long : length q ≡ laneRoom) where
-  added-bags : (h k : ℕ) → k < stride → laneBags (added q i j x) h k ≈ laneBags q h k ⊕ toZ x ⊗ spot i j h k
-  added-bags h k hk = by-cases (Dec·and (ℕ-discrete h i) (ℕ-discrete k j))
-      (λ e. rw (e .0, e .1, lane-same q i j (getD q (i * stride + j) (pos 0) +ℤ x) hi hj long, spot-at i j)
-      (omega (arith, z-add (getD q (i * stride + j) (pos 0)) x)))
-      (λ e. rw (lane-other q i j (getD q (i * stride + j) (pos 0) +ℤ x) hi hj long h k hk e, spot-off i j h k e) (omega arith))
+module _ (q : List ℤ) (i j : ℕ) (x : ℤ) (hi : i < stride) (hj : j < stride) (long : length q ≡ lane_room) where
+  added-bags : (h k : ℕ) → k < stride → lane_bags (added q i j x) h k ≈ lane_bags q h k ⊕ to_z x ⊗ spot i j h k
+  added-bags h k hk = by_cases (Dec-and (ℕ_discrete h i) (ℕ_discrete k j))
+      (λ e. rw (e.0, e.1, lane-same q i j (get_or q (i * stride + j) (pos 0) +ℤ x) hi hj long, spot-at i j)
+      (omega (arith, z-add (get_or q (i * stride + j) (pos 0)) x)))
+      (λ e. rw (lane-other q i j (get_or q (i * stride + j) (pos 0) +ℤ x) hi hj long h k hk e, spot-off i j h k e) (omega arith))
 
-  pub added-abs : (l : ℕ) → natAbs (getD (added q i j x) l (pos 0)) ≤ natAbs (getD q l (pos 0)) + natAbs x
-  added-abs l = by-cases (ℕ-discrete l (i * stride + j))
-      (λ e. rw (e, lane-same q i j (getD q (i * stride + j) (pos 0) +ℤ x) hi hj long) (abs-add (getD q (i * stride + j) (pos 0)) x))
-      (λ e. rw (getD-set-other q (i * stride + j) l (getD q (i * stride + j) (pos 0) +ℤ x) (pos 0) e) (omega arith))
+  pub added_abs : (l : ℕ) → nat_abs (get_or (added q i j x) l (pos 0)) ≤ nat_abs (get_or q l (pos 0)) + nat_abs x
+  added_abs l = by_cases (ℕ_discrete l (i * stride + j))
+      (λ e. rw (e, lane-same q i j (get_or q (i * stride + j) (pos 0) +ℤ x) hi hj long) (abs_add (get_or q (i * stride + j) (pos 0)) x))
+      (λ e. rw (get_or-set_other q (i * stride + j) l (get_or q (i * stride + j) (pos 0) +ℤ x) (pos 0) e) (omega arith))
 
 -- x bags of column j have moved from one row to another.
-pub record BagsShifted (from to j : ℕ) (x : ℤ) (q q′ : List ℤ) : Type 0 where
-  pub bags : (h k : ℕ) → k < stride → laneBags q′ h k ≈ laneBags q h k ⊕ toZ x ⊗ (spot to j h k ⊖ spot from j h k)
-  pub most : (l : ℕ) → natAbs (getD q′ l (pos 0)) ≤ natAbs (getD q l (pos 0)) + 2 * natAbs x
+pub record BagsShifted (from to j : ℕ) (x : ℤ) (q q' : List ℤ) : Type 0 where
+  pub bags : (h k : ℕ) → k < stride → lane_bags q' h k ≈ lane_bags q h k ⊕ to_z x ⊗ (spot to j h k ⊖ spot from j h k)
+  pub most : (l : ℕ) → nat_abs (get_or q' l (pos 0)) ≤ nat_abs (get_or q l (pos 0)) + 2 * nat_abs x
 
-pub shifted-by : (from to j : ℕ) (x : ℤ) (q : List ℤ) → from < stride → to < stride → j < stride → length q ≡ laneRoom
-    → BagsShifted from to j x q (added (added q from j (negℤ x)) to j x)
-shifted-by from to j x q hf ht hj long = let long′ : length (added q from j (negℤ x)) ≡ laneRoom = simp length-set long in
+pub shifted_by : (from to j : ℕ) (x : ℤ) (q : List ℤ) → from < stride → to < stride → j < stride → length q ≡ lane_room
+    → BagsShifted from to j x q (added (added q from j (neg_ℤ x)) to j x)
+shifted_by from to j x q hf ht hj long = let long' : length (added q from j (neg_ℤ x)) ≡ lane_room = simp length-set long in
     record {
       bags = λ h k hk. omega (
         arith,
-        added-bags q from j (negℤ x) hf hj long h k hk,
-        added-bags (added q from j (negℤ x)) to j x ht hj long′ h k hk,
-        ⊗-cong (spot from j h k) (toZ (negℤ x)) (neg (toZ x)) (z-neg x),
+        added-bags q from j (neg_ℤ x) hf hj long h k hk,
+        added-bags (added q from j (neg_ℤ x)) to j x ht hj long' h k hk,
+        ⊗_cong (spot from j h k) (to_z (neg_ℤ x)) (neg (to_z x)) (z-neg x),
       );
-      most = λ l. omega (arith, added-abs q from j (negℤ x) hf hj long l, added-abs (added q from j (negℤ x)) to j x ht hj long′ l, abs-neg x);
+      most = λ l. omega (arith, added_abs q from j (neg_ℤ x) hf hj long l, added_abs (added q from j (neg_ℤ x)) to j x ht hj long' l, abs_neg x);
     }
 
 -- ---- the masks of bags that lie on basic lanes
@@ -135,9 +135,9 @@ shifted-by from to j x q hf ht hj long = let long′ : length (added q from j (n
 pub record OnBasics (m n : ℕ) (basic : List ℕ) (q : List ℤ) : Type 0 where
   pub rows : m ≤ stride
   pub cols : n ≤ stride
-  pub qLong : length q ≡ laneRoom
+  pub q_long : length q ≡ lane_room
   pub inside : (i j : ℕ) → i < m → InMask basic i j → j < n
-  pub off : (i j : ℕ) → i < m → j < n → ¬ InMask basic i j → getD q (i * stride + j) (pos 0) ≡ pos 0
+  pub off : (i j : ℕ) → i < m → j < n → ¬ InMask basic i j → get_or q (i * stride + j) (pos 0) ≡ pos 0
 
 -- The columns of row i with bags, of the basic ones; so far, with `left` still to come.
 pub record RowBags (q : List ℤ) (basic i left cols : ℕ) : Type 0 where
@@ -145,70 +145,70 @@ pub record RowBags (q : List ℤ) (basic i left cols : ℕ) : Type 0 where
   pub each : (j : ℕ) → has cols j ≡ not (has left j) && (has basic j && carries q i j)
 
 pub row-none : (q : List ℤ) (basic i : ℕ) → RowBags q basic i basic 0
-row-none q basic i = record { part = λ j h. h; each = λ j. has-zero j ∙ by-test (has basic j) (λ e. rw e) (λ e. rw e) }
+row-none q basic i = record { part = λ j h. h; each = λ j. has-zero j ∙ by_test (has basic j) (λ e. rw e) (λ e. rw e) }
 
 module _ {q : List ℤ} {basic i left cols : ℕ} (w : RowBags q basic i left cols) where
-  pub row-more : {j : ℕ} (cols′ : ℕ) → Least left j → ((k : ℕ) → has cols′ k ≡ cond (eqb k j) (carries q i j) (has cols k))
-      → RowBags q basic i (bitAnd left (left - 1)) cols′
-  row-more {j} cols′ l e = record {
-    part = λ k h. w .part k (and-right (not (eqb k j)) (has left k) (sym (has-rest left j k l) ∙ h));
-    each = λ k. e k ∙ rw (has-rest left j k l) (by-cases (ℕ-discrete k j)
-        (λ d. rw (d, eq-eqb j j refl, w .part j (has-least l)))
-        (λ d. rw (ne-eqb k j d) (w .each k)));
+  pub row_more : {j : ℕ} (cols' : ℕ) → Least left j → ((k : ℕ) → has cols' k ≡ cond (eqb k j) (carries q i j) (has cols k))
+      → RowBags q basic i (bit_and left (left - 1)) cols'
+  row_more {j} cols' l e = record {
+    part = λ k h. w.part k (and_right (not (eqb k j)) (has left k) (sym (has_rest left j k l) ∙ h));
+    each = λ k. e k ∙ rw (has_rest left j k l) (by_cases (ℕ_discrete k j)
+        (λ d. rw (d, eq-eqb j j refl, w.part j (has-least l)))
+        (λ d. rw (ne_eqb k j d) (w.each k)));
   }
 
   pub row-all : left ≡ 0 → (j : ℕ) → has cols j ≡ has basic j && carries q i j
-  row-all e j = w .each j ∙ rw (e, has-zero j)
+  row-all e j = w.each j ∙ rw (e, has-zero j)
 
 -- The masks of the first k rows.
 pub record MaskedTo (k : ℕ) (basic : List ℕ) (q : List ℤ) (holds owns : List ℕ) : Type 0 where
-  pub holdsLong : length holds ≡ stride
-  pub ownsLong : length owns ≡ stride
+  pub holds_long : length holds ≡ stride
+  pub owns_long : length owns ≡ stride
   pub own : (i j : ℕ) → i < k → has (entry owns i) j ≡ has (entry basic i) j && carries q i j
   pub hold : (i j : ℕ) → i < k → has (entry holds j) i ≡ has (entry basic i) j && carries q i j
   pub later : (i j : ℕ) → k ≤ i → has (entry holds j) i ≡ false
 
 pub masked-none : (basic : List ℕ) (q : List ℤ) → MaskedTo 0 basic q (replicate stride 0) (replicate stride 0)
 masked-none basic q = record {
-  holdsLong = refl;
-  ownsLong = refl;
+  holds_long = refl;
+  owns_long = refl;
   own = λ i j l. absurd (omega arith);
   hold = λ i j l. absurd (omega arith);
-  later = λ i j l. rw (getD-all {A = ℕ} stride j 0) (has-zero i);
+  later = λ i j l. rw (get_or-all {A = ℕ} stride j 0) (has-zero i);
 }
 
 module _ {k : ℕ} {basic : List ℕ} {q : List ℤ} {holds owns : List ℕ} (w : MaskedTo k basic q holds owns) where
-  pub masked-more : {cols : ℕ} {holds′ : List ℕ} → k < stride → ((j : ℕ) → has cols j ≡ has (entry basic k) j && carries q k j)
-      → Touched (λ (y : ℕ). put y k) 0 holds cols holds′ → MaskedTo (k + 1) basic q holds′ (set owns k cols)
-  masked-more {cols} {holds′} hk row t = record {
-    holdsLong = t .long ∙ w .holdsLong;
-    ownsLong = simp length-set (w .ownsLong);
-    own = λ i j l. by-cases (ℕ-discrete i k)
-        (λ e. rw (e, getD-set-same owns k cols 0 (omega (arith, w .ownsLong))) (row j))
-        (λ e. rw (getD-set-other owns k i cols 0 e) (w .own i j (omega arith)));
-    hold = λ i j l. rw (t .each j) (by-cases (ℕ-discrete i k)
-        (λ e. rw e (by-test (has cols j)
+  pub masked-more : {cols : ℕ} {holds' : List ℕ} → k < stride → ((j : ℕ) → has cols j ≡ has (entry basic k) j && carries q k j)
+      → Touched (λ (y : ℕ). put y k) 0 holds cols holds' → MaskedTo (k + 1) basic q holds' (set owns k cols)
+  masked-more {cols} {holds'} hk row t = record {
+    holds_long = t.long ∙ w.holds_long;
+    owns_long = simp length-set w.owns_long;
+    own = λ i j l. by_cases (ℕ_discrete i k)
+        (λ e. rw (e, get_or-set_same owns k cols 0 (omega (arith, w.owns_long))) (row j))
+        (λ e. rw (get_or-set_other owns k i cols 0 e) (w.own i j (omega arith)));
+    hold = λ i j l. rw (t.each j) (by_cases (ℕ_discrete i k)
+        (λ e. rw e (by_test (has cols j)
         (λ h. rw h (has-put (entry holds j) k k ∙ rw (eq-eqb k k refl) (sym h ∙ row j)))
-        (λ h. rw h (w .later k j (omega arith) ∙ sym h ∙ row j))))
-        (λ e. there i j e (has cols j) ∙ w .hold i j (omega arith)));
-    later = λ i j l. rw (t .each j) (there i j (omega arith) (has cols j) ∙ w .later i j (omega arith));
+        (λ h. rw h (w.later k j (omega arith) ∙ sym h ∙ row j))))
+        (λ e. there i j e (has cols j) ∙ w.hold i j (omega arith)));
+    later = λ i j l. rw (t.each j) (there i j (omega arith) (has cols j) ∙ w.later i j (omega arith));
   }
     where
       there : (i j : ℕ) → i ≢ k → (b : Bool) → has (cond b (put (entry holds j) k) (entry holds j)) i ≡ has (entry holds j) i
-      there i j d true = has-put (entry holds j) k i ∙ rw (ne-eqb i k d)
+      there i j d true = has-put (entry holds j) k i ∙ rw (ne_eqb i k d)
       there i j d false = refl
 
 -- All rows.
 pub masked-all : {m n : ℕ} {basic : List ℕ} {q : List ℤ} {holds owns : List ℕ} → MaskedTo m basic q holds owns → OnBasics m n basic q → Masked m n q holds owns
 masked-all {m} {n} {basic} {q} w b = record {
-  rows = b .rows;
-  cols = b .cols;
-  qLong = b .qLong;
-  holdsLong = w .holdsLong;
-  ownsLong = w .ownsLong;
-  hold = λ i j hi hj. w .hold i j hi ∙ basics i j hi hj;
-  own = λ i j hi hj. w .own i j hi ∙ basics i j hi hj;
+  rows = b.rows;
+  cols = b.cols;
+  q_long = b.q_long;
+  holds_long = w.holds_long;
+  owns_long = w.owns_long;
+  hold = λ i j hi hj. w.hold i j hi ∙ basics i j hi hj;
+  own = λ i j hi hj. w.own i j hi ∙ basics i j hi hj;
 }
   where
     basics : (i j : ℕ) → i < m → j < n → has (entry basic i) j && carries q i j ≡ carries q i j
-    basics i j hi hj = by-cases (Bool-discrete (has (entry basic i) j) true) (λ e. rw e) (λ e. rw (b .off i j hi hj e) (and-false (has (entry basic i) j)))
+    basics i j hi hj = by_cases (Bool-discrete (has (entry basic i) j) true) (λ e. rw e) (λ e. rw (b.off i j hi hj e) (and-false (has (entry basic i) j)))

@@ -1,19 +1,19 @@
 -- The way from a position of a search up to the root: the lanes that it takes bags from, and the bags moved along it.
-use Rattle·prelude.specs.Words.{_≡_, refl, sym, ap, _∙_, by-cases, true, false, List, ℕ, zero, suc, _+_, _*_, _≤_, _<_, _^_, arith, ℕ-discrete, decLt, ℤ, pos}
-use Rattle·prelude.specs.Words.{natAbs, getD, ltZ}
-use Rattle·integers.specs.Integer.{Z, _≈_, _≼_, _⊕_, _⊖_, _⊗_}
-use Rattle·integers.specs.Bridge.{toZ}
-use Rattle·integers.specs.Tests.{lt-yes, lt-no}
-use Rattle·network.specs.Circuit.{spot, moved, moved-more}
-use Rattle·network.specs.Search.{above, above-next, Rooted, rooted, wayRow, wayCol}
-use Rattle·transport.specs.Limits.{maxBags, maxSide, maxAmount}
-use Rattle·tree.specs.Layout.{stride, nodeRoom, laneRoom}
-use Rattle·augment·specs.specs.Bags.{laneBags, entry, Masked, Follow, follow-both, BagsShifted}
+use Rattle.prelude.specs.Words.{◌≡◌, refl, sym, ap, ◌∙◌, by_cases, true, false, List, ℕ, zero, suc, ◌+◌, ◌*◌, ◌≤◌, ◌<◌, ◌^◌, arith, ℕ_discrete, dec_lt, ℤ, pos}
+use Rattle.prelude.specs.Words.{nat_abs, get_or, lt_z}
+use Rattle.integers.specs.Integer.{Z, ◌≈◌, ◌≼◌, ◌⊕◌, ◌⊖◌, ◌⊗◌}
+use Rattle.integers.specs.Bridge.{to_z}
+use Rattle.integers.specs.Tests.{lt_yes, lt_no}
+use Rattle.network.specs.Circuit.{spot, moved, moved_more}
+use Rattle.network.specs.Search.{above, above-next, Rooted, rooted, way_row, way_col}
+use Rattle.transport.specs.Limits.{max_bags, max_side, max_amount}
+use Rattle.tree.specs.Layout.{stride, node_room, lane_room}
+use Rattle.augment.specs.Bags.{lane_bags, entry, Masked, Follow, follow-both, BagsShifted}
 
 -- A way can be gone from position s and column j: its rows and columns are among m and n, and `up` leads to earlier positions.
 pub record Walkable (m n s j : ℕ) (row col up : List ℕ) : Type 0 where
-  pub rowsHigh : m ≤ stride
-  pub colsHigh : n ≤ stride
+  pub rows_high : m ≤ stride
+  pub cols_high : n ≤ stride
   pub small : s < stride
   pub goal : j < n
   pub rows : (k : ℕ) → k < suc s → entry row k < m
@@ -26,26 +26,26 @@ pub record Climbed (up : List ℕ) (s h at : ℕ) : Type 0 where
   pub fall : at + h ≤ s
   pub before : (g : ℕ) → g < h → 0 < above (entry up) s g
 
-climb-start : (up : List ℕ) (s : ℕ) → Climbed up s 0 s
-climb-start up s = record { stands = refl; fall = omega arith; before = λ g l. absurd (omega arith) }
+climb_start : (up : List ℕ) (s : ℕ) → Climbed up s 0 s
+climb_start up s = record { stands = refl; fall = omega arith; before = λ g l. absurd (omega arith) }
 
 module _ {up : List ℕ} {s h at : ℕ} (w : Climbed up s h at) where
-  climb-on : 0 < at → entry up at < at → Climbed up s (suc h) (entry up at)
-  climb-on some below = record {
-    stands = ap (entry up) (w .stands) ∙ sym (above-next (entry up) s h);
-    fall = omega (arith, w .fall);
-    before = λ g l. by-cases (ℕ-discrete g h) (λ e. rw (e, ← w .stands) some) (λ e. w .before g (omega arith));
+  climb_on : 0 < at → entry up at < at → Climbed up s (suc h) (entry up at)
+  climb_on some below = record {
+    stands = ap (entry up) w.stands ∙ sym (above-next (entry up) s h);
+    fall = omega (arith, w.fall);
+    before = λ g l. by_cases (ℕ_discrete g h) (λ e. rw (e, ← w.stands) some) (λ e. w.before g (omega arith));
   }
 
   -- It has come to the root.
-  climb-ends : at ≡ 0 → {d : ℕ} → Rooted (entry up) s d → h ≡ d
-  climb-ends e {d} r = by-cases (decLt d h)
-      (λ l. absurd (omega (arith, w .before d l, r .root)))
-      (λ l. by-cases (decLt h d) (λ l′. absurd (omega (arith, r .below h l′, w .stands))) (λ l′. omega arith))
+  climb_ends : at ≡ 0 → {d : ℕ} → Rooted (entry up) s d → h ≡ d
+  climb_ends e {d} r = by_cases (dec_lt d h)
+      (λ l. absurd (omega (arith, w.before d l, r.root)))
+      (λ l. by_cases (dec_lt h d) (λ l'. absurd (omega (arith, r.below h l', w.stands))) (λ l'. omega arith))
 
 -- It comes to the root.
 pub way-rooted : {m n s j : ℕ} {row col up : List ℕ} → Walkable m n s j row col up → (d : ℕ) × Rooted (entry up) s d
-way-rooted {s = s} {up = up} v = rooted (entry up) s s (omega arith) (v .below)
+way-rooted {s = s} {up = up} v = rooted (entry up) s s (omega arith) v.below
 
 -- ---- the least bags
 
@@ -53,22 +53,22 @@ way-rooted {s = s} {up = up} v = rooted (entry up) s s (omega arith) (v .below)
 pub record LeastOn (d s j : ℕ) (row col up : List ℕ) (q : List ℤ) (l : ℕ) : Type 0 where
   pub lane : ℕ
   pub inside : lane < suc d
-  pub is : l ≡ wayRow (entry row) (entry up) s lane * stride + wayCol (entry col) (entry up) s j lane
-  pub low : (k : ℕ) → k < suc d → toZ (getD q l (pos 0)) ≼ laneBags q (wayRow (entry row) (entry up) s k) (wayCol (entry col) (entry up) s j k)
+  pub is : l ≡ way_row (entry row) (entry up) s lane * stride + way_col (entry col) (entry up) s j lane
+  pub low : (k : ℕ) → k < suc d → to_z (get_or q l (pos 0)) ≼ lane_bags q (way_row (entry row) (entry up) s k) (way_col (entry col) (entry up) s j k)
 
 -- So far, at position `at`.
 pub record LeastTo (s j : ℕ) (row col up : List ℕ) (q : List ℤ) (l at : ℕ) : Type 0 where
   pub steps : ℕ
   pub climbed : Climbed up s steps at
-  pub inRoom : l < laneRoom
+  pub in_room_of : l < lane_room
   pub least : LeastOn steps s j row col up q l
 
 module _ {m n s j : ℕ} {row col up : List ℕ} (v : Walkable m n s j row col up) (q : List ℤ) where
   pub lowering-start : LeastTo s j row col up q (entry row 0 * stride + j) s
   lowering-start = record {
     steps = 0;
-    climbed = climb-start up s;
-    inRoom = omega (arith, v .rows 0 (omega arith), v .rowsHigh, v .colsHigh, v .goal);
+    climbed = climb_start up s;
+    in_room_of = omega (arith, v.rows 0 (omega arith), v.rows_high, v.cols_high, v.goal);
     least = record { lane = 0; inside = omega arith; is = refl; low = λ k l. let z : k ≡ 0 = omega arith in rw z (omega arith) };
   }
 
@@ -77,107 +77,107 @@ module _ {m n s j : ℕ} {row col up : List ℕ} (v : Walkable m n s j row col u
     next = entry row at * stride + entry col at
 
     pub lowering-inside : (at < suc s) × (entry row at < stride) × (entry col at < stride) × (entry up at < at)
-    lowering-inside = let few : at < suc s = omega (arith, w .climbed .fall) in
-        let r : entry row at < m = v .rows at few in let c : entry col at < n = v .cols at some few in
-        (few, omega (arith, v .rowsHigh), omega (arith, v .colsHigh), v .below at some few)
+    lowering-inside = let few : at < suc s = omega (arith, w.climbed.fall) in
+        let r : entry row at < m = v.rows at few in let c : entry col at < n = v.cols at some few in
+        (few, omega (arith, v.rows_high), omega (arith, v.cols_high), v.below at some few)
 
-    on : Climbed up s (suc (w .steps)) (entry up at)
-    on = climb-on (w .climbed) some (lowering-inside .3)
+    on : Climbed up s (suc w.steps) (entry up at)
+    on = climb_on w.climbed some lowering-inside.3
 
-    here : next ≡ wayRow (entry row) (entry up) s (suc (w .steps)) * stride + wayCol (entry col) (entry up) s j (suc (w .steps))
-    here = rw (← w .climbed .stands)
+    here : next ≡ way_row (entry row) (entry up) s (suc w.steps) * stride + way_col (entry col) (entry up) s j (suc w.steps)
+    here = rw (← w.climbed.stands)
 
-    pub lowering-less : ltZ (getD q next (pos 0)) (getD q l (pos 0)) ≡ true → LeastTo s j row col up q next (entry up at)
+    pub lowering-less : lt_z (get_or q next (pos 0)) (get_or q l (pos 0)) ≡ true → LeastTo s j row col up q next (entry up at)
     lowering-less e = record {
-      steps = suc (w .steps);
+      steps = suc w.steps;
       climbed = on;
-      inRoom = omega (arith, lowering-inside);
+      in_room_of = omega (arith, lowering-inside);
       least = record {
-        lane = suc (w .steps);
+        lane = suc w.steps;
         inside = omega arith;
         is = here;
-        low = λ k u. by-cases (ℕ-discrete k (suc (w .steps)))
+        low = λ k u. by_cases (ℕ_discrete k (suc w.steps))
             (λ z. rw (z, ← here) (omega arith))
-            (λ z. omega (arith, w .least .low k (omega arith), lt-yes (getD q next (pos 0)) (getD q l (pos 0)) e));
+            (λ z. omega (arith, w.least.low k (omega arith), lt_yes (get_or q next (pos 0)) (get_or q l (pos 0)) e));
       };
     }
 
-    pub lowering-keep : ltZ (getD q next (pos 0)) (getD q l (pos 0)) ≡ false → LeastTo s j row col up q l (entry up at)
+    pub lowering-keep : lt_z (get_or q next (pos 0)) (get_or q l (pos 0)) ≡ false → LeastTo s j row col up q l (entry up at)
     lowering-keep e = record {
-      steps = suc (w .steps);
+      steps = suc w.steps;
       climbed = on;
-      inRoom = w .inRoom;
+      in_room_of = w.in_room_of;
       least = record {
-        lane = w .least .lane;
-        inside = omega (arith, w .least .inside);
-        is = w .least .is;
-        low = λ k u. by-cases (ℕ-discrete k (suc (w .steps)))
-            (λ z. rw (z, ← here) (lt-no (getD q next (pos 0)) (getD q l (pos 0)) e))
-            (λ z. w .least .low k (omega arith));
+        lane = w.least.lane;
+        inside = omega (arith, w.least.inside);
+        is = w.least.is;
+        low = λ k u. by_cases (ℕ_discrete k (suc w.steps))
+            (λ z. rw (z, ← here) (lt_no (get_or q next (pos 0)) (get_or q l (pos 0)) e))
+            (λ z. w.least.low k (omega arith));
       };
     }
 
 pub lowering-ends : {s j : ℕ} {row col up : List ℕ} {q : List ℤ} {l at : ℕ} → LeastTo s j row col up q l at → at ≡ 0
     → {d : ℕ} → Rooted (entry up) s d → LeastOn d s j row col up q l
-lowering-ends w e r = let s = climb-ends (w .climbed) e r in rw s at (w .least)
+lowering-ends w e r = let s = climb_ends w.climbed e r in rw s at w.least
 
 -- ---- bags moved along it
 
 -- x bags have moved along the first d + 1 lanes of the way.
-pub record Brought (d s j : ℕ) (row col up : List ℕ) (x : ℤ) (q q′ : List ℤ) : Type 0 where
+pub record Brought (d s j : ℕ) (row col up : List ℕ) (x : ℤ) (q q' : List ℤ) : Type 0 where
   pub bags : (h k : ℕ) → k < stride
-      → laneBags q′ h k ≈ moved (wayRow (entry row) (entry up) s) (wayCol (entry col) (entry up) s j) (suc d) (toZ x) (laneBags q) h k
+      → lane_bags q' h k ≈ moved (way_row (entry row) (entry up) s) (way_col (entry col) (entry up) s j) (suc d) (to_z x) (lane_bags q) h k
 
 -- Bags can be moved along it: the masks are right, and no lane has more bags than there are on a sheet.
 pub record Carries (m n s j : ℕ) (row col up : List ℕ) (q : List ℤ) (holds owns : List ℕ) : Type 0 where
   pub walkable : Walkable m n s j row col up
   pub masked : Masked m n q holds owns
-  pub few : (i k : ℕ) → i < m → k < n → natAbs (getD q (i * stride + k) (pos 0)) ≤ maxBags
+  pub few : (i k : ℕ) → i < m → k < n → nat_abs (get_or q (i * stride + k) (pos 0)) ≤ max_bags
 
 -- So far, at position `at`.
-pub record Bringing (s j : ℕ) (row col up : List ℕ) (x : ℤ) (q : List ℤ) (holds owns : List ℕ) (at : ℕ) (q′ : List ℤ) (holds′ owns′ : List ℕ) : Type 0 where
+pub record Bringing (s j : ℕ) (row col up : List ℕ) (x : ℤ) (q : List ℤ) (holds owns : List ℕ) (at : ℕ) (q' : List ℤ) (holds' owns' : List ℕ) : Type 0 where
   pub steps : ℕ
   pub climbed : Climbed up s steps at
-  pub brought : Brought steps s j row col up x q q′
-  pub most : (l : ℕ) → natAbs (getD q′ l (pos 0)) ≤ natAbs (getD q l (pos 0)) + suc steps * 2 ^ 32
-  pub follow : Follow q holds owns q′ holds′ owns′
+  pub brought : Brought steps s j row col up x q q'
+  pub most : (l : ℕ) → nat_abs (get_or q' l (pos 0)) ≤ nat_abs (get_or q l (pos 0)) + suc steps * 2 ^ 32
+  pub follow : Follow q holds owns q' holds' owns'
 
 module _ {m n s j : ℕ} {row col up : List ℕ} {q : List ℤ} {holds owns : List ℕ} (v : Carries m n s j row col up q holds owns)
-    (x : ℤ) (amount : natAbs x ≤ maxBags) where
-  small : natAbs x < 2 ^ 31
-  unfolding maxBags maxSide maxAmount
+    (x : ℤ) (amount : nat_abs x ≤ max_bags) where
+  small : nat_abs x < 2 ^ 31
+  unfolding max_bags max_side max_amount
   small = omega (arith, amount)
 
-  few-small : (i k : ℕ) → i < m → k < n → natAbs (getD q (i * stride + k) (pos 0)) < 2 ^ 31
-  unfolding maxBags maxSide maxAmount
-  few-small i k hi hk = omega (arith, v .few i k hi hk)
+  few-small : (i k : ℕ) → i < m → k < n → nat_abs (get_or q (i * stride + k) (pos 0)) < 2 ^ 31
+  unfolding max_bags max_side max_amount
+  few-small i k hi hk = omega (arith, v.few i k hi hk)
 
   -- The first move, from row `row 0` at the goal.
-  pub bring-first : (entry row 0 < stride) × (entry row s < stride) × (j < stride)
-      × (natAbs (getD q (entry row 0 * stride + j) (pos 0)) + natAbs x < 2 ^ 62) × (natAbs (getD q (entry row s * stride + j) (pos 0)) + natAbs x < 2 ^ 62)
-  bring-first = let w = v .walkable in
-      let r : entry row 0 < m = w .rows 0 (omega arith) in let r′ : entry row s < m = w .rows s (omega arith) in
-      omega (arith, w .rowsHigh, w .colsHigh, w .goal, few-small (entry row 0) j r (w .goal), small, few-small (entry row s) j r′ (w .goal))
+  pub bring_first : (entry row 0 < stride) × (entry row s < stride) × (j < stride)
+      × (nat_abs (get_or q (entry row 0 * stride + j) (pos 0)) + nat_abs x < 2 ^ 62) × (nat_abs (get_or q (entry row s * stride + j) (pos 0)) + nat_abs x < 2 ^ 62)
+  bring_first = let w = v.walkable in
+      let r : entry row 0 < m = w.rows 0 (omega arith) in let r' : entry row s < m = w.rows s (omega arith) in
+      omega (arith, w.rows_high, w.cols_high, w.goal, few-small (entry row 0) j r w.goal, small, few-small (entry row s) j r' w.goal)
 
-  pub bringing-start : {q′ : List ℤ} {holds′ owns′ : List ℕ} → BagsShifted (entry row 0) (entry row s) j x q q′ → Follow q holds owns q′ holds′ owns′
-      → Bringing s j row col up x q holds owns s q′ holds′ owns′
-  bringing-start f g = record {
+  pub bringing_start : {q' : List ℤ} {holds' owns' : List ℕ} → BagsShifted (entry row 0) (entry row s) j x q q' → Follow q holds owns q' holds' owns'
+      → Bringing s j row col up x q holds owns s q' holds' owns'
+  bringing_start f g = record {
     steps = 0;
-    climbed = climb-start up s;
-    brought = record { bags = λ h k hk. omega (arith, f .bags h k hk) };
-    most = λ l. omega (arith, f .most l, small);
+    climbed = climb_start up s;
+    brought = record { bags = λ h k hk. omega (arith, f.bags h k hk) };
+    most = λ l. omega (arith, f.most l, small);
     follow = g;
   }
 
-  module _ {at : ℕ} {q′ : List ℤ} {holds′ owns′ : List ℕ} (w : Bringing s j row col up x q holds owns at q′ holds′ owns′) (some : 0 < at) where
+  module _ {at : ℕ} {q' : List ℤ} {holds' owns' : List ℕ} (w : Bringing s j row col up x q holds owns at q' holds' owns') (some : 0 < at) where
     few-steps : at < suc s
-    few-steps = omega (arith, w .climbed .fall)
+    few-steps = omega (arith, w.climbed.fall)
 
     falls : entry up at < at
-    falls = v .walkable .below at some few-steps
+    falls = v.walkable.below at some few-steps
 
-    pub bringing-inside : (at < nodeRoom) × (entry up at < nodeRoom)
-    bringing-inside = omega (arith, few-steps, v .walkable .small, falls)
+    pub bringing_inside : (at < node_room) × (entry up at < node_room)
+    bringing_inside = omega (arith, few-steps, v.walkable.small, falls)
 
     abbrev from : ℕ
     from = entry row at
@@ -188,70 +188,70 @@ module _ {m n s j : ℕ} {row col up : List ℕ} {q : List ℤ} {holds owns : Li
     abbrev across : ℕ
     across = entry col at
 
-    pub bringing-next : (from < stride) × (to < stride) × (across < stride)
-        × (natAbs (getD q′ (from * stride + across) (pos 0)) + natAbs x < 2 ^ 62) × (natAbs (getD q′ (to * stride + across) (pos 0)) + natAbs x < 2 ^ 62)
-    bringing-next = let r : from < m = v .walkable .rows at few-steps in
-        let r′ : to < m = v .walkable .rows (entry up at) (omega (arith, falls, few-steps)) in
-        let c : across < n = v .walkable .cols at some few-steps in
-        let steps : suc (w .steps) < 64 = omega (arith, w .climbed .fall, v .walkable .small) in
+    pub bringing_next : (from < stride) × (to < stride) × (across < stride)
+        × (nat_abs (get_or q' (from * stride + across) (pos 0)) + nat_abs x < 2 ^ 62) × (nat_abs (get_or q' (to * stride + across) (pos 0)) + nat_abs x < 2 ^ 62)
+    bringing_next = let r : from < m = v.walkable.rows at few-steps in
+        let r' : to < m = v.walkable.rows (entry up at) (omega (arith, falls, few-steps)) in
+        let c : across < n = v.walkable.cols at some few-steps in
+        let steps : suc w.steps < 64 = omega (arith, w.climbed.fall, v.walkable.small) in
         let a = from * stride + across in let b = to * stride + across in
-        omega (arith, v .walkable .rowsHigh, v .walkable .colsHigh, few-small from across r c, few-small to across r′ c, small, w .most a, w .most b)
+        omega (arith, v.walkable.rows_high, v.walkable.cols_high, few-small from across r c, few-small to across r' c, small, w.most a, w.most b)
 
     -- One lane more: what the way has moved is a sum over its lanes.
-    pub bringing-on : {q″ : List ℤ} {holds″ owns″ : List ℕ} → BagsShifted from to across x q′ q″ → Follow q′ holds′ owns′ q″ holds″ owns″
-        → Bringing s j row col up x q holds owns (entry up at) q″ holds″ owns″
-    bringing-on {q″} f g = record {
-      steps = suc (w .steps);
-      climbed = climb-on (w .climbed) some falls;
+    pub bringing_on : {q'' : List ℤ} {holds'' owns'' : List ℕ} → BagsShifted from to across x q' q'' → Follow q' holds' owns' q'' holds'' owns''
+        → Bringing s j row col up x q holds owns (entry up at) q'' holds'' owns''
+    bringing_on {q''} f g = record {
+      steps = suc w.steps;
+      climbed = climb_on w.climbed some falls;
       brought = record {
-        bags = λ h k hk. joined _ _ _ _ _ _ (f .bags h k hk) (w .brought .bags h k hk) (step h k)
-            (moved-more r c (suc (w .steps)) (toZ x) (laneBags q) h k);
+        bags = λ h k hk. joined _ _ _ _ _ _ (f.bags h k hk) (w.brought.bags h k hk) (step h k)
+            (moved_more r c (suc w.steps) (to_z x) (lane_bags q) h k);
       };
-      most = λ l. omega (arith, f .most l, w .most l, small);
-      follow = follow-both (w .follow) g;
+      most = λ l. omega (arith, f.most l, w.most l, small);
+      follow = follow-both w.follow g;
     }
       where
         r : ℕ → ℕ
-        r = wayRow (entry row) (entry up) s
+        r = way_row (entry row) (entry up) s
 
         c : ℕ → ℕ
-        c = wayCol (entry col) (entry up) s j
+        c = way_col (entry col) (entry up) s j
 
-        joined : (a b e e′ o t : Z) → a ≈ b ⊕ e → b ≈ o → e ≈ e′ → t ≈ o ⊕ e′ → a ≈ t
-        joined a b e e′ o t h h′ h″ g = omega arith
+        joined : (a b e e' o t : Z) → a ≈ b ⊕ e → b ≈ o → e ≈ e' → t ≈ o ⊕ e' → a ≈ t
+        joined a b e e' o t h h' h'' g = omega arith
 
-        step : (h k : ℕ) → toZ x ⊗ (spot to across h k ⊖ spot from across h k)
-            ≈ toZ x ⊗ (spot (r (suc (suc (w .steps)))) (c (suc (w .steps))) h k ⊖ spot (r (suc (w .steps))) (c (suc (w .steps))) h k)
-        step h k = rw (above-next (entry up) s (w .steps), ← w .climbed .stands) (omega arith)
+        step : (h k : ℕ) → to_z x ⊗ (spot to across h k ⊖ spot from across h k)
+            ≈ to_z x ⊗ (spot (r (suc (suc w.steps))) (c (suc w.steps)) h k ⊖ spot (r (suc w.steps)) (c (suc w.steps)) h k)
+        step h k = rw (above-next (entry up) s w.steps, ← w.climbed.stands) (omega arith)
 
 -- ---- as many as its lanes have
 
 way-inside : {m n s j : ℕ} {row col up : List ℕ} → Walkable m n s j row col up → {d : ℕ} → Rooted (entry up) s d
-    → (k : ℕ) → k < suc d → (wayRow (entry row) (entry up) s k < m) × (wayCol (entry col) (entry up) s j k < n)
-way-inside v r zero l = (v .rows 0 (omega arith), v .goal)
-way-inside {s = s} {up = up} v {d} r (suc k) l = (v .rows (above (entry up) s k) (low k l), v .cols (above (entry up) s k) (r .below k (omega arith)) (low k l))
+    → (k : ℕ) → k < suc d → (way_row (entry row) (entry up) s k < m) × (way_col (entry col) (entry up) s j k < n)
+way-inside v r zero l = (v.rows 0 (omega arith), v.goal)
+way-inside {s = s} {up = up} v {d} r (suc k) l = (v.rows (above (entry up) s k) (low k l), v.cols (above (entry up) s k) (r.below k (omega arith)) (low k l))
   where
     low : (k : ℕ) → suc k < suc d → above (entry up) s k < suc s
     low zero l = omega arith
-    low (suc k) l = omega (arith, r .falls 0 (suc k) (omega arith) (omega arith))
+    low (suc k) l = omega (arith, r.falls 0 (suc k) (omega arith) (omega arith))
 
 -- The least bags on it have moved.
-pub record BroughtLeast (d s j : ℕ) (row col up : List ℕ) (q q′ : List ℤ) : Type 0 where
+pub record BroughtLeast (d s j : ℕ) (row col up : List ℕ) (q q' : List ℤ) : Type 0 where
   pub place : ℕ
   pub least : LeastOn d s j row col up q place
-  pub brought : Brought d s j row col up (getD q place (pos 0)) q q′
+  pub brought : Brought d s j row col up (get_or q place (pos 0)) q q'
 
 module _ {m n s j d place : ℕ} {row col up : List ℕ} {q : List ℤ} {holds owns : List ℕ} (v : Carries m n s j row col up q holds owns)
     (r : Rooted (entry up) s d) (w : LeastOn d s j row col up q place) where
-  inside : (wayRow (entry row) (entry up) s (w .lane) < m) × (wayCol (entry col) (entry up) s j (w .lane) < n)
-  inside = way-inside (v .walkable) r (w .lane) (w .inside)
+  inside : (way_row (entry row) (entry up) s w.lane < m) × (way_col (entry col) (entry up) s j w.lane < n)
+  inside = way-inside v.walkable r w.lane w.inside
 
-  pub least-inside : place < laneRoom
-  least-inside = rw (w .is) (omega (arith, inside, v .walkable .rowsHigh, v .walkable .colsHigh))
+  pub least-inside : place < lane_room
+  least-inside = rw w.is (omega (arith, inside, v.walkable.rows_high, v.walkable.cols_high))
 
-  pub least-few : natAbs (getD q place (pos 0)) ≤ maxBags
-  least-few = rw (w .is) (v .few _ _ (inside .0) (inside .1))
+  pub least-few : nat_abs (get_or q place (pos 0)) ≤ max_bags
+  least-few = rw w.is (v.few _ _ inside.0 inside.1)
 
-pub bringing-ends : {s j : ℕ} {row col up : List ℕ} {x : ℤ} {q : List ℤ} {holds owns : List ℕ} {at : ℕ} {q′ : List ℤ} {holds′ owns′ : List ℕ}
-    → Bringing s j row col up x q holds owns at q′ holds′ owns′ → at ≡ 0 → {d : ℕ} → Rooted (entry up) s d → Brought d s j row col up x q q′
-bringing-ends w e r = let s = climb-ends (w .climbed) e r in rw s at (w .brought)
+pub bringing_ends : {s j : ℕ} {row col up : List ℕ} {x : ℤ} {q : List ℤ} {holds owns : List ℕ} {at : ℕ} {q' : List ℤ} {holds' owns' : List ℕ}
+    → Bringing s j row col up x q holds owns at q' holds' owns' → at ≡ 0 → {d : ℕ} → Rooted (entry up) s d → Brought d s j row col up x q q'
+bringing_ends w e r = let s = climb_ends w.climbed e r in rw s at w.brought

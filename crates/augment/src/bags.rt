@@ -1,26 +1,18 @@
 // Bags by lane, with masks that say where there are any: for each column the rows with bags on it (`holds`), and for each row the columns (`owns`).
+ghost use Rattle.std.specs.Prelude.{◌≡◌, true, cond, ◌&&◌, ℕ, ◌+◌, ◌*◌, ◌<◌, ◌^◌, eqb, pos, nat_abs, ◌+ℤ◌, length, get_or, set};
+ghost use Rattle.tree.specs.Layout.{stride};
+ghost use Rattle.tree.specs.Mask.{has, put};
+ghost use Rattle.tree.specs.Bits.{Touched};
+ghost use Rattle.augment.specs.Bags.{carries, Masked, Follow, BagsShifted, OnBasics};
+
 use transport::MAX_SIDE;
-use tree::LANES;
-use tree::NODES;
-use tree::mask::clear_bit;
-use tree::mask::first_bit;
-use tree::mask::rest;
-use tree::mask::set_bit;
-ghost use mathlib.Core.Path.{_≡_};
-ghost use mathlib.Core.Bool.{true, cond, _&&_};
-ghost use Prim.Native.Nat.{ℕ, _+_, _*_, _<_, _^_};
-ghost use lib.Dec.{eqb};
-ghost use lib.IntN.{pos, natAbs, _+ℤ_};
-ghost use lib.ListN.{length, getD, set};
-ghost use Rattle·tree.specs.Layout.{stride};
-ghost use Rattle·tree.specs.Mask.{has, put};
-ghost use Rattle·tree.specs.Bits.{Touched};
-ghost use Rattle·augment·specs.specs.Bags.{carries, Masked, Follow, BagsShifted, OnBasics};
+use tree::mask::{clear_bit, first_bit, rest, set_bit};
+use tree::{LANES, NODES};
 
 // The mask with bit k in it if `on`, and without it if not.
 fn with_bit(mask: u64, k: usize, on: bool) -> u64
-    requires { ⌜ k < 64 ⌝ }
-    ensures { λ r. ⌜ ((h : ℕ) → has r h ≡ cond (eqb h k) on (has mask h)) ⌝ }
+    requires { k < 64 }
+    ensures { (h : ℕ) → has result h ≡ cond (eqb h k) on (has mask h) }
 {
     if on {
         set_bit(mask, k)
@@ -38,11 +30,11 @@ fn add_bags(
     j: usize,
     x: i64,
 )
-    requires { ⌜ ((m : ℕ) × (n : ℕ) × Masked m n (now q) (now holds) (now owns)) ⌝ }
-    requires { ⌜ (i < stride) × (j < stride) ⌝ }
-    requires { ⌜ natAbs (getD (now q) (i * stride + j) (pos 0)) + natAbs x < 2 ^ 63 ⌝ }
-    ensures { λ _. ⌜ now (q .exit) ≡ set (now (q .entry)) (i * stride + j) (getD (now (q .entry)) (i * stride + j) (pos 0) +ℤ x) ⌝ }
-    ensures { λ _. ⌜ Follow (now (q .entry)) (now (holds .entry)) (now (owns .entry)) (now (q .exit)) (now (holds .exit)) (now (owns .exit)) ⌝ }
+    requires by_index { (m : ℕ) × (n : ℕ) × Masked m n q.old holds.old owns.old }
+    requires i_lt_stride { (i < stride) × (j < stride) }
+    requires x_bound { nat_abs (get_or q.old (i * stride + j) (pos 0)) + nat_abs x < 2 ^ 63 }
+    ensures q_after { q.new ≡ set q.old (i * stride + j) (get_or q.old (i * stride + j) (pos 0) +ℤ x) }
+    ensures follow { Follow q.old holds.old owns.old q.new holds.new owns.new }
 {
     let l = i * MAX_SIDE + j;
     q[l] = q[l] + x;
@@ -61,14 +53,12 @@ pub(crate) fn shift(
     j: usize,
     x: i64,
 )
-    requires { ⌜ ((m : ℕ) × (n : ℕ) × Masked m n (now q) (now holds) (now owns)) ⌝ }
-    requires { ⌜ (from < stride) × (to < stride) × (j < stride) ⌝ }
-    requires { ⌜
-        (natAbs (getD (now q) (from * stride + j) (pos 0)) + natAbs x < 2 ^ 62)
-        × (natAbs (getD (now q) (to * stride + j) (pos 0)) + natAbs x < 2 ^ 62)
-        ⌝ }
-    ensures { λ _. ⌜ BagsShifted from to j x (now (q .entry)) (now (q .exit)) ⌝ }
-    ensures { λ _. ⌜ Follow (now (q .entry)) (now (holds .entry)) (now (owns .entry)) (now (q .exit)) (now (holds .exit)) (now (owns .exit)) ⌝ }
+    requires by_index { (m : ℕ) × (n : ℕ) × Masked m n q.old holds.old owns.old }
+    requires from_lt_stride { (from < stride) × (to < stride) × (j < stride) }
+    requires x_bound { (nat_abs (get_or q.old (from * stride + j) (pos 0)) + nat_abs x < 2 ^ 62)
+        × (nat_abs (get_or q.old (to * stride + j) (pos 0)) + nat_abs x < 2 ^ 62) }
+    ensures bags_shifted { BagsShifted from to j x q.old q.new }
+    ensures follow { Follow q.old holds.old owns.old q.new holds.new owns.new }
 {
     add_bags(q, holds, owns, from, j, 0 - x);
     add_bags(q, holds, owns, to, j, x);
@@ -76,8 +66,8 @@ pub(crate) fn shift(
 
 // Of the basic columns of row i, those with bags.
 fn row_bags(q: &[i64; LANES], basic: u64, i: usize) -> u64
-    requires { ⌜ (i < stride) × ((j : ℕ) → has basic j ≡ true → j < stride) ⌝ }
-    ensures { λ r. ⌜ ((j : ℕ) → has r j ≡ has basic j && carries (now (q .entry)) i j) ⌝ }
+    requires { (i < stride) × ((j : ℕ) → has basic j ≡ true → j < stride) }
+    ensures { (j : ℕ) → has result j ≡ has basic j && carries q.now i j }
 {
     let mut cols: u64 = 0;
     let mut left = basic;
@@ -91,9 +81,9 @@ fn row_bags(q: &[i64; LANES], basic: u64, i: usize) -> u64
 
 // Puts row i into the masks of the columns `cols`.
 fn hold(holds: &mut [u64; MAX_SIDE], cols: u64, i: usize)
-    requires { ⌜ (length (now holds) ≡ stride) × (i < stride) ⌝ }
-    requires { ⌜ ((j : ℕ) → has cols j ≡ true → j < stride) ⌝ }
-    ensures { λ _. ⌜ Touched (λ (y : ℕ). put y i) 0 (now (holds .entry)) cols (now (holds .exit)) ⌝ }
+    requires holds_len { (length holds.old ≡ stride) × (i < stride) }
+    requires by_index { (j : ℕ) → has cols j ≡ true → j < stride }
+    ensures { Touched (λ (y : ℕ). put y i) 0 holds.old cols holds.new }
 {
     let mut left = cols;
     while left > 0 {
@@ -111,8 +101,8 @@ pub fn mask_bags(
     owns: &mut [u64; MAX_SIDE],
     m: usize,
 )
-    requires { ⌜ ((n : ℕ) × OnBasics m n (now basic) (now q)) ⌝ }
-    ensures { λ _. ⌜ ((n : ℕ) → OnBasics m n (now (basic .entry)) (now (q .entry)) → Masked m n (now (q .entry)) (now (holds .exit)) (now (owns .exit))) ⌝ }
+    requires { (n : ℕ) × OnBasics m n basic.now q.now }
+    ensures { (n : ℕ) → OnBasics m n basic.now q.now → Masked m n q.now holds.new owns.new }
 {
     *holds = [0; MAX_SIDE];
     *owns = [0; MAX_SIDE];

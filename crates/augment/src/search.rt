@@ -1,24 +1,19 @@
 // The search for bags to bring onto a lane from later lanes of its row: over tight lanes, through later rows that have bags to give in exchange.
+ghost use Rattle.std.specs.Prelude.{◌≡◌, true, ℕ, ◌<◌, length};
+ghost use Rattle.integers.specs.Integer.{Z};
+ghost use Rattle.tree.specs.Layout.{stride};
+ghost use Rattle.tree.specs.Mask.{has};
+ghost use Rattle.tree.specs.Bits.{Touched};
+ghost use Rattle.augment.specs.Sought.{Sought, Rooms, Gathered};
+ghost use Rattle.augment.specs.Answer.{Answers};
+
 use transport::MAX_SIDE;
 use tree::NODES;
-use tree::mask::clear_bit;
-use tree::mask::first_bit;
-use tree::mask::rest;
-use tree::mask::set_bit;
-use tree::mask::without;
-ghost use mathlib.Core.Path.{_≡_};
-ghost use mathlib.Core.Bool.{true};
-ghost use Prim.Native.Nat.{ℕ, _<_};
-ghost use lib.ListN.{length};
-ghost use Rattle·integers.specs.Integer.{Z};
-ghost use Rattle·tree.specs.Layout.{stride};
-ghost use Rattle·tree.specs.Mask.{has};
-ghost use Rattle·tree.specs.Bits.{Touched};
-ghost use Rattle·augment·specs.specs.Sought.{Sought, Rooms, Gathered};
-ghost use Rattle·augment·specs.specs.Answer.{Answers};
+use tree::mask::{clear_bit, first_bit, rest, set_bit, without};
 
 // What is sought: bags for lane (row, col). `later` are the rows after it, `goal` the later columns where the row has bags, and `dead` columns from which
 // earlier searches for the row came to no goal.
+#[derive(Drop)]
 pub struct Target {
     pub row: usize,
     pub col: usize,
@@ -28,6 +23,7 @@ pub struct Target {
 }
 
 // A position and a goal to which its row has a tight lane; or the columns from which no goal is reached.
+#[derive(Drop)]
 pub enum Reached {
     Goal(usize, usize),
     Nothing(u64),
@@ -35,10 +31,10 @@ pub enum Reached {
 
 // from[l] = at for each column l of the mask. Gives the rows with bags on one of them.
 fn reach(from: &mut [usize; MAX_SIDE], holds: &[u64; MAX_SIDE], cols: u64, at: usize) -> u64
-    requires { ⌜ length (now from) ≡ stride ⌝ }
-    requires { ⌜ ((l : ℕ) → has cols l ≡ true → l < stride) ⌝ }
-    ensures { λ _. ⌜ Touched (λ (y : ℕ). at) 0 (now (from .entry)) cols (now (from .exit)) ⌝ }
-    ensures { λ r. ⌜ Gathered (now (holds .entry)) cols r ⌝ }
+    requires from_len { length from.old ≡ stride }
+    requires by_index { (l : ℕ) → has cols l ≡ true → l < stride }
+    ensures touched { Touched (λ (y : ℕ). at) 0 from.old cols from.new }
+    ensures gathered { Gathered holds.now cols result }
 {
     let mut rows: u64 = 0;
     let mut left = cols;
@@ -65,13 +61,11 @@ pub fn search(
     m: usize,
     n: usize,
 ) -> Reached
-    requires { ⌜ ((x : ℕ → ℕ → Z) × Sought m n target x (now tight) (now holds) (now owns)) ⌝ }
-    requires { ⌜ Rooms (now row) (now col) (now up) (now from) ⌝ }
-    ensures { λ _. ⌜ Rooms (now (row .exit)) (now (col .exit)) (now (up .exit)) (now (from .exit)) ⌝ }
-    ensures { λ r. ⌜
-        ((x : ℕ → ℕ → Z) → Sought m n target x (now (tight .entry)) (now (holds .entry)) (now (owns .entry))
-        → Answers m n target x (now (tight .entry)) r (now (row .exit)) (now (col .exit)) (now (up .exit)))
-        ⌝ }
+    requires by_index { (x : ℕ → ℕ → Z) × Sought m n target x tight.now holds.now owns.now }
+    requires rooms { Rooms row.old col.old up.old from.old }
+    ensures rooms_2 { Rooms row.new col.new up.new from.new }
+    ensures by_index_2 { (x : ℕ → ℕ → Z) → Sought m n target x tight.now holds.now owns.now
+        → Answers m n target x tight.now result row.new col.new up.new }
 {
     let b = target.col;
     row[0] = target.row;

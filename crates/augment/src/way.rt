@@ -1,14 +1,13 @@
 // The way that a search has found, from a goal over positions up to the root: it takes bags from the target's row at the goal, and brings them to the target.
+ghost use Rattle.std.specs.Prelude.{ℕ, ◌≤◌, nat_abs};
+ghost use Rattle.network.specs.Search.{Rooted};
+ghost use Rattle.transport.specs.Limits.{max_bags};
+ghost use Rattle.augment.specs.Bags.{entry, Follow};
+ghost use Rattle.augment.specs.Way.{Walkable, LeastOn, Carries, Brought, BroughtLeast};
+
 use crate::bags::shift;
 use transport::MAX_SIDE;
-use tree::LANES;
-use tree::NODES;
-ghost use Prim.Native.Nat.{ℕ, _≤_};
-ghost use lib.IntN.{natAbs};
-ghost use Rattle·network.specs.Search.{Rooted};
-ghost use Rattle·transport.specs.Limits.{maxBags};
-ghost use Rattle·augment·specs.specs.Bags.{entry, Follow};
-ghost use Rattle·augment·specs.specs.Way.{Walkable, LeastOn, Carries, Brought, BroughtLeast};
+use tree::{LANES, NODES};
 
 // Of the lanes that the way takes bags from, the place of one with the least.
 fn least_on(
@@ -19,10 +18,8 @@ fn least_on(
     s: usize,
     j: usize,
 ) -> usize
-    requires { ⌜ ((m : ℕ) × (n : ℕ) × Walkable m n s j (now row) (now col) (now up)) ⌝ }
-    ensures { λ r. ⌜
-        ((d : ℕ) → Rooted (entry (now (up .entry))) s d → LeastOn d s j (now (row .entry)) (now (col .entry)) (now (up .entry)) (now (q .entry)) r)
-        ⌝ }
+    requires { (m : ℕ) × (n : ℕ) × Walkable m n s j row.now col.now up.now }
+    ensures { (d : ℕ) → Rooted (entry up.now) s d → LeastOn d s j row.now col.now up.now q.now result }
 {
     let mut least = row[0] * MAX_SIDE + j;
     let mut at = s;
@@ -48,13 +45,11 @@ fn bring(
     j: usize,
     x: i64,
 )
-    requires { ⌜ ((m : ℕ) × (n : ℕ) × Carries m n s j (now row) (now col) (now up) (now q) (now holds) (now owns)) ⌝ }
-    requires { ⌜ natAbs x ≤ maxBags ⌝ }
-    ensures { λ _. ⌜
-        ((d : ℕ) → Rooted (entry (now (up .entry))) s d
-        → Brought d s j (now (row .entry)) (now (col .entry)) (now (up .entry)) x (now (q .entry)) (now (q .exit)))
-        ⌝ }
-    ensures { λ _. ⌜ Follow (now (q .entry)) (now (holds .entry)) (now (owns .entry)) (now (q .exit)) (now (holds .exit)) (now (owns .exit)) ⌝ }
+    requires by_index { (m : ℕ) × (n : ℕ) × Carries m n s j row.now col.now up.now q.old holds.old owns.old }
+    requires x_bound { nat_abs x ≤ max_bags }
+    ensures by_index_2 { (d : ℕ) → Rooted (entry up.now) s d
+        → Brought d s j row.now col.now up.now x q.old q.new }
+    ensures follow { Follow q.old holds.old owns.old q.new holds.new owns.new }
 {
     shift(q, holds, owns, row[0], row[s], j, x);
     let mut at = s;
@@ -76,12 +71,10 @@ pub fn bring_least(
     s: usize,
     j: usize,
 )
-    requires { ⌜ ((m : ℕ) × (n : ℕ) × Carries m n s j (now row) (now col) (now up) (now q) (now holds) (now owns)) ⌝ }
-    ensures { λ _. ⌜
-        ((d : ℕ) → Rooted (entry (now (up .entry))) s d
-        → BroughtLeast d s j (now (row .entry)) (now (col .entry)) (now (up .entry)) (now (q .entry)) (now (q .exit)))
-        ⌝ }
-    ensures { λ _. ⌜ Follow (now (q .entry)) (now (holds .entry)) (now (owns .entry)) (now (q .exit)) (now (holds .exit)) (now (owns .exit)) ⌝ }
+    requires { (m : ℕ) × (n : ℕ) × Carries m n s j row.now col.now up.now q.old holds.old owns.old }
+    ensures by_index { (d : ℕ) → Rooted (entry up.now) s d
+        → BroughtLeast d s j row.now col.now up.now q.old q.new }
+    ensures follow { Follow q.old holds.old owns.old q.new holds.new owns.new }
 {
     let x = q[least_on(q, row, col, up, s, j)];
     bring(q, holds, owns, row, col, up, s, j, x);

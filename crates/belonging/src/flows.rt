@@ -1,10 +1,10 @@
 // Whether the amounts on the basic lanes are the flow of weights at the nodes.
-use tree::LANES;
-use tree::NODES;
-ghost use mathlib.Core.Path.{_≡_};
-ghost use Rattle·tree.specs.Layout.{LanesApart, StrikesInRoom, strikesOf};
-ghost use Rattle·belonging·specs.specs.FlowLaws.{weightsOf};
-ghost use Rattle·belonging·specs.specs.Carried.{Light, carriesFlow};
+ghost use Rattle.std.specs.Prelude.{◌≡◌};
+ghost use Rattle.tree.specs.Layout.{LanesApart, StrikesInRoom, strikes_of};
+ghost use Rattle.belonging.specs.FlowLaws.{weights_of};
+ghost use Rattle.belonging.specs.Carried.{Light, carries_flow};
+
+use tree::{LANES, NODES};
 
 // Forwards through the strikes: a leaf's lane must carry exactly what the leaf still needs, which is then taken from both ends of the lane. Amounts are
 // compared and never added up, so that none can be too great. The weights are used up.
@@ -16,13 +16,11 @@ pub(crate) fn flows_match(
     lane: &[usize; NODES],
     count: usize,
 ) -> bool
-    requires { ⌜ StrikesInRoom (now leaf) (now other) (now lane) count ⌝ }
-    requires { ⌜ LanesApart (now lane) count ⌝ }
-    requires { ⌜ Light (now weight) ⌝ }
-    ensures { λ r. ⌜
-        r ≡ carriesFlow (weightsOf (now (weight .entry))) (strikesOf (now (leaf .entry)) (now (other .entry)) (now (lane .entry)) count)
-        (now (amount .entry)) (now (lane .entry)) count
-        ⌝ }
+    requires strikes_in_room { StrikesInRoom leaf.now other.now lane.now count }
+    requires lanes_apart { LanesApart lane.now count }
+    requires light { Light weight.old }
+    ensures { result ≡ carries_flow (weights_of weight.old) (strikes_of leaf.now other.now lane.now count)
+        amount.now lane.now count }
 {
     let mut k = 0;
     while k < count {

@@ -2,25 +2,20 @@
 pub mod flows;
 pub mod weights;
 
-use board::fit;
-use board::spread;
+ghost use Rattle.std.specs.Prelude.{◌≡◌, true, List, ℤ, length};
+ghost use Rattle.transport.specs.Laws.Sound.{Sound};
+ghost use Rattle.transport.specs.Tableau.{cells_of};
+ghost use Rattle.transport.specs.Belonging.{balanced, belongs};
+ghost use Rattle.transport.specs.declared.Cell.{Cell};
+ghost use Rattle.transport.specs.Laws.ProblemLaws.{problem};
+ghost use Rattle.tree.specs.Layout.{node_room};
+ghost use Rattle.board.specs.Arrays.{Loaded};
+ghost use Rattle.board.specs.Held.{Empty};
+ghost use Rattle.belonging.specs.Spread.{Balancing};
+
+use board::{fit, spread};
 use transport::Tableau;
-use tree::LANES;
-use tree::NODES;
-ghost use mathlib.Core.Path.{_≡_};
-ghost use mathlib.Core.Bool.{true};
-ghost use mathlib.Core.List.{List};
-ghost use lib.IntN.{ℤ};
-ghost use lib.ListN.{length};
-ghost use Rattle·transport.specs.Laws.Sound.{Sound};
-ghost use Rattle·transport.specs.Tableau.{cellsOf};
-ghost use Rattle·transport.specs.Belonging.{balanced, belongs};
-ghost use Rattle·transport.specs.declared.Cell.{Cell};
-ghost use Rattle·transport.specs.Laws.ProblemLaws.{problem};
-ghost use Rattle·tree.specs.Layout.{nodeRoom};
-ghost use Rattle·board.specs.Arrays.{Loaded};
-ghost use Rattle·board.specs.Held.{Empty};
-ghost use Rattle·belonging·specs.specs.Spread.{Balancing};
+use tree::{LANES, NODES};
 
 // Whether the amounts on the basic lanes, which the strikes strike off, add up to the paired supplies and demands: they are then one flow of the bags and one
 // of the marks.
@@ -33,14 +28,12 @@ fn balances(
     other: &[usize; NODES],
     lane: &[usize; NODES],
 ) -> bool
-    requires { ⌜ ((cost : List ℤ) × Sound (problem (now supply) (now demand) cost)) ⌝ }
-    requires { ⌜ ((T : List Cell) × Balancing (length (now supply)) (length (now demand)) T (now q) (now e) (now leaf) (now other) (now lane)) ⌝ }
-    ensures { λ r. ⌜
-        ((cost : List ℤ) (T : List Cell)
-        → Balancing (length (now (supply .entry))) (length (now (demand .entry))) T (now (q .entry)) (now (e .entry))
-        (now (leaf .entry)) (now (other .entry)) (now (lane .entry))
-        → r ≡ balanced (problem (now (supply .entry)) (now (demand .entry)) cost) T)
-        ⌝ }
+    requires sound { (cost : List ℤ) × Sound (problem supply.now demand.now cost) }
+    requires balancing { (T : List Cell) × Balancing (length supply.now) (length demand.now) T q.now e.now leaf.now other.now lane.now }
+    ensures { (cost : List ℤ) (T : List Cell)
+        → Balancing (length supply.now) (length demand.now) T q.now e.now
+        leaf.now other.now lane.now
+        → result ≡ balanced (problem supply.now demand.now cost) T }
 {
     let m = supply.len();
     let n = demand.len();
@@ -67,19 +60,15 @@ pub fn load(
     other: &mut [usize; NODES],
     lane: &mut [usize; NODES],
 ) -> bool
-    requires { ⌜ ((cost : List ℤ) × Sound (problem (now supply) (now demand) cost)) ⌝ }
-    requires { ⌜
-        (length (now leaf) ≡ nodeRoom)
-        × (length (now other) ≡ nodeRoom)
-        × (length (now lane) ≡ nodeRoom)
-        × Empty (now q) (now e)
-        ⌝ }
-    ensures { λ r. ⌜ ((cost : List ℤ) → r ≡ belongs (problem (now (supply .entry)) (now (demand .entry)) cost) t) ⌝ }
-    ensures { λ r. ⌜
-        (r ≡ true
-        → Loaded (length (now (supply .entry))) (length (now (demand .entry))) (cellsOf t)
-        (now (q .exit)) (now (e .exit)) (now (leaf .exit)) (now (other .exit)) (now (lane .exit)))
-        ⌝ }
+    requires sound { (cost : List ℤ) × Sound (problem supply.now demand.now cost) }
+    requires leaf_len { (length leaf.old ≡ node_room)
+        × (length other.old ≡ node_room)
+        × (length lane.old ≡ node_room)
+        × Empty q.old e.old }
+    ensures value { (cost : List ℤ) → result ≡ belongs (problem supply.now demand.now cost) t }
+    ensures loaded { result ≡ true
+        → Loaded (length supply.now) (length demand.now) (cells_of t)
+        q.new e.new leaf.new other.new lane.new }
 {
     let m = supply.len();
     let n = demand.len();

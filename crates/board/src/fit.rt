@@ -1,18 +1,16 @@
 // The tests of belonging that look at cells one by one.
-use transport::Cell;
-use transport::Pair;
-use transport::Tableau;
-ghost use mathlib.Core.Path.{_≡_};
-ghost use Prim.Native.Nat.{_≤_};
-ghost use Rattle·transport.specs.Tableau.{cellsOf};
-ghost use Rattle·tree.specs.Layout.{stride};
-ghost use Rattle·board·specs.specs.Cells.{cellRoom};
-ghost use Rattle·board·specs.specs.CellTests.{cellsFit, fitsAt};
+ghost use Rattle.std.specs.Prelude.{◌≡◌, ◌≤◌};
+ghost use Rattle.transport.specs.Tableau.{cells_of};
+ghost use Rattle.tree.specs.Layout.{stride};
+ghost use Rattle.board.specs.Cells.{cell_room};
+ghost use Rattle.board.specs.CellTests.{cells_fit_of, fits_at};
+
+use transport::{Cell, Pair, Tableau};
 
 // Whether the cell is one of `m` rows and `n` columns, stands at the place `least` or later, and has a pair above (0, 0).
 fn cell_fits(c: Cell, m: usize, n: usize, least: usize) -> bool
-    requires { ⌜ (m ≤ stride) × (n ≤ stride) ⌝ }
-    ensures { λ r. ⌜ r ≡ fitsAt m n least c ⌝ }
+    requires { (m ≤ stride) × (n ≤ stride) }
+    ensures { result ≡ fits_at m n least c }
 {
     let row = c.row;
     let col = c.col;
@@ -33,8 +31,8 @@ fn cell_fits(c: Cell, m: usize, n: usize, least: usize) -> bool
 
 // Whether every cell of the tableau is one of `m` rows and `n` columns, they stand in sheet order, and every pair is above (0, 0).
 pub fn cells_fit(t: Tableau, m: usize, n: usize) -> bool
-    requires { ⌜ (t .count ≤ cellRoom) × (m ≤ stride) × (n ≤ stride) ⌝ }
-    ensures { λ r. ⌜ r ≡ cellsFit m n (cellsOf t) ⌝ }
+    requires { (t.count ≤ cell_room) × (m ≤ stride) × (n ≤ stride) }
+    ensures { result ≡ cells_fit_of m n (cells_of t) }
 {
     let mut least = 0;
     let mut k = 0;

@@ -1,34 +1,24 @@
 // A tableau gathered from flat arrays: its lanes from the masks of the rows, in sheet order, and their amounts.
+ghost use Rattle.std.specs.Prelude.{◌≡◌, List, ◌++◌, ℕ, ◌+◌, ◌/◌, ◌<◌, ◌≤◌, length, take, get_or};
+ghost use Rattle.transport.specs.Problem.{Problem};
+ghost use Rattle.transport.specs.Tableau.{tableau_of};
+ghost use Rattle.transport.specs.declared.Cell.{Cell};
+ghost use Rattle.tree.specs.Layout.{stride, node_room, lane_room};
+ghost use Rattle.board.specs.Arrays.{Board};
+ghost use Rattle.board.specs.Drawing.{Redrawn};
+ghost use Rattle.board.specs.Lanes.{row_lanes_of, RowMasks, Lanes, gathered};
+
 use crate::amount::pair_at;
 use crate::spread::link;
-use transport::Cell;
-use transport::MAX_CELLS;
-use transport::MAX_SIDE;
-use transport::Pair;
-use transport::Tableau;
-use tree::LANES;
-use tree::NODES;
-use tree::mask;
-ghost use mathlib.Core.Path.{_≡_};
-ghost use mathlib.Core.List.{List, _++_};
-ghost use Prim.Native.Nat.{ℕ, _+_, _/_, _<_, _≤_};
-ghost use lib.ListN.{length, take, getD};
-ghost use Rattle·transport.specs.Problem.{Problem};
-ghost use Rattle·transport.specs.Tableau.{tableauOf};
-ghost use Rattle·transport.specs.declared.Cell.{Cell};
-ghost use Rattle·tree.specs.Layout.{stride, nodeRoom, laneRoom};
-ghost use Rattle·board·specs.specs.Arrays.{Board};
-ghost use Rattle·board·specs.specs.Drawing.{Redrawn};
-ghost use Rattle·board·specs.specs.Lanes.{rowLanes, RowMasks, Lanes, gathered};
+use transport::{Cell, MAX_CELLS, MAX_SIDE, Pair, Tableau};
+use tree::{LANES, NODES, mask};
 
 // Behind the first `count` lanes come those of one more row, which begins at the lane `first`; the count then.
 fn row_lanes(mask: u64, first: usize, lanes: &mut [usize; NODES], count: usize) -> usize
-    requires { ⌜ (length (now lanes) ≡ nodeRoom) × (count + length (rowLanes first mask) ≤ nodeRoom) × (first ≤ laneRoom) ⌝ }
-    ensures { λ r. ⌜
-        (length (now (lanes .exit)) ≡ nodeRoom)
-        × (r ≡ count + length (rowLanes first mask))
-        × (take r (now (lanes .exit)) ≡ take count (now (lanes .entry)) ++ rowLanes first mask)
-        ⌝ }
+    requires { (length lanes.old ≡ node_room) × (count + length (row_lanes_of first mask) ≤ node_room) × (first ≤ lane_room) }
+    ensures { (length lanes.new ≡ node_room)
+        × (result ≡ count + length (row_lanes_of first mask))
+        × (take result lanes.new ≡ take count lanes.old ++ row_lanes_of first mask) }
 {
     let mut bits = mask;
     let mut k = count;
@@ -43,8 +33,8 @@ fn row_lanes(mask: u64, first: usize, lanes: &mut [usize; NODES], count: usize) 
 
 // The basic lanes of the first `m` rows, in sheet order; how many they are.
 fn basic_lanes(adj: &[u64; NODES], m: usize, lanes: &mut [usize; NODES]) -> usize
-    requires { ⌜ RowMasks (now adj) m × (length (now lanes) ≡ nodeRoom) ⌝ }
-    ensures { λ r. ⌜ Lanes (now (adj .entry)) m (now (lanes .exit)) r ⌝ }
+    requires { RowMasks adj.now m × (length lanes.old ≡ node_room) }
+    ensures { Lanes adj.now m lanes.new result }
 {
     let mut count = 0;
     let mut i = 0;
@@ -57,8 +47,8 @@ fn basic_lanes(adj: &[u64; NODES], m: usize, lanes: &mut [usize; NODES]) -> usiz
 
 // The cells on the basic lanes that the masks have.
 fn gather_cells(adj: &[u64; NODES], q: &[i64; LANES], e: &[i64; LANES], m: usize) -> Tableau
-    requires { ⌜ RowMasks (now adj) m ⌝ }
-    ensures { λ r. ⌜ r ≡ tableauOf (gathered m (now (adj .entry)) (now (q .entry)) (now (e .entry))) ⌝ }
+    requires { RowMasks adj.now m }
+    ensures { result ≡ tableau_of (gathered m adj.now q.now e.now) }
 {
     let mut lanes = [0usize; NODES];
     let count = basic_lanes(adj, m, &mut lanes);
@@ -87,8 +77,8 @@ fn gather_cells(adj: &[u64; NODES], q: &[i64; LANES], e: &[i64; LANES], m: usize
 
 // The masks of the basic lanes, drawn from the lanes of the first `count` slots.
 pub fn draw(lane: &[usize; NODES], m: usize, count: usize, adj: &mut [u64; NODES])
-    requires { ⌜ (m ≤ stride) × (count ≤ nodeRoom) × ((t : ℕ) → t < count → getD (now lane) t 0 / stride < m) ⌝ }
-    ensures { λ _. ⌜ Redrawn m (now (lane .entry)) count (now (adj .exit)) ⌝ }
+    requires { (m ≤ stride) × (count ≤ node_room) × ((t : ℕ) → t < count → get_or lane.now t 0 / stride < m) }
+    ensures { Redrawn m lane.now count adj.new }
 {
     *adj = [0; NODES];
     let mut k = 0;
@@ -107,13 +97,9 @@ pub fn gather(
     m: usize,
     n: usize,
 ) -> Tableau
-    requires { ⌜
-        ((P : Problem) × (T : List Cell) × (sub : List ℕ) × (path : List ℕ) × Board P T (now q) (now e) sub path (now lane) m n)
-        ⌝ }
-    ensures { λ r. ⌜
-        ((P : Problem) (T : List Cell) (sub path : List ℕ) → Board P T (now (q .entry)) (now (e .entry)) sub path (now (lane .entry)) m n
-        → r ≡ tableauOf T)
-        ⌝ }
+    requires { (P : Problem) × (T : List Cell) × (sub : List ℕ) × (path : List ℕ) × Board P T q.now e.now sub path lane.now m n }
+    ensures { (P : Problem) (T : List Cell) (sub path : List ℕ) → Board P T q.now e.now sub path lane.now m n
+        → result ≡ tableau_of T }
 {
     let mut adj = [0u64; NODES];
     draw(lane, m, m + n - 1, &mut adj);

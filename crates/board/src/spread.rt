@@ -1,27 +1,22 @@
 // A tableau spread over flat arrays: a mask of basic lanes for each node, and the amounts by lane.
+ghost use Rattle.std.specs.Prelude.{◌≡◌, ℕ, ◌+◌, ◌*◌, ◌<◌, ◌≤◌, length, set, replicate};
+ghost use Rattle.transport.specs.Tableau.{cells_of, basis_for};
+ghost use Rattle.tableaux.specs.View.{Inside, Distinct};
+ghost use Rattle.tree.specs.Layout.{stride, node_room, strikes_of};
+ghost use Rattle.tree.specs.Strip.{Stripped};
+ghost use Rattle.board.specs.Arrays.{Sides, Amounts};
+ghost use Rattle.board.specs.Cells.{cell_room};
+ghost use Rattle.board.specs.Held.{Empty, Held, linked};
+
 use crate::amount::put_pair;
-use transport::Cell;
-use transport::MAX_SIDE;
-use transport::Tableau;
-use tree::LANES;
-use tree::NODES;
-use tree::mask;
+use transport::{Cell, MAX_SIDE, Tableau};
 use tree::strike::strike;
-ghost use mathlib.Core.Path.{_≡_};
-ghost use Prim.Native.Nat.{ℕ, _+_, _*_, _<_, _≤_};
-ghost use lib.ListN.{length, set, replicate};
-ghost use Rattle·transport.specs.Tableau.{cellsOf, basisOf};
-ghost use Rattle·tableaux.specs.View.{Inside, Distinct};
-ghost use Rattle·tree.specs.Layout.{stride, nodeRoom, strikesOf};
-ghost use Rattle·tree.specs.Strip.{Stripped};
-ghost use Rattle·board·specs.specs.Arrays.{Sides, Amounts};
-ghost use Rattle·board·specs.specs.Cells.{cellRoom};
-ghost use Rattle·board·specs.specs.Held.{Empty, Held, linked};
+use tree::{LANES, NODES, mask};
 
 // The lane from `row` to `col` becomes basic: a bit in its row's mask, and one in its column's.
 pub(crate) fn link(adj: &mut [u64; NODES], m: usize, row: usize, col: usize)
-    requires { ⌜ (row < m) × (m ≤ stride) × (col < stride) ⌝ }
-    ensures { λ _. ⌜ now (adj .exit) ≡ linked m row col (now (adj .entry)) ⌝ }
+    requires { (row < m) × (m ≤ stride) × (col < stride) }
+    ensures { adj.new ≡ linked m row col adj.old }
 {
     adj[row] = mask::set_bit(adj[row], col);
     let sink = m + col;
@@ -30,12 +25,10 @@ pub(crate) fn link(adj: &mut [u64; NODES], m: usize, row: usize, col: usize)
 
 // A cell: its lane becomes basic, and its amount lies on the lane.
 fn put_cell(c: Cell, m: usize, adj: &mut [u64; NODES], q: &mut [i64; LANES], e: &mut [i64; LANES])
-    requires { ⌜ (c .row < m) × (m ≤ stride) × (c .col < stride) ⌝ }
-    ensures { λ _. ⌜
-        (now (adj .exit) ≡ linked m (c .row) (c .col) (now (adj .entry)))
-        × (now (q .exit) ≡ set (now (q .entry)) (c .row * stride + c .col) (c .amount .q))
-        × (now (e .exit) ≡ set (now (e .entry)) (c .row * stride + c .col) (c .amount .e))
-        ⌝ }
+    requires { (c.row < m) × (m ≤ stride) × (c.col < stride) }
+    ensures { (adj.new ≡ linked m c.row c.col adj.old)
+        × (q.new ≡ set q.old (c.row * stride + c.col) c.amount.q)
+        × (e.new ≡ set e.old (c.row * stride + c.col) c.amount.e) }
 {
     let row = c.row;
     let col = c.col;
@@ -45,14 +38,12 @@ fn put_cell(c: Cell, m: usize, adj: &mut [u64; NODES], q: &mut [i64; LANES], e: 
 
 // All cells of the tableau, from the last to the first, over arrays of zeros.
 fn spread(t: Tableau, m: usize, adj: &mut [u64; NODES], q: &mut [i64; LANES], e: &mut [i64; LANES])
-    requires { ⌜
-        (t .count ≤ cellRoom)
+    requires { (t.count ≤ cell_room)
         × (m ≤ stride)
-        × Inside m stride (cellsOf t)
-        × (now adj ≡ replicate nodeRoom 0)
-        × Empty (now q) (now e)
-        ⌝ }
-    ensures { λ _. ⌜ ((n : ℕ) → n ≤ stride → Held m n (cellsOf t) (now (adj .exit)) (now (q .exit)) (now (e .exit))) ⌝ }
+        × Inside m stride (cells_of t)
+        × (adj.old ≡ replicate node_room 0)
+        × Empty q.old e.old }
+    ensures { (n : ℕ) → n ≤ stride → Held m n (cells_of t) adj.new q.new e.new }
 {
     let mut k = t.count;
     while k > 0 {
@@ -74,18 +65,14 @@ pub fn lay_out(
     other: &mut [usize; NODES],
     lane: &mut [usize; NODES],
 ) -> usize
-    requires { ⌜ (t .count ≤ cellRoom) × Sides m n × Inside m n (cellsOf t) × Distinct (cellsOf t) ⌝ }
-    requires { ⌜
-        (length (now leaf) ≡ nodeRoom)
-        × (length (now other) ≡ nodeRoom)
-        × (length (now lane) ≡ nodeRoom)
-        × Empty (now q) (now e)
-        ⌝ }
-    ensures { λ r. ⌜
-        Amounts m n (cellsOf t) (now (q .exit)) (now (e .exit))
-        × (length (now (lane .exit)) ≡ nodeRoom)
-        × Stripped m n (basisOf (cellsOf t)) (strikesOf (now (leaf .exit)) (now (other .exit)) (now (lane .exit)) r) r
-        ⌝ }
+    requires count_le_cell_room { (t.count ≤ cell_room) × Sides m n × Inside m n (cells_of t) × Distinct (cells_of t) }
+    requires leaf_len { (length leaf.old ≡ node_room)
+        × (length other.old ≡ node_room)
+        × (length lane.old ≡ node_room)
+        × Empty q.old e.old }
+    ensures { Amounts m n (cells_of t) q.new e.new
+        × (length lane.new ≡ node_room)
+        × Stripped m n (basis_for (cells_of t)) (strikes_of leaf.new other.new lane.new result) result }
 {
     let mut adj = [0u64; NODES];
     spread(t, m, &mut adj, q, e);

@@ -1,9 +1,9 @@
 // The structs that cross the border to programs in C and Rust.
-use transport::MAX_SIDE;
-use transport::Tableau;
+use transport::{MAX_SIDE, Tableau};
 
 // The first tableau.
 #[repr(C)]
+#[derive(Drop)]
 pub struct StartOut {
     pub refusal: u8,
     pub tableau: Tableau,
@@ -11,6 +11,7 @@ pub struct StartOut {
 
 // The next tableau, or, if the one given is finished, its prices.
 #[repr(C)]
+#[derive(Drop)]
 pub struct RoundOut {
     pub refusal: u8,
     pub finished: bool,
@@ -21,6 +22,7 @@ pub struct RoundOut {
 
 // The last tableau, whether it is finished, and the rounds made.
 #[repr(C)]
+#[derive(Drop)]
 pub struct RunOut {
     pub refusal: u8,
     pub finished: bool,
@@ -30,6 +32,7 @@ pub struct RunOut {
 
 // The cost of the plan, and the rounds made.
 #[repr(C)]
+#[derive(Drop)]
 pub struct SolveOut {
     pub refusal: u8,
     pub cost: i64,
@@ -38,6 +41,7 @@ pub struct SolveOut {
 
 // The counts of sources and sinks; with refusal 9, the place.
 #[repr(C)]
+#[derive(Drop)]
 pub struct ReadOut {
     pub refusal: u8,
     pub sources: usize,
@@ -47,6 +51,7 @@ pub struct ReadOut {
 
 // The length of the text.
 #[repr(C)]
+#[derive(Drop)]
 pub struct WriteOut {
     pub refusal: u8,
     pub length: usize,

@@ -1,14 +1,13 @@
 // The exported calls that solve: solve, and write plan. Each gives a struct that crosses the border.
-use border::SolveOut;
-use border::WriteOut;
+ghost use Rattle.std.specs.Prelude.{◌≡◌, length};
+ghost use Rattle.transport.specs.Sheet.{sheet_of};
+ghost use Rattle.transport.specs.Calls.{lent_after, solve_call};
+ghost use Rattle.transport.specs.PlanText.{write_plan_call};
+ghost use Rattle.border.specs.Border.{solve_out_of, write_out_of};
+
+use border::{SolveOut, WriteOut};
 use border_sheets::write_out;
 use transport::SolveAnswer;
-ghost use mathlib.Core.Path.{_≡_};
-ghost use lib.ListN.{length};
-ghost use Rattle·transport.specs.Sheet.{sheetOf};
-ghost use Rattle·transport.specs.Calls.{lentAfter, solveCall};
-ghost use Rattle·transport.specs.PlanText.{writePlanCall};
-ghost use Rattle·border.specs.Border.{solveOut, writeOut};
 
 pub fn solve_out(
     supply: &[u64],
@@ -18,15 +17,12 @@ pub fn solve_out(
     v: &mut [i64],
     plan: &mut [u64],
 ) -> SolveOut
-    ensures { λ r.
-        let S = sheetOf (now (supply .entry)) (now (demand .entry)) (now (cost .entry)) in
-        let a = solveCall S (length (now (u .entry))) (length (now (v .entry))) (length (now (plan .entry))) in
-        ⌜
-        (r ≡ solveOut a)
-        × (now (u .exit) ≡ lentAfter (λ s. s .u) a (now (u .entry)))
-        × (now (v .exit) ≡ lentAfter (λ s. s .v) a (now (v .entry)))
-        × (now (plan .exit) ≡ lentAfter (λ s. s .plan) a (now (plan .entry)))
-        ⌝ }
+    ensures { let S = sheet_of supply.now demand.now cost.now in
+        let a = solve_call S (length u.old) (length v.old) (length plan.old) in
+        (result ≡ solve_out_of a)
+        × (u.new ≡ lent_after (λ s. s.u) a u.old)
+        × (v.new ≡ lent_after (λ s. s.v) a v.old)
+        × (plan.new ≡ lent_after (λ s. s.plan) a plan.old) }
 {
     let answer = solve_call::solve(supply, demand, cost, u, v, plan);
     match answer {
@@ -47,10 +43,9 @@ pub fn solve_out(
 }
 
 pub fn write_plan_out(supply: &[u64], demand: &[u64], cost: &[i64], out: &mut [u8]) -> WriteOut
-    ensures { λ r.
-        let S = sheetOf (now (supply .entry)) (now (demand .entry)) (now (cost .entry)) in
-        let a = writePlanCall S (length (now (out .entry))) in
-        ⌜ (r ≡ writeOut a) × (now (out .exit) ≡ lentAfter (λ t. t) a (now (out .entry))) ⌝ }
+    ensures { let S = sheet_of supply.now demand.now cost.now in
+        let a = write_plan_call S (length out.old) in
+        (result ≡ write_out_of a) × (out.new ≡ lent_after (λ t. t) a out.old) }
 {
     write_out(plan_text::write_plan(supply, demand, cost, out))
 }

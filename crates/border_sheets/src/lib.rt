@@ -1,22 +1,17 @@
 // The exported calls that solve nothing: start, read sheet and write sheet. Each gives a struct that crosses the border.
-use border::ReadOut;
-use border::StartOut;
-use border::WriteOut;
-use transport::ReadAnswer;
-use transport::StartOutcome;
-use transport::WriteAnswer;
-ghost use mathlib.Core.Path.{_≡_};
-ghost use lib.ListN.{length};
-ghost use Rattle·transport.specs.Sheet.{sheetOf};
-ghost use Rattle·transport.specs.Calls.{lentAfter, startCall};
-ghost use Rattle·transport.specs.SheetText.{readSheetCall, writeSheetCall};
-ghost use Rattle·border.specs.Border.{startOut, readOut, writeOut};
-ghost use Rattle·border_sheets·specs.specs.Crossing.{written};
+ghost use Rattle.std.specs.Prelude.{◌≡◌, length};
+ghost use Rattle.transport.specs.Sheet.{sheet_of};
+ghost use Rattle.transport.specs.Calls.{lent_after, start_call};
+ghost use Rattle.transport.specs.SheetText.{read_sheet_call, write_sheet_call};
+ghost use Rattle.border.specs.Border.{start_out_of, read_out_of, write_out_of};
+ghost use Rattle.border_sheets.specs.Crossing.{written};
+
+use border::{ReadOut, StartOut, WriteOut};
+use transport::{ReadAnswer, StartOutcome, WriteAnswer};
 
 pub fn start_out(supply: &[u64], demand: &[u64], cost: &[i64]) -> StartOut
-    ensures { λ r.
-        let S = sheetOf (now (supply .entry)) (now (demand .entry)) (now (cost .entry)) in
-        ⌜ r ≡ startOut (startCall S) ⌝ }
+    ensures { let S = sheet_of supply.now demand.now cost.now in
+        result ≡ start_out_of (start_call S) }
 {
     let answer = start_call::start(supply, demand, cost);
     let tableau = answer.tableau;
@@ -34,14 +29,11 @@ pub fn start_out(supply: &[u64], demand: &[u64], cost: &[i64]) -> StartOut
 }
 
 pub fn read_out(text: &[u8], supply: &mut [u64], demand: &mut [u64], cost: &mut [i64]) -> ReadOut
-    ensures { λ r.
-        let a = readSheetCall (now (text .entry)) (length (now (supply .entry))) (length (now (demand .entry))) (length (now (cost .entry))) in
-        ⌜
-        (r ≡ readOut a)
-        × (now (supply .exit) ≡ lentAfter (λ S. S .supply) a (now (supply .entry)))
-        × (now (demand .exit) ≡ lentAfter (λ S. S .demand) a (now (demand .entry)))
-        × (now (cost .exit) ≡ lentAfter (λ S. S .cost) a (now (cost .entry)))
-        ⌝ }
+    ensures { let a = read_sheet_call text.now (length supply.old) (length demand.old) (length cost.old) in
+        (result ≡ read_out_of a)
+        × (supply.new ≡ lent_after (λ S. S.supply) a supply.old)
+        × (demand.new ≡ lent_after (λ S. S.demand) a demand.old)
+        × (cost.new ≡ lent_after (λ S. S.cost) a cost.old) }
 {
     let answer = sheet_reader::read_sheet(text, supply, demand, cost);
     match answer {
@@ -68,7 +60,7 @@ pub fn read_out(text: &[u8], supply: &mut [u64], demand: &mut [u64], cost: &mut 
 
 // The answer of a writer, also of write plan.
 pub fn write_out(answer: WriteAnswer) -> WriteOut
-    ensures { λ r. ⌜ r ≡ written answer ⌝ }
+    ensures { result ≡ written answer }
 {
     match answer {
         WriteAnswer::Written(length) => WriteOut { refusal: 0, length },
@@ -80,10 +72,9 @@ pub fn write_out(answer: WriteAnswer) -> WriteOut
 }
 
 pub fn write_sheet_out(supply: &[u64], demand: &[u64], cost: &[i64], out: &mut [u8]) -> WriteOut
-    ensures { λ r.
-        let S = sheetOf (now (supply .entry)) (now (demand .entry)) (now (cost .entry)) in
-        let a = writeSheetCall S (length (now (out .entry))) in
-        ⌜ (r ≡ writeOut a) × (now (out .exit) ≡ lentAfter (λ t. t) a (now (out .entry))) ⌝ }
+    ensures { let S = sheet_of supply.now demand.now cost.now in
+        let a = write_sheet_call S (length out.old) in
+        (result ≡ write_out_of a) × (out.new ≡ lent_after (λ t. t) a out.old) }
 {
     write_out(sheet_writer::write_sheet(supply, demand, cost, out))
 }

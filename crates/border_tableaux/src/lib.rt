@@ -1,20 +1,15 @@
 // The exported calls on tableaux, of a tableau by value: round, run and settle. Each gives a struct that crosses the border.
-use border::RoundOut;
-use border::RunOut;
-use transport::RoundOutcome;
-use transport::RunOutcome;
-use transport::SettleAnswer;
-use transport::Tableau;
-ghost use mathlib.Core.Path.{_≡_};
-ghost use lib.ListN.{length};
-ghost use Rattle·transport.specs.Sheet.{sheetOf};
-ghost use Rattle·transport.specs.Calls.{lentAfter, roundCall, runCall, settleCall};
-ghost use Rattle·border.specs.Border.{roundOut, runOut, numberOf};
+ghost use Rattle.std.specs.Prelude.{◌≡◌, length};
+ghost use Rattle.transport.specs.Sheet.{sheet_of};
+ghost use Rattle.transport.specs.Calls.{lent_after, round_call, run_call, settle_call};
+ghost use Rattle.border.specs.Border.{round_out, run_out, number_of};
+
+use border::{RoundOut, RunOut};
+use transport::{RoundOutcome, RunOutcome, SettleAnswer, Tableau};
 
 pub fn round_from(supply: &[u64], demand: &[u64], cost: &[i64], t: Tableau) -> RoundOut
-    ensures { λ r.
-        let S = sheetOf (now (supply .entry)) (now (demand .entry)) (now (cost .entry)) in
-        ⌜ r ≡ roundOut (roundCall S t) ⌝ }
+    ensures { let S = sheet_of supply.now demand.now cost.now in
+        result ≡ round_out (round_call S t) }
 {
     let answer = round_call::round(supply, demand, cost, t);
     let tableau = answer.tableau;
@@ -47,9 +42,8 @@ pub fn round_from(supply: &[u64], demand: &[u64], cost: &[i64], t: Tableau) -> R
 }
 
 pub fn run_from(supply: &[u64], demand: &[u64], cost: &[i64], t: Tableau, allowance: u32) -> RunOut
-    ensures { λ r.
-        let S = sheetOf (now (supply .entry)) (now (demand .entry)) (now (cost .entry)) in
-        ⌜ r ≡ runOut (runCall S t allowance) ⌝ }
+    ensures { let S = sheet_of supply.now demand.now cost.now in
+        result ≡ run_out (run_call S t allowance) }
 {
     let answer = run_call::run(supply, demand, cost, t, allowance);
     let tableau = answer.tableau;
@@ -78,10 +72,9 @@ pub fn run_from(supply: &[u64], demand: &[u64], cost: &[i64], t: Tableau, allowa
 
 // Settle: 0, or the number of the refusal.
 pub fn settle_from(supply: &[u64], demand: &[u64], cost: &[i64], t: Tableau, plan: &mut [u64]) -> u8
-    ensures { λ r.
-        let S = sheetOf (now (supply .entry)) (now (demand .entry)) (now (cost .entry)) in
-        let a = settleCall S t (length (now (plan .entry))) in
-        ⌜ (r ≡ numberOf a) × (now (plan .exit) ≡ lentAfter (λ x. x) a (now (plan .entry))) ⌝ }
+    ensures { let S = sheet_of supply.now demand.now cost.now in
+        let a = settle_call S t (length plan.old) in
+        (result ≡ number_of a) × (plan.new ≡ lent_after (λ x. x) a plan.old) }
 {
     let answer = settle_call::settle(supply, demand, cost, t, plan);
     match answer {

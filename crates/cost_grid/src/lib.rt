@@ -1,9 +1,9 @@
 // The costs of a sheet's lanes between parties left, spread by column: that of row i and column j lies at j * MAX_SIDE + i.
+ghost use Rattle.cost_grid.specs.Costs.{Spreadable, Spread};
+
 use parties::own_number;
 use transport::MAX_SIDE;
-use tree::LANES;
-use tree::Price;
-ghost use Rattle·cost_grid·specs.specs.Costs.{Spreadable, Spread};
+use tree::{LANES, Price};
 
 // `rows` and `cols` have the own numbers of the roasteries and the cafés that are left, of so many cafés. All else is 0: the lanes of an extra café, in the
 // column after the last, and what is no lane, at which no scan looks.
@@ -14,8 +14,8 @@ pub fn spread_costs(
     cols: &[usize],
     out: &mut [Price; LANES],
 )
-    requires { ⌜ Spreadable (now cost) cafes (now rows) (now cols) ⌝ }
-    ensures { λ _. ⌜ Spread (now (cost .entry)) cafes (now (rows .entry)) (now (cols .entry)) (now (out .exit)) ⌝ }
+    requires { Spreadable cost.now cafes rows.now cols.now }
+    ensures { Spread cost.now cafes rows.now cols.now out.new }
 {
     *out = [0; LANES];
     let all = cols.len() == cafes;

@@ -1,26 +1,22 @@
 // The fundamental cuts of a spanning tree as masks, kept from round to round. The basic lanes stand in slots; for each slot `sub` has the nodes that its lane
 // cuts off from the root, and for each node `path` has the slots on its path to the root. An exchange of lanes turns over one part of each.
+ghost use Rattle.std.specs.Prelude.{◌≡◌, true, List, ℕ, ◌+◌, ◌-◌, ◌/◌, ◌<◌, ◌≤◌, length, get_or};
+ghost use Rattle.transport.specs.Problem.{Lane};
+ghost use Rattle.tableaux.specs.Striking.{Struck};
+ghost use Rattle.tree.specs.Mask.{has};
+ghost use Rattle.tree.specs.Layout.{stride, node_room, strikes_of};
+ghost use Rattle.tree.specs.Bits.{Grafted};
+ghost use Rattle.cuts.specs.Planting.{Order, Hanging, Turning, Tree};
+ghost use Rattle.cuts.specs.Cycle.{on_loop, LoopSlots};
+ghost use Rattle.cuts.specs.Exchange.{Regrafted};
+
 use transport::MAX_SIDE;
-use tree::NODES;
-use tree::mask;
-ghost use mathlib.Core.Path.{_≡_};
-ghost use mathlib.Core.Bool.{true};
-ghost use mathlib.Core.List.{List};
-ghost use Prim.Native.Nat.{ℕ, _+_, _-_, _/_, _<_, _≤_};
-ghost use lib.ListN.{length, getD};
-ghost use Rattle·transport.specs.Problem.{Lane};
-ghost use Rattle·tableaux.specs.Striking.{Struck};
-ghost use Rattle·tree.specs.Mask.{has};
-ghost use Rattle·tree.specs.Layout.{stride, nodeRoom, strikesOf};
-ghost use Rattle·tree.specs.Bits.{Grafted};
-ghost use Rattle·cuts·specs.specs.Planting.{Order, Hanging, Turning, Tree};
-ghost use Rattle·cuts·specs.specs.Cycle.{onLoop, LoopSlots};
-ghost use Rattle·cuts·specs.specs.Exchange.{Regrafted};
+use tree::{NODES, mask};
 
 // Turns over the bits of x in each mask whose place is a bit of `at`.
 fn graft(masks: &mut [u64; NODES], at: u64, x: u64)
-    requires { ⌜ length (now masks) ≡ nodeRoom ⌝ }
-    ensures { λ _. ⌜ Grafted (now (masks .entry)) at x (now (masks .exit)) ⌝ }
+    requires { length masks.old ≡ node_room }
+    ensures { Grafted masks.old at x masks.new }
 {
     let mut bits = at;
     while bits != 0 {
@@ -32,8 +28,8 @@ fn graft(masks: &mut [u64; NODES], at: u64, x: u64)
 
 // The path of each node, back through the strikes: a leaf's is its own slot and the path of the node at the other end.
 fn hang(leaf: &[usize; NODES], other: &[usize; NODES], count: usize, path: &mut [u64; NODES])
-    requires { ⌜ Order (now leaf) (now other) count ⌝ }
-    ensures { λ _. ⌜ Hanging (now (leaf .entry)) (now (other .entry)) count (now (path .exit)) 0 ⌝ }
+    requires { Order leaf.now other.now count }
+    ensures { Hanging leaf.now other.now count path.new 0 }
 {
     *path = [0; NODES];
     let mut k = count;
@@ -47,8 +43,8 @@ fn hang(leaf: &[usize; NODES], other: &[usize; NODES], count: usize, path: &mut 
 
 // For each slot the nodes that have it on their path.
 fn turn_over(path: &[u64; NODES], nodes: usize, sub: &mut [u64; NODES])
-    requires { ⌜ nodes ≤ nodeRoom ⌝ }
-    ensures { λ _. ⌜ Turning (now (path .entry)) nodes (now (sub .exit)) ⌝ }
+    requires { nodes ≤ node_room }
+    ensures { Turning path.now nodes sub.new }
 {
     *sub = [0; NODES];
     let mut p = 0;
@@ -68,18 +64,17 @@ pub fn plant(
     path: &mut [u64; NODES],
     sub: &mut [u64; NODES],
 )
-    requires { ⌜ ((B : List Lane) × Struck m n B (strikesOf (now leaf) (now other) (now lane) (m + n - 1))) ⌝ }
-    requires { ⌜ (1 ≤ m) × (m ≤ stride) × (n ≤ stride) × (length (now lane) ≡ nodeRoom) ⌝ }
-    ensures { λ _. ⌜
-        ((B : List Lane) → Struck m n B (strikesOf (now (leaf .entry)) (now (other .entry)) (now (lane .entry)) (m + n - 1))
-        → Tree m n B (now (sub .exit)) (now (path .exit)) (now (lane .entry)))
-        ⌝ }
+    requires struck { (B : List Lane) × Struck m n B (strikes_of leaf.now other.now lane.now (m + n - 1)) }
+    requires le_m { (1 ≤ m) × (m ≤ stride) × (n ≤ stride) × (length lane.now ≡ node_room) }
+    ensures { (B : List Lane) → Struck m n B (strikes_of leaf.now other.now lane.now (m + n - 1))
+        → Tree m n B sub.new path.new lane.now }
 {
     hang(leaf, other, m + n - 1, path);
     turn_over(path, m + n, sub);
 }
 
 // The slots of a loop: those whose lane loses the step, and those whose lane gains it.
+#[derive(Drop)]
 pub struct Loop {
     pub minus: u64,
     pub plus: u64,
@@ -88,9 +83,9 @@ pub struct Loop {
 // The loop that an entering lane from the node `row` to the node `sink` closes: the slots on one of the two paths. A lane of it loses the step where its row
 // lies on the same side of its cut as `row`.
 pub fn loop_slots(path: &[u64; NODES], lane: &[usize; NODES], row: usize, sink: usize) -> Loop
-    requires { ⌜ (row < nodeRoom) × (sink < nodeRoom) ⌝ }
-    requires { ⌜ ((t : ℕ) → has (onLoop (now path) row sink) t ≡ true → getD (now lane) t 0 / stride < nodeRoom) ⌝ }
-    ensures { λ r. ⌜ LoopSlots (now (path .entry)) (now (lane .entry)) row sink (r .minus) (r .plus) ⌝ }
+    requires row_lt_node_room { (row < node_room) × (sink < node_room) }
+    requires by_index { (t : ℕ) → has (on_loop path.now row sink) t ≡ true → get_or lane.now t 0 / stride < node_room }
+    ensures { LoopSlots path.now lane.now row sink result.minus result.plus }
 {
     let own = path[row];
     let cycle = own ^ path[sink];
@@ -120,12 +115,10 @@ pub fn regraft(
     s: usize,
     into: usize,
 ) -> u64
-    requires { ⌜ (row < nodeRoom) × (sink < nodeRoom) × (s < nodeRoom) ⌝ }
-    requires { ⌜ (length (now path) ≡ nodeRoom) × (length (now sub) ≡ nodeRoom) ⌝ }
-    ensures { λ r. ⌜
-        Regrafted row sink s into (now (sub .entry)) (now (path .entry)) (now (lane .entry))
-        (now (sub .exit)) (now (path .exit)) (now (lane .exit)) r
-        ⌝ }
+    requires row_lt_node_room { (row < node_room) × (sink < node_room) × (s < node_room) }
+    requires path_len { (length path.old ≡ node_room) × (length sub.old ≡ node_room) }
+    ensures { Regrafted row sink s into sub.old path.old lane.old
+        sub.new path.new lane.new result }
 {
     let moved = sub[s];
     let change = mask::clear_bit(path[row] ^ path[sink], s);

@@ -1,27 +1,27 @@
 -- The corner rule step by step: where it stands, what it puts there, where it goes on, and that its numbers stay small.
-use Rattle·prelude.specs.Words.{ℕ, zero, suc, _+_, _*_, _-_, _≤_, _<_, arith, add-suc, suc-add, _≡_, refl, sym, ap, _∙_, Bool, true, false, cond, List, _∷_}
-use Rattle·prelude.specs.Words.{eqb, pos, negℤ, natAbs, _≤ℤ_, length, drop, getD, replicate, length-replicate, drop-cons, by-test}
-pub use Rattle·dealing·specs.specs.declared.corner.Corner.{Corner}
-use Rattle·transport.specs.Lists.{atZ}
-use Rattle·transport.specs.Limits.{maxSide, maxAmount, maxCells, maxBags, costBelow, costAbove}
-use Rattle·transport.specs.Problem.{Problem, sources, sinks}
-use Rattle·transport.specs.Laws.Sound.{Sound, supply-most, demand-most}
-use Rattle·transport.specs.Amount.{Fit, subtract, less, smaller, pairedSupply, pairedDemand}
-use Rattle·transport.specs.Laws.RangeLaws.{abs-diff, PairWithin}
-use Rattle·transport.specs.Tableau.{noCell, basisSize, corner, start}
-use Rattle·transport.specs.Laws.ProblemLaws.{problem}
-use Rattle·transport.specs.declared.Pair.{Pair}
-use Rattle·transport.specs.declared.Cell.{Cell}
-use Rattle·integers.specs.Bridge.{z-neg, le-z}
-use Rattle·tableaux.specs.Starting.{smaller-row, smaller-column, corner-right, corner-down, State, begin, state-right, state-down, size-suc, start-belongs}
+use Rattle.prelude.specs.Words.{ℕ, zero, suc, ◌+◌, ◌*◌, ◌-◌, ◌≤◌, ◌<◌, arith, add-suc, suc-add, ◌≡◌, refl, sym, ap, ◌∙◌, Bool, true, false, cond, List, ◌∷◌}
+use Rattle.prelude.specs.Words.{eqb, pos, neg_ℤ, nat_abs, ◌≤ℤ◌, length, drop, get_or, replicate, length-replicate, drop-cons, by_test}
+pub use Rattle.dealing.specs.declared.corner.Corner.{Corner}
+use Rattle.transport.specs.Lists.{at_z}
+use Rattle.transport.specs.Limits.{max_side, max_amount, max_cells, max_bags, cost_below, cost_above}
+use Rattle.transport.specs.Problem.{Problem, sources, sinks}
+use Rattle.transport.specs.Laws.Sound.{Sound, supply-most, demand-most}
+use Rattle.transport.specs.Amount.{Fit, subtract, less, smaller, paired_supply_of, paired_demand_of}
+use Rattle.transport.specs.Laws.RangeLaws.{abs_diff, PairWithin}
+use Rattle.transport.specs.Tableau.{no_cell, basis_size, corner, start}
+use Rattle.transport.specs.Laws.ProblemLaws.{problem}
+use Rattle.transport.specs.declared.Pair.{Pair}
+use Rattle.transport.specs.declared.Cell.{Cell}
+use Rattle.integers.specs.Bridge.{z-neg, le-z}
+use Rattle.tableaux.specs.Starting.{smaller-row, smaller-column, corner-right, corner-down, State, begin, state-right, state-down, size-suc, start-belongs}
 
 -- ---- costs play no part
 
-at-zeros : (n k : ℕ) → atZ (replicate n (pos 0)) k ≡ pos 0
-unfolding atZ
-at-zeros zero k = refl
-at-zeros (suc n) zero = refl
-at-zeros (suc n) (suc k) = at-zeros n k
+at_zeros : (n k : ℕ) → at_z (replicate n (pos 0)) k ≡ pos 0
+unfolding at_z
+at_zeros zero k = refl
+at_zeros (suc n) zero = refl
+at_zeros (suc n) (suc k) = at_zeros n k
 
 -- The problem of these supplies and demands whose lanes cost nothing.
 abbrev pub costless : List ℕ → List ℕ → Problem
@@ -29,206 +29,206 @@ costless supply demand = problem supply demand (replicate (length supply * lengt
 
 module _ (P : Problem) where
   abbrev free : Problem
-  free = costless (P .supply) (P .demand)
+  free = costless P.supply P.demand
 
-  low-zeros : (n l : ℕ) → negℤ (pos costBelow) ≤ℤ atZ (replicate n (pos 0)) l
-  low-zeros n l = rw (at-zeros n l) (le-z (negℤ (pos costBelow)) (pos 0) (omega (arith, z-neg (pos costBelow))))
+  low_zeros : (n l : ℕ) → neg_ℤ (pos cost_below) ≤ℤ at_z (replicate n (pos 0)) l
+  low_zeros n l = rw (at_zeros n l) (le-z (neg_ℤ (pos cost_below)) (pos 0) (omega (arith, z-neg (pos cost_below))))
 
-  high-zeros : (n l : ℕ) → atZ (replicate n (pos 0)) l ≤ℤ pos costAbove
-  high-zeros n l = rw (at-zeros n l) (le-z (pos 0) (pos costAbove) (omega arith))
+  high_zeros : (n l : ℕ) → at_z (replicate n (pos 0)) l ≤ℤ pos cost_above
+  high_zeros n l = rw (at_zeros n l) (le-z (pos 0) (pos cost_above) (omega arith))
 
   pub sound-costless : Sound P → Sound free
   unfolding sources sinks
   sound-costless ok = record {
-    sourcesLow = ok .sourcesLow;
-    sourcesHigh = ok .sourcesHigh;
-    sinksLow = ok .sinksLow;
-    sinksHigh = ok .sinksHigh;
-    costLength = length-replicate _ (pos 0);
-    supplyLow = ok .supplyLow;
-    demandLow = ok .demandLow;
-    bags = ok .bags;
-    balance = ok .balance;
-    costLow = low-zeros (length (P .supply) * length (P .demand));
-    costHigh = high-zeros (length (P .supply) * length (P .demand));
+    sources_low = ok.sources_low;
+    sources_high = ok.sources_high;
+    sinks_low = ok.sinks_low;
+    sinks_high = ok.sinks_high;
+    cost_length = length-replicate _ (pos 0);
+    supply_low = ok.supply_low;
+    demand_low = ok.demand_low;
+    bags = ok.bags;
+    balance = ok.balance;
+    cost_low = low_zeros (length P.supply * length P.demand);
+    cost_high = high_zeros (length P.supply * length P.demand);
   }
 
   -- With its sides changed it is sound too.
-  pub sound-turned : Sound P → Sound (costless (P .demand) (P .supply))
+  pub sound-turned : Sound P → Sound (costless P.demand P.supply)
   unfolding sources sinks
   sound-turned ok = record {
-    sourcesLow = ok .sinksLow;
-    sourcesHigh = ok .sinksHigh;
-    sinksLow = ok .sourcesLow;
-    sinksHigh = ok .sourcesHigh;
-    costLength = length-replicate _ (pos 0);
-    supplyLow = ok .demandLow;
-    demandLow = ok .supplyLow;
-    bags = omega (arith, ok .bags, ok .balance);
-    balance = sym (ok .balance);
-    costLow = low-zeros (length (P .demand) * length (P .supply));
-    costHigh = high-zeros (length (P .demand) * length (P .supply));
+    sources_low = ok.sinks_low;
+    sources_high = ok.sinks_high;
+    sinks_low = ok.sources_low;
+    sinks_high = ok.sources_high;
+    cost_length = length-replicate _ (pos 0);
+    supply_low = ok.demand_low;
+    demand_low = ok.supply_low;
+    bags = omega (arith, ok.bags, ok.balance);
+    balance = sym ok.balance;
+    cost_low = low_zeros (length P.demand * length P.supply);
+    cost_high = high_zeros (length P.demand * length P.supply);
   }
 
   corner-costless : (left i j : ℕ) (s d : Pair) → corner free left i j s d ≡ corner P left i j s d
-  unfolding corner pairedSupply pairedDemand sources sinks
+  unfolding corner paired_supply_of paired_demand_of sources sinks
   corner-costless zero i j s d = refl
-  corner-costless (suc left) i j s d = by-test (less d s)
-      (λ e. rw (corner-right free left i j s d e, corner-right P left i j s d e, corner-costless left i (suc j) (subtract s d) (pairedDemand P (suc j))))
-      (λ e. rw (corner-down free left i j s d e, corner-down P left i j s d e, corner-costless left (suc i) j (pairedSupply P (suc i)) (subtract d s)))
+  corner-costless (suc left) i j s d = by_test (less d s)
+      (λ e. rw (corner-right free left i j s d e, corner-right P left i j s d e, corner-costless left i (suc j) (subtract s d) (paired_demand_of P (suc j))))
+      (λ e. rw (corner-down free left i j s d e, corner-down P left i j s d e, corner-costless left (suc i) j (paired_supply_of P (suc i)) (subtract d s)))
 
   pub start-costless : start free ≡ start P
-  unfolding start pairedSupply pairedDemand sources sinks
+  unfolding start paired_supply_of paired_demand_of sources sinks
   start-costless = corner-costless _ 0 0 _ _
 
 -- ---- the rule
 
-abbrev pub firstCorner : Problem → Corner
-firstCorner P = record { row = 0; col = 0; supply = pairedSupply P 0; demand = pairedDemand P 0 }
+abbrev pub first_corner_of : Problem → Corner
+first_corner_of P = record { row = 0; col = 0; supply = paired_supply_of P 0; demand = paired_demand_of P 0 }
 
-abbrev pub cellOf : Corner → Cell
-cellOf p = record { row = p .row; col = p .col; amount = smaller (p .supply) (p .demand) }
+abbrev pub cell_of : Corner → Cell
+cell_of p = record { row = p.row; col = p.col; amount = smaller p.supply p.demand }
 
 -- In the next column, or in the next row.
-abbrev toRight : Problem → Corner → Corner
-toRight P p = record { row = p .row; col = suc (p .col); supply = subtract (p .supply) (p .demand); demand = pairedDemand P (suc (p .col)) }
+abbrev to_right : Problem → Corner → Corner
+to_right P p = record { row = p.row; col = suc p.col; supply = subtract p.supply p.demand; demand = paired_demand_of P (suc p.col) }
 
-abbrev toDown : Problem → Corner → Corner
-toDown P p = record { row = suc (p .row); col = p .col; supply = pairedSupply P (suc (p .row)); demand = subtract (p .demand) (p .supply) }
+abbrev to_down : Problem → Corner → Corner
+to_down P p = record { row = suc p.row; col = p.col; supply = paired_supply_of P (suc p.row); demand = subtract p.demand p.supply }
 
-unfoldable pub nextCorner : Problem → Corner → Corner
-nextCorner P p = cond (less (p .demand) (p .supply)) (toRight P p) (toDown P p)
+unfoldable pub next_corner : Problem → Corner → Corner
+next_corner P p = cond (less p.demand p.supply) (to_right P p) (to_down P p)
 
-pub next-right : (P : Problem) (p : Corner) → less (p .demand) (p .supply) ≡ true → nextCorner P p ≡ toRight P p
-unfolding nextCorner
+pub next-right : (P : Problem) (p : Corner) → less p.demand p.supply ≡ true → next_corner P p ≡ to_right P p
+unfolding next_corner
 next-right P p e = rw e
 
-pub next-down : (P : Problem) (p : Corner) → less (p .demand) (p .supply) ≡ false → nextCorner P p ≡ toDown P p
-unfolding nextCorner
-next-down P p e = rw e
+pub next_down : (P : Problem) (p : Corner) → less p.demand p.supply ≡ false → next_corner P p ≡ to_down P p
+unfolding next_corner
+next_down P p e = rw e
 
 -- One cell further on.
-pub next-number : (P : Problem) (p : Corner) → nextCorner P p .row + nextCorner P p .col ≡ p .row + p .col + 1
-next-number P p = by-test (less (p .demand) (p .supply))
+pub next-number : (P : Problem) (p : Corner) → (next_corner P p).row + (next_corner P p).col ≡ p.row + p.col + 1
+next-number P p = by_test (less p.demand p.supply)
     (λ e. rw (next-right P p e) (omega arith))
-    (λ e. rw (next-down P p e) (omega arith))
+    (λ e. rw (next_down P p e) (omega arith))
 
-abbrev cornerFrom : Problem → ℕ → Corner → List Cell
-cornerFrom P left p = corner P left (p .row) (p .col) (p .supply) (p .demand)
+abbrev corner_from : Problem → ℕ → Corner → List Cell
+corner_from P left p = corner P left p.row p.col p.supply p.demand
 
 abbrev StateAt : Problem → ℕ → Corner → Type 0
-StateAt P left p = State P left (p .row) (p .col) (p .supply) (p .demand)
+StateAt P left p = State P left p.row p.col p.supply p.demand
 
-corner-next : (P : Problem) (left : ℕ) (p : Corner) → cornerFrom P (suc left) p ≡ cellOf p ∷ cornerFrom P left (nextCorner P p)
-corner-next P left p = by-test (less (p .demand) (p .supply))
-    (λ e. rw (next-right P p e, smaller-column (p .supply) (p .demand) e) (corner-right P left (p .row) (p .col) (p .supply) (p .demand) e))
-    (λ e. rw (next-down P p e, smaller-row (p .supply) (p .demand) e) (corner-down P left (p .row) (p .col) (p .supply) (p .demand) e))
+corner-next : (P : Problem) (left : ℕ) (p : Corner) → corner_from P (suc left) p ≡ cell_of p ∷ corner_from P left (next_corner P p)
+corner-next P left p = by_test (less p.demand p.supply)
+    (λ e. rw (next-right P p e, smaller-column p.supply p.demand e) (corner-right P left p.row p.col p.supply p.demand e))
+    (λ e. rw (next_down P p e, smaller-row p.supply p.demand e) (corner-down P left p.row p.col p.supply p.demand e))
 
 -- ---- how far the rule has dealt
 
 -- The rule has dealt up to p: the cells of the start from number row + col on are those that it
--- puts from p on. Each step so far added at most maxBags to the sizes of the two pairs.
+-- puts from p on. Each step so far added at most max_bags to the sizes of the two pairs.
 pub record DealtTo (P : Problem) (p : Corner) : Type 0 where
   pub left : ℕ
-  pub state : State P left (p .row) (p .col) (p .supply) (p .demand)
-  pub cells : drop (p .row + p .col) (start P) ≡ corner P (suc left) (p .row) (p .col) (p .supply) (p .demand)
-  pub bags : natAbs (p .supply .q) + natAbs (p .demand .q) ≤ (p .row + p .col + 2) * maxBags
-  pub marks : natAbs (p .supply .e) + natAbs (p .demand .e) ≤ (p .row + p .col + 2) * maxBags
+  pub state : State P left p.row p.col p.supply p.demand
+  pub cells : drop (p.row + p.col) (start P) ≡ corner P (suc left) p.row p.col p.supply p.demand
+  pub bags : nat_abs p.supply.q + nat_abs p.demand.q ≤ (p.row + p.col + 2) * max_bags
+  pub marks : nat_abs p.supply.e + nat_abs p.demand.e ≤ (p.row + p.col + 2) * max_bags
 
 module _ (P : Problem) (ok : Sound P) where
-  supply-size : (i : ℕ) → PairWithin maxBags (pairedSupply P i)
-  unfolding pairedSupply maxBags maxSide maxAmount
+  supply-size : (i : ℕ) → PairWithin max_bags (paired_supply_of P i)
+  unfolding paired_supply_of max_bags max_side max_amount
   supply-size i = record { q = supply-most ok i; e = omega arith }
 
-  demand-size : (j : ℕ) → PairWithin maxBags (pairedDemand P j)
-  unfolding pairedDemand maxBags maxAmount maxSide
+  demand-size : (j : ℕ) → PairWithin max_bags (paired_demand_of P j)
+  unfolding paired_demand_of max_bags max_amount max_side
   demand-size j = record { q = demand-most ok j; e = go (eqb j (sinks P - 1)) }
     where
-      go : (b : Bool) → cond b (sources P) 0 ≤ maxBags
-      go true = omega (arith, ok .sourcesHigh)
+      go : (b : Bool) → cond b (sources P) 0 ≤ max_bags
+      go true = omega (arith, ok.sources_high)
       go false = omega arith
 
-  pub dealt-to-first : DealtTo P (firstCorner P)
+  pub dealt_to-first : DealtTo P (first_corner_of P)
   unfolding start
-  dealt-to-first = record {
-    left = basisSize (sources P) (sinks P) - 1;
+  dealt_to-first = record {
+    left = basis_size (sources P) (sinks P) - 1;
     state = begin P ok _ (size-suc P ok);
     cells = rw (← size-suc P ok) refl;
-    bags = omega (arith, supply-size 0 .q, demand-size 0 .q);
-    marks = omega (arith, supply-size 0 .e, demand-size 0 .e);
+    bags = omega (arith, (supply-size 0).q, (demand-size 0).q);
+    marks = omega (arith, (supply-size 0).e, (demand-size 0).e);
   }
 
   pub length-start : length (start P) ≡ sources P + sinks P - 1
-  unfolding basisSize
-  length-start = start-belongs P ok .count
+  unfolding basis_size
+  length-start = (start-belongs P ok).count
 
   module _ (p : Corner) (st : DealtTo P p) where
     -- The two pairs can be taken from each other.
-    pub dealt-to-fit : Fit (p .supply) (p .demand) × Fit (p .demand) (p .supply)
-    unfolding maxSide maxBags maxAmount
-    dealt-to-fit = omega (arith, st .bags, st .marks, st .state .size, ok .sourcesHigh, ok .sinksHigh)
+    pub dealt_to_fit : Fit p.supply p.demand × Fit p.demand p.supply
+    unfolding max_side max_bags max_amount
+    dealt_to_fit = omega (arith, st.bags, st.marks, st.state.size, ok.sources_high, ok.sinks_high)
 
     -- Its cell has a place in the array.
-    pub dealt-to-room : p .row + p .col < maxCells
-    unfolding maxCells maxSide
-    dealt-to-room = omega (arith, st .state .size, ok .sourcesHigh, ok .sinksHigh)
+    pub dealt_to-room : p.row + p.col < max_cells
+    unfolding max_cells max_side
+    dealt_to-room = omega (arith, st.state.size, ok.sources_high, ok.sinks_high)
 
-    cut : drop (p .row + p .col) (start P) ≡ getD (start P) (p .row + p .col) noCell ∷ drop (suc (p .row + p .col)) (start P)
-    cut = drop-cons (start P) (p .row + p .col) noCell (omega (arith, length-start, st .state .size))
+    cut : drop (p.row + p.col) (start P) ≡ get_or (start P) (p.row + p.col) no_cell ∷ drop (suc (p.row + p.col)) (start P)
+    cut = drop-cons (start P) (p.row + p.col) no_cell (omega (arith, length-start, st.state.size))
 
-    put : drop (p .row + p .col) (start P) ≡ cellOf p ∷ cornerFrom P (st .left) (nextCorner P p)
-    put = st .cells ∙ corner-next P (st .left) p
+    put : drop (p.row + p.col) (start P) ≡ cell_of p ∷ corner_from P st.left (next_corner P p)
+    put = st.cells ∙ corner-next P st.left p
 
-    pub dealt-to-cell : getD (start P) (p .row + p .col) noCell ≡ cellOf p
-    dealt-to-cell = cc (cut, put)
+    pub dealt_to-cell : get_or (start P) (p.row + p.col) no_cell ≡ cell_of p
+    dealt_to-cell = cc (cut, put)
 
     -- The cells after it.
-    rest : drop (suc (p .row + p .col)) (start P) ≡ cornerFrom P (st .left) (nextCorner P p)
+    rest : drop (suc (p.row + p.col)) (start P) ≡ corner_from P st.left (next_corner P p)
     rest = cc (cut, put)
 
     -- At a cell that is not the last.
-    module _ (more : p .row + p .col + 2 < sources P + sinks P) where
-      later : st .left ≡ suc (st .left - 1)
-      later = omega (arith, st .state .size)
+    module _ (more : p.row + p.col + 2 < sources P + sinks P) where
+      later : st.left ≡ suc (st.left - 1)
+      later = omega (arith, st.state.size)
 
-      here : StateAt P (suc (st .left - 1)) p
-      here = rw later at (st .state)
+      here : StateAt P (suc (st.left - 1)) p
+      here = rw later at st.state
 
-      module _ (e : less (p .demand) (p .supply) ≡ true) where
-        right : StateAt P (st .left - 1) (toRight P p)
-        right = state-right P ok (st .left - 1) (p .row) (p .col) (p .supply) (p .demand) here e
+      module _ (e : less p.demand p.supply ≡ true) where
+        right : StateAt P (st.left - 1) (to_right P p)
+        right = state-right P ok (st.left - 1) p.row p.col p.supply p.demand here e
 
-        pub right-inside : p .col + 1 < sinks P
-        right-inside = omega (arith, right .column)
+        pub right-inside : p.col + 1 < sinks P
+        right-inside = omega (arith, right.column)
 
-        dealt-to-right : DealtTo P (toRight P p)
+        dealt_to-right : DealtTo P (to_right P p)
         unfolding subtract
-        dealt-to-right = record {
-          left = st .left - 1;
+        dealt_to-right = record {
+          left = st.left - 1;
           state = right;
-          cells = rw (← later, add-suc) (rest ∙ ap (cornerFrom P (st .left)) (next-right P p e));
-          bags = omega (arith, st .bags, abs-diff (p .supply .q) (p .demand .q), demand-size (suc (p .col)) .q);
-          marks = omega (arith, st .marks, abs-diff (p .supply .e) (p .demand .e), demand-size (suc (p .col)) .e);
+          cells = rw (← later, add-suc) (rest ∙ ap (corner_from P st.left) (next-right P p e));
+          bags = omega (arith, st.bags, abs_diff p.supply.q p.demand.q, (demand-size (suc p.col)).q);
+          marks = omega (arith, st.marks, abs_diff p.supply.e p.demand.e, (demand-size (suc p.col)).e);
         }
 
-      module _ (e : less (p .demand) (p .supply) ≡ false) where
-        down : StateAt P (st .left - 1) (toDown P p)
-        down = state-down P ok (st .left - 1) (p .row) (p .col) (p .supply) (p .demand) here e
+      module _ (e : less p.demand p.supply ≡ false) where
+        down : StateAt P (st.left - 1) (to_down P p)
+        down = state-down P ok (st.left - 1) p.row p.col p.supply p.demand here e
 
-        pub down-inside : p .row + 1 < sources P
-        down-inside = omega (arith, down .row)
+        pub down-inside : p.row + 1 < sources P
+        down-inside = omega (arith, down.row)
 
-        dealt-to-down : DealtTo P (toDown P p)
+        dealt_to-down : DealtTo P (to_down P p)
         unfolding subtract
-        dealt-to-down = record {
-          left = st .left - 1;
+        dealt_to-down = record {
+          left = st.left - 1;
           state = down;
-          cells = rw (← later, suc-add) (rest ∙ ap (cornerFrom P (st .left)) (next-down P p e));
-          bags = omega (arith, st .bags, abs-diff (p .demand .q) (p .supply .q), supply-size (suc (p .row)) .q);
-          marks = omega (arith, st .marks, abs-diff (p .demand .e) (p .supply .e), supply-size (suc (p .row)) .e);
+          cells = rw (← later, suc-add) (rest ∙ ap (corner_from P st.left) (next_down P p e));
+          bags = omega (arith, st.bags, abs_diff p.demand.q p.supply.q, (supply-size (suc p.row)).q);
+          marks = omega (arith, st.marks, abs_diff p.demand.e p.supply.e, (supply-size (suc p.row)).e);
         }
 
-      pub dealt-to-next : DealtTo P (nextCorner P p)
-      dealt-to-next = by-test (less (p .demand) (p .supply))
-          (λ e. rw (next-right P p e) (dealt-to-right e))
-          (λ e. rw (next-down P p e) (dealt-to-down e))
+      pub dealt_to-next : DealtTo P (next_corner P p)
+      dealt_to-next = by_test (less p.demand p.supply)
+          (λ e. rw (next-right P p e) (dealt_to-right e))
+          (λ e. rw (next_down P p e) (dealt_to-down e))

@@ -1,20 +1,18 @@
 // The first tableau of a problem, by the north-west corner rule.
-ghost use mathlib.Core.Path.{_≡_};
-ghost use Prim.Native.Nat.{_+_, _<_, _≤_};
-ghost use lib.ListN.{length};
-ghost use Rattle·transport.specs.Lists.{at};
-ghost use Rattle·transport.specs.Limits.{maxBags};
-ghost use Rattle·transport.specs.Problem.{Problem, sources};
-ghost use Rattle·transport.specs.Laws.Sound.{Sound};
-ghost use Rattle·transport.specs.Amount.{smaller, pairedSupply, pairedDemand};
-ghost use Rattle·transport.specs.Tableau.{tableauOf, start};
-ghost use Rattle·dealing·specs.specs.Corner.{costless, firstCorner, nextCorner, cellOf, DealtTo};
+ghost use Rattle.std.specs.Prelude.{◌≡◌, ◌+◌, ◌<◌, ◌≤◌, length};
+ghost use Rattle.transport.specs.Lists.{at};
+ghost use Rattle.transport.specs.Limits.{max_bags};
+ghost use Rattle.transport.specs.Problem.{Problem, sources};
+ghost use Rattle.transport.specs.Laws.Sound.{Sound};
+ghost use Rattle.transport.specs.Amount.{smaller, paired_supply_of, paired_demand_of};
+ghost use Rattle.transport.specs.Tableau.{tableau_of, start};
+ghost use Rattle.dealing.specs.Corner.{costless, first_corner_of, next_corner, cell_of, DealtTo};
+
 use crate::tableau;
-use transport::Cell;
-use transport::Pair;
-use transport::Tableau;
+use transport::{Cell, Pair, Tableau};
 
 // Where the corner rule stands: a row and a column, with what remains of the row's supply and of the column's demand.
+#[derive(Drop)]
 struct Corner {
     row: usize,
     col: usize,
@@ -24,8 +22,8 @@ struct Corner {
 
 // The supply of row i as a pair: one mark each.
 fn paired_supply(supply: &[u64], i: usize) -> Pair
-    requires { ⌜ (i < length (now supply)) × (at (now supply) i ≤ maxBags) ⌝ }
-    ensures { λ r. ⌜ ((P : Problem) → P .supply ≡ now (supply .entry) → r ≡ pairedSupply P i) ⌝ }
+    requires { (i < length supply.now) × (at supply.now i ≤ max_bags) }
+    ensures { (P : Problem) → P.supply ≡ supply.now → result ≡ paired_supply_of P i }
 {
     Pair {
         q: supply[i] as i64,
@@ -35,8 +33,8 @@ fn paired_supply(supply: &[u64], i: usize) -> Pair
 
 // The demand of column j as a pair: the last one has the marks of all m rows.
 fn paired_demand(demand: &[u64], j: usize, m: usize) -> Pair
-    requires { ⌜ (j < length (now demand)) × (at (now demand) j ≤ maxBags) × (m ≤ maxBags) ⌝ }
-    ensures { λ r. ⌜ ((P : Problem) → P .demand ≡ now (demand .entry) → sources P ≡ m → r ≡ pairedDemand P j) ⌝ }
+    requires { (j < length demand.now) × (at demand.now j ≤ max_bags) × (m ≤ max_bags) }
+    ensures { (P : Problem) → P.demand ≡ demand.now → sources P ≡ m → result ≡ paired_demand_of P j }
 {
     let q = demand[j] as i64;
     if j + 1 == demand.len() {
@@ -46,15 +44,15 @@ fn paired_demand(demand: &[u64], j: usize, m: usize) -> Pair
 }
 
 fn smaller(a: Pair, b: Pair) -> Pair
-    ensures { λ r. ⌜ r ≡ smaller a b ⌝ }
+    ensures { result ≡ smaller a b }
 {
     if b.less(a) { b } else { a }
 }
 
 // The first row and the first column, with all of their pairs.
 fn first_corner(supply: &[u64], demand: &[u64]) -> Corner
-    requires { ⌜ Sound (costless (now supply) (now demand)) ⌝ }
-    ensures { λ r. ⌜ r ≡ firstCorner (costless (now (supply .entry)) (now (demand .entry))) ⌝ }
+    requires { Sound (costless supply.now demand.now) }
+    ensures { result ≡ first_corner_of (costless supply.now demand.now) }
 {
     let s = paired_supply(supply, 0);
     let d = paired_demand(demand, 0, supply.len());
@@ -69,7 +67,7 @@ fn first_corner(supply: &[u64], demand: &[u64]) -> Corner
 impl Corner {
     // The cell that the rule puts here.
     fn put(self) -> Cell
-        ensures { λ r. ⌜ r ≡ cellOf self ⌝ }
+        ensures { result ≡ cell_of self }
     {
         let x = smaller(self.supply, self.demand);
         Cell {
@@ -81,10 +79,10 @@ impl Corner {
 
     // Takes the smaller pair from both. A row with more than its column goes on in the next column; else it is empty, and the next row follows.
     fn next(self, supply: &[u64], demand: &[u64]) -> Corner
-        requires { ⌜ Sound (costless (now supply) (now demand)) ⌝ }
-        requires { ⌜ DealtTo (costless (now supply) (now demand)) self ⌝ }
-        requires { ⌜ self .row + self .col + 2 < length (now supply) + length (now demand) ⌝ }
-        ensures { λ r. ⌜ r ≡ nextCorner (costless (now (supply .entry)) (now (demand .entry))) self ⌝ }
+        requires sound { Sound (costless supply.now demand.now) }
+        requires dealt_to { DealtTo (costless supply.now demand.now) self }
+        requires col_in_bounds { self.row + self.col + 2 < length supply.now + length demand.now }
+        ensures { result ≡ next_corner (costless supply.now demand.now) self }
     {
         let i = self.row;
         let j = self.col;
@@ -113,8 +111,8 @@ impl Corner {
 
 // The first tableau of a problem with these supplies and demands, whatever its costs.
 pub fn first_tableau(supply: &[u64], demand: &[u64]) -> Tableau
-    requires { ⌜ Sound (costless (now supply) (now demand)) ⌝ }
-    ensures { λ r. ⌜ r ≡ tableauOf (start (costless (now (supply .entry)) (now (demand .entry)))) ⌝ }
+    requires { Sound (costless supply.now demand.now) }
+    ensures { result ≡ tableau_of (start (costless supply.now demand.now)) }
 {
     let count = supply.len() + demand.len() - 1;
     let mut t = tableau::empty_tableau();

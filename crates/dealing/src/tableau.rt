@@ -1,14 +1,12 @@
 // What the calls share: tableaux.
-ghost use mathlib.Core.Path.{_≡_};
-ghost use Rattle·transport.specs.Tableau.{noTableau};
-use transport::Cell;
-use transport::MAX_CELLS;
-use transport::Pair;
-use transport::Tableau;
+ghost use Rattle.std.specs.Prelude.{◌≡◌};
+ghost use Rattle.transport.specs.Tableau.{no_tableau};
+
+use transport::{Cell, MAX_CELLS, Pair, Tableau};
 
 // The tableau of an answer that gives none.
 pub fn empty_tableau() -> Tableau
-    ensures { λ r. ⌜ r ≡ noTableau ⌝ }
+    ensures { result ≡ no_tableau }
 {
     let nothing = Pair { q: 0, e: 0 };
     let no_cell = Cell {

@@ -1,39 +1,32 @@
 // What the program shows for what stands on its input.
-ghost use mathlib.Core.Path.{_≡_};
-ghost use mathlib.Core.List.{_++_};
-ghost use Prim.Native.Nat.{suc, min, _≤_};
-ghost use lib.ListN.{length, drop};
-ghost use Rattle·transport.specs.Limits.{maxText};
-ghost use Rattle·transport.specs.Sheet.{sheetOf};
-ghost use Rattle·transport.specs.Text.{digits};
-ghost use Rattle·transport.specs.PlanText.{fitting, shown};
-ghost use Rattle·decimals.specs.Front.{front};
-ghost use Rattle·sections.specs.Lines.{ended};
-ghost use Rattle·display·specs.specs.Shown.{sheetShown};
+ghost use Rattle.std.specs.Prelude.{◌≡◌, ◌++◌, suc, min, ◌≤◌, length, drop};
+ghost use Rattle.transport.specs.Limits.{max_text};
+ghost use Rattle.transport.specs.Sheet.{sheet_of};
+ghost use Rattle.transport.specs.Text.{digits};
+ghost use Rattle.transport.specs.PlanText.{fitting, shown};
+ghost use Rattle.decimals.specs.Front.{front};
+ghost use Rattle.sections.specs.Lines.{ended};
+ghost use Rattle.display.specs.Shown.{sheet_shown};
+
 use plan_text::write_plan;
 use sections::section;
 use sheet_reader::whole_text::read_sections;
-use transport::MAX_LANES;
-use transport::MAX_SIDE;
-use transport::MAX_TEXT;
-use transport::ReadAnswer;
-use transport::WriteAnswer;
+use transport::{MAX_LANES, MAX_SIDE, MAX_TEXT, ReadAnswer, WriteAnswer};
 
 // How many bytes of an input are read: at most one more than the longest sheet text has.
 pub const MAX_READ: usize = MAX_TEXT + 1;
 
 fn bytes_read(len: usize) -> usize
-    ensures { λ r. ⌜ r ≡ min len (suc maxText) ⌝ }
+    ensures { result ≡ min len (suc max_text) }
 {
     if len < MAX_READ { len } else { MAX_READ }
 }
 
 // The line of a refusal, its words and then a number, if the output has room for it; else nothing.
 fn show_refusal(words: &[u8], number: usize, out: &mut [u8]) -> usize
-    requires { ⌜ length (now words) ≤ 16 ⌝ }
-    ensures { λ r.
-        let text = fitting (length (now (out .entry))) (now (words .entry) ++ ended digits number 10) in
-        ⌜ (r ≡ length text) × (now (out .exit) ≡ front text (now (out .entry))) ⌝ }
+    requires { length words.now ≤ 16 }
+    ensures { let text = fitting (length out.old) (words.now ++ ended digits number 10) in
+        (result ≡ length text) × (out.new ≡ front text out.old) }
 {
     if out.len() < section::head_len(words, number) {
         return 0;
@@ -43,10 +36,9 @@ fn show_refusal(words: &[u8], number: usize, out: &mut [u8]) -> usize
 
 // The plan text of a sheet, or the line of its refusal, if the output has room for it; else nothing.
 fn show_plan(supply: &[u64], demand: &[u64], cost: &[i64], out: &mut [u8]) -> usize
-    ensures { λ r.
-        let S = sheetOf (now (supply .entry)) (now (demand .entry)) (now (cost .entry)) in
-        let text = fitting (length (now (out .entry))) (sheetShown S) in
-        ⌜ (r ≡ length text) × (now (out .exit) ≡ front text (now (out .entry))) ⌝ }
+    ensures { let S = sheet_of supply.now demand.now cost.now in
+        let text = fitting (length out.old) (sheet_shown S) in
+        (result ≡ length text) × (out.new ≡ front text out.old) }
 {
     let answer = write_plan(supply, demand, cost, out);
     match answer {
@@ -64,9 +56,8 @@ fn show_plan(supply: &[u64], demand: &[u64], cost: &[i64], out: &mut [u8]) -> us
 // Shows, for what stands on the input, the plan text, `refused N`, or `refused 9 P` with the place P, and LF, and gives its length. If the output is too
 // short for it, the length is 0 and the output is as it was; MAX_PLAN_TEXT bytes are always enough.
 pub fn show(input: &[u8], out: &mut [u8]) -> usize
-    ensures { λ r.
-        let text = shown (now (input .entry)) (length (now (out .entry))) in
-        ⌜ (r ≡ length text) × (now (out .exit) ≡ text ++ drop (length text) (now (out .entry))) ⌝ }
+    ensures { let text = shown input.now (length out.old) in
+        (result ≡ length text) × (out.new ≡ text ++ drop (length text) out.old) }
 {
     let mut supply = [0u64; MAX_SIDE];
     let mut demand = [0u64; MAX_SIDE];

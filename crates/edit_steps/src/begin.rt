@@ -1,36 +1,27 @@
 // Where the rounds of an edit begin, laid out over the arrays.
+ghost use Rattle.std.specs.Prelude.{◌≡◌, ◌&&◌, List, ℕ, ◌≤◌, eqb, ℤ, nat_abs, length, set};
+ghost use Rattle.transport.specs.Limits.{max_cost};
+ghost use Rattle.transport.specs.Problem.{place};
+ghost use Rattle.transport.specs.Parties.{problem_of};
+ghost use Rattle.transport.specs.Sheet.{Sheet, sheet_of};
+ghost use Rattle.transport.specs.Tableau.{start};
+ghost use Rattle.transport.specs.Statements.{Accepted};
+ghost use Rattle.transport.specs.declared.Cell.{Cell};
+ghost use Rattle.tree.specs.Layout.{lane_room};
+ghost use Rattle.numbering.specs.Numbers.{Growing};
+ghost use Rattle.cost_grid.specs.Costs.{Spreadable, Spread};
+ghost use Rattle.loading.specs.Loading.{Admitted};
+ghost use Rattle.edit_steps.specs.Edits.{EditOf, beginning};
+ghost use Rattle.edit_steps.specs.Respread.{Respreadable, AllLeft, SpreadBefore};
+
 use board::spread::lay_out;
 use cost_grid::spread_costs;
 use loading::Loading;
 use numbering::number_in;
 use parties::Parties;
 use solving::begin::deal_sheet;
-use transport::Change;
-use transport::Edit;
-use transport::MAX_SIDE;
-use tree::LANES;
-use tree::NODES;
-use tree::Price;
-ghost use mathlib.Core.Path.{_≡_};
-ghost use mathlib.Core.Bool.{_&&_};
-ghost use mathlib.Core.List.{List};
-ghost use Prim.Native.Nat.{ℕ, _≤_};
-ghost use lib.Dec.{eqb};
-ghost use lib.IntN.{ℤ, natAbs};
-ghost use lib.ListN.{length, set};
-ghost use Rattle·transport.specs.Limits.{maxCost};
-ghost use Rattle·transport.specs.Problem.{place};
-ghost use Rattle·transport.specs.Parties.{problemOf};
-ghost use Rattle·transport.specs.Sheet.{Sheet, sheetOf};
-ghost use Rattle·transport.specs.Tableau.{start};
-ghost use Rattle·transport.specs.Statements.{Accepted};
-ghost use Rattle·transport.specs.declared.Cell.{Cell};
-ghost use Rattle·tree.specs.Layout.{laneRoom};
-ghost use Rattle·numbering.specs.Numbers.{Growing};
-ghost use Rattle·cost_grid.specs.Costs.{Spreadable, Spread};
-ghost use Rattle·loading.specs.Loading.{Admitted};
-ghost use Rattle·edit_steps·specs.specs.Edits.{EditOf, beginning};
-ghost use Rattle·edit_steps·specs.specs.Respread.{Respreadable, AllLeft, SpreadBefore};
+use transport::{Change, Edit, MAX_SIDE};
+use tree::{LANES, NODES, Price};
 
 // Puts the new cost of one lane among the costs that are spread by column. `rows` and `cols` have
 // the own numbers of the parties left; a struck party has no lane there.
@@ -42,14 +33,10 @@ fn respread_lane(
     cols: &[usize],
     spread: &mut [Price; LANES],
 )
-    requires { ⌜
-        Growing (now rows) × Growing (now cols) × (length (now spread) ≡ laneRoom) × (natAbs c ≤ maxCost)
-        ⌝ }
-    ensures { λ _. ⌜
-        ((cost : List ℤ) (cafes : ℕ) → Respreadable cost cafes (now (rows .entry)) (now (cols .entry)) row col c
-        → Spread cost cafes (now (rows .entry)) (now (cols .entry)) (now (spread .entry))
-        → Spread (set cost (place cafes row col) c) cafes (now (rows .entry)) (now (cols .entry)) (now (spread .exit)))
-        ⌝ }
+    requires { Growing rows.now × Growing cols.now × (length spread.old ≡ lane_room) × (nat_abs c ≤ max_cost) }
+    ensures { (cost : List ℤ) (cafes : ℕ) → Respreadable cost cafes rows.now cols.now row col c
+        → Spread cost cafes rows.now cols.now spread.old
+        → Spread (set cost (place cafes row col) c) cafes rows.now cols.now spread.new }
 {
     let i = number_in(rows, row);
     let j = number_in(cols, col);
@@ -64,7 +51,7 @@ fn respread_lane(
 
 // Whether so many parties are left of m roasteries and n cafés that nobody is struck.
 fn all_left(rows: usize, cafes: usize, m: usize, n: usize) -> bool
-    ensures { λ r. ⌜ r ≡ eqb rows m && eqb cafes n ⌝ }
+    ensures { result ≡ eqb rows m && eqb cafes n }
 {
     if rows != m {
         return false;
@@ -83,15 +70,12 @@ fn respread(
     cols: &[usize],
     spread: &mut [Price; LANES],
 )
-    requires { ⌜ Spreadable (now cost) n (now rows) (now cols) ⌝ }
-    ensures { λ _.
-        let Right = Spread (now (cost .entry)) n (now (rows .entry)) (now (cols .entry)) in
-        ⌜
-        ((AllLeft m n (before .rows) (before .cafes)
-        → AllLeft m n (length (now (rows .entry))) (length (now (cols .entry)))
-        → Right (now (spread .entry)))
-        → Right (now (spread .exit)))
-        ⌝ }
+    requires { Spreadable cost.now n rows.now cols.now }
+    ensures { let Right = Spread cost.now n rows.now cols.now in
+        ((AllLeft m n before.rows before.cafes
+        → AllLeft m n (length rows.now) (length cols.now)
+        → Right spread.old)
+        → Right spread.new) }
 {
     if all_left(before.rows, before.cafes, m, n) {
         if all_left(rows.len(), cols.len(), m, n) {
@@ -115,14 +99,11 @@ fn begin_afresh(
     other: &mut [usize; NODES],
     lane: &mut [usize; NODES],
 ) -> Loading
-    requires { ⌜ Accepted (sheetOf (now supply) (now demand) (now cost)) ⌝ }
-    ensures { λ r.
-        let S = sheetOf (now (supply .entry)) (now (demand .entry)) (now (cost .entry)) in
-        ⌜
-        (SpreadBefore S before (now (spread .entry))
-        → Admitted S (start (problemOf S)) (r .parties) (r .rows) (r .cols) (now (q .exit)) (now (e .exit))
-        (now (spread .exit)) (now (leaf .exit)) (now (other .exit)) (now (lane .exit)))
-        ⌝ }
+    requires { Accepted (sheet_of supply.now demand.now cost.now) }
+    ensures { let S = sheet_of supply.now demand.now cost.now in
+        (SpreadBefore S before spread.old
+        → Admitted S (start (problem_of S)) result.parties result.rows result.cols q.new e.new
+        spread.new leaf.new other.new lane.new) }
 {
     let first = deal_sheet(supply, demand);
     let begun = first.loading;
@@ -166,22 +147,17 @@ pub fn begin_edit(
     other: &mut [usize; NODES],
     lane: &mut [usize; NODES],
 ) -> Loading
-    requires { ⌜ Accepted (sheetOf (now supply) (now demand) (now cost)) ⌝ }
-    requires { ⌜
-        ((S : Sheet) × (T : List Cell) × EditOf S edit (now supply) (now demand) (now cost)
-        × Admitted S T (loaded .parties) (loaded .rows) (loaded .cols) (now q) (now e) (now spread) (now leaf)
-        (now other)
-        (now lane))
-        ⌝ }
-    ensures { λ r.
-        let S′ = sheetOf (now (supply .entry)) (now (demand .entry)) (now (cost .entry)) in
-        ⌜
-        ((S : Sheet) (T : List Cell) → EditOf S edit (now (supply .entry)) (now (demand .entry)) (now (cost .entry))
-        → Admitted S T (loaded .parties) (loaded .rows) (loaded .cols) (now (q .entry)) (now (e .entry))
-        (now (spread .entry)) (now (leaf .entry)) (now (other .entry)) (now (lane .entry))
-        → Admitted S′ (beginning (edit .change) S′ T) (r .parties) (r .rows) (r .cols) (now (q .exit)) (now (e .exit))
-        (now (spread .exit)) (now (leaf .exit)) (now (other .exit)) (now (lane .exit)))
-        ⌝ }
+    requires accepted { Accepted (sheet_of supply.now demand.now cost.now) }
+    requires edit_of { (S : Sheet) × (T : List Cell) × EditOf S edit supply.now demand.now cost.now
+        × Admitted S T loaded.parties loaded.rows loaded.cols q.old e.old spread.old leaf.old
+        other.old
+        lane.old }
+    ensures { let S' = sheet_of supply.now demand.now cost.now in
+        ((S : Sheet) (T : List Cell) → EditOf S edit supply.now demand.now cost.now
+        → Admitted S T loaded.parties loaded.rows loaded.cols q.old e.old
+        spread.old leaf.old other.old lane.old
+        → Admitted S' (beginning edit.change S' T) result.parties result.rows result.cols q.new e.new
+        spread.new leaf.new other.new lane.new) }
 {
     let change = edit.change;
     let parties = loaded.parties;
@@ -194,15 +170,6 @@ pub fn begin_edit(
         return loaded;
     }
     begin_afresh(
-        supply,
-        demand,
-        cost,
-        parties,
-        q,
-        e,
-        spread,
-        leaf,
-        other,
-        lane,
+        supply, demand, cost, parties, q, e, spread, leaf, other, lane,
     )
 }

@@ -1,20 +1,17 @@
 // Whether an edit may be made, what it sets in the lists of the sheet, and the check of the edited
 // sheet.
+ghost use Rattle.std.specs.Prelude.{◌≡◌, not, ◌&&◌, eqb, ltb};
+ghost use Rattle.transport.specs.Sheet.{Sheet, sheet_of, sheet_tests, refusal};
+ghost use Rattle.transport.specs.Standing.{edited, max_counter};
+ghost use Rattle.sheet.specs.Check.{check_answer};
+ghost use Rattle.edit_steps.specs.Edits.{Editable, EditOf};
+
 use sheet::SheetCheck;
-use transport::Change;
-use transport::Edit;
-use transport::MAX_COUNTER;
-ghost use mathlib.Core.Path.{_≡_};
-ghost use mathlib.Core.Bool.{not, _&&_};
-ghost use lib.Dec.{eqb, ltb};
-ghost use Rattle·transport.specs.Sheet.{Sheet, sheetOf, sheetTests, refusal};
-ghost use Rattle·transport.specs.Standing.{edited, maxCounter};
-ghost use Rattle·sheet.specs.Check.{checkAnswer};
-ghost use Rattle·edit_steps·specs.specs.Edits.{Editable, EditOf};
+use transport::{Change, Edit, MAX_COUNTER};
 
 // Whether an edit names a roastery and a café of a sheet of m and n, and can be counted.
 pub fn may_edit(m: usize, n: usize, row: usize, col: usize, counter: u64) -> bool
-    ensures { λ r. ⌜ r ≡ ltb row m && ltb col n && not (eqb counter maxCounter) ⌝ }
+    ensures { result ≡ ltb row m && ltb col n && not (eqb counter max_counter) }
 {
     if row >= m {
         return false;
@@ -27,15 +24,12 @@ pub fn may_edit(m: usize, n: usize, row: usize, col: usize, counter: u64) -> boo
 
 // Sets in the lists of a sheet what the edit says. Gives the edit that takes it back.
 pub fn set_lists(e: Edit, supply: &mut [u64], demand: &mut [u64], cost: &mut [i64]) -> Edit
-    requires { ⌜ Editable e (now supply) (now demand) (now cost) ⌝ }
-    ensures { λ r.
-        let S = sheetOf (now (supply .entry)) (now (demand .entry)) (now (cost .entry)) in
-        ⌜
-        (sheetOf (now (supply .exit)) (now (demand .exit)) (now (cost .exit)) ≡ edited S e)
-        × (edited (edited S e) r ≡ S)
-        × (r .row ≡ e .row)
-        × (r .col ≡ e .col)
-        ⌝ }
+    requires { Editable e supply.old demand.old cost.old }
+    ensures { let S = sheet_of supply.old demand.old cost.old in
+        (sheet_of supply.new demand.new cost.new ≡ edited S e)
+        × (edited (edited S e) result ≡ S)
+        × (result.row ≡ e.row)
+        × (result.col ≡ e.col) }
 {
     let row = e.row;
     let col = e.col;
@@ -73,10 +67,9 @@ pub fn set_lists(e: Edit, supply: &mut [u64], demand: &mut [u64], cost: &mut [i6
 
 // The sheet check of an edited sheet. What the edit leaves alone has passed.
 pub fn check_edited(supply: &[u64], demand: &[u64], cost: &[i64], edit: Edit) -> SheetCheck
-    requires { ⌜ ((S : Sheet) × EditOf S edit (now supply) (now demand) (now cost)) ⌝ }
-    ensures { λ r.
-        let S = sheetOf (now (supply .entry)) (now (demand .entry)) (now (cost .entry)) in
-        ⌜ r ≡ checkAnswer (refusal (sheetTests S)) ⌝ }
+    requires { (S : Sheet) × EditOf S edit supply.now demand.now cost.now }
+    ensures { let S = sheet_of supply.now demand.now cost.now in
+        result ≡ check_answer (refusal (sheet_tests S)) }
 {
     let change = edit.change;
     if let Change::Cost(_) = change {

@@ -1,21 +1,15 @@
 // Edits of a standing sheet, on its lists.
 pub mod solve;
 
-use crate::solve::Edited;
-use crate::solve::carry_out;
-use crate::solve::refused;
-use edit_steps::lists::may_edit;
-use edit_steps::lists::set_lists;
+ghost use Rattle.transport.specs.Sheet.{sheet_of};
+ghost use Rattle.editing.specs.EditedAs.{EditedAs};
+
+use crate::solve::{Edited, carry_out, refused};
+use edit_steps::lists::{may_edit, set_lists};
 use loading::load_finished;
 use sheet::SheetCheck;
-use transport::Edit;
-use transport::SolveAnswer;
-use transport::Tableau;
-use tree::LANES;
-use tree::NODES;
-use tree::Price;
-ghost use Rattle·transport.specs.Sheet.{sheetOf};
-ghost use Rattle·editing·specs.specs.EditedAs.{EditedAs};
+use transport::{Edit, SolveAnswer, Tableau};
+use tree::{LANES, NODES, Price};
 
 // An edit of the standing sheet of these lists, this tableau and this counter. The lists then hold
 // the edited sheet. An edit that is refused leaves them as they were, or is taken back.
@@ -30,13 +24,10 @@ pub fn edit_lists(
     v: &mut [i64],
     plan: &mut [u64],
 ) -> Edited
-    ensures { λ r.
-        let S = sheetOf (now (supply .entry)) (now (demand .entry)) (now (cost .entry)) in
-        let S′ = sheetOf (now (supply .exit)) (now (demand .exit)) (now (cost .exit)) in
-        ⌜
-        EditedAs (record { sheet = S; tableau = t; counter = counter }) edit (r .answer) S′ (r .tableau)
-        (now (u .entry)) (now (u .exit)) (now (v .entry)) (now (v .exit)) (now (plan .entry)) (now (plan .exit))
-        ⌝ }
+    ensures { let S = sheet_of supply.old demand.old cost.old in
+        let S' = sheet_of supply.new demand.new cost.new in
+        EditedAs (record { sheet = S; tableau = t; counter = counter }) edit result.answer S' result.tableau
+        u.old u.new v.old v.new plan.old plan.new }
 {
     let mut q = [0i64; LANES];
     let mut e = [0i64; LANES];

@@ -1,4 +1,15 @@
 // An edited sheet, refused or solved.
+ghost use Rattle.std.specs.Prelude.{◌≡◌, List, ◌*◌, ◌≤◌, length};
+ghost use Rattle.transport.specs.Sheet.{Sheet, sheet_of};
+ghost use Rattle.transport.specs.Calls.{given, solution_from};
+ghost use Rattle.transport.specs.Standing.{last_tableau_of};
+ghost use Rattle.transport.specs.declared.Cell.{Cell};
+ghost use Rattle.transport.specs.declared.SolveAnswer.TheVariants.{Refused};
+ghost use Rattle.loading.specs.Loading.{Admitted};
+ghost use Rattle.solving.specs.Told.{Told};
+ghost use Rattle.edit_steps.specs.Edits.{EditOf, beginning};
+ghost use Rattle.editing.specs.SolvedAs.{SolvedAs};
+
 use dealing::tableau::empty_tableau;
 use edit_steps::begin::begin_edit;
 use edit_steps::lists::check_edited;
@@ -7,30 +18,13 @@ use runs::run::finish;
 use sheet::SheetCheck;
 use solving::cost::plan_cost;
 use solving::room::missing_room;
-use solving::store::last_tableau;
-use solving::store::store_solution;
-use transport::Edit;
-use transport::SolveAnswer;
-use transport::Tableau;
-use tree::LANES;
-use tree::NODES;
-use tree::Price;
-ghost use mathlib.Core.Path.{_≡_};
-ghost use mathlib.Core.List.{List};
-ghost use Prim.Native.Nat.{_*_, _≤_};
-ghost use lib.ListN.{length};
-ghost use Rattle·transport.specs.Sheet.{Sheet, sheetOf};
-ghost use Rattle·transport.specs.Calls.{given, solutionFrom};
-ghost use Rattle·transport.specs.Standing.{lastTableau};
-ghost use Rattle·transport.specs.declared.Cell.{Cell};
-ghost use Rattle·transport.specs.declared.SolveAnswer.the-variants.{Refused};
-ghost use Rattle·loading.specs.Loading.{Admitted};
-ghost use Rattle·solving.specs.Told.{Told};
-ghost use Rattle·edit_steps.specs.Edits.{EditOf, beginning};
-ghost use Rattle·editing·specs.specs.SolvedAs.{SolvedAs};
+use solving::store::{last_tableau, store_solution};
+use transport::{Edit, SolveAnswer, Tableau};
+use tree::{LANES, NODES, Price};
 
 // What came of an edit: what solve answers for the edited sheet, with the rounds made by the edit;
 // and the tableau that then stands.
+#[derive(Drop)]
 pub struct Edited {
     pub answer: SolveAnswer,
     pub tableau: Tableau,
@@ -38,7 +32,7 @@ pub struct Edited {
 
 // A refusal, with the tableau that stood before.
 pub(crate) fn refused(number: u8, kept: Tableau) -> Edited
-    ensures { λ r. ⌜ (r .answer ≡ Refused number) × (r .tableau ≡ kept) ⌝ }
+    ensures { (result.answer ≡ Refused number) × (result.tableau ≡ kept) }
 {
     Edited {
         answer: SolveAnswer::Refused(number),
@@ -62,28 +56,21 @@ fn solve_from(
     v: &mut [i64],
     plan: &mut [u64],
 ) -> Edited
-    requires { ⌜
+    requires admitted { (T : List Cell)
+        × Admitted (sheet_of supply.now demand.now cost.now) T begun.parties begun.rows begun.cols
+        q.old e.old
+        spread.now leaf.now other.now lane.old }
+    requires supply_in_bounds { (length supply.now ≤ length u.old)
+        × (length demand.now ≤ length v.old)
+        × (length supply.now * length demand.now ≤ length plan.old) }
+    ensures { let S = sheet_of supply.now demand.now cost.now in
         ((T : List Cell)
-        × Admitted (sheetOf (now supply) (now demand) (now cost)) T (begun .parties) (begun .rows) (begun .cols)
-        (now q) (now e)
-        (now spread) (now leaf) (now other) (now lane))
-        ⌝ }
-    requires { ⌜
-        (length (now supply) ≤ length (now u))
-        × (length (now demand) ≤ length (now v))
-        × (length (now supply) * length (now demand) ≤ length (now plan))
-        ⌝ }
-    ensures { λ r.
-        let S = sheetOf (now (supply .entry)) (now (demand .entry)) (now (cost .entry)) in
-        ⌜
-        ((T : List Cell)
-        → Admitted S T (begun .parties) (begun .rows) (begun .cols) (now (q .entry)) (now (e .entry))
-        (now (spread .entry))
-        (now (leaf .entry)) (now (other .entry)) (now (lane .entry))
-        → Told (given (solutionFrom S T)) (r .answer) (now (u .entry)) (now (u .exit)) (now (v .entry)) (now (v .exit))
-        (now (plan .entry)) (now (plan .exit))
-        × (r .tableau ≡ lastTableau S T))
-        ⌝ }
+        → Admitted S T begun.parties begun.rows begun.cols q.old e.old
+        spread.now
+        leaf.now other.now lane.old
+        → Told (given (solution_from S T)) result.answer u.old u.new v.old v.new
+        plan.old plan.new
+        × (result.tableau ≡ last_tableau_of S T)) }
 {
     let m = begun.parties.rows;
     let n = begun.parties.columns;
@@ -91,17 +78,7 @@ fn solve_from(
     let rounds = finish(q, e, spread, leaf, other, lane, m, n, &mut price);
     let tableau = last_tableau(begun, lane, q, e);
     store_solution(
-        supply,
-        demand,
-        cost,
-        begun,
-        lane,
-        q,
-        spread,
-        &price,
-        u,
-        v,
-        plan,
+        supply, demand, cost, begun, lane, q, spread, &price, u, v, plan,
     );
     let total = plan_cost(plan, cost);
     Edited {
@@ -130,21 +107,16 @@ pub(crate) fn carry_out(
     v: &mut [i64],
     plan: &mut [u64],
 ) -> Edited
-    requires { ⌜
-        ((S : Sheet) × (T : List Cell) × EditOf S edit (now supply) (now demand) (now cost)
-        × Admitted S T (loaded .parties) (loaded .rows) (loaded .cols) (now q) (now e) (now spread) (now leaf)
-        (now other)
-        (now lane))
-        ⌝ }
-    ensures { λ r.
-        let S′ = sheetOf (now (supply .entry)) (now (demand .entry)) (now (cost .entry)) in
-        ⌜
-        ((S : Sheet) (T : List Cell) → EditOf S edit (now (supply .entry)) (now (demand .entry)) (now (cost .entry))
-        → Admitted S T (loaded .parties) (loaded .rows) (loaded .cols) (now (q .entry)) (now (e .entry))
-        (now (spread .entry)) (now (leaf .entry)) (now (other .entry)) (now (lane .entry))
-        → SolvedAs S′ (beginning (edit .change) S′ T) (r .answer) (r .tableau) (now (u .entry)) (now (u .exit))
-        (now (v .entry)) (now (v .exit)) (now (plan .entry)) (now (plan .exit)))
-        ⌝ }
+    requires { (S : Sheet) × (T : List Cell) × EditOf S edit supply.now demand.now cost.now
+        × Admitted S T loaded.parties loaded.rows loaded.cols q.old e.old spread.old leaf.old
+        other.old
+        lane.old }
+    ensures { let S' = sheet_of supply.now demand.now cost.now in
+        ((S : Sheet) (T : List Cell) → EditOf S edit supply.now demand.now cost.now
+        → Admitted S T loaded.parties loaded.rows loaded.cols q.old e.old
+        spread.old leaf.old other.old lane.old
+        → SolvedAs S' (beginning edit.change S' T) result.answer result.tableau u.old u.new
+        v.old v.new plan.old plan.new) }
 {
     let check = check_edited(supply, demand, cost, edit);
     if let SheetCheck::Refused(number) = check {
@@ -154,31 +126,9 @@ pub(crate) fn carry_out(
         return refused(8, empty_tableau());
     }
     let begun = begin_edit(
-        supply,
-        demand,
-        cost,
-        edit,
-        loaded,
-        q,
-        e,
-        spread,
-        leaf,
-        other,
-        lane,
+        supply, demand, cost, edit, loaded, q, e, spread, leaf, other, lane,
     );
     solve_from(
-        supply,
-        demand,
-        cost,
-        begun,
-        q,
-        e,
-        spread,
-        leaf,
-        other,
-        lane,
-        u,
-        v,
-        plan,
+        supply, demand, cost, begun, q, e, spread, leaf, other, lane, u, v, plan,
     )
 }

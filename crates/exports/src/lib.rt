@@ -2,68 +2,50 @@
 // A result is a struct by value; its `refusal` is the number of the refusal, or 0. If it is not 0,
 // the other fields are zeros, but for the place with 9 and the standing sheet that an edit gives
 // back, and no lent list is changed.
-use border::ReadOut;
-use border::RoundOut;
-use border::RunOut;
-use border::SolveOut;
-use border::StartOut;
-use border::WriteOut;
-use border_plans::solve_out;
-use border_plans::write_plan_out;
-use border_sheets::read_out;
-use border_sheets::start_out;
-use border_sheets::write_sheet_out;
-use border_tableaux::round_from;
-use border_tableaux::run_from;
-use border_tableaux::settle_from;
+ghost use Rattle.std.specs.Prelude.{◌≡◌, cond, length};
+ghost use Rattle.transport.specs.Sheet.{sheet_of};
+ghost use Rattle.transport.specs.Tableau.{lent_tableau_of};
+ghost use Rattle.transport.specs.Calls.{lent_after, start_call, round_call, run_call, settle_call, solve_call};
+ghost use Rattle.transport.specs.Standing.{set_up_call, edit_call, carried_out, stands_after, spare, standing_of};
+ghost use Rattle.transport.specs.Answers.{set_up_answer, edit_answer};
+ghost use Rattle.transport.specs.declared.Change.TheVariants.{Cost, Amounts};
+ghost use Rattle.transport.specs.declared.Edit.{Edit};
+ghost use Rattle.transport.specs.SheetText.{read_sheet_call, write_sheet_call};
+ghost use Rattle.transport.specs.PlanText.{write_plan_call};
+ghost use Rattle.border.specs.Border.{start_out_of, round_out, run_out, number_of, solve_out_of, read_out_of, write_out_of};
+
+use border::{ReadOut, RoundOut, RunOut, SolveOut, StartOut, WriteOut};
+use border_plans::{solve_out, write_plan_out};
+use border_sheets::{read_out, start_out, write_sheet_out};
+use border_tableaux::{round_from, run_from, settle_from};
 use edit_call::edit;
 use set_up_call::set_up;
-use transport::Cell;
-use transport::Change;
-use transport::Edit;
-use transport::EditAnswer;
-use transport::SetUpAnswer;
-use transport::Standing;
-ghost use mathlib.Core.Path.{_≡_};
-ghost use mathlib.Core.Bool.{cond};
-ghost use lib.ListN.{length};
-ghost use Rattle·transport.specs.Sheet.{sheetOf};
-ghost use Rattle·transport.specs.Tableau.{lentTableau};
-ghost use Rattle·transport.specs.Calls.{lentAfter, startCall, roundCall, runCall, settleCall, solveCall};
-ghost use Rattle·transport.specs.Standing.{setUpCall, editCall, carriedOut, standsAfter, spare, standingOf};
-ghost use Rattle·transport.specs.Answers.{setUpAnswer, editAnswer};
-ghost use Rattle·transport.specs.declared.Change.the-variants.{Cost, Amounts};
-ghost use Rattle·transport.specs.declared.Edit.{Edit};
-ghost use Rattle·transport.specs.SheetText.{readSheetCall, writeSheetCall};
-ghost use Rattle·transport.specs.PlanText.{writePlanCall};
-ghost use Rattle·border.specs.Border.{startOut, roundOut, runOut, numberOf, solveOut, readOut, writeOut};
+use transport::{Cell, Change, Edit, EditAnswer, SetUpAnswer, Standing};
 
-#[no_mangle]
+#[unsafe(no_mangle)]
 pub extern "C" fn panel_start(supply: &[u64], demand: &[u64], cost: &[i64]) -> StartOut
-    ensures { λ r.
-        let S = sheetOf (now (supply .entry)) (now (demand .entry)) (now (cost .entry)) in
-        ⌜ r ≡ startOut (startCall S) ⌝ }
+    ensures { let S = sheet_of supply.now demand.now cost.now in
+        result ≡ start_out_of (start_call S) }
 {
     start_out(supply, demand, cost)
 }
 
 // The calls on tableaux take a list of cells: what is passed on is the tableau that the list is.
 
-#[no_mangle]
+#[unsafe(no_mangle)]
 pub extern "C" fn panel_round(
     supply: &[u64],
     demand: &[u64],
     cost: &[i64],
     cells: &[Cell],
 ) -> RoundOut
-    ensures { λ r.
-        let S = sheetOf (now (supply .entry)) (now (demand .entry)) (now (cost .entry)) in
-        ⌜ r ≡ roundOut (roundCall S (lentTableau (now (cells .entry)))) ⌝ }
+    ensures { let S = sheet_of supply.now demand.now cost.now in
+        result ≡ round_out (round_call S (lent_tableau_of cells.now)) }
 {
     round_from(supply, demand, cost, cells::lent_tableau(cells))
 }
 
-#[no_mangle]
+#[unsafe(no_mangle)]
 pub extern "C" fn panel_run(
     supply: &[u64],
     demand: &[u64],
@@ -71,15 +53,14 @@ pub extern "C" fn panel_run(
     cells: &[Cell],
     allowance: u32,
 ) -> RunOut
-    ensures { λ r.
-        let S = sheetOf (now (supply .entry)) (now (demand .entry)) (now (cost .entry)) in
-        ⌜ r ≡ runOut (runCall S (lentTableau (now (cells .entry))) allowance) ⌝ }
+    ensures { let S = sheet_of supply.now demand.now cost.now in
+        result ≡ run_out (run_call S (lent_tableau_of cells.now) allowance) }
 {
     run_from(supply, demand, cost, cells::lent_tableau(cells), allowance)
 }
 
 // Settle: 0, or the number of the refusal.
-#[no_mangle]
+#[unsafe(no_mangle)]
 pub extern "C" fn panel_settle(
     supply: &[u64],
     demand: &[u64],
@@ -87,15 +68,14 @@ pub extern "C" fn panel_settle(
     cells: &[Cell],
     plan: &mut [u64],
 ) -> u8
-    ensures { λ r.
-        let S = sheetOf (now (supply .entry)) (now (demand .entry)) (now (cost .entry)) in
-        let a = settleCall S (lentTableau (now (cells .entry))) (length (now (plan .entry))) in
-        ⌜ (r ≡ numberOf a) × (now (plan .exit) ≡ lentAfter (λ x. x) a (now (plan .entry))) ⌝ }
+    ensures { let S = sheet_of supply.now demand.now cost.now in
+        let a = settle_call S (lent_tableau_of cells.now) (length plan.old) in
+        (result ≡ number_of a) × (plan.new ≡ lent_after (λ x. x) a plan.old) }
 {
     settle_from(supply, demand, cost, cells::lent_tableau(cells), plan)
 }
 
-#[no_mangle]
+#[unsafe(no_mangle)]
 pub extern "C" fn panel_solve(
     supply: &[u64],
     demand: &[u64],
@@ -104,31 +84,27 @@ pub extern "C" fn panel_solve(
     v: &mut [i64],
     plan: &mut [u64],
 ) -> SolveOut
-    ensures { λ r.
-        let S = sheetOf (now (supply .entry)) (now (demand .entry)) (now (cost .entry)) in
-        let a = solveCall S (length (now (u .entry))) (length (now (v .entry))) (length (now (plan .entry))) in
-        ⌜
-        (r ≡ solveOut a)
-        × (now (u .exit) ≡ lentAfter (λ s. s .u) a (now (u .entry)))
-        × (now (v .exit) ≡ lentAfter (λ s. s .v) a (now (v .entry)))
-        × (now (plan .exit) ≡ lentAfter (λ s. s .plan) a (now (plan .entry)))
-        ⌝ }
+    ensures { let S = sheet_of supply.now demand.now cost.now in
+        let a = solve_call S (length u.old) (length v.old) (length plan.old) in
+        (result ≡ solve_out_of a)
+        × (u.new ≡ lent_after (λ s. s.u) a u.old)
+        × (v.new ≡ lent_after (λ s. s.v) a v.old)
+        × (plan.new ≡ lent_after (λ s. s.plan) a plan.old) }
 {
     solve_out(supply, demand, cost, u, v, plan)
 }
 
-#[no_mangle]
+#[unsafe(no_mangle)]
 pub extern "C" fn panel_set_up(supply: &[u64], demand: &[u64], cost: &[i64]) -> SetUpAnswer
-    ensures { λ r.
-        let S = sheetOf (now (supply .entry)) (now (demand .entry)) (now (cost .entry)) in
-        ⌜ r ≡ setUpAnswer (setUpCall S) ⌝ }
+    ensures { let S = sheet_of supply.now demand.now cost.now in
+        result ≡ set_up_answer (set_up_call S) }
 {
     set_up(supply, demand, cost)
 }
 
 // What an edit sets, from what crosses: an enum cannot.
 fn change_of(amounts: bool, cost: i64, supply: u64, demand: u64) -> Change
-    ensures { λ r. ⌜ r ≡ cond amounts (Amounts supply demand) (Cost cost) ⌝ }
+    ensures { result ≡ cond amounts (Amounts supply demand) (Cost cost) }
 {
     if amounts {
         return Change::Amounts { supply, demand };
@@ -138,7 +114,7 @@ fn change_of(amounts: bool, cost: i64, supply: u64, demand: u64) -> Change
 
 // An edit: of the amounts, and `cost` is not looked at; or of the cost, and the amounts are not
 // looked at.
-#[no_mangle]
+#[unsafe(no_mangle)]
 pub extern "C" fn panel_edit(
     standing: Standing,
     row: usize,
@@ -151,68 +127,60 @@ pub extern "C" fn panel_edit(
     v: &mut [i64],
     plan: &mut [u64],
 ) -> EditAnswer
-    ensures { λ r.
-        let St = standingOf standing in
+    ensures { let St = standing_of standing in
         let e : Edit = record { row = row; col = col; change = cond amounts (Amounts supply demand) (Cost cost) } in
-        let a = editCall St e (length (now (u .entry))) (length (now (v .entry))) (length (now (plan .entry))) in
-        ⌜
-        (r ≡ editAnswer a standing (r .after))
-        × (standingOf (r .after) ≡ standsAfter a St (carriedOut St e))
-        × (spare (r .after .sheet) ≡ spare (standing .sheet))
-        × (now (u .exit) ≡ lentAfter (λ x. x .u) a (now (u .entry)))
-        × (now (v .exit) ≡ lentAfter (λ x. x .v) a (now (v .entry)))
-        × (now (plan .exit) ≡ lentAfter (λ x. x .plan) a (now (plan .entry)))
-        ⌝ }
+        let a = edit_call St e (length u.old) (length v.old) (length plan.old) in
+        (result ≡ edit_answer a standing result.after)
+        × (standing_of result.after ≡ stands_after a St (carried_out St e))
+        × (spare result.after.sheet ≡ spare standing.sheet)
+        × (u.new ≡ lent_after (λ x. x.u) a u.old)
+        × (v.new ≡ lent_after (λ x. x.v) a v.old)
+        × (plan.new ≡ lent_after (λ x. x.plan) a plan.old) }
 {
     let change = change_of(amounts, cost, supply, demand);
     edit(standing, Edit { row, col, change }, u, v, plan)
 }
 
-#[no_mangle]
+#[unsafe(no_mangle)]
 pub extern "C" fn panel_read_sheet(
     text: &[u8],
     supply: &mut [u64],
     demand: &mut [u64],
     cost: &mut [i64],
 ) -> ReadOut
-    ensures { λ r.
-        let a = readSheetCall (now (text .entry)) (length (now (supply .entry))) (length (now (demand .entry))) (length (now (cost .entry))) in
-        ⌜
-        (r ≡ readOut a)
-        × (now (supply .exit) ≡ lentAfter (λ S. S .supply) a (now (supply .entry)))
-        × (now (demand .exit) ≡ lentAfter (λ S. S .demand) a (now (demand .entry)))
-        × (now (cost .exit) ≡ lentAfter (λ S. S .cost) a (now (cost .entry)))
-        ⌝ }
+    ensures { let a = read_sheet_call text.now (length supply.old) (length demand.old) (length cost.old) in
+        (result ≡ read_out_of a)
+        × (supply.new ≡ lent_after (λ S. S.supply) a supply.old)
+        × (demand.new ≡ lent_after (λ S. S.demand) a demand.old)
+        × (cost.new ≡ lent_after (λ S. S.cost) a cost.old) }
 {
     read_out(text, supply, demand, cost)
 }
 
-#[no_mangle]
+#[unsafe(no_mangle)]
 pub extern "C" fn panel_write_sheet(
     supply: &[u64],
     demand: &[u64],
     cost: &[i64],
     out: &mut [u8],
 ) -> WriteOut
-    ensures { λ r.
-        let S = sheetOf (now (supply .entry)) (now (demand .entry)) (now (cost .entry)) in
-        let a = writeSheetCall S (length (now (out .entry))) in
-        ⌜ (r ≡ writeOut a) × (now (out .exit) ≡ lentAfter (λ t. t) a (now (out .entry))) ⌝ }
+    ensures { let S = sheet_of supply.now demand.now cost.now in
+        let a = write_sheet_call S (length out.old) in
+        (result ≡ write_out_of a) × (out.new ≡ lent_after (λ t. t) a out.old) }
 {
     write_sheet_out(supply, demand, cost, out)
 }
 
-#[no_mangle]
+#[unsafe(no_mangle)]
 pub extern "C" fn panel_write_plan(
     supply: &[u64],
     demand: &[u64],
     cost: &[i64],
     out: &mut [u8],
 ) -> WriteOut
-    ensures { λ r.
-        let S = sheetOf (now (supply .entry)) (now (demand .entry)) (now (cost .entry)) in
-        let a = writePlanCall S (length (now (out .entry))) in
-        ⌜ (r ≡ writeOut a) × (now (out .exit) ≡ lentAfter (λ t. t) a (now (out .entry))) ⌝ }
+    ensures { let S = sheet_of supply.now demand.now cost.now in
+        let a = write_plan_call S (length out.old) in
+        (result ≡ write_out_of a) × (out.new ≡ lent_after (λ t. t) a out.old) }
 {
     write_plan_out(supply, demand, cost, out)
 }

@@ -1,20 +1,20 @@
 -- The readers that the sheet's reader is made of are exact.
-use Rattle·prelude.specs.Words.{_≡_, refl, sym, _∙_, ap, _↔_, Bool, true, List, [], _∷_, append-nil, flatMap, ℕ, zero, suc, arith, eqb, length, eqb-true}
-use Rattle·prelude.specs.Words.{eq-eqb, by-test}
+use Rattle.prelude.specs.Words.{◌≡◌, refl, sym, ◌∙◌, ap, ◌↔◌, Bool, true, List, [], ◌∷◌, append-nil, flat_map, ℕ, zero, suc, arith, eqb, length, eqb-true}
+use Rattle.prelude.specs.Words.{eq-eqb, by_test}
 use mathlib.Core.List.{cons≢nil, nil≢cons}
-use Rattle·transport.specs.SheetText.{Reading, stuck, got, Reader, _>>_, pure, byteThat, word, end, times}
-use Rattle·grammar·specs.specs.Every.{Count}
-use Rattle·grammar·specs.specs.Exact.{Exact, Taken, Stopped, Any, AtEnd, Then, glued, stuck≢got, bind, then, reworded, joining, nothing-after, stopped-at-once}
+use Rattle.transport.specs.SheetText.{Reading, stuck, got, Reader, ◌>>◌, pure, byte_that, word, end, times}
+use Rattle.grammar.specs.Every.{Count}
+use Rattle.grammar.specs.Exact.{Exact, Taken, Stopped, Any, AtEnd, Then, glued, stuck≢got, bind, then, reworded, joining, nothing-after, stopped-at-once}
 
 module _ {A : Type 0} where
   -- No byte, and the value a.
   abbrev pub Only : A → A → List ℕ → Type 0
   Only a b t = (b ≡ a) × (t ≡ [])
 
-  pub pure-exact : (a : A) → Exact (pure a) (Only a) Any
+  pub pure_exact : (a : A) → Exact (pure a) (Only a) Any
   unfolding pure
-  pure-exact a = record {
-    takes = λ b t rest h k. rw (h .0, h .1);
+  pure_exact a = record {
+    takes = λ b t rest h k. rw (h.0, h.1);
     taken = λ text b rest e.
         let same : b ≡ a = cc in let all : text ≡ rest = cc in
         record { part = []; member = (same, refl); split = all; after = tt };
@@ -27,51 +27,51 @@ Byte test b t = (test b ≡ true) × (t ≡ b ∷ [])
 
 -- Some byte has to pass the test: else nothing could complete a text here.
 module _ (test : ℕ → Bool) (c : ℕ) (passes : test c ≡ true) where
-  byte-taken : (text : List ℕ) (b : ℕ) (rest : List ℕ) → byteThat test text ≡ got b rest → Taken (Byte test) Any b text rest
-  unfolding byteThat
+  byte-taken : (text : List ℕ) (b : ℕ) (rest : List ℕ) → byte_that test text ≡ got b rest → Taken (Byte test) Any b text rest
+  unfolding byte_that
   byte-taken [] b rest e = absurd (stuck≢got e)
-  byte-taken (d ∷ t) b rest e = by-test (test d)
+  byte-taken (d ∷ t) b rest e = by_test (test d)
       (λ f.
       let g : got d t ≡ got b rest = rw f at e in let same : d ≡ b = cc in
       record { part = b ∷ []; member = (rw (← same) f, refl); split = cc; after = tt })
       (λ f. absurd (stuck≢got (rw f at e)))
 
-  byte-stopped : (text rest : List ℕ) → byteThat test text ≡ stuck rest → Stopped (byteThat test) (Byte test) text rest
-  unfolding byteThat
+  byte-stopped : (text rest : List ℕ) → byte_that test text ≡ stuck rest → Stopped (byte_that test) (Byte test) text rest
+  unfolding byte_that
   byte-stopped [] rest e = let none : [] ≡ rest = cc in stopped-at-once none c (c ∷ []) (passes, refl) (λ b old new f. absurd (nil≢cons (none ∙ f)))
-  byte-stopped (d ∷ t) rest e = by-test (test d)
+  byte-stopped (d ∷ t) rest e = by_test (test d)
       (λ f. absurd (stuck≢got (sym (rw f at e))))
-      (λ f. let g : _≡_ {A = Reading ℕ} (stuck (d ∷ t)) (stuck rest) = rw f at e in let all : d ∷ t ≡ rest = cc in
+      (λ f. let g : ◌≡◌ {A = Reading ℕ} (stuck (d ∷ t)) (stuck rest) = rw f at e in let all : d ∷ t ≡ rest = cc in
       stopped-at-once all c (c ∷ []) (passes, refl) (λ b old new h. let same : b ≡ d = cc in rw (same, f)))
 
-  pub byte-exact : Exact (byteThat test) (Byte test) Any
-  unfolding byteThat
-  byte-exact = record { takes = λ b t rest h k. rw (h .1, h .0); taken = byte-taken; stopped = byte-stopped }
+  pub byte_exact : Exact (byte_that test) (Byte test) Any
+  unfolding byte_that
+  byte_exact = record { takes = λ b t rest h k. rw (h.1, h.0); taken = byte-taken; stopped = byte-stopped }
 
 -- These bytes.
 abbrev pub Bytes : List ℕ → Unit {0} → List ℕ → Type 0
 Bytes cs u t = t ≡ cs
 
-pub word-exact : (cs : List ℕ) → Exact (word cs) (Bytes cs) Any
+pub word_exact : (cs : List ℕ) → Exact (word cs) (Bytes cs) Any
 unfolding word
-word-exact [] = reworded (λ u t. (λ h. h .1, λ h. (refl, h))) (pure-exact tt)
-word-exact (c ∷ cs) = reworded same (then (byte-exact (eqb c) c (eq-eqb c c refl)) (word-exact cs))
+word_exact [] = reworded (λ u t. (λ h. h.1, λ h. (refl, h))) (pure_exact tt)
+word_exact (c ∷ cs) = reworded same (then (byte_exact (eqb c) c (eq-eqb c c refl)) (word_exact cs))
   where
     same : (u : Unit {0}) (t : List ℕ) → Then (Byte (eqb c)) (λ b. Bytes cs) u t ↔ (t ≡ c ∷ cs)
     same u t = (
       λ h.
-          let e : c ≡ h .value = eqb-true c (h .value) (h .first .0) in rw e (glued (h .joined) (h .first .1) (h .second)),
+          let e : c ≡ h.value = eqb-true c h.value h.first.0 in rw e (glued h.joined h.first.1 h.second),
       λ h. record { value = c; front = c ∷ []; back = cs; first = (eq-eqb c c refl, refl); second = refl; joined = h },
     )
 
 -- The end of the text, and the value a.
 module _ {A : Type 0} (a : A) where
   end-got : (end >> pure a) [] ≡ got a []
-  unfolding end _>>_ pure
+  unfolding end ◌>>◌ pure
   end-got = refl
 
   end-stuck : (b : ℕ) (t : List ℕ) → (end >> pure a) (b ∷ t) ≡ stuck (b ∷ t)
-  unfolding end _>>_
+  unfolding end ◌>>◌
   end-stuck b t = refl
 
   end-taken : (text : List ℕ) (b : A) (rest : List ℕ) → (end >> pure a) text ≡ got b rest → Taken (Only a) AtEnd b text rest
@@ -83,8 +83,8 @@ module _ {A : Type 0} (a : A) where
   end-stopped [] rest e = absurd (stuck≢got (sym e ∙ end-got))
   end-stopped (d ∷ t) rest e = let all : d ∷ t ≡ rest = cc (end-stuck d t) in stopped-at-once all a [] (refl, refl) (λ b old new f. end-stuck b new)
 
-  pub end-exact : Exact (end >> pure a) (Only a) AtEnd
-  end-exact = record { takes = λ b t rest h k. rw (h .0, h .1, k) end-got; taken = end-taken; stopped = end-stopped }
+  pub end_exact : Exact (end >> pure a) (Only a) AtEnd
+  end_exact = record { takes = λ b t rest h k. rw (h.0, h.1, k) end-got; taken = end-taken; stopped = end-stopped }
 
 -- ---- what a writer writes
 
@@ -94,31 +94,31 @@ module _ {A : Type 0} where
   Of Good write a t = Good a × (t ≡ write a)
 
 module _ {A : Type 0} (Good : A → Type 0) (write : A → List ℕ) where
-  times-zero : (xs : List A) (t : List ℕ) → Only [] xs t ↔ Of (Count Good 0) (flatMap write) xs t
-  unfolding flatMap
-  times-zero [] t = (λ h. ((refl, tt), h .1), λ h. (refl, h .1))
-  times-zero (x ∷ xs) t = (λ h. absurd (cons≢nil (h .0)), λ h. absurd (omega arith))
+  times_zero : (xs : List A) (t : List ℕ) → Only [] xs t ↔ Of (Count Good 0) (flat_map write) xs t
+  unfolding flat_map
+  times_zero [] t = (λ h. ((refl, tt), h.1), λ h. (refl, h.1))
+  times_zero (x ∷ xs) t = (λ h. absurd (cons≢nil h.0), λ h. absurd (omega arith))
 
   abbrev Further : ℕ → List A → List ℕ → Type 0
-  Further k = Then (Of Good write) (λ y. Then (Of (Count Good k) (flatMap write)) (λ ys. Only (y ∷ ys)))
+  Further k = Then (Of Good write) (λ y. Then (Of (Count Good k) (flat_map write)) (λ ys. Only (y ∷ ys)))
 
-  times-suc : (k : ℕ) (xs : List A) (t : List ℕ) → Further k xs t ↔ Of (Count Good (suc k)) (flatMap write) xs t
-  unfolding flatMap
+  times-suc : (k : ℕ) (xs : List A) (t : List ℕ) → Further k xs t ↔ Of (Count Good (suc k)) (flat_map write) xs t
+  unfolding flat_map
   times-suc k xs t = (there, back xs)
     where
-      there : Further k xs t → Of (Count Good (suc k)) (flatMap write) xs t
-      there h = let n : suc (length (h .second .value)) ≡ suc k = ap suc (h .second .first .0 .0) in
-          rw (h .second .second .0) (
-            (n, (h .first .0, h .second .first .0 .1)),
-            glued (h .joined) (h .first .1) (glued (h .second .joined) (h .second .first .1) (h .second .second .1) ∙ append-nil _),
+      there : Further k xs t → Of (Count Good (suc k)) (flat_map write) xs t
+      there h = let n : suc (length h.second.value) ≡ suc k = ap suc h.second.first.0.0 in
+          rw h.second.second.0 (
+            (n, (h.first.0, h.second.first.0.1)),
+            glued h.joined h.first.1 (glued h.second.joined h.second.first.1 h.second.second.1 ∙ append-nil _),
           )
 
-      back : (zs : List A) → Of (Count Good (suc k)) (flatMap write) zs t → Further k zs t
+      back : (zs : List A) → Of (Count Good (suc k)) (flat_map write) zs t → Further k zs t
       back [] h = absurd (omega arith)
-      back (y ∷ ys) h = rw (h .1) (joining y (write y) (flatMap write ys) (h .0 .1 .0, refl)
-          (nothing-after ys (flatMap write ys) ((omega arith, h .0 .1 .1), refl) (refl, refl)))
+      back (y ∷ ys) h = rw h.1 (joining y (write y) (flat_map write ys) (h.0.1.0, refl)
+          (nothing-after ys (flat_map write ys) ((omega arith, h.0.1.1), refl) (refl, refl)))
 
-  pub times-exact : {r : Reader A} → Exact r (Of Good write) Any → (k : ℕ) → Exact (times k r) (Of (Count Good k) (flatMap write)) Any
+  pub times_exact : {r : Reader A} → Exact r (Of Good write) Any → (k : ℕ) → Exact (times k r) (Of (Count Good k) (flat_map write)) Any
   unfolding times
-  times-exact x zero = reworded times-zero (pure-exact [])
-  times-exact x (suc k) = reworded (times-suc k) (bind x (λ y. bind (times-exact x k) (λ ys. pure-exact (y ∷ ys))))
+  times_exact x zero = reworded times_zero (pure_exact [])
+  times_exact x (suc k) = reworded (times-suc k) (bind x (λ y. bind (times_exact x k) (λ ys. pure_exact (y ∷ ys))))

@@ -1,30 +1,23 @@
 // Lists of numbers: lines, and sections with their head lines.
-ghost use mathlib.Core.Path.{_≡_};
-ghost use Prim.Native.Nat.{_*_, _≤_};
-ghost use lib.ListN.{length, take, drop};
-ghost use Rattle·transport.specs.Limits.{maxSources, maxSinks};
-ghost use Rattle·transport.specs.SheetText.{number, whole};
-ghost use Rattle·tokens.specs.Reading.{readingOf, placeOf, valueIs, valueSide};
-ghost use Rattle·line_reader·specs.specs.LinesRead.{readLines};
-ghost use Rattle·line_reader·specs.specs.SheetRead.{listReader, costReader};
-use number_reader::read_end;
-use number_reader::read_number;
-use number_reader::read_side;
-use sections::lines;
-use sections::section;
-use tokens::Taken;
-use tokens::TakenWhole;
+ghost use Rattle.std.specs.Prelude.{◌≡◌, ◌*◌, ◌≤◌, length, take, drop};
+ghost use Rattle.transport.specs.Limits.{max_sources, max_sinks};
+ghost use Rattle.transport.specs.SheetText.{number, whole};
+ghost use Rattle.tokens.specs.Reading.{reading_of, place_of, ValueIs, ValueSide};
+ghost use Rattle.line_reader.specs.LinesRead.{read_lines_of};
+ghost use Rattle.line_reader.specs.SheetRead.{list_reader, cost_reader};
+
+use number_reader::{read_end, read_number, read_side};
+use sections::{lines, section};
 use tokens::bytes::read_word;
+use tokens::{Taken, TakenWhole};
 use whole_reader::read_whole;
 
 // So many numbers, in lines of `width`, into the front of the list.
 fn read_lines(text: &[u8], at: usize, width: usize, count: usize, list: &mut [u64]) -> Taken
-    requires { ⌜ (at ≤ length (now text)) × (1 ≤ width) × (count ≤ length (now list)) ⌝ }
-    ensures { λ r. ⌜
-        (readLines number width width count (drop at (now (text .entry))) ≡ readingOf (now (text .entry)) (λ v. take v (now (list .exit))) r)
-        × (placeOf r ≤ length (now (text .entry)))
-        × (valueIs count r)
-        ⌝ }
+    requires { (at ≤ length text.now) × (1 ≤ width) × (count ≤ length list.old) }
+    ensures { (read_lines_of number width width count (drop at text.now) ≡ reading_of text.now (λ v. take v list.new) result)
+        × (place_of result ≤ length text.now)
+        × (ValueIs count result) }
 {
     let mut next = at;
     let mut left = width;
@@ -47,12 +40,10 @@ fn read_lines(text: &[u8], at: usize, width: usize, count: usize, list: &mut [u6
 
 // The same with whole numbers.
 fn read_whole_lines(text: &[u8], at: usize, width: usize, count: usize, list: &mut [i64]) -> Taken
-    requires { ⌜ (at ≤ length (now text)) × (1 ≤ width) × (count ≤ length (now list)) ⌝ }
-    ensures { λ r. ⌜
-        (readLines whole width width count (drop at (now (text .entry))) ≡ readingOf (now (text .entry)) (λ v. take v (now (list .exit))) r)
-        × (placeOf r ≤ length (now (text .entry)))
-        × (valueIs count r)
-        ⌝ }
+    requires { (at ≤ length text.now) × (1 ≤ width) × (count ≤ length list.old) }
+    ensures { (read_lines_of whole width width count (drop at text.now) ≡ reading_of text.now (λ v. take v list.new) result)
+        × (place_of result ≤ length text.now)
+        × (ValueIs count result) }
 {
     let mut next = at;
     let mut left = width;
@@ -77,12 +68,10 @@ fn read_whole_lines(text: &[u8], at: usize, width: usize, count: usize, list: &m
 
 // A section of one list: its name, with the space after it, its count, at most `most`, and so many lines of one number. The value is the count.
 pub fn read_list(text: &[u8], at: usize, name: &[u8], most: u64, list: &mut [u64]) -> Taken
-    requires { ⌜ (at ≤ length (now text)) × (9 ≤ most) × (most ≤ length (now list)) ⌝ }
-    ensures { λ r. ⌜
-        (listReader (now (name .entry)) most (drop at (now (text .entry))) ≡ readingOf (now (text .entry)) (λ v. take v (now (list .exit))) r)
-        × (placeOf r ≤ length (now (text .entry)))
-        × (valueSide most r)
-        ⌝ }
+    requires { (at ≤ length text.now) × (9 ≤ most) × (most ≤ length list.old) }
+    ensures { (list_reader name.now most (drop at text.now) ≡ reading_of text.now (λ v. take v list.new) result)
+        × (place_of result ≤ length text.now)
+        × (ValueSide most result) }
 {
     let head = read_word(text, at, name);
     let Taken::Got { value: _, next } = head else {
@@ -97,12 +86,10 @@ pub fn read_list(text: &[u8], at: usize, name: &[u8], most: u64, list: &mut [u64
 
 // The section of the costs: its head line with the count of sources, and as many lines of as many numbers as there are sinks.
 pub fn read_costs(text: &[u8], at: usize, m: usize, n: usize, list: &mut [i64]) -> Taken
-    requires { ⌜ (at ≤ length (now text)) × (m ≤ maxSources) × (1 ≤ n) × (n ≤ maxSinks) × (m * n ≤ length (now list)) ⌝ }
-    ensures { λ r. ⌜
-        (costReader m n (drop at (now (text .entry))) ≡ readingOf (now (text .entry)) (λ v. take v (now (list .exit))) r)
-        × (placeOf r ≤ length (now (text .entry)))
-        × (valueIs (m * n) r)
-        ⌝ }
+    requires { (at ≤ length text.now) × (m ≤ max_sources) × (1 ≤ n) × (n ≤ max_sinks) × (m * n ≤ length list.old) }
+    ensures { (cost_reader m n (drop at text.now) ≡ reading_of text.now (λ v. take v list.new) result)
+        × (place_of result ≤ length text.now)
+        × (ValueIs (m * n) result) }
 {
     let mut line = [0u8; 8];
     let len = section::write_head(b"cost ", m, &mut line);

@@ -1,66 +1,66 @@
 -- The front of a call that takes a tableau: what its tests refuse, and what rounds begin with if they refuse nothing.
-use Rattle·prelude.specs.Words.{_≡_, refl, sym, _∙_, true, false, not, List, [], _∷_, none, some, ℕ, eqb, ℤ, length}
-use Rattle·prelude.specs.Words.{take}
-use Rattle·transport.specs.Problem.{sources, sinks}
-use Rattle·transport.specs.Sheet.{Sheet, sheetOf, cafes, sheetTests, refusal}
-use Rattle·transport.specs.Extended.{surplus, wanted, extended}
-use Rattle·transport.specs.Parties.{rowsLeft, columnsLeft, struck, problemOf}
-use Rattle·transport.specs.Tableau.{cellsOf, basisSize}
-use Rattle·transport.specs.Belonging.{cellsBelong, belongs}
-use Rattle·transport.specs.OwnNumbers.{belongsTo}
-use Rattle·transport.specs.Potential.{isFinished}
-use Rattle·transport.specs.Calls.{tableauTests, inside, finishedTests}
-use Rattle·transport.specs.Statements.{Accepted}
-use Rattle·transport.specs.Laws.ListLaws.{and-right}
-use Rattle·transport.specs.Laws.SheetLaws.{refusal-yes, refusal-pass, refusal-stands, passes}
-use Rattle·transport.specs.Laws.CallLaws.{refusal-last}
-use Rattle·transport.specs.Laws.PartiesLaws.{struck-sources, struck-sinks}
-use Rattle·transport.specs.Laws.Sound.{sound}
-use Rattle·transport.specs.declared.Cell.{Cell}
-use Rattle·transport.specs.declared.Tableau.{Tableau}
-use Rattle·parties.specs.declared.Parties.{Parties}
-use Rattle·tableaux.specs.Belonging.{belongs-amounts}
-use Rattle·parties.specs.Parties.{PartiesOf, supplies-lent, demands-lent, parties-amounts}
-use Rattle·board.specs.Arrays.{Loaded}
-use Rattle·cost_grid.specs.Costs.{Spread, spread-costed}
-use Rattle·rounds.specs.Begun.{Begun}
+use Rattle.prelude.specs.Words.{◌≡◌, refl, sym, ◌∙◌, true, false, not, List, [], ◌∷◌, none, some, ℕ, eqb, ℤ, length}
+use Rattle.prelude.specs.Words.{take}
+use Rattle.transport.specs.Problem.{sources, sinks}
+use Rattle.transport.specs.Sheet.{Sheet, sheet_of, cafes, sheet_tests, refusal}
+use Rattle.transport.specs.Extended.{surplus, wanted, extended}
+use Rattle.transport.specs.Parties.{rows_left_of, columns_left, struck, problem_of}
+use Rattle.transport.specs.Tableau.{cells_of, basis_size}
+use Rattle.transport.specs.Belonging.{cells_belong, belongs}
+use Rattle.transport.specs.OwnNumbers.{belongs_to}
+use Rattle.transport.specs.Potential.{is_finished_of}
+use Rattle.transport.specs.Calls.{tableau_tests, inside, finished_tests}
+use Rattle.transport.specs.Statements.{Accepted}
+use Rattle.transport.specs.Laws.ListLaws.{and_right}
+use Rattle.transport.specs.Laws.SheetLaws.{refusal_yes, refusal-pass, refusal-stands, passes}
+use Rattle.transport.specs.Laws.CallLaws.{refusal-last}
+use Rattle.transport.specs.Laws.PartiesLaws.{struck-sources, struck-sinks}
+use Rattle.transport.specs.Laws.Sound.{sound}
+use Rattle.transport.specs.declared.Cell.{Cell}
+use Rattle.transport.specs.declared.Tableau.{Tableau}
+use Rattle.parties.specs.declared.Parties.{Parties}
+use Rattle.tableaux.specs.Belonging.{belongs-amounts}
+use Rattle.parties.specs.Parties.{PartiesOf, supplies-lent, demands-lent, parties-amounts}
+use Rattle.board.specs.Arrays.{Loaded}
+use Rattle.cost_grid.specs.Costs.{Spread, spread_costed}
+use Rattle.rounds.specs.Begun.{Begun}
 
 -- ---- what the tests refuse
 
 module _ (S : Sheet) (t : Tableau) where
   -- The sheet, ..
-  pub sheet-refused : (k : ℕ) → refusal (sheetTests S) ≡ some k → refusal (tableauTests S t) ≡ some k
-  unfolding tableauTests
-  sheet-refused k e = refusal-stands (sheetTests S) ((not (belongsTo (extended S) t), 6) ∷ []) k e
+  pub sheet-refused : (k : ℕ) → refusal (sheet_tests S) ≡ some k → refusal (tableau_tests S t) ≡ some k
+  unfolding tableau_tests
+  sheet-refused k e = refusal-stands (sheet_tests S) ((not (belongs_to (extended S) t), 6) ∷ []) k e
 
   -- .. the tableau of an accepted one, ..
-  pub tableau-refused : Accepted S → belongsTo (extended S) t ≡ false → refusal (tableauTests S t) ≡ some 6
-  unfolding tableauTests
+  pub tableau-refused : Accepted S → belongs_to (extended S) t ≡ false → refusal (tableau_tests S t) ≡ some 6
+  unfolding tableau_tests
   tableau-refused ok b =
-      refusal-pass (sheetTests S) ((not (belongsTo (extended S) t), 6) ∷ []) (passes ok)
-      ∙ refusal-yes (not (belongsTo (extended S) t), 6) [] (rw b)
+      refusal-pass (sheet_tests S) ((not (belongs_to (extended S) t), 6) ∷ []) (passes ok)
+      ∙ refusal_yes (not (belongs_to (extended S) t), 6) [] (rw b)
 
   -- .. or neither.
-  pub none-refused : Accepted S → belongsTo (extended S) t ≡ true → refusal (tableauTests S t) ≡ none
-  unfolding tableauTests
-  none-refused ok b = refusal-last (sheetTests S) (not (belongsTo (extended S) t), 6) .1 (passes ok, rw b)
+  pub none-refused : Accepted S → belongs_to (extended S) t ≡ true → refusal (tableau_tests S t) ≡ none
+  unfolding tableau_tests
+  none-refused ok b = (refusal-last (sheet_tests S) (not (belongs_to (extended S) t), 6)).1 (passes ok, rw b)
 
   -- If the tableau is to be finished as well, what refuses sheet or tableau comes first ..
-  pub early-refused : (k : ℕ) → refusal (tableauTests S t) ≡ some k → refusal (finishedTests S t) ≡ some k
-  unfolding finishedTests
-  early-refused k e = refusal-stands (tableauTests S t) _ k e
+  pub early_refused : (k : ℕ) → refusal (tableau_tests S t) ≡ some k → refusal (finished_tests S t) ≡ some k
+  unfolding finished_tests
+  early_refused k e = refusal-stands (tableau_tests S t) _ k e
 
-  module _ (e : refusal (tableauTests S t) ≡ none) where
+  module _ (e : refusal (tableau_tests S t) ≡ none) where
     -- .. then 7 ..
-    pub unfinished-refused : isFinished (problemOf S) (inside S t) ≡ false → refusal (finishedTests S t) ≡ some 7
-    unfolding finishedTests
+    pub unfinished-refused : is_finished_of (problem_of S) (inside S t) ≡ false → refusal (finished_tests S t) ≡ some 7
+    unfolding finished_tests
     unfinished-refused f =
-        refusal-pass (tableauTests S t) _ e ∙ refusal-yes (not (isFinished (problemOf S) (inside S t)), 7) [] (rw f)
+        refusal-pass (tableau_tests S t) _ e ∙ refusal_yes (not (is_finished_of (problem_of S) (inside S t)), 7) [] (rw f)
 
     -- .. or nothing is refused.
-    pub finished-passes : isFinished (problemOf S) (inside S t) ≡ true → refusal (finishedTests S t) ≡ none
-    unfolding finishedTests
-    finished-passes f = refusal-last (tableauTests S t) _ .1 (e, rw f)
+    pub finished-passes : is_finished_of (problem_of S) (inside S t) ≡ true → refusal (finished_tests S t) ≡ none
+    unfolding finished_tests
+    finished-passes f = (refusal-last (tableau_tests S t) _).1 (e, rw f)
 
 -- ---- what is loaded
 
@@ -72,53 +72,53 @@ pub record Admitted (S : Sheet) (T : List Cell) (p : Parties) (rows cols : List 
   pub supplies : List ℕ
   pub demands : List ℕ
   pub parties : PartiesOf S p supplies demands rows cols
-  pub spread : Spread (S .cost) (cafes S) (take (p .rows) rows) (take (p .cafes) cols) cost
-  pub begun : Begun (problemOf S) T q e cost leaf other tree (p .rows) (p .columns)
+  pub spread : Spread S.cost (cafes S) (take p.rows rows) (take p.cafes cols) cost
+  pub begun : Begun (problem_of S) T q e cost leaf other tree p.rows p.columns
 
 module _ {S : Sheet} (ok : Accepted S) {p : Parties} {supplies demands rows cols : List ℕ} (h : PartiesOf S p supplies demands rows cols) where
   -- The tableau t, which is `inner` among those left, belongs, and the costs of their lanes are spread.
   pub begun-loaded : (t inner : Tableau) {q e cost : List ℤ} {leaf other tree : List ℕ}
-      → Spread (S .cost) (cafes S) (take (p .rows) rows) (take (p .cafes) cols) cost
-      → belongs (problemOf S) inner ≡ true → cellsOf inner ≡ inside S t
-      → Loaded (length (take (p .rows) supplies)) (length (take (p .columns) demands)) (cellsOf inner) q e leaf other tree
-      → Begun (problemOf S) (inside S t) q e cost leaf other tree (p .rows) (p .columns)
-  unfolding belongs problemOf
+      → Spread S.cost (cafes S) (take p.rows rows) (take p.cafes cols) cost
+      → belongs (problem_of S) inner ≡ true → cells_of inner ≡ inside S t
+      → Loaded (length (take p.rows supplies)) (length (take p.columns demands)) (cells_of inner) q e leaf other tree
+      → Begun (problem_of S) (inside S t) q e cost leaf other tree p.rows p.columns
+  unfolding belongs problem_of
   begun-loaded t inner spread own same l =
-      let count = eqb (inner .count) (basisSize (sources (problemOf S)) (sinks (problemOf S))) in
+      let count = eqb inner.count (basis_size (sources (problem_of S)) (sinks (problem_of S))) in
       record {
         sound = sound ok;
-        rows = h .rowCount ∙ sym (struck-sources (extended S));
-        columns = h .columnCount ∙ sym (struck-sinks (extended S));
-        belongs = rw (← same) (and-right count (cellsBelong (problemOf S) (cellsOf inner)) own);
-        costs = spread-costed ok (rw (h .rowNumbers, h .cafeNumbers) at spread);
+        rows = h.row_count_of ∙ sym (struck-sources (extended S));
+        columns = h.column_count_of ∙ sym (struck-sinks (extended S));
+        belongs = rw (← same) (and_right count (cells_belong (problem_of S) (cells_of inner)) own);
+        costs = spread_costed ok (rw (h.row_numbers, h.cafe_numbers) at spread);
         loaded = rw (supplies-lent h, demands-lent h, ← same) l;
       }
 
 -- With other costs rounds begin with the same tableau, once these costs are spread: belonging looks
 -- at amounts alone.
-pub admitted-respread : {supply demand : List ℕ} {old new : List ℤ} → Accepted (sheetOf supply demand new)
-    → {T : List Cell} {p : Parties} {rows cols : List ℕ} {q e cost cost′ : List ℤ} {leaf other tree : List ℕ}
-    → Admitted (sheetOf supply demand old) T p rows cols q e cost leaf other tree
-    → Spread new (length demand) (take (p .rows) rows) (take (p .cafes) cols) cost′
-    → Admitted (sheetOf supply demand new) T p rows cols q e cost′ leaf other tree
-unfolding cafes problemOf struck extended wanted surplus rowsLeft columnsLeft sources sinks
-admitted-respread {supply} {demand} {old} {new} ok {T} w spread =
-    let S : Sheet = sheetOf supply demand old in
-    let S′ : Sheet = sheetOf supply demand new in
-    let b = w .begun in
-    let parties = parties-amounts (w .parties) in
+pub admitted_respread : {supply demand : List ℕ} {old new : List ℤ} → Accepted (sheet_of supply demand new)
+    → {T : List Cell} {p : Parties} {rows cols : List ℕ} {q e cost cost' : List ℤ} {leaf other tree : List ℕ}
+    → Admitted (sheet_of supply demand old) T p rows cols q e cost leaf other tree
+    → Spread new (length demand) (take p.rows rows) (take p.cafes cols) cost'
+    → Admitted (sheet_of supply demand new) T p rows cols q e cost' leaf other tree
+unfolding cafes problem_of struck extended wanted surplus rows_left_of columns_left sources sinks
+admitted_respread {supply} {demand} {old} {new} ok {T} w spread =
+    let S : Sheet = sheet_of supply demand old in
+    let S' : Sheet = sheet_of supply demand new in
+    let b = w.begun in
+    let parties = parties-amounts w.parties in
     record {
       accepted = ok;
-      supplies = w .supplies;
-      demands = w .demands;
+      supplies = w.supplies;
+      demands = w.demands;
       parties = parties;
       spread = spread;
       begun = record {
         sound = sound ok;
-        rows = b .rows;
-        columns = b .columns;
-        belongs = belongs-amounts (problemOf S′) (problemOf S) T refl refl ∙ b .belongs;
-        costs = spread-costed ok (rw (parties .rowNumbers, parties .cafeNumbers) at spread);
-        loaded = b .loaded;
+        rows = b.rows;
+        columns = b.columns;
+        belongs = belongs-amounts (problem_of S') (problem_of S) T refl refl ∙ b.belongs;
+        costs = spread_costed ok (rw (parties.row_numbers, parties.cafe_numbers) at spread);
+        loaded = b.loaded;
       };
     }

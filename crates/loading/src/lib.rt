@@ -1,29 +1,26 @@
 // The front of a call that takes a tableau: the sheet check, then 6 if the tableau does not belong to the sheet; and if nothing is refused, the tableau laid
 // out for rounds.
+ghost use Rattle.std.specs.Prelude.{◌≡◌, length};
+ghost use Rattle.std.proofs.Math.Option.{none};
+ghost use Rattle.transport.specs.Sheet.{sheet_of, refusal};
+ghost use Rattle.transport.specs.Calls.{tableau_tests, inside, finished_tests};
+ghost use Rattle.transport.specs.Statements.{Accepted};
+ghost use Rattle.sheet.specs.Check.{check_answer};
+ghost use Rattle.tree.specs.Layout.{node_room};
+ghost use Rattle.board.specs.Held.{Empty};
+ghost use Rattle.loading.specs.Loading.{Admitted};
+
 use belonging::load;
 use cost_grid::spread_costs;
 use numbering::renumber;
-use parties::Parties;
-use parties::number_parties;
+use parties::{Parties, number_parties};
 use rounds::round::test_finished;
 use sheet::SheetCheck;
-use transport::MAX_SIDE;
-use transport::Tableau;
-use tree::LANES;
-use tree::NODES;
-use tree::Price;
-ghost use mathlib.Core.Path.{_≡_};
-ghost use mathlib.Core.Option.{none};
-ghost use lib.ListN.{length};
-ghost use Rattle·transport.specs.Sheet.{sheetOf, refusal};
-ghost use Rattle·transport.specs.Calls.{tableauTests, inside, finishedTests};
-ghost use Rattle·transport.specs.Statements.{Accepted};
-ghost use Rattle·sheet.specs.Check.{checkAnswer};
-ghost use Rattle·tree.specs.Layout.{nodeRoom};
-ghost use Rattle·board.specs.Held.{Empty};
-ghost use Rattle·loading·specs.specs.Loading.{Admitted};
+use transport::{MAX_SIDE, Tableau};
+use tree::{LANES, NODES, Price};
 
 // What the tests say of sheet and tableau; if they refuse nothing, the parties of the sheet's tableaux, with the own numbers of rows and columns.
+#[derive(Drop)]
 pub struct Loading {
     pub check: SheetCheck,
     pub parties: Parties,
@@ -44,23 +41,17 @@ fn load_tableau(
     other: &mut [usize; NODES],
     lane: &mut [usize; NODES],
 ) -> Loading
-    requires { ⌜ Accepted (sheetOf (now supply) (now demand) (now cost)) ⌝ }
-    requires { ⌜
-        (length (now leaf) ≡ nodeRoom)
-        × (length (now other) ≡ nodeRoom)
-        × (length (now lane) ≡ nodeRoom)
-        × Empty (now q) (now e)
-        ⌝ }
-    ensures { λ r.
-        let S = sheetOf (now (supply .entry)) (now (demand .entry)) (now (cost .entry)) in
-        ⌜ r .check ≡ checkAnswer (refusal (tableauTests S t)) ⌝ }
-    ensures { λ r.
-        let S = sheetOf (now (supply .entry)) (now (demand .entry)) (now (cost .entry)) in
-        ⌜
-        (refusal (tableauTests S t) ≡ none
-        → Admitted S (inside S t) (r .parties) (r .rows) (r .cols) (now (q .exit)) (now (e .exit)) (now (spread .exit))
-        (now (leaf .exit)) (now (other .exit)) (now (lane .exit)))
-        ⌝ }
+    requires accepted { Accepted (sheet_of supply.now demand.now cost.now) }
+    requires leaf_len { (length leaf.old ≡ node_room)
+        × (length other.old ≡ node_room)
+        × (length lane.old ≡ node_room)
+        × Empty q.old e.old }
+    ensures check_value { let S = sheet_of supply.now demand.now cost.now in
+        result.check ≡ check_answer (refusal (tableau_tests S t)) }
+    ensures fact { let S = sheet_of supply.now demand.now cost.now in
+        (refusal (tableau_tests S t) ≡ none
+        → Admitted S (inside S t) result.parties result.rows result.cols q.new e.new spread.new
+        leaf.new other.new lane.new) }
 {
     let mut supplies = [0u64; MAX_SIDE];
     let mut demands = [0u64; MAX_SIDE];
@@ -108,22 +99,16 @@ pub fn load_sheet(
     other: &mut [usize; NODES],
     lane: &mut [usize; NODES],
 ) -> Loading
-    requires { ⌜
-        (length (now leaf) ≡ nodeRoom)
-        × (length (now other) ≡ nodeRoom)
-        × (length (now lane) ≡ nodeRoom)
-        × Empty (now q) (now e)
-        ⌝ }
-    ensures { λ r.
-        let S = sheetOf (now (supply .entry)) (now (demand .entry)) (now (cost .entry)) in
-        ⌜ r .check ≡ checkAnswer (refusal (tableauTests S t)) ⌝ }
-    ensures { λ r.
-        let S = sheetOf (now (supply .entry)) (now (demand .entry)) (now (cost .entry)) in
-        ⌜
-        (refusal (tableauTests S t) ≡ none
-        → Admitted S (inside S t) (r .parties) (r .rows) (r .cols) (now (q .exit)) (now (e .exit)) (now (spread .exit))
-        (now (leaf .exit)) (now (other .exit)) (now (lane .exit)))
-        ⌝ }
+    requires { (length leaf.old ≡ node_room)
+        × (length other.old ≡ node_room)
+        × (length lane.old ≡ node_room)
+        × Empty q.old e.old }
+    ensures check_value { let S = sheet_of supply.now demand.now cost.now in
+        result.check ≡ check_answer (refusal (tableau_tests S t)) }
+    ensures fact { let S = sheet_of supply.now demand.now cost.now in
+        (refusal (tableau_tests S t) ≡ none
+        → Admitted S (inside S t) result.parties result.rows result.cols q.new e.new spread.new
+        leaf.new other.new lane.new) }
 {
     let check = sheet::check_sheet(supply, demand, cost);
     if let SheetCheck::Refused(number) = check {
@@ -154,22 +139,16 @@ pub fn load_finished(
     other: &mut [usize; NODES],
     lane: &mut [usize; NODES],
 ) -> Loading
-    requires { ⌜
-        (length (now leaf) ≡ nodeRoom)
-        × (length (now other) ≡ nodeRoom)
-        × (length (now lane) ≡ nodeRoom)
-        × Empty (now q) (now e)
-        ⌝ }
-    ensures { λ r.
-        let S = sheetOf (now (supply .entry)) (now (demand .entry)) (now (cost .entry)) in
-        ⌜ r .check ≡ checkAnswer (refusal (finishedTests S t)) ⌝ }
-    ensures { λ r.
-        let S = sheetOf (now (supply .entry)) (now (demand .entry)) (now (cost .entry)) in
-        ⌜
-        (refusal (finishedTests S t) ≡ none
-        → Admitted S (inside S t) (r .parties) (r .rows) (r .cols) (now (q .exit)) (now (e .exit)) (now (spread .exit))
-        (now (leaf .exit)) (now (other .exit)) (now (lane .exit)))
-        ⌝ }
+    requires { (length leaf.old ≡ node_room)
+        × (length other.old ≡ node_room)
+        × (length lane.old ≡ node_room)
+        × Empty q.old e.old }
+    ensures check_value { let S = sheet_of supply.now demand.now cost.now in
+        result.check ≡ check_answer (refusal (finished_tests S t)) }
+    ensures fact { let S = sheet_of supply.now demand.now cost.now in
+        (refusal (finished_tests S t) ≡ none
+        → Admitted S (inside S t) result.parties result.rows result.cols q.new e.new spread.new
+        leaf.new other.new lane.new) }
 {
     let loading = load_sheet(supply, demand, cost, t, q, e, spread, leaf, other, lane);
     let check = loading.check;

@@ -1,24 +1,20 @@
 // Numbers, and the bytes that end them.
-ghost use mathlib.Core.Path.{_≡_};
-ghost use Prim.Native.Nat.{_-_, _≤_, _<_};
-ghost use lib.ListN.{length, drop};
-ghost use Rattle·transport.specs.SheetText.{moreDigits, numberFrom, side};
-ghost use Rattle·sections.specs.Lines.{ending};
-ghost use Rattle·tokens.specs.Reading.{readingOf, placeOf, always, endReading};
+ghost use Rattle.std.specs.Prelude.{◌≡◌, ◌-◌, ◌≤◌, ◌<◌, length, drop};
+ghost use Rattle.transport.specs.SheetText.{more_digits_of, number_from, side};
+ghost use Rattle.sections.specs.Lines.{ending};
+ghost use Rattle.tokens.specs.Reading.{reading_of, place_of, always, end_reading};
+
 use tokens::Taken;
-use tokens::bytes::digit_at;
-use tokens::bytes::end_at;
+use tokens::bytes::{digit_at, end_at};
 
 // The most digits that a number of a sheet text has.
 const MAX_DIGITS: usize = 7;
 
 // The other digits of a number that begins with the digit `first` and has at most `most` digits.
 fn more_digits(text: &[u8], at: usize, first: u64, most: usize) -> Taken
-    requires { ⌜ (at ≤ length (now text)) × (first < 10) × (1 ≤ most) × (most ≤ 19) ⌝ }
-    ensures { λ r. ⌜
-        (moreDigits always (most - 1) first (drop at (now (text .entry))) ≡ readingOf (now (text .entry)) (λ v. v) r)
-        × (placeOf r ≤ length (now (text .entry)))
-        ⌝ }
+    requires { (at ≤ length text.now) × (first < 10) × (1 ≤ most) × (most ≤ 19) }
+    ensures { (more_digits_of always (most - 1) first (drop at text.now) ≡ reading_of text.now (λ v. v) result)
+        × (place_of result ≤ length text.now) }
 {
     let mut value = first;
     let mut next = at;
@@ -36,11 +32,9 @@ fn more_digits(text: &[u8], at: usize, first: u64, most: usize) -> Taken
 
 // A number of one to seven digits, the first at least `low`, with no leading 0 except 0 itself.
 pub fn read_number(text: &[u8], at: usize, low: u64) -> Taken
-    requires { ⌜ at ≤ length (now text) ⌝ }
-    ensures { λ r. ⌜
-        (numberFrom low (drop at (now (text .entry))) ≡ readingOf (now (text .entry)) (λ v. v) r)
-        × (placeOf r ≤ length (now (text .entry)))
-        ⌝ }
+    requires { at ≤ length text.now }
+    ensures { (number_from low (drop at text.now) ≡ reading_of text.now (λ v. v) result)
+        × (place_of result ≤ length text.now) }
 {
     if !digit_at(text, at) {
         return Taken::Stuck(at);
@@ -58,11 +52,9 @@ pub fn read_number(text: &[u8], at: usize, low: u64) -> Taken
 
 // A count of sources or sinks: 1 to `most`, which has two digits or is 9.
 pub fn read_side(text: &[u8], at: usize, most: u64) -> Taken
-    requires { ⌜ (at ≤ length (now text)) × (9 ≤ most) ⌝ }
-    ensures { λ r. ⌜
-        (side most (drop at (now (text .entry))) ≡ readingOf (now (text .entry)) (λ v. v) r)
-        × (placeOf r ≤ length (now (text .entry)))
-        ⌝ }
+    requires { (at ≤ length text.now) × (9 ≤ most) }
+    ensures { (side most (drop at text.now) ≡ reading_of text.now (λ v. v) result)
+        × (place_of result ≤ length text.now) }
 {
     if !digit_at(text, at) {
         return Taken::Stuck(at);
@@ -87,11 +79,9 @@ pub fn read_side(text: &[u8], at: usize, most: u64) -> Taken
 
 // The end of a number that was read.
 pub fn read_end(text: &[u8], number: Taken, left: usize) -> Taken
-    requires { ⌜ placeOf number ≤ length (now text) ⌝ }
-    ensures { λ r. ⌜
-        (endReading (ending left) (readingOf (now (text .entry)) (λ v. v) number) ≡ readingOf (now (text .entry)) (λ v. v) r)
-        × (placeOf r ≤ length (now (text .entry)))
-        ⌝ }
+    requires { place_of number ≤ length text.now }
+    ensures { (end_reading (ending left) (reading_of text.now (λ v. v) number) ≡ reading_of text.now (λ v. v) result)
+        × (place_of result ≤ length text.now) }
 {
     let Taken::Got { value, next } = number else {
         return number;

@@ -1,18 +1,16 @@
 // The panel: reads a sheet text from standard input, and prints its plan text or why it is refused.
+ghost use Rattle.std.specs.Prelude.{◌≡◌, ◌≤◌, length};
+ghost use Rattle.transport.specs.Limits.{max_plan_text};
+ghost use Rattle.transport.specs.PlanText.{printed};
+ghost use Rattle.decimals.specs.Front.{front};
+ghost use Rattle.panel.specs.Input.{inside};
+
 use display::MAX_READ;
-use libc::STDERR_FILENO;
-use libc::STDIN_FILENO;
-use libc::STDOUT_FILENO;
+use libc::{STDERR_FILENO, STDIN_FILENO, STDOUT_FILENO};
 use transport::MAX_PLAN_TEXT;
-ghost use mathlib.Core.Path.{_≡_};
-ghost use Prim.Native.Nat.{_≤_};
-ghost use lib.ListN.{length};
-ghost use Rattle·transport.specs.Limits.{maxPlanText};
-ghost use Rattle·transport.specs.PlanText.{printed};
-ghost use Rattle·decimals.specs.Front.{front};
-ghost use Rattle·panel·specs.specs.Input.{inside};
 
 // What came of reading: the count of bytes at the front of the buffer, or an error.
+#[derive(Drop)]
 enum Input {
     Read(usize),
     Failed,
@@ -20,7 +18,7 @@ enum Input {
 
 // Reads standard input until it ends or the buffer is full, whatever the pieces in which it comes.
 fn read_input(buffer: &mut [u8]) -> Input
-    ensures { λ r. ⌜ inside r (length (now (buffer .exit))) ⌝ }
+    ensures { inside result (length buffer.new) }
 {
     let mut at: usize = 0;
     while at < buffer.len() {
@@ -38,10 +36,9 @@ fn read_input(buffer: &mut [u8]) -> Input
 
 // All that is printed for an input: the output has room for it, whatever the input.
 fn answer(input: &[u8], out: &mut [u8]) -> usize
-    requires { ⌜ maxPlanText ≤ length (now out) ⌝ }
-    ensures { λ r.
-        let text = printed (now (input .entry)) in
-        ⌜ (r ≡ length text) × (now (out .exit) ≡ front text (now (out .entry))) ⌝ }
+    requires { max_plan_text ≤ length out.old }
+    ensures { let text = printed input.now in
+        (result ≡ length text) × (out.new ≡ front text out.old) }
 {
     display::show(input, out)
 }

@@ -1,20 +1,17 @@
 // The parties of a sheet's tableaux: those left, which have an amount, numbered among themselves in their order, and where there is a surplus an extra café
 // after them, the last, that takes it.
-ghost use mathlib.Core.Path.{_≡_};
-ghost use mathlib.Core.Bool.{true};
-ghost use mathlib.Core.List.{List};
-ghost use Prim.Native.Nat.{_<_, _≤_};
-ghost use lib.IntN.{ℤ};
-ghost use lib.ListN.{length};
-ghost use Rattle·transport.specs.Limits.{maxSide};
-ghost use Rattle·transport.specs.Lists.{at};
-ghost use Rattle·transport.specs.Sheet.{sheetOf};
-ghost use Rattle·transport.specs.Statements.{Accepted};
-ghost use Rattle·parties·specs.specs.Parties.{Numbered, PartiesOf};
+ghost use Rattle.std.specs.Prelude.{◌≡◌, true, List, ◌<◌, ◌≤◌, ℤ, length};
+ghost use Rattle.transport.specs.Limits.{max_side};
+ghost use Rattle.transport.specs.Lists.{at};
+ghost use Rattle.transport.specs.Sheet.{sheet_of};
+ghost use Rattle.transport.specs.Statements.{Accepted};
+ghost use Rattle.parties.specs.Parties.{Numbered, PartiesOf};
+
 use sheet::total_of;
 use transport::MAX_SIDE;
 
 // How many parties there are: rows, columns, and of the columns the cafés, which come first.
+#[derive(Drop)]
 pub struct Parties {
     pub rows: usize,
     pub columns: usize,
@@ -23,8 +20,8 @@ pub struct Parties {
 
 // Writes the amounts of those left of one side, and their own numbers; gives how many they are.
 fn number_left(amounts: &[u64], left: &mut [u64; MAX_SIDE], own: &mut [usize; MAX_SIDE]) -> usize
-    requires { ⌜ length (now amounts) ≤ maxSide ⌝ }
-    ensures { λ r. ⌜ Numbered (now (amounts .entry)) r (now (left .exit)) (now (own .exit)) ⌝ }
+    requires { length amounts.now ≤ max_side }
+    ensures { Numbered amounts.now result left.new own.new }
 {
     // Cleared first: the length of a lent array is known to the prover only once the whole array is stored.
     *left = [0; MAX_SIDE];
@@ -45,8 +42,8 @@ fn number_left(amounts: &[u64], left: &mut [u64; MAX_SIDE], own: &mut [usize; MA
 
 // The own number of the k-th of those left. Where all are left it is k: a loop that is told so need not look, and copies what lies side by side.
 pub fn own_number(own: &[usize], all: bool, k: usize) -> usize
-    requires { ⌜ (k < length (now own)) × (all ≡ true → at (now own) k ≡ k) ⌝ }
-    ensures { λ r. ⌜ r ≡ at (now (own .entry)) k ⌝ }
+    requires { (k < length own.now) × (all ≡ true → at own.now k ≡ k) }
+    ensures { result ≡ at own.now k }
 {
     if all { k } else { own[k] }
 }
@@ -60,12 +57,10 @@ pub fn number_parties(
     rows: &mut [usize; MAX_SIDE],
     cols: &mut [usize; MAX_SIDE],
 ) -> Parties
-    requires { ⌜ ((cost : List ℤ) × Accepted (sheetOf (now supply) (now demand) cost)) ⌝ }
-    ensures { λ r. ⌜
-        ((cost : List ℤ)
-        → PartiesOf (sheetOf (now (supply .entry)) (now (demand .entry)) cost) r
-        (now (supplies .exit)) (now (demands .exit)) (now (rows .exit)) (now (cols .exit)))
-        ⌝ }
+    requires { (cost : List ℤ) × Accepted (sheet_of supply.now demand.now cost) }
+    ensures { (cost : List ℤ)
+        → PartiesOf (sheet_of supply.now demand.now cost) result
+        supplies.new demands.new rows.new cols.new }
 {
     let surplus = total_of(supply) - total_of(demand);
     let m = number_left(supply, supplies, rows);

@@ -1,20 +1,15 @@
 // The pivot of a round: a lane enters the basis, the step goes round the loop that it closes, and the lane that held the step leaves.
-use crate::step::carry;
-use crate::step::least_slot;
-use board::amount::pair_at;
-use board::amount::put_pair;
-use cuts::cut::loop_slots;
-use cuts::cut::regraft;
-use transport::MAX_SIDE;
-use transport::Pair;
-use tree::LANES;
-use tree::NODES;
-ghost use mathlib.Core.List.{List};
-ghost use Prim.Native.Nat.{ℕ};
-ghost use Rattle·transport.specs.Problem.{Problem};
-ghost use Rattle·transport.specs.declared.Cell.{Cell};
-ghost use Rattle·board.specs.Arrays.{Board};
-ghost use Rattle·pivoting·specs.specs.Pivoting.{Enters, Pivoted};
+ghost use Rattle.std.specs.Prelude.{List, ℕ};
+ghost use Rattle.transport.specs.Problem.{Problem};
+ghost use Rattle.transport.specs.declared.Cell.{Cell};
+ghost use Rattle.board.specs.Arrays.{Board};
+ghost use Rattle.pivoting.specs.Pivoting.{Enters, Pivoted};
+
+use crate::step::{carry, least_slot};
+use board::amount::{pair_at, put_pair};
+use cuts::cut::{loop_slots, regraft};
+use transport::{MAX_SIDE, Pair};
+use tree::{LANES, NODES};
 
 // The lane from `row` to `col`, which is not basic, enters. Gives the nodes whose price moves.
 pub fn pivot(
@@ -27,14 +22,10 @@ pub fn pivot(
     row: usize,
     col: usize,
 ) -> u64
-    requires { ⌜
-        ((P : Problem) × (T : List Cell) × (n : ℕ) × Board P T (now q) (now e) (now sub) (now path) (now lane) m n × Enters P T row col)
-        ⌝ }
-    ensures { λ r. ⌜
-        ((P : Problem) (T : List Cell) (n : ℕ)
-        → Board P T (now (q .entry)) (now (e .entry)) (now (sub .entry)) (now (path .entry)) (now (lane .entry)) m n → Enters P T row col
-        → Pivoted P T m n row col (now (q .exit)) (now (e .exit)) (now (sub .exit)) (now (path .exit)) (now (lane .exit)) r)
-        ⌝ }
+    requires { (P : Problem) × (T : List Cell) × (n : ℕ) × Board P T q.old e.old sub.old path.old lane.old m n × Enters P T row col }
+    ensures { (P : Problem) (T : List Cell) (n : ℕ)
+        → Board P T q.old e.old sub.old path.old lane.old m n → Enters P T row col
+        → Pivoted P T m n row col q.new e.new sub.new path.new lane.new result }
 {
     let sink = m + col;
     let into = row * MAX_SIDE + col;

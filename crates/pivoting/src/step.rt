@@ -1,18 +1,13 @@
 // The step round a loop: the slot whose lane holds it, and the amounts after it. The basic lanes stand in slots, and a loop is a mask of slots.
-use board::amount::pair_at;
-use board::amount::put_pair;
+ghost use Rattle.std.specs.Prelude.{◌≡◌, true, ℕ, ◌<◌, length, get_or};
+ghost use Rattle.transport.specs.Amount.{Fit};
+ghost use Rattle.tree.specs.Mask.{has};
+ghost use Rattle.tree.specs.Layout.{lane_room};
+ghost use Rattle.board.specs.Slots.{pair_at, Slotted, LeastSlot, Added};
+
+use board::amount::{pair_at, put_pair};
 use transport::Pair;
-use tree::LANES;
-use tree::NODES;
-use tree::mask;
-ghost use mathlib.Core.Path.{_≡_};
-ghost use mathlib.Core.Bool.{true};
-ghost use Prim.Native.Nat.{ℕ, _<_};
-ghost use lib.ListN.{length, getD};
-ghost use Rattle·transport.specs.Amount.{Fit};
-ghost use Rattle·tree.specs.Mask.{has};
-ghost use Rattle·tree.specs.Layout.{laneRoom};
-ghost use Rattle·board.specs.Slots.{pairAt, Slotted, LeastSlot, Added};
+use tree::{LANES, NODES, mask};
 
 // Of the slots, the one whose lane has the smallest pair; the first among equals.
 pub(crate) fn least_slot(
@@ -21,9 +16,9 @@ pub(crate) fn least_slot(
     lane: &[usize; NODES],
     slots: u64,
 ) -> usize
-    requires { ⌜ 0 < slots ⌝ }
-    requires { ⌜ ((t : ℕ) → has slots t ≡ true → getD (now lane) t 0 < laneRoom) ⌝ }
-    ensures { λ r. ⌜ LeastSlot (now (q .entry)) (now (e .entry)) (now (lane .entry)) slots 0 r ⌝ }
+    requires slots_nonzero { 0 < slots }
+    requires by_index { (t : ℕ) → has slots t ≡ true → get_or lane.now t 0 < lane_room }
+    ensures { LeastSlot q.now e.now lane.now slots 0 result }
 {
     let mut at = mask::first_bit(slots);
     let mut least = pair_at(q, e, lane[at]);
@@ -48,12 +43,10 @@ pub(crate) fn carry(
     slots: u64,
     x: Pair,
 )
-    requires { ⌜ (length (now q) ≡ laneRoom) × (length (now e) ≡ laneRoom) × Slotted (now lane) slots ⌝ }
-    requires { ⌜ ((t : ℕ) → has slots t ≡ true → Fit (pairAt (now q) (now e) (getD (now lane) t 0)) x) ⌝ }
-    ensures { λ _. ⌜
-        Added (x .q) (now (lane .entry)) slots 0 (now (q .entry)) (now (q .exit))
-        × Added (x .e) (now (lane .entry)) slots 0 (now (e .entry)) (now (e .exit))
-        ⌝ }
+    requires q_len { (length q.old ≡ lane_room) × (length e.old ≡ lane_room) × Slotted lane.now slots }
+    requires by_index { (t : ℕ) → has slots t ≡ true → Fit (pair_at q.old e.old (get_or lane.now t 0)) x }
+    ensures { Added x.q lane.now slots 0 q.old q.new
+        × Added x.e lane.now slots 0 e.old e.new }
 {
     let mut bits = slots;
     while bits != 0 {

@@ -1,27 +1,25 @@
 // The lanes of a plan that carry a bag, in sheet order: a line for each, with its source and its sink, both counted from 1, and its bags. They are written and
 // counted from the plan, without a list of their own.
-ghost use mathlib.Core.Path.{_≡_};
-ghost use Prim.Native.Nat.{_*_, _≤_, _<_};
-ghost use lib.ListN.{length};
-ghost use Rattle·transport.specs.Limits.{maxSide};
-ghost use Rattle·decimals.specs.Front.{front};
-ghost use Rattle·plan_lines·specs.specs.Lanes.{laneNumbers, laneText, usedText, usedCount};
+ghost use Rattle.std.specs.Prelude.{◌≡◌, ◌*◌, ◌≤◌, ◌<◌, length};
+ghost use Rattle.transport.specs.Limits.{max_side};
+ghost use Rattle.decimals.specs.Front.{front};
+ghost use Rattle.plan_lines.specs.Lanes.{lane_numbers_of, lane_text, used_text, used_count_of};
+
 use sections::section;
 
 // The numbers in the line of the lane at a place, among n columns.
 fn lane_numbers(place: usize, n: usize, bags: u64) -> [u64; 3]
-    requires { ⌜ (place < maxSide * maxSide) × (1 ≤ n) ⌝ }
-    ensures { λ r. ⌜ r ≡ laneNumbers n place bags ⌝ }
+    requires { (place < max_side * max_side) × (1 ≤ n) }
+    ensures { result ≡ lane_numbers_of n place bags }
 {
     [(place / n + 1) as u64, (place % n + 1) as u64, bags]
 }
 
 // The line of the lane at a place; none if it carries no bag.
 fn write_lane(place: usize, n: usize, bags: u64, out: &mut [u8]) -> usize
-    requires { ⌜ (place < maxSide * maxSide) × (1 ≤ n) × (length (laneText n place bags) ≤ length (now out)) ⌝ }
-    ensures { λ r.
-        let text = laneText n place bags in
-        ⌜ (r ≡ length text) × (now (out .exit) ≡ front text (now (out .entry))) ⌝ }
+    requires { (place < max_side * max_side) × (1 ≤ n) × (length (lane_text n place bags) ≤ length out.old) }
+    ensures { let text = lane_text n place bags in
+        (result ≡ length text) × (out.new ≡ front text out.old) }
 {
     if bags == 0 {
         return 0;
@@ -32,8 +30,8 @@ fn write_lane(place: usize, n: usize, bags: u64, out: &mut [u8]) -> usize
 
 // Its length.
 fn lane_len(place: usize, n: usize, bags: u64) -> usize
-    requires { ⌜ (place < maxSide * maxSide) × (1 ≤ n) ⌝ }
-    ensures { λ r. ⌜ (r ≡ length (laneText n place bags)) × (r ≤ 63) ⌝ }
+    requires { (place < max_side * max_side) × (1 ≤ n) }
+    ensures { (result ≡ length (lane_text n place bags)) × (result ≤ 63) }
 {
     if bags == 0 {
         return 0;
@@ -44,12 +42,9 @@ fn lane_len(place: usize, n: usize, bags: u64) -> usize
 
 // The lines of all lanes that carry a bag.
 pub fn write_lanes(plan: &[u64], n: usize, out: &mut [u8]) -> usize
-    requires { ⌜
-        (length (now plan) ≤ maxSide * maxSide) × (1 ≤ n) × (length (usedText n (now plan) (length (now plan))) ≤ length (now out))
-        ⌝ }
-    ensures { λ r.
-        let text = usedText n (now (plan .entry)) (length (now (plan .entry))) in
-        ⌜ (r ≡ length text) × (now (out .exit) ≡ front text (now (out .entry))) ⌝ }
+    requires { (length plan.now ≤ max_side * max_side) × (1 ≤ n) × (length (used_text n plan.now (length plan.now)) ≤ length out.old) }
+    ensures { let text = used_text n plan.now (length plan.now) in
+        (result ≡ length text) × (out.new ≡ front text out.old) }
 {
     let mut at: usize = 0;
     let mut l: usize = 0;
@@ -62,10 +57,9 @@ pub fn write_lanes(plan: &[u64], n: usize, out: &mut [u8]) -> usize
 
 // Their length.
 pub fn lanes_len(plan: &[u64], n: usize) -> usize
-    requires { ⌜ (length (now plan) ≤ maxSide * maxSide) × (1 ≤ n) ⌝ }
-    ensures { λ r.
-        let plan = now (plan .entry) in
-        ⌜ (r ≡ length (usedText n plan (length plan))) × (r ≤ length plan * 63) ⌝ }
+    requires { (length plan.now ≤ max_side * max_side) × (1 ≤ n) }
+    ensures { let plan = plan.entry.now in
+        (result ≡ length (used_text n plan (length plan))) × (result ≤ length plan * 63) }
 {
     let mut len: usize = 0;
     let mut l: usize = 0;
@@ -78,7 +72,7 @@ pub fn lanes_len(plan: &[u64], n: usize) -> usize
 
 // How many lanes carry a bag.
 pub fn used_count(plan: &[u64]) -> usize
-    ensures { λ r. ⌜ r ≡ usedCount (now (plan .entry)) (length (now (plan .entry))) ⌝ }
+    ensures { result ≡ used_count_of plan.now (length plan.now) }
 {
     let mut count: usize = 0;
     let mut l: usize = 0;

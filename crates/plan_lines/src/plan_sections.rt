@@ -1,16 +1,14 @@
 // The plan text from its figures: five sections, each written in what the sections before it left of the output.
-ghost use mathlib.Core.Path.{_≡_};
-ghost use mathlib.Core.List.{_++_};
-ghost use Prim.Native.Nat.{_*_, _≤_};
-ghost use lib.ListN.{length};
-ghost use Rattle·transport.specs.Limits.{maxSide};
-ghost use Rattle·decimals.specs.Front.{front};
-ghost use Rattle·plan_lines·specs.specs.Sections.{figuresText, pricesText, lanesText, planSections};
+ghost use Rattle.std.specs.Prelude.{◌≡◌, ◌++◌, ◌*◌, ◌≤◌, length};
+ghost use Rattle.transport.specs.Limits.{max_side};
+ghost use Rattle.decimals.specs.Front.{front};
+ghost use Rattle.plan_lines.specs.Sections.{figures_text, prices_text, lanes_text, plan_sections_of};
+
 use crate::lanes;
-use sections::section;
-use sections::wholes;
+use sections::{section, wholes};
 
 // What the plan text shows in one number each: the cost, the rounds, and the count of the lanes that carry a bag.
+#[derive(Drop)]
 pub struct Figures {
     pub total: i64,
     pub rounds: u64,
@@ -19,8 +17,8 @@ pub struct Figures {
 
 // The cost and the rounds.
 fn write_figures(figures: Figures, out: &mut [u8]) -> usize
-    requires { ⌜ length (figuresText figures) ≤ length (now out) ⌝ }
-    ensures { λ r. ⌜ (r ≡ length (figuresText figures)) × (now (out .exit) ≡ front (figuresText figures) (now (out .entry))) ⌝ }
+    requires { length (figures_text figures) ≤ length out.old }
+    ensures { (result ≡ length (figures_text figures)) × (out.new ≡ front (figures_text figures) out.old) }
 {
     let total = [figures.total];
     let rounds = [figures.rounds];
@@ -30,10 +28,9 @@ fn write_figures(figures: Figures, out: &mut [u8]) -> usize
 
 // The prices: those of the roasteries, and those of the cafés.
 fn write_price_sections(u: &[i64], v: &[i64], out: &mut [u8]) -> usize
-    requires { ⌜ length (pricesText (now u) (now v)) ≤ length (now out) ⌝ }
-    ensures { λ r.
-        let text = pricesText (now (u .entry)) (now (v .entry)) in
-        ⌜ (r ≡ length text) × (now (out .exit) ≡ front text (now (out .entry))) ⌝ }
+    requires { length (prices_text u.now v.now) ≤ length out.old }
+    ensures { let text = prices_text u.now v.now in
+        (result ≡ length text) × (out.new ≡ front text out.old) }
 {
     let at = wholes::write_whole_section(b"roasteries ", u.len(), 1, u, out);
     at + wholes::write_whole_section(b"cafes ", v.len(), 1, v, &mut out[at..])
@@ -41,10 +38,9 @@ fn write_price_sections(u: &[i64], v: &[i64], out: &mut [u8]) -> usize
 
 // The lanes: the count of those that carry a bag, and their lines.
 fn write_lane_section(count: usize, plan: &[u64], n: usize, out: &mut [u8]) -> usize
-    requires { ⌜ (length (now plan) ≤ maxSide * maxSide) × (1 ≤ n) × (length (lanesText count n (now plan)) ≤ length (now out)) ⌝ }
-    ensures { λ r.
-        let text = lanesText count n (now (plan .entry)) in
-        ⌜ (r ≡ length text) × (now (out .exit) ≡ front text (now (out .entry))) ⌝ }
+    requires { (length plan.now ≤ max_side * max_side) × (1 ≤ n) × (length (lanes_text count n plan.now) ≤ length out.old) }
+    ensures { let text = lanes_text count n plan.now in
+        (result ≡ length text) × (out.new ≡ front text out.old) }
 {
     let at = section::write_head(b"lanes ", count, out);
     at + lanes::write_lanes(plan, n, &mut out[at..])
@@ -52,14 +48,11 @@ fn write_lane_section(count: usize, plan: &[u64], n: usize, out: &mut [u8]) -> u
 
 // The sections after the figures: the prices, and the lanes.
 fn write_after_figures(count: usize, u: &[i64], v: &[i64], plan: &[u64], out: &mut [u8]) -> usize
-    requires { ⌜
-        (length (now plan) ≤ maxSide * maxSide) × (1 ≤ length (now v))
-        × (length (pricesText (now u) (now v) ++ lanesText count (length (now v)) (now plan)) ≤ length (now out))
-        ⌝ }
-    ensures { λ r.
-        let v = now (v .entry) in
-        let text = pricesText (now (u .entry)) v ++ lanesText count (length v) (now (plan .entry)) in
-        ⌜ (r ≡ length text) × (now (out .exit) ≡ front text (now (out .entry))) ⌝ }
+    requires { (length plan.now ≤ max_side * max_side) × (1 ≤ length v.now)
+        × (length (prices_text u.now v.now ++ lanes_text count (length v.now) plan.now) ≤ length out.old) }
+    ensures { let v = v.entry.now in
+        let text = prices_text u.now v ++ lanes_text count (length v) plan.now in
+        (result ≡ length text) × (out.new ≡ front text out.old) }
 {
     let at = write_price_sections(u, v, out);
     at + write_lane_section(count, plan, v.len(), &mut out[at..])
@@ -73,13 +66,10 @@ pub fn write_plan_sections(
     plan: &[u64],
     out: &mut [u8],
 ) -> usize
-    requires { ⌜
-        (length (now plan) ≤ maxSide * maxSide) × (1 ≤ length (now v))
-        × (length (planSections figures (now u) (now v) (now plan)) ≤ length (now out))
-        ⌝ }
-    ensures { λ r.
-        let text = planSections figures (now (u .entry)) (now (v .entry)) (now (plan .entry)) in
-        ⌜ (r ≡ length text) × (now (out .exit) ≡ front text (now (out .entry))) ⌝ }
+    requires { (length plan.now ≤ max_side * max_side) × (1 ≤ length v.now)
+        × (length (plan_sections_of figures u.now v.now plan.now) ≤ length out.old) }
+    ensures { let text = plan_sections_of figures u.now v.now plan.now in
+        (result ≡ length text) × (out.new ≡ front text out.old) }
 {
     let at = write_figures(figures, out);
     let count = figures.used;
@@ -88,10 +78,8 @@ pub fn write_plan_sections(
 
 // Its length.
 pub fn plan_sections_len(figures: Figures, u: &[i64], v: &[i64], plan: &[u64]) -> usize
-    requires { ⌜
-        (length (now u) ≤ maxSide) × (length (now v) ≤ maxSide) × (length (now plan) ≤ maxSide * maxSide) × (1 ≤ length (now v))
-        ⌝ }
-    ensures { λ r. ⌜ r ≡ length (planSections figures (now (u .entry)) (now (v .entry)) (now (plan .entry))) ⌝ }
+    requires { (length u.now ≤ max_side) × (length v.now ≤ max_side) × (length plan.now ≤ max_side * max_side) × (1 ≤ length v.now) }
+    ensures { result ≡ length (plan_sections_of figures u.now v.now plan.now) }
 {
     let total = [figures.total];
     let rounds = [figures.rounds];

@@ -1,8 +1,9 @@
 // The plan that the bags of a tableau make.
+ghost use Rattle.plan_store.specs.Plan.{Storable, Stored};
+
 use parties::own_number;
 use transport::MAX_SIDE;
 use tree::LANES;
-ghost use Rattle·plan_store·specs.specs.Plan.{Storable, Stored};
 
 // Writes a plan of m × n lanes in sheet order, and leaves the rest of the list as it is: the bags of the rows and columns whose own numbers `rows` and `cols`
 // have, and nothing on all other lanes.
@@ -14,8 +15,8 @@ pub fn store_plan(
     n: usize,
     plan: &mut [u64],
 )
-    requires { ⌜ Storable (now q) (now rows) (now cols) m n (now plan) ⌝ }
-    ensures { λ _. ⌜ Stored (now (q .entry)) (now (rows .entry)) (now (cols .entry)) m n (now (plan .entry)) (now (plan .exit)) ⌝ }
+    requires { Storable q.now rows.now cols.now m n plan.old }
+    ensures { Stored q.now rows.now cols.now m n plan.old plan.new }
 {
     let mut l = 0;
     while l < m * n {

@@ -1,27 +1,21 @@
 // Write plan.
-ghost use mathlib.Core.Path.{_≡_};
-ghost use lib.ListN.{length};
-ghost use Rattle·transport.specs.Sheet.{sheetOf};
-ghost use Rattle·transport.specs.Calls.{lentAfter};
-ghost use Rattle·transport.specs.PlanText.{writePlanCall};
-ghost use Rattle·transport.specs.Answers.{writeAnswer};
+ghost use Rattle.std.specs.Prelude.{◌≡◌, length};
+ghost use Rattle.transport.specs.Sheet.{sheet_of};
+ghost use Rattle.transport.specs.Calls.{lent_after};
+ghost use Rattle.transport.specs.PlanText.{write_plan_call};
+ghost use Rattle.transport.specs.Answers.{write_answer};
+
 use plan_lines::lanes::used_count;
-use plan_lines::plan_sections::Figures;
-use plan_lines::plan_sections::plan_sections_len;
-use plan_lines::plan_sections::write_plan_sections;
+use plan_lines::plan_sections::{Figures, plan_sections_len, write_plan_sections};
 use solve_call::solve;
-use transport::MAX_LANES;
-use transport::MAX_SIDE;
-use transport::SolveAnswer;
-use transport::WriteAnswer;
+use transport::{MAX_LANES, MAX_SIDE, SolveAnswer, WriteAnswer};
 
 // Write plan: the plan text of the solved sheet in the output, its length in the answer; or a refusal, as by write sheet, and the output is as it was. The
 // length is known before the first byte is written.
 pub fn write_plan(supply: &[u64], demand: &[u64], cost: &[i64], out: &mut [u8]) -> WriteAnswer
-    ensures { λ r.
-        let S = sheetOf (now (supply .entry)) (now (demand .entry)) (now (cost .entry)) in
-        let a = writePlanCall S (length (now (out .entry))) in
-        ⌜ (r ≡ writeAnswer a) × (now (out .exit) ≡ lentAfter (λ t. t) a (now (out .entry))) ⌝ }
+    ensures { let S = sheet_of supply.now demand.now cost.now in
+        let a = write_plan_call S (length out.old) in
+        (result ≡ write_answer a) × (out.new ≡ lent_after (λ t. t) a out.old) }
 {
     let mut u = [0i64; MAX_SIDE];
     let mut v = [0i64; MAX_SIDE];

@@ -2,31 +2,34 @@
 -- each word is the library's. The definitions of `transport`, and those of `border`, do not pass through it; they name the libraries themselves.
 
 -- numbers
-pub use Prim.Native.Nat.{ℕ, zero, suc, _+_, _-_, _*_, _/_, _%_, _^_, _≤_, _<_, min, max}
-pub use native.Mathlib.Nat.{zero-add, add-zero, add-suc, suc-add, sub-zero, zero-mul, mul-zero, one-mul, suc-mul, mul-add, pow-suc, le-trans, eq-or-lt-of-le}
-pub use native.Mathlib.Nat.{mul-le-mul, mul-le-mul-left, mul-le-mul-right, mod-lt, div-add-mod', div-eq-of-lt, div-lt-iff-lt-mul}
-pub use native.Mathlib.Numerals.{add-one}
-pub use lib.IntN.{ℤ, pos, negsuc, natAbs, negℤ, subℕ, _+ℤ_, _-ℤ_, _*ℤ_, +ℤ-idl}
-pub use lib.Signed.{_≤ℤ_, leZ, ltZ, leZ-yes, mag, nonNeg}
+pub use Rattle.std.specs.Prelude.{ℕ, zero, suc, ◌+◌, ◌-◌, ◌*◌, ◌/◌, ◌%◌, ◌^◌, ◌≤◌, ◌<◌, min, max, ℤ, pos, negsuc, nat_abs, neg_ℤ, ◌+ℤ◌, ◌-ℤ◌, ◌*ℤ◌, ◌≤ℤ◌, ◌≡◌, refl, ◌↔◌, ◌⊎◌, ◌≢◌, Bool, true, false, cond, not, ◌&&◌, ◌||◌, T, eqb, ltb, leb, length, get_or, set, take, drop, replicate}
+pub use Rattle.std.proofs.Common.{zero-add, add-zero, add-suc, suc-add, zero-mul, mul-zero, one-mul, suc-mul, mul-add, pow-suc, le_trans, eq-or-lt_of_le, mul-le-mul, mul-le-mul_left, mul-le-mul_right, mod-lt, div-add-mod', div-lt_iff_lt-mul, add-one, sym, ◌∙◌, ap, subst, inl, inr, ⊎_elim, true≢false, leb→le, eq-eqb, ne_eqb, lt-ltb, le-ltb, le-leb, eqb-true, ltb-true, ltb-false, leb-true, length-set, length-append, length-take, length-drop, take-append-drop, drop_of_length-le, ext_get_or, get_or-set_same, get_or-set_other, get_or-take, get_or-drop, take_at, drop_at, take-suc, take-suc-set, take_all, length-take-le, lt-length-set, drop-cons, drop-drop, drop-set-lt, arith, rules}
+pub use Rattle.std.proofs.Math.Nat.{sub-zero, div-eq_of_lt}
+pub use Rattle.std.proofs.Math.IntN.{sub_ℕ, +ℤ_idl}
+pub use Rattle.std.specs.Int.Signed.{le_z, lt_z, le_z_yes, mag, non_neg}
 -- equations, decisions and tests
-pub use mathlib.Core.Path.{_≡_, refl, sym, _∙_, ap, subst, fun-ext}
-pub use mathlib.Core.Logic.{_↔_, _⊎_, inl, inr, ⊎-elim, _≢_, by-cases, Dec·and, ite, if-pos, if-neg}
-pub use mathlib.Core.Bool.{Bool, true, false, cond, not, _&&_, _||_, true≢false, false≢true, Bool-discrete, decide, decide-iff}
-pub use mathlib.Core.Bool.{and-true, and-false, and-comm, and-eq-true-iff, or-true, or-false}
-unfoldable pub use mathlib.Core.Bool.{xor}
-pub use Rattle·prelude·specs.specs.Tests.{by-test, by-option, clash, some≢none}
-pub use native.Mathlib.Decide.{ℕ-discrete, decLt, decLe}
-pub use lib.Dec.{T, eqb, ltb, leb, leb→le}
-pub use borrow.Author.Tests.{eq-eqb, ne-eqb, lt-ltb, le-ltb, lt-leb, le-leb, eqb-true, eqb-false, ltb-true, ltb-false, leb-true, not-true, not-false}
+pub use Rattle.std.proofs.Math.Path.{fun_ext}
+pub use Rattle.std.proofs.Math.Logic.{by_cases, Dec-and, ite, if_pos, if_neg}
+pub use Rattle.std.proofs.lemmas.Bool.{false≢true, lt-leb, eqb-false, not-true, not-false}
+pub use Rattle.std.proofs.Math.Bool.{Bool-discrete, decide, decide_iff, and-true, and-false, and_comm, and-eq-true_iff, or-true, or-false}
+unfoldable pub use Rattle.std.proofs.Math.Bool.{xor}
+pub use Rattle.prelude.specs.Tests.{by_test, by_option, clash, some≢none}
+pub use Rattle.std.proofs.Math.Decide.{ℕ_discrete, dec_lt, dec_le}
 -- lists and options
-pub use mathlib.Core.Option.{Option, some, none}
-pub use mathlib.Core.List.{List, [], _∷_, _++_, map, append-nil, append-assoc, List·Memᴰ, List·Memᴰ·head, List·Memᴰ·tail, List·Memᴰ·not-nil}
-pub use mathlib.Core.List.{List·Memᴰ·cases-cons, List·Memᴰ·eq-of-singleton, List·Memᴰ·append-cases, Memᴰ·cast, Memᴰ·append-left, Memᴰ·append-right}
-unfoldable pub use mathlib.Core.List.{flatMap, flatten}
-pub use lib.ListN.{length, getD, set, take, drop, replicate, length-set, length-append, length-map, length-take, length-drop, length-replicate}
-pub use lib.ListN.{take-append-drop, drop-of-length-le, getD-replicate, List·getD-append, List·getD-eq-default}
-pub use lib.Seq.{ext-getD, getD-set-same, getD-set-other, getD-take, getD-drop, getD-at, set-at, take-at, drop-at, take-suc, take-suc-set, take-all}
-pub use lib.Seq.{take-length, take-append-seam, length-take-le, lt-length-set, drop-cons, drop-drop, drop-set-lt}
+pub use Rattle.std.proofs.Math.Option.{Option, some, none}
+pub use mathlib.Core.List.Memᴰ.{head as Memᴰ-head}
+pub use mathlib.Core.List.Memᴰ.{not-nil as Memᴰ-not_nil}
+pub use mathlib.Core.List.Memᴰ.{tail as Memᴰ-tail}
+pub use mathlib.Core.List.{List, [], ◌∷◌, ◌++◌, map, append-nil, append_assoc, Memᴰ as Memᴰ}
+pub use mathlib.Core.List.Memᴰ.{append_cases as Memᴰ-append_cases}
+pub use mathlib.Core.List.Memᴰ.{append_left as Memᴰ-append_left}
+pub use mathlib.Core.List.Memᴰ.{append_right as Memᴰ-append_right}
+pub use mathlib.Core.List.Memᴰ.{cases_cons as Memᴰ-cases_cons}
+pub use mathlib.Core.List.Memᴰ.{cast as Memᴰ-cast}
+pub use mathlib.Core.List.Memᴰ.{eq_of_singleton as Memᴰ-eq_of_singleton}
+unfoldable pub use mathlib.Core.List.{flat_map, flatten}
+pub use Rattle.std.proofs.lemmas.List.{length-map, length-replicate, get_or-replicate, get_or_at, set_at}
+pub use Rattle.std.proofs.Math.ListN.{get_or-append as get_or-append, get_or-eq_default as get_or-eq_default}
+pub use Rattle.std.proofs.Math.Seq.{take-length, take-append_seam}
+
 -- what the tactics read
-pub use native.Mathlib.Omega.{arith}
-pub use borrow.Author.Needs.{needs}

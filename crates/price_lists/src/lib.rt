@@ -1,28 +1,22 @@
 // Prices as calls give them: those of the parties left at their own numbers, and those of struck ones by their rule.
+ghost use Rattle.std.specs.Prelude.{◌≡◌, cond, List, ◌++◌, ℕ, ◌+◌, ◌-◌, ◌<◌, ◌≤◌, ltb, nat_abs, ◌-ℤ◌, length, drop};
+ghost use Rattle.std.specs.Int.Signed.{lt_z};
+ghost use Rattle.transport.specs.Limits.{max_side};
+ghost use Rattle.transport.specs.Lists.{at};
+ghost use Rattle.transport.specs.Sheet.{sheet_of};
+ghost use Rattle.transport.specs.OwnNumbers.{roastery_prices, cafe_prices};
+ghost use Rattle.transport.specs.declared.Cell.{Cell};
+ghost use Rattle.price_lists.specs.PriceLists.{max_price, Costs, RowPrices, ColumnPrices, cost_in, rows_least, columns_least};
+ghost use Rattle.price_lists.specs.PriceLists.{Placing, Placed, StruckPriced};
+ghost use Rattle.price_lists.specs.Prices.{NodesPriced};
+
 use transport::MAX_SIDE;
-use tree::NODES;
-use tree::Price;
-ghost use mathlib.Core.Path.{_≡_};
-ghost use mathlib.Core.Bool.{cond};
-ghost use mathlib.Core.List.{List, _++_};
-ghost use Prim.Native.Nat.{ℕ, _+_, _-_, _<_, _≤_};
-ghost use lib.Dec.{ltb};
-ghost use lib.IntN.{natAbs, _-ℤ_};
-ghost use lib.Signed.{ltZ};
-ghost use lib.ListN.{length, drop};
-ghost use Rattle·transport.specs.Limits.{maxSide};
-ghost use Rattle·transport.specs.Lists.{at};
-ghost use Rattle·transport.specs.Sheet.{sheetOf};
-ghost use Rattle·transport.specs.OwnNumbers.{roasteryPrices, cafePrices};
-ghost use Rattle·transport.specs.declared.Cell.{Cell};
-ghost use Rattle·price_lists·specs.specs.PriceLists.{maxPrice, Costs, RowPrices, ColumnPrices, costIn, rowsLeast, columnsLeast};
-ghost use Rattle·price_lists·specs.specs.PriceLists.{Placing, Placed, StruckPriced};
-ghost use Rattle·price_lists·specs.specs.Prices.{NodesPriced};
+use tree::{NODES, Price};
 
 // Writes prices at their own numbers: that of the node `from` + k at the k-th.
 fn place_prices(price: &[Price; NODES], from: usize, own: &[usize], out: &mut [i64])
-    requires { ⌜ Placing (now price) from (now own) (now out) ⌝ }
-    ensures { λ _. ⌜ Placed (now (price .entry)) from (now (own .entry)) (now (out .entry)) (now (out .exit)) ⌝ }
+    requires { Placing price.now from own.now out.old }
+    ensures { Placed price.now from own.now out.old out.new }
 {
     let mut k = 0;
     while k < own.len() {
@@ -33,23 +27,23 @@ fn place_prices(price: &[Price; NODES], from: usize, own: &[usize], out: &mut [i
 
 // The cost of a lane less the price at one of its ends. A lane after the cafés, that of the extra one, costs nothing.
 fn slack(cost: &[i64], cafes: usize, i: usize, j: usize, price: i64) -> i64
-    requires { ⌜ ((m : ℕ) × Costs m cafes (now cost) × (i < m)) × (natAbs price ≤ maxPrice) ⌝ }
-    ensures { λ r. ⌜ r ≡ costIn (now (cost .entry)) cafes i j -ℤ price ⌝ }
+    requires { ((m : ℕ) × Costs m cafes cost.now × (i < m)) × (nat_abs price ≤ max_price) }
+    ensures { result ≡ cost_in cost.now cafes i j -ℤ price }
 {
     let lane = if j < cafes { cost[i * cafes + j] } else { 0 };
     lane - price
 }
 
 fn lesser(a: i64, b: i64) -> i64
-    ensures { λ r. ⌜ r ≡ cond (ltZ a b) a b ⌝ }
+    ensures { result ≡ cond (lt_z a b) a b }
 {
     if a < b { a } else { b }
 }
 
 // The price of a struck café: the least cost - u over the roasteries left.
 fn cafe_price(cost: &[i64], cafes: usize, rows: &[usize], u: &[i64], j: usize) -> i64
-    requires { ⌜ ((m : ℕ) × Costs m cafes (now cost) × RowPrices m (now rows) (now u)) ⌝ }
-    ensures { λ r. ⌜ r ≡ rowsLeast (now (cost .entry)) cafes (now (rows .entry)) (now (u .entry)) j ⌝ }
+    requires { (m : ℕ) × Costs m cafes cost.now × RowPrices m rows.now u.now }
+    ensures { result ≡ rows_least cost.now cafes rows.now u.now j }
 {
     let first = rows[0];
     let mut least = slack(cost, cafes, first, j, u[first]);
@@ -70,10 +64,9 @@ fn price_cafes(
     u: &[i64],
     v: [i64; MAX_SIDE],
 ) -> [i64; MAX_SIDE]
-    requires { ⌜ ((m : ℕ) × Costs m (length (now demand)) (now cost) × RowPrices m (now rows) (now u)) × (length (now demand) ≤ maxSide) ⌝ }
-    ensures { λ r.
-        let d = now (demand .entry) in
-        ⌜ StruckPriced d (rowsLeast (now (cost .entry)) (length d) (now (rows .entry)) (now (u .entry))) 0 (length d) v r ⌝ }
+    requires { ((m : ℕ) × Costs m (length demand.now) cost.now × RowPrices m rows.now u.now) × (length demand.now ≤ max_side) }
+    ensures { let d = demand.now in
+        StruckPriced d (rows_least cost.now (length d) rows.now u.now) 0 (length d) v result }
 {
     let mut priced = v;
     let mut j = 0;
@@ -88,8 +81,8 @@ fn price_cafes(
 
 // The price of a struck roastery: the least cost - v over all columns, which are `width`.
 fn roastery_price(cost: &[i64], cafes: usize, v: &[i64; MAX_SIDE], width: usize, i: usize) -> i64
-    requires { ⌜ ((m : ℕ) × Costs m cafes (now cost) × (i < m)) × ColumnPrices (now v) width ⌝ }
-    ensures { λ r. ⌜ r ≡ columnsLeast (now (cost .entry)) cafes (now (v .entry)) width i ⌝ }
+    requires { ((m : ℕ) × Costs m cafes cost.now × (i < m)) × ColumnPrices v.now width }
+    ensures { result ≡ columns_least cost.now cafes v.now width i }
 {
     let mut least = slack(cost, cafes, i, 0, v[0]);
     let mut j = 1;
@@ -109,10 +102,9 @@ fn price_roasteries(
     width: usize,
     u: &mut [i64],
 )
-    requires { ⌜ Costs (length (now supply)) cafes (now cost) × ColumnPrices (now v) width × (length (now supply) ≤ length (now u)) ⌝ }
-    ensures { λ _.
-        let s = now (supply .entry) in
-        ⌜ StruckPriced s (columnsLeast (now (cost .entry)) cafes (now (v .entry)) width) 0 (length s) (now (u .entry)) (now (u .exit)) ⌝ }
+    requires { Costs (length supply.now) cafes cost.now × ColumnPrices v.now width × (length supply.now ≤ length u.old) }
+    ensures { let s = supply.now in
+        StruckPriced s (columns_least cost.now cafes v.now width) 0 (length s) u.old u.new }
 {
     let mut i = 0;
     while i < supply.len() {
@@ -125,8 +117,8 @@ fn price_roasteries(
 
 // The number of all columns: the extra café, where there is one, is the last of those left, and its own number comes after those of the cafés.
 fn column_count(cols: &[usize], cafes: usize) -> usize
-    requires { ⌜ (1 ≤ length (now cols)) × (at (now cols) (length (now cols) - 1) < maxSide) ⌝ }
-    ensures { λ r. let last = at (now (cols .entry)) (length (now (cols .entry)) - 1) in ⌜ r ≡ cond (ltb last cafes) cafes (last + 1) ⌝ }
+    requires { (1 ≤ length cols.now) × (at cols.now (length cols.now - 1) < max_side) }
+    ensures { let last = at cols.now (length cols.now - 1) in result ≡ cond (ltb last cafes) cafes (last + 1) }
 {
     let last = cols[cols.len() - 1];
     if last < cafes { cafes } else { last + 1 }
@@ -134,8 +126,8 @@ fn column_count(cols: &[usize], cafes: usize) -> usize
 
 // Copies prices to the front of a longer list.
 fn copy_prices(from: &[i64], out: &mut [i64])
-    requires { ⌜ length (now from) ≤ length (now out) ⌝ }
-    ensures { λ _. ⌜ now (out .exit) ≡ now (from .entry) ++ drop (length (now (from .entry))) (now (out .entry)) ⌝ }
+    requires { length from.now ≤ length out.old }
+    ensures { out.new ≡ from.now ++ drop (length from.now) out.old }
 {
     let mut k = 0;
     while k < from.len() {
@@ -156,17 +148,14 @@ pub fn write_prices(
     u: &mut [i64],
     v: &mut [i64],
 )
-    requires { ⌜
-        ((T : List Cell) × NodesPriced (sheetOf (now supply) (now demand) (now cost)) T (now rows) (now cols) (now price))
-        × (length (now supply) ≤ length (now u))
-        × (length (now demand) ≤ length (now v))
-        ⌝ }
-    ensures { λ _.
-        let S = sheetOf (now (supply .entry)) (now (demand .entry)) (now (cost .entry)) in
-        ⌜ ((T : List Cell)
-        → NodesPriced S T (now (rows .entry)) (now (cols .entry)) (now (price .entry))
-        → (now (u .exit) ≡ roasteryPrices S T ++ drop (length (now (supply .entry))) (now (u .entry)))
-        × (now (v .exit) ≡ cafePrices S T ++ drop (length (now (demand .entry))) (now (v .entry)))) ⌝ }
+    requires { ((T : List Cell) × NodesPriced (sheet_of supply.now demand.now cost.now) T rows.now cols.now price.now)
+        × (length supply.now ≤ length u.old)
+        × (length demand.now ≤ length v.old) }
+    ensures { let S = sheet_of supply.now demand.now cost.now in
+        ((T : List Cell)
+        → NodesPriced S T rows.now cols.now price.now
+        → (u.new ≡ roastery_prices S T ++ drop (length supply.now) u.old)
+        × (v.new ≡ cafe_prices S T ++ drop (length demand.now) v.old)) }
 {
     let cafes = demand.len();
     place_prices(price, 0, rows, u);

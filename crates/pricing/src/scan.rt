@@ -1,29 +1,21 @@
 // The scan for the lane that enters. Of each row the least slack (a lane's cost less its sink's potential) is kept between rounds. The minima go by value, and
 // the loop that takes a column into them goes over all rows that there is room for: so the compiler turns it into vector code, with the minima in registers.
+ghost use Rattle.std.specs.Prelude.{◌≡◌, List, true, ℕ, ◌+◌, ◌<◌, ◌≤◌, ◌^◌, ℤ, pos, nat_abs, get_or};
+ghost use Rattle.transport.specs.Limits.{cost_above};
+ghost use Rattle.tree.specs.Layout.{stride, max_potential, slack_at};
+ghost use Rattle.tree.specs.Mask.{has};
+ghost use Rattle.pricing.specs.Lowest.{lesser, lowest, FirstAt};
+ghost use Rattle.pricing.specs.Slacks.{InRange, Slacks, Changed, lowering, raising, Relaxed, Stale};
+ghost use Rattle.pricing.specs.Scan.{row_reduced, RowsFit, Scanned};
+
 use transport::MAX_SIDE;
-use tree::LANES;
-use tree::MAX_POTENTIAL;
-use tree::NODES;
-use tree::Price;
-use tree::mask;
-ghost use mathlib.Core.Path.{_≡_};
-ghost use mathlib.Core.List.{List};
-ghost use mathlib.Core.Bool.{true};
-ghost use Prim.Native.Nat.{ℕ, _+_, _<_, _≤_, _^_};
-ghost use lib.IntN.{ℤ, pos, natAbs};
-ghost use lib.ListN.{getD};
-ghost use Rattle·transport.specs.Limits.{costAbove};
-ghost use Rattle·tree.specs.Layout.{stride, maxPotential, slackAt};
-ghost use Rattle·tree.specs.Mask.{has};
-ghost use Rattle·pricing·specs.specs.Lowest.{lesser, lowest, FirstAt};
-ghost use Rattle·pricing·specs.specs.Slacks.{InRange, Slacks, Changed, lowering, raising, Relaxed, Stale};
-ghost use Rattle·pricing·specs.specs.Scan.{rowReduced, RowsFit, Scanned};
+use tree::{LANES, MAX_POTENTIAL, NODES, Price, mask};
 
 // Greater than every slack, also one that is raised by a reduced cost: where a minimum starts.
 const FAR: Price = 4 * MAX_POTENTIAL;
 
 fn lesser(a: Price, b: Price) -> Price
-    ensures { λ r. ⌜ r ≡ lesser a b ⌝ }
+    ensures { result ≡ lesser a b }
 {
     if a < b { a } else { b }
 }
@@ -35,8 +27,8 @@ fn take_column(
     v: Price,
     slack: [Price; MAX_SIDE],
 ) -> [Price; MAX_SIDE]
-    requires { ⌜ (j < stride) × (natAbs v ≤ maxPotential) × ((l : ℕ) → natAbs (getD (now cost) l (pos 0)) ≤ costAbove) ⌝ }
-    ensures { λ r. ⌜ Changed (lowering (now (cost .entry)) j v) slack r ⌝ }
+    requires { (j < stride) × (nat_abs v ≤ max_potential) × ((l : ℕ) → nat_abs (get_or cost.now l (pos 0)) ≤ cost_above) }
+    ensures { Changed (lowering cost.now j v) slack result }
 {
     let mut least = slack;
     let mut i = 0;
@@ -55,8 +47,8 @@ fn relax_slacks(
     cols: u64,
     slack: [Price; MAX_SIDE],
 ) -> [Price; MAX_SIDE]
-    requires { ⌜ ((n : ℕ) × InRange (now cost) (now price) m n × ((j : ℕ) → has cols j ≡ true → j < n)) ⌝ }
-    ensures { λ r. ⌜ Relaxed (now (cost .entry)) (now (price .entry)) m cols slack r ⌝ }
+    requires { (n : ℕ) × InRange cost.now price.now m n × ((j : ℕ) → has cols j ≡ true → j < n) }
+    ensures { Relaxed cost.now price.now m cols slack result }
 {
     let mut least = slack;
     let mut bits = cols;
@@ -76,8 +68,8 @@ pub fn scan_slacks(
     m: usize,
     n: usize,
 ) -> [Price; MAX_SIDE]
-    requires { ⌜ InRange (now cost) (now price) m n ⌝ }
-    ensures { λ r. ⌜ Slacks (now (cost .entry)) (now (price .entry)) m n r ⌝ }
+    requires { InRange cost.now price.now m n }
+    ensures { Slacks cost.now price.now m n result }
 {
     let none = [FAR; MAX_SIDE];
     relax_slacks(cost, price, m, mask::first_bits(n), none)
@@ -85,8 +77,8 @@ pub fn scan_slacks(
 
 // All slacks raised by x.
 fn raised(slack: [Price; MAX_SIDE], x: Price) -> [Price; MAX_SIDE]
-    requires { ⌜ ((i : ℕ) → i < stride → natAbs (getD slack i (pos 0)) + natAbs x < 2 ^ 31) ⌝ }
-    ensures { λ r. ⌜ Changed (raising x) slack r ⌝ }
+    requires { (i : ℕ) → i < stride → nat_abs (get_or slack i (pos 0)) + nat_abs x < 2 ^ 31 }
+    ensures { Changed (raising x) slack result }
 {
     let mut higher = slack;
     let mut i = 0;
@@ -109,10 +101,10 @@ pub fn refresh_slacks(
     reduced: Price,
     slack: [Price; MAX_SIDE],
 ) -> [Price; MAX_SIDE]
-    requires { ⌜ InRange (now cost) (now price) m n ⌝ }
-    requires { ⌜ row < m ⌝ }
-    requires { ⌜ ((old : List ℤ) × Stale (now cost) old (now price) m n far row reduced slack) ⌝ }
-    ensures { λ r. ⌜ Slacks (now (cost .entry)) (now (price .entry)) m n r ⌝ }
+    requires in_range { InRange cost.now price.now m n }
+    requires row_lt_m { row < m }
+    requires stale { (old : List ℤ) × Stale cost.now old price.now m n far row reduced slack }
+    ensures { Slacks cost.now price.now m n result }
 {
     let moved = far >> m;
     if mask::has_bit(far, row) {
@@ -124,8 +116,8 @@ pub fn refresh_slacks(
 
 // The least reduced cost of all rows; 0 where none is negative. A row's is its least slack less the potential of its source.
 fn least_reduced(price: &[Price; NODES], slack: &[Price; MAX_SIDE], m: usize) -> Price
-    requires { ⌜ RowsFit (now slack) (now price) m ⌝ }
-    ensures { λ r. ⌜ r ≡ lowest (pos 0) (rowReduced (now (slack .entry)) (now (price .entry))) m ⌝ }
+    requires { RowsFit slack.now price.now m }
+    ensures { result ≡ lowest (pos 0) (row_reduced slack.now price.now) m }
 {
     let mut least = 0;
     let mut i = 0;
@@ -138,8 +130,8 @@ fn least_reduced(price: &[Price; NODES], slack: &[Price; MAX_SIDE], m: usize) ->
 
 // The first row whose least reduced cost is at most `reduced`; m if there is none.
 fn first_row(price: &[Price; NODES], slack: &[Price; MAX_SIDE], m: usize, reduced: Price) -> usize
-    requires { ⌜ RowsFit (now slack) (now price) m ⌝ }
-    ensures { λ r. ⌜ FirstAt (rowReduced (now (slack .entry)) (now (price .entry))) reduced m r ⌝ }
+    requires { RowsFit slack.now price.now m }
+    ensures { FirstAt (row_reduced slack.now price.now) reduced m result }
 {
     let mut row = 0;
     while row < m && reduced < slack[row] - price[row] {
@@ -157,9 +149,9 @@ fn first_column(
     row: usize,
     slack: Price,
 ) -> usize
-    requires { ⌜ InRange (now cost) (now price) m n ⌝ }
-    requires { ⌜ row < m ⌝ }
-    ensures { λ r. ⌜ FirstAt (slackAt (now (cost .entry)) (now (price .entry)) m row) slack n r ⌝ }
+    requires in_range { InRange cost.now price.now m n }
+    requires row_lt_m { row < m }
+    ensures { FirstAt (slack_at cost.now price.now m row) slack n result }
 {
     let mut col = 0;
     while col < n && slack < cost[col * MAX_SIDE + row] - price[m + col] {
@@ -169,6 +161,7 @@ fn first_column(
 }
 
 // A lane with its reduced cost.
+#[derive(Drop)]
 pub struct PricedLane {
     pub row: usize,
     pub col: usize,
@@ -183,9 +176,9 @@ pub fn entering(
     m: usize,
     n: usize,
 ) -> PricedLane
-    requires { ⌜ InRange (now cost) (now price) m n ⌝ }
-    requires { ⌜ Slacks (now cost) (now price) m n (now slack) ⌝ }
-    ensures { λ r. ⌜ Scanned (now (cost .entry)) (now (price .entry)) m n (r .row) (r .col) (r .reduced) ⌝ }
+    requires in_range { InRange cost.now price.now m n }
+    requires slacks { Slacks cost.now price.now m n slack.now }
+    ensures { Scanned cost.now price.now m n result.row result.col result.reduced }
 {
     let reduced = least_reduced(price, slack, m);
     if reduced < 0 {

@@ -1,4 +1,12 @@
 // Round: the next tableau of a sheet, or the prices of a finished one.
+ghost use Rattle.std.specs.Prelude.{◌≡◌, List};
+ghost use Rattle.transport.specs.Sheet.{sheet_of};
+ghost use Rattle.transport.specs.declared.Cell.{Cell};
+ghost use Rattle.transport.specs.OwnNumbers.{roastery_prices, cafe_prices};
+ghost use Rattle.transport.specs.Calls.{given, refused_by, finished, round_call};
+ghost use Rattle.transport.specs.Answers.{round_answer};
+ghost use Rattle.price_lists.specs.Prices.{NodesPriced};
+
 use board::gather;
 use dealing::tableau;
 use loading::load_sheet;
@@ -6,24 +14,11 @@ use numbering::own_tableau;
 use price_lists::write_prices;
 use rounds::round::make_round;
 use sheet::SheetCheck;
-use transport::MAX_SIDE;
-use transport::RoundAnswer;
-use transport::RoundOutcome;
-use transport::Tableau;
-use tree::LANES;
-use tree::NODES;
-use tree::Price;
-ghost use mathlib.Core.Path.{_≡_};
-ghost use mathlib.Core.List.{List};
-ghost use Rattle·transport.specs.Sheet.{sheetOf};
-ghost use Rattle·transport.specs.declared.Cell.{Cell};
-ghost use Rattle·transport.specs.OwnNumbers.{roasteryPrices, cafePrices};
-ghost use Rattle·transport.specs.Calls.{given, refusedBy, finished, roundCall};
-ghost use Rattle·transport.specs.Answers.{roundAnswer};
-ghost use Rattle·price_lists.specs.Prices.{NodesPriced};
+use transport::{MAX_SIDE, RoundAnswer, RoundOutcome, Tableau};
+use tree::{LANES, NODES, Price};
 
 fn refused_round(number: u8) -> RoundAnswer
-    ensures { λ r. ⌜ r ≡ roundAnswer (refusedBy number) ⌝ }
+    ensures { result ≡ round_answer (refused_by number) }
 {
     RoundAnswer {
         outcome: RoundOutcome::Refused(number),
@@ -42,13 +37,10 @@ fn finished_round(
     cols: &[usize],
     price: &[Price; NODES],
 ) -> RoundAnswer
-    requires { ⌜ ((T : List Cell) × NodesPriced (sheetOf (now supply) (now demand) (now cost)) T (now rows) (now cols) (now price)) ⌝ }
-    ensures { λ r.
-        let S = sheetOf (now (supply .entry)) (now (demand .entry)) (now (cost .entry)) in
-        ⌜
-        ((T : List Cell) → NodesPriced S T (now (rows .entry)) (now (cols .entry)) (now (price .entry))
-        → r ≡ roundAnswer (given (finished (roasteryPrices S T) (cafePrices S T))))
-        ⌝ }
+    requires { (T : List Cell) × NodesPriced (sheet_of supply.now demand.now cost.now) T rows.now cols.now price.now }
+    ensures { let S = sheet_of supply.now demand.now cost.now in
+        ((T : List Cell) → NodesPriced S T rows.now cols.now price.now
+        → result ≡ round_answer (given (finished (roastery_prices S T) (cafe_prices S T)))) }
 {
     let mut u = [0i64; MAX_SIDE];
     let mut v = [0i64; MAX_SIDE];
@@ -63,9 +55,8 @@ fn finished_round(
 
 // Round: the next tableau, or that this one is finished, with its prices. It refuses what the sheet check refuses, and by 6 a tableau that does not belong.
 pub fn round(supply: &[u64], demand: &[u64], cost: &[i64], t: Tableau) -> RoundAnswer
-    ensures { λ r.
-        let S = sheetOf (now (supply .entry)) (now (demand .entry)) (now (cost .entry)) in
-        ⌜ r ≡ roundAnswer (roundCall S t) ⌝ }
+    ensures { let S = sheet_of supply.now demand.now cost.now in
+        result ≡ round_answer (round_call S t) }
 {
     let mut q = [0i64; LANES];
     let mut e = [0i64; LANES];

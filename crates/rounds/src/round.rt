@@ -1,23 +1,17 @@
 // A round on flat arrays. The tree, the prices and the least slacks of the rows are kept from round to round.
+ghost use Rattle.std.specs.Prelude.{◌≡◌, List, ℤ};
+ghost use Rattle.transport.specs.Problem.{Problem};
+ghost use Rattle.transport.specs.Potential.{is_finished_of};
+ghost use Rattle.transport.specs.declared.Cell.{Cell};
+ghost use Rattle.rounds.specs.Kept.{Kept, Advanced};
+ghost use Rattle.rounds.specs.Begun.{Begun, Judged, Rounded};
+
 use cuts::cut::plant;
 use pivoting::pivot::pivot;
-use pricing::scan::entering;
-use pricing::scan::refresh_slacks;
-use pricing::scan::scan_slacks;
+use pricing::scan::{entering, refresh_slacks, scan_slacks};
 use transport::MAX_SIDE;
-use tree::LANES;
-use tree::NODES;
-use tree::Price;
-use tree::potential::potentials;
-use tree::potential::reprice;
-ghost use mathlib.Core.Path.{_≡_};
-ghost use mathlib.Core.List.{List};
-ghost use lib.IntN.{ℤ};
-ghost use Rattle·transport.specs.Problem.{Problem};
-ghost use Rattle·transport.specs.Potential.{isFinished};
-ghost use Rattle·transport.specs.declared.Cell.{Cell};
-ghost use Rattle·rounds·specs.specs.Kept.{Kept, Advanced};
-ghost use Rattle·rounds·specs.specs.Begun.{Begun, Judged, Rounded};
+use tree::potential::{potentials, reprice};
+use tree::{LANES, NODES, Price};
 
 // The tree and the prices of a tableau whose basis the strikes strike off; gives the least slacks of its rows.
 pub fn begin(
@@ -31,12 +25,10 @@ pub fn begin(
     sub: &mut [u64; NODES],
     price: &mut [Price; NODES],
 ) -> [Price; MAX_SIDE]
-    requires { ⌜ ((P : Problem) × (T : List Cell) × (q : List ℤ) × (e : List ℤ) × Begun P T q e (now cost) (now leaf) (now other) (now lane) m n) ⌝ }
-    ensures { λ r. ⌜
-        ((P : Problem) (T : List Cell) (q e : List ℤ)
-        → Begun P T q e (now (cost .entry)) (now (leaf .entry)) (now (other .entry)) (now (lane .entry)) m n
-        → Kept P T q e (now (cost .entry)) (now (price .exit)) r (now (sub .exit)) (now (path .exit)) (now (lane .entry)) m n)
-        ⌝ }
+    requires { (P : Problem) × (T : List Cell) × (q : List ℤ) × (e : List ℤ) × Begun P T q e cost.now leaf.now other.now lane.now m n }
+    ensures { (P : Problem) (T : List Cell) (q e : List ℤ)
+        → Begun P T q e cost.now leaf.now other.now lane.now m n
+        → Kept P T q e cost.now price.new result sub.new path.new lane.now m n }
 {
     potentials(cost, leaf, other, lane, m + n - 1, price);
     plant(leaf, other, lane, m, n, path, sub);
@@ -53,12 +45,10 @@ pub fn is_finished(
     n: usize,
     price: &mut [Price; NODES],
 ) -> bool
-    requires { ⌜ ((P : Problem) × (T : List Cell) × (q : List ℤ) × (e : List ℤ) × Begun P T q e (now cost) (now leaf) (now other) (now lane) m n) ⌝ }
-    ensures { λ r. ⌜
-        ((P : Problem) (T : List Cell) (q e : List ℤ)
-        → Begun P T q e (now (cost .entry)) (now (leaf .entry)) (now (other .entry)) (now (lane .entry)) m n
-        → Judged P T q e (now (price .exit)) (now (lane .entry)) m n r)
-        ⌝ }
+    requires { (P : Problem) × (T : List Cell) × (q : List ℤ) × (e : List ℤ) × Begun P T q e cost.now leaf.now other.now lane.now m n }
+    ensures { (P : Problem) (T : List Cell) (q e : List ℤ)
+        → Begun P T q e cost.now leaf.now other.now lane.now m n
+        → Judged P T q e price.new lane.now m n result }
 {
     let mut path = [0u64; NODES];
     let mut sub = [0u64; NODES];
@@ -76,15 +66,11 @@ pub fn test_finished(
     m: usize,
     n: usize,
 ) -> bool
-    requires { ⌜
-        ((P : Problem) × (T : List Cell) × (q : List ℤ) × (e : List ℤ)
-        × Begun P T q e (now cost) (now leaf) (now other) (now lane) m n)
-        ⌝ }
-    ensures { λ r. ⌜
-        ((P : Problem) (T : List Cell) (q e : List ℤ)
-        → Begun P T q e (now (cost .entry)) (now (leaf .entry)) (now (other .entry)) (now (lane .entry)) m n
-        → isFinished P T ≡ r)
-        ⌝ }
+    requires { (P : Problem) × (T : List Cell) × (q : List ℤ) × (e : List ℤ)
+        × Begun P T q e cost.now leaf.now other.now lane.now m n }
+    ensures { (P : Problem) (T : List Cell) (q e : List ℤ)
+        → Begun P T q e cost.now leaf.now other.now lane.now m n
+        → is_finished_of P T ≡ result }
 {
     let mut price: [Price; NODES] = [0; NODES];
     potentials(cost, leaf, other, lane, m + n - 1, &mut price);
@@ -106,16 +92,12 @@ pub fn advance(
     m: usize,
     n: usize,
 ) -> bool
-    requires { ⌜
-        ((P : Problem) × (T : List Cell) × Kept P T (now q) (now e) (now cost) (now price) (now slack) (now sub) (now path) (now lane) m n)
-        ⌝ }
-    ensures { λ r. ⌜
-        ((P : Problem) (T : List Cell)
-        → Kept P T (now (q .entry)) (now (e .entry)) (now (cost .entry)) (now (price .entry)) (now (slack .entry))
-        (now (sub .entry)) (now (path .entry)) (now (lane .entry)) m n
-        → Advanced P T (now (q .exit)) (now (e .exit)) (now (cost .entry)) (now (price .exit)) (now (slack .exit))
-        (now (sub .exit)) (now (path .exit)) (now (lane .exit)) m n r)
-        ⌝ }
+    requires { (P : Problem) × (T : List Cell) × Kept P T q.old e.old cost.now price.old slack.old sub.old path.old lane.old m n }
+    ensures { (P : Problem) (T : List Cell)
+        → Kept P T q.old e.old cost.now price.old slack.old
+        sub.old path.old lane.old m n
+        → Advanced P T q.new e.new cost.now price.new slack.new
+        sub.new path.new lane.new m n result }
 {
     let enter = entering(cost, price, slack, m, n);
     if enter.reduced >= 0 {
@@ -132,6 +114,7 @@ pub fn advance(
 }
 
 // What a round gives: whether the tableau is finished, and the prices of the one that the arrays then hold.
+#[derive(Drop)]
 pub struct Turn {
     pub finished: bool,
     pub price: [Price; NODES],
@@ -148,38 +131,19 @@ pub fn make_round(
     m: usize,
     n: usize,
 ) -> Turn
-    requires { ⌜ ((P : Problem) × (T : List Cell) × Begun P T (now q) (now e) (now cost) (now leaf) (now other) (now lane) m n) ⌝ }
-    ensures { λ r. ⌜
-        ((P : Problem) (T : List Cell)
-        → Begun P T (now (q .entry)) (now (e .entry)) (now (cost .entry)) (now (leaf .entry)) (now (other .entry)) (now (lane .entry)) m n
-        → Rounded P T (now (q .exit)) (now (e .exit)) (r .price) (now (lane .exit)) m n (r .finished))
-        ⌝ }
+    requires { (P : Problem) × (T : List Cell) × Begun P T q.old e.old cost.now leaf.now other.now lane.old m n }
+    ensures { (P : Problem) (T : List Cell)
+        → Begun P T q.old e.old cost.now leaf.now other.now lane.old m n
+        → Rounded P T q.new e.new result.price lane.new m n result.finished }
 {
     let mut price: [Price; NODES] = [0; NODES];
     let mut path = [0u64; NODES];
     let mut sub = [0u64; NODES];
     let mut slack = begin(
-        cost,
-        leaf,
-        other,
-        lane,
-        m,
-        n,
-        &mut path,
-        &mut sub,
-        &mut price,
+        cost, leaf, other, lane, m, n, &mut path, &mut sub, &mut price,
     );
     let finished = advance(
-        q,
-        e,
-        cost,
-        &mut price,
-        &mut slack,
-        &mut path,
-        &mut sub,
-        lane,
-        m,
-        n,
+        q, e, cost, &mut price, &mut slack, &mut path, &mut sub, lane, m, n,
     );
     Turn { finished, price }
 }

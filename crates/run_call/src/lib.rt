@@ -1,27 +1,22 @@
 // Run: rounds within an allowance.
+ghost use Rattle.std.specs.Prelude.{◌≡◌, List};
+ghost use Rattle.transport.specs.Sheet.{sheet_of};
+ghost use Rattle.transport.specs.Tableau.{tableau_of};
+ghost use Rattle.transport.specs.declared.Cell.{Cell};
+ghost use Rattle.transport.specs.Calls.{given, refused_by, run_call};
+ghost use Rattle.transport.specs.Answers.{run_answer};
+
 use board::gather::gather;
 use dealing::tableau;
 use loading::load_sheet;
 use numbering::own_tableau;
 use runs::run::make_run;
 use sheet::SheetCheck;
-use transport::MAX_SIDE;
-use transport::RunAnswer;
-use transport::RunOutcome;
-use transport::Tableau;
-use tree::LANES;
-use tree::NODES;
-use tree::Price;
-ghost use mathlib.Core.Path.{_≡_};
-ghost use mathlib.Core.List.{List};
-ghost use Rattle·transport.specs.Sheet.{sheetOf};
-ghost use Rattle·transport.specs.Tableau.{tableauOf};
-ghost use Rattle·transport.specs.declared.Cell.{Cell};
-ghost use Rattle·transport.specs.Calls.{given, refusedBy, runCall};
-ghost use Rattle·transport.specs.Answers.{runAnswer};
+use transport::{MAX_SIDE, RunAnswer, RunOutcome, Tableau};
+use tree::{LANES, NODES, Price};
 
 fn refused_run(number: u8) -> RunAnswer
-    ensures { λ r. ⌜ r ≡ runAnswer (refusedBy number) ⌝ }
+    ensures { result ≡ run_answer (refused_by number) }
 {
     RunAnswer {
         outcome: RunOutcome::Refused(number),
@@ -31,9 +26,7 @@ fn refused_run(number: u8) -> RunAnswer
 
 // The answer for a run that made so many rounds: finished, or spent; with its last tableau.
 fn ended_run(finished: bool, made: u64, last: Tableau) -> RunAnswer
-    ensures { λ r. ⌜
-        ((T : List Cell) → last ≡ tableauOf T → r ≡ runAnswer (given (record { finished = finished; tableau = T; rounds = made })))
-        ⌝ }
+    ensures { (T : List Cell) → last ≡ tableau_of T → result ≡ run_answer (given (record { finished = finished; tableau = T; rounds = made })) }
 {
     if finished {
         return RunAnswer {
@@ -50,9 +43,8 @@ fn ended_run(finished: bool, made: u64, last: Tableau) -> RunAnswer
 // Run makes rounds: `finished` with the tableau and the number of rounds, if it finishes within the allowance; else `spent`, after exactly that many.
 // Refusals as for a round.
 pub fn run(supply: &[u64], demand: &[u64], cost: &[i64], t: Tableau, allowance: u32) -> RunAnswer
-    ensures { λ r.
-        let S = sheetOf (now (supply .entry)) (now (demand .entry)) (now (cost .entry)) in
-        ⌜ r ≡ runAnswer (runCall S t allowance) ⌝ }
+    ensures { let S = sheet_of supply.now demand.now cost.now in
+        result ≡ run_answer (run_call S t allowance) }
 {
     let mut q = [0i64; LANES];
     let mut e = [0i64; LANES];
@@ -82,15 +74,7 @@ pub fn run(supply: &[u64], demand: &[u64], cost: &[i64], t: Tableau, allowance: 
     let n = loading.parties.columns;
     let within = allowance as u64;
     let end = make_run(
-        &mut q,
-        &mut e,
-        &lane_cost,
-        &leaf,
-        &other,
-        &mut lane,
-        m,
-        n,
-        within,
+        &mut q, &mut e, &lane_cost, &leaf, &other, &mut lane, m, n, within,
     );
     let own = own_tableau(gather(&lane, &q, &e, m, n), &rows[..m], &cols[..n]);
     ended_run(end.finished, end.made, own)

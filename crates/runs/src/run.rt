@@ -1,19 +1,17 @@
 // Runs: rounds made until a tableau is finished, or an allowance is spent.
+ghost use Rattle.std.specs.Prelude.{true, List};
+ghost use Rattle.transport.specs.Problem.{Problem};
+ghost use Rattle.transport.specs.Round.{round_bound};
+ghost use Rattle.transport.specs.declared.Cell.{Cell};
+ghost use Rattle.rounds.specs.Begun.{Begun};
+ghost use Rattle.runs.specs.Runs.{Ended, Ran};
+
 use pricing::scan::entering;
-use rounds::round::advance;
-use rounds::round::begin;
-use tree::LANES;
-use tree::NODES;
-use tree::Price;
-ghost use mathlib.Core.Bool.{true};
-ghost use mathlib.Core.List.{List};
-ghost use Rattle·transport.specs.Problem.{Problem};
-ghost use Rattle·transport.specs.Round.{roundBound};
-ghost use Rattle·transport.specs.declared.Cell.{Cell};
-ghost use Rattle·rounds.specs.Begun.{Begun};
-ghost use Rattle·runs·specs.specs.Runs.{Ended, Ran};
+use rounds::round::{advance, begin};
+use tree::{LANES, NODES, Price};
 
 // How a run ended, and how many rounds it made.
+#[derive(Drop)]
 pub struct Made {
     pub finished: bool,
     pub made: u64,
@@ -32,12 +30,10 @@ fn rounds(
     price: &mut [Price; NODES],
     allowance: u64,
 ) -> Made
-    requires { ⌜ ((P : Problem) × (T : List Cell) × Begun P T (now q) (now e) (now cost) (now leaf) (now other) (now lane) m n) ⌝ }
-    ensures { λ r. ⌜
-        ((P : Problem) (T : List Cell)
-        → Begun P T (now (q .entry)) (now (e .entry)) (now (cost .entry)) (now (leaf .entry)) (now (other .entry)) (now (lane .entry)) m n
-        → Ran P T allowance (now (q .exit)) (now (e .exit)) (now (price .exit)) (now (lane .exit)) m n (r .finished) (r .made))
-        ⌝ }
+    requires { (P : Problem) × (T : List Cell) × Begun P T q.old e.old cost.now leaf.now other.now lane.old m n }
+    ensures { (P : Problem) (T : List Cell)
+        → Begun P T q.old e.old cost.now leaf.now other.now lane.old m n
+        → Ran P T allowance q.new e.new price.new lane.new m n result.finished result.made }
 {
     let mut path = [0u64; NODES];
     let mut sub = [0u64; NODES];
@@ -46,16 +42,7 @@ fn rounds(
     let mut made = 0;
     while left > 0 {
         if advance(
-            q,
-            e,
-            cost,
-            price,
-            &mut slack,
-            &mut path,
-            &mut sub,
-            lane,
-            m,
-            n,
+            q, e, cost, price, &mut slack, &mut path, &mut sub, lane, m, n,
         ) {
             return Made {
                 finished: true,
@@ -85,12 +72,10 @@ pub fn make_run(
     n: usize,
     allowance: u64,
 ) -> Made
-    requires { ⌜ ((P : Problem) × (T : List Cell) × Begun P T (now q) (now e) (now cost) (now leaf) (now other) (now lane) m n) ⌝ }
-    ensures { λ r. ⌜
-        ((P : Problem) (T : List Cell)
-        → Begun P T (now (q .entry)) (now (e .entry)) (now (cost .entry)) (now (leaf .entry)) (now (other .entry)) (now (lane .entry)) m n
-        → Ended P T allowance (now (q .exit)) (now (e .exit)) (now (lane .exit)) m n (r .finished) (r .made))
-        ⌝ }
+    requires { (P : Problem) × (T : List Cell) × Begun P T q.old e.old cost.now leaf.now other.now lane.old m n }
+    ensures { (P : Problem) (T : List Cell)
+        → Begun P T q.old e.old cost.now leaf.now other.now lane.old m n
+        → Ended P T allowance q.new e.new lane.new m n result.finished result.made }
 {
     let mut price: [Price; NODES] = [0; NODES];
     rounds(q, e, cost, leaf, other, lane, m, n, &mut price, allowance)
@@ -108,28 +93,17 @@ pub fn finish(
     n: usize,
     price: &mut [Price; NODES],
 ) -> u64
-    requires { ⌜ ((P : Problem) × (T : List Cell) × Begun P T (now q) (now e) (now cost) (now leaf) (now other) (now lane) m n) ⌝ }
-    ensures { λ r. ⌜
-        ((P : Problem) (T : List Cell)
-        → Begun P T (now (q .entry)) (now (e .entry)) (now (cost .entry)) (now (leaf .entry)) (now (other .entry)) (now (lane .entry)) m n
-        → Ran P T (roundBound P) (now (q .exit)) (now (e .exit)) (now (price .exit)) (now (lane .exit)) m n true r)
-        ⌝ }
+    requires { (P : Problem) × (T : List Cell) × Begun P T q.old e.old cost.now leaf.now other.now lane.old m n }
+    ensures { (P : Problem) (T : List Cell)
+        → Begun P T q.old e.old cost.now leaf.now other.now lane.old m n
+        → Ran P T (round_bound P) q.new e.new price.new lane.new m n true result }
 {
     let mut path = [0u64; NODES];
     let mut sub = [0u64; NODES];
     let mut slack = begin(cost, leaf, other, lane, m, n, &mut path, &mut sub, price);
     let mut made = 0u64;
     while !advance(
-        q,
-        e,
-        cost,
-        price,
-        &mut slack,
-        &mut path,
-        &mut sub,
-        lane,
-        m,
-        n,
+        q, e, cost, price, &mut slack, &mut path, &mut sub, lane, m, n,
     ) {
         made += 1;
     }

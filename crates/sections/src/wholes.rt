@@ -1,18 +1,15 @@
 // Sections of whole numbers, each with its minus if it is negative.
-ghost use mathlib.Core.Path.{_≡_};
-ghost use mathlib.Core.List.{_++_};
-ghost use Prim.Native.Nat.{_+_, _*_, _^_, _≤_};
-ghost use lib.ListN.{length};
-ghost use Rattle·transport.specs.Text.{digits, wholeDigits};
-ghost use Rattle·decimals.specs.Front.{front};
-ghost use Rattle·sections·specs.specs.Lines.{ended, linesFrom, numbersLength, sectionText};
-use crate::lines;
-use crate::section;
+ghost use Rattle.std.specs.Prelude.{◌≡◌, ◌++◌, ◌+◌, ◌*◌, ◌^◌, ◌≤◌, length};
+ghost use Rattle.transport.specs.Text.{digits, whole_digits};
+ghost use Rattle.decimals.specs.Front.{front};
+ghost use Rattle.sections.specs.Lines.{ended, lines_from, numbers_length, section_text};
+
+use crate::{lines, section};
 
 // A whole number, and the byte that ends it.
 fn write_whole_ended(z: i64, end: u8, out: &mut [u8]) -> usize
-    requires { ⌜ length (ended wholeDigits z end) ≤ length (now out) ⌝ }
-    ensures { λ r. ⌜ (r ≡ length (ended wholeDigits z end)) × (now (out .exit) ≡ front (ended wholeDigits z end) (now (out .entry))) ⌝ }
+    requires { length (ended whole_digits z end) ≤ length out.old }
+    ensures { (result ≡ length (ended whole_digits z end)) × (out.new ≡ front (ended whole_digits z end) out.old) }
 {
     let at = decimals::write_whole(z, out);
     out[at] = end;
@@ -21,10 +18,9 @@ fn write_whole_ended(z: i64, end: u8, out: &mut [u8]) -> usize
 
 // Whole numbers in lines of `width`.
 fn write_whole_lines(wholes: &[i64], width: usize, out: &mut [u8]) -> usize
-    requires { ⌜ (1 ≤ width) × (length (linesFrom wholeDigits width width (now wholes)) ≤ length (now out)) ⌝ }
-    ensures { λ r.
-        let text = linesFrom wholeDigits width width (now (wholes .entry)) in
-        ⌜ (r ≡ length text) × (now (out .exit) ≡ front text (now (out .entry))) ⌝ }
+    requires { (1 ≤ width) × (length (lines_from whole_digits width width wholes.now) ≤ length out.old) }
+    ensures { let text = lines_from whole_digits width width wholes.now in
+        (result ≡ length text) × (out.new ≡ front text out.old) }
 {
     let mut at: usize = 0;
     let mut left = width;
@@ -40,8 +36,8 @@ fn write_whole_lines(wholes: &[i64], width: usize, out: &mut [u8]) -> usize
 
 // The length of whole numbers in lines: each with the byte that ends it.
 fn whole_lines_len(wholes: &[i64]) -> usize
-    requires { ⌜ length (now wholes) ≤ 2 ^ 32 ⌝ }
-    ensures { λ r. ⌜ (r ≡ numbersLength wholeDigits (now (wholes .entry))) × (r ≤ length (now (wholes .entry)) * 21) ⌝ }
+    requires { length wholes.now ≤ 2 ^ 32 }
+    ensures { (result ≡ numbers_length whole_digits wholes.now) × (result ≤ length wholes.now * 21) }
 {
     let mut len: usize = 0;
     let mut i: usize = 0;
@@ -60,10 +56,9 @@ pub fn write_whole_section(
     wholes: &[i64],
     out: &mut [u8],
 ) -> usize
-    requires { ⌜ (1 ≤ width) × (length (sectionText wholeDigits (now name) count width (now wholes)) ≤ length (now out)) ⌝ }
-    ensures { λ r.
-        let text = sectionText wholeDigits (now (name .entry)) count width (now (wholes .entry)) in
-        ⌜ (r ≡ length text) × (now (out .exit) ≡ front text (now (out .entry))) ⌝ }
+    requires { (1 ≤ width) × (length (section_text whole_digits name.now count width wholes.now) ≤ length out.old) }
+    ensures { let text = section_text whole_digits name.now count width wholes.now in
+        (result ≡ length text) × (out.new ≡ front text out.old) }
 {
     let at = section::write_head(name, count, out);
     at + write_whole_lines(wholes, width, &mut out[at..])
@@ -71,10 +66,9 @@ pub fn write_whole_section(
 
 // The length of such a section, whatever its lines.
 pub fn whole_section_len(name: &[u8], count: usize, wholes: &[i64]) -> usize
-    requires { ⌜ (length (now name) ≤ 16) × (length (now wholes) ≤ 2 ^ 32) ⌝ }
-    ensures { λ r.
-        let zs = now (wholes .entry) in
-        ⌜ (r ≡ length (now (name .entry) ++ ended digits count 10) + numbersLength wholeDigits zs) × (r ≤ length zs * 21 + 37) ⌝ }
+    requires { (length name.now ≤ 16) × (length wholes.now ≤ 2 ^ 32) }
+    ensures { let zs = wholes.now in
+        (result ≡ length (name.now ++ ended digits count 10) + numbers_length whole_digits zs) × (result ≤ length zs * 21 + 37) }
 {
     section::head_len(name, count) + whole_lines_len(wholes)
 }

@@ -1,34 +1,25 @@
 // Lanes decided in sheet order: bags are brought onto a lane from later ones as long as there are any that can be, over tight lanes only, so at no cost. Lanes
 // before it are left alone.
+ghost use Rattle.std.specs.Prelude.{◌≡◌, ◌↔◌, true, ℕ, suc, ◌+◌, ◌*◌, ◌<◌, ◌≤◌};
+ghost use Rattle.integers.specs.Integer.{Z};
+ghost use Rattle.network.specs.Settling.{DecidedTo};
+ghost use Rattle.tree.specs.Layout.{stride};
+ghost use Rattle.augment.specs.Bags.{lane_bags, InMask};
+ghost use Rattle.augment.specs.Sought.{Sought, Rooms};
+ghost use Rattle.settle.specs.Stage.{Stage, Reaches, Dead};
+ghost use Rattle.settle.specs.Rows.{OnlyBasics, Settleable};
+
 use augment::bags::mask_bags;
-use augment::search::Reached;
-use augment::search::Target;
-use augment::search::search;
+use augment::search::{Reached, Target, search};
 use augment::way::bring_least;
 use transport::MAX_SIDE;
-use tree::LANES;
-use tree::NODES;
-use tree::mask::first_bit;
-use tree::mask::first_bits;
-use tree::mask::has_bit;
-use tree::mask::rest;
-use tree::mask::without;
-ghost use mathlib.Core.Path.{_≡_};
-ghost use mathlib.Core.Logic.{_↔_};
-ghost use mathlib.Core.Bool.{true};
-ghost use Prim.Native.Nat.{ℕ, suc, _+_, _*_, _<_, _≤_};
-ghost use Rattle·integers.specs.Integer.{Z};
-ghost use Rattle·network.specs.Settling.{DecidedTo};
-ghost use Rattle·tree.specs.Layout.{stride};
-ghost use Rattle·augment.specs.Bags.{laneBags, InMask};
-ghost use Rattle·augment.specs.Sought.{Sought, Rooms};
-ghost use Rattle·settle·specs.specs.Stage.{Stage, Reaches, Dead};
-ghost use Rattle·settle·specs.specs.Rows.{OnlyBasics, Settleable};
+use tree::mask::{first_bit, first_bits, has_bit, rest, without};
+use tree::{LANES, NODES};
 
 // Whether only basic lanes are tight, by the masks of basic lanes, so that there is no other plan on them.
 fn only_basics(tight: &[u64; MAX_SIDE], basic: &[u64; NODES], m: usize) -> bool
-    requires { ⌜ m ≤ stride ⌝ }
-    ensures { λ r. ⌜ (r ≡ true) ↔ OnlyBasics (now (tight .entry)) (now (basic .entry)) m ⌝ }
+    requires { m ≤ stride }
+    ensures { (result ≡ true) ↔ OnlyBasics tight.now basic.now m }
 {
     let mut i = 0;
     while i < m {
@@ -54,15 +45,13 @@ fn decide(
     m: usize,
     n: usize,
 ) -> u64
-    requires { ⌜ ((a : ℕ → Z) × (b : ℕ → Z) × Stage m n a b (target .row * n + target .col) (now tight) (now q) (now holds) (now owns)) ⌝ }
-    requires { ⌜ Sought m n target (laneBags (now q)) (now tight) (now holds) (now owns) ⌝ }
-    requires { ⌜ Rooms (now row) (now col) (now up) (now from) ⌝ }
-    ensures { λ _. ⌜ Rooms (now (row .exit)) (now (col .exit)) (now (up .exit)) (now (from .exit)) ⌝ }
-    ensures { λ r. ⌜ Dead m n (target .row) (suc (target .col)) (now (tight .entry)) (now (q .exit)) r ⌝ }
-    ensures { λ _. ⌜
-        Reaches m n (target .row * n + target .col) (suc (target .row * n + target .col)) (now (tight .entry))
-        (now (q .entry)) (now (holds .entry)) (now (owns .entry)) (now (q .exit)) (now (holds .exit)) (now (owns .exit))
-        ⌝ }
+    requires by_index { (a : ℕ → Z) × (b : ℕ → Z) × Stage m n a b (target.row * n + target.col) tight.now q.old holds.old owns.old }
+    requires sought { Sought m n target (lane_bags q.old) tight.now holds.old owns.old }
+    requires rooms { Rooms row.old col.old up.old from.old }
+    ensures rooms_2 { Rooms row.new col.new up.new from.new }
+    ensures dead { Dead m n target.row (suc target.col) tight.now q.new result }
+    ensures reaches { Reaches m n (target.row * n + target.col) (suc (target.row * n + target.col)) tight.now
+        q.old holds.old owns.old q.new holds.new owns.new }
 {
     let p = target.row;
     let mut goal = target.goal;
@@ -103,14 +92,12 @@ fn settle_row(
     n: usize,
     p: usize,
 )
-    requires { ⌜ ((a : ℕ → Z) × (b : ℕ → Z) × Stage m n a b (p * n) (now tight) (now q) (now holds) (now owns)) ⌝ }
-    requires { ⌜ p < m ⌝ }
-    requires { ⌜ Rooms (now row) (now col) (now up) (now from) ⌝ }
-    ensures { λ _. ⌜ Rooms (now (row .exit)) (now (col .exit)) (now (up .exit)) (now (from .exit)) ⌝ }
-    ensures { λ _. ⌜
-        Reaches m n (p * n) (p * n + n) (now (tight .entry))
-        (now (q .entry)) (now (holds .entry)) (now (owns .entry)) (now (q .exit)) (now (holds .exit)) (now (owns .exit))
-        ⌝ }
+    requires by_index { (a : ℕ → Z) × (b : ℕ → Z) × Stage m n a b (p * n) tight.now q.old holds.old owns.old }
+    requires p_lt_m { p < m }
+    requires rooms { Rooms row.old col.old up.old from.old }
+    ensures rooms_2 { Rooms row.new col.new up.new from.new }
+    ensures reaches { Reaches m n (p * n) (p * n + n) tight.now
+        q.old holds.old owns.old q.new holds.new owns.new }
 {
     let later = without(first_bits(m), first_bits(p + 1));
     let mut dead: u64 = 0;
@@ -143,11 +130,9 @@ pub fn settle_lanes(
     m: usize,
     n: usize,
 )
-    requires { ⌜ ((a : ℕ → Z) × (b : ℕ → Z) × Settleable m n a b (now tight) (now basic) (now q)) ⌝ }
-    ensures { λ _. ⌜
-        ((a b : ℕ → Z) → Settleable m n a b (now (tight .entry)) (now (basic .entry)) (now (q .entry))
-        → DecidedTo m n a b (InMask (now (tight .entry))) (m * n) (laneBags (now (q .exit))))
-        ⌝ }
+    requires { (a : ℕ → Z) × (b : ℕ → Z) × Settleable m n a b tight.now basic.now q.old }
+    ensures { (a b : ℕ → Z) → Settleable m n a b tight.now basic.now q.old
+        → DecidedTo m n a b (InMask tight.now) (m * n) (lane_bags q.new) }
 {
     if only_basics(tight, basic, m) {
         return;

@@ -1,20 +1,16 @@
 // Settle: from a finished tableau of a sheet to its settled plan.
+ghost use Rattle.std.specs.Prelude.{◌≡◌, length};
+ghost use Rattle.transport.specs.Sheet.{sheet_of};
+ghost use Rattle.transport.specs.Calls.{lent_after, settle_call};
+ghost use Rattle.transport.specs.Answers.{settle_answer};
+
 use loading::load_sheet;
 use plan_store::store_plan;
 use rounds::round::is_finished;
 use sheet::SheetCheck;
 use solving::finished::settle_board;
-use transport::MAX_SIDE;
-use transport::SettleAnswer;
-use transport::Tableau;
-use tree::LANES;
-use tree::NODES;
-use tree::Price;
-ghost use mathlib.Core.Path.{_≡_};
-ghost use lib.ListN.{length};
-ghost use Rattle·transport.specs.Sheet.{sheetOf};
-ghost use Rattle·transport.specs.Calls.{lentAfter, settleCall};
-ghost use Rattle·transport.specs.Answers.{settleAnswer};
+use transport::{MAX_SIDE, SettleAnswer, Tableau};
+use tree::{LANES, NODES, Price};
 
 // Settle writes the quantities of the settled plan, one for each roastery and café of the sheet. Sheet check, then 6 if the tableau does not belong to the
 // sheet, 7 if it is not finished, and 8 if the list is too short.
@@ -25,10 +21,9 @@ pub fn settle(
     t: Tableau,
     plan: &mut [u64],
 ) -> SettleAnswer
-    ensures { λ r.
-        let S = sheetOf (now (supply .entry)) (now (demand .entry)) (now (cost .entry)) in
-        let a = settleCall S t (length (now (plan .entry))) in
-        ⌜ (r ≡ settleAnswer a) × (now (plan .exit) ≡ lentAfter (λ x. x) a (now (plan .entry))) ⌝ }
+    ensures { let S = sheet_of supply.now demand.now cost.now in
+        let a = settle_call S t (length plan.old) in
+        (result ≡ settle_answer a) × (plan.new ≡ lent_after (λ x. x) a plan.old) }
 {
     let mut q = [0i64; LANES];
     let mut e = [0i64; LANES];

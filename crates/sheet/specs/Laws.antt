@@ -1,8 +1,8 @@
 -- The product of two sides fits a word.
-use Rattle·prelude.specs.Words.{ℕ, _*_, _≤_, _<_, _^_, arith, mul-le-mul}
-use native.Mathlib.Nat.{lt-of-le-of-lt}
-use Rattle·transport.specs.Limits.{maxSources, maxSinks}
+use Rattle.prelude.specs.Words.{ℕ, ◌*◌, ◌≤◌, ◌<◌, ◌^◌, arith, mul-le-mul}
+use Rattle.std.proofs.Common.{lt_of_le_of_lt}
+use Rattle.transport.specs.Limits.{max_sources, max_sinks}
 
-pub sides-product : (m n : ℕ) → m ≤ maxSources → n ≤ maxSinks → m * n < 2 ^ 64
-unfolding maxSources maxSinks
-sides-product m n p q = lt-of-le-of-lt (mul-le-mul p q) (omega arith)
+pub sides_product : (m n : ℕ) → m ≤ max_sources → n ≤ max_sinks → m * n < 2 ^ 64
+unfolding max_sources max_sinks
+sides_product m n p q = lt_of_le_of_lt (mul-le-mul p q) (omega arith)

@@ -1,21 +1,15 @@
 // The sheet check, part of every call that takes a sheet as lists: refusals 1 to 5, 10 and 11, of several the first.
-ghost use mathlib.Core.Path.{_≡_};
-ghost use mathlib.Core.Bool.{true};
-ghost use Prim.Native.Nat.{_≤_};
-ghost use lib.IntN.{pos, negℤ};
-ghost use lib.ListN.{length};
-ghost use Rattle·transport.specs.Lists.{all, atMost, within, withinZ, total};
-ghost use Rattle·transport.specs.Limits.{maxSide, maxAmount, maxCost};
-ghost use Rattle·transport.specs.Sheet.{refusal, numberTests, sheetTests, sheetOf};
-ghost use Rattle·sheet·specs.specs.Check.{checkAnswer};
-use transport::MAX_AMOUNT;
-use transport::MAX_COST;
-use transport::MAX_SIDE;
-use transport::MAX_SINKS;
-use transport::MAX_SOURCES;
+ghost use Rattle.std.specs.Prelude.{◌≡◌, true, ◌≤◌, pos, neg_ℤ, length};
+ghost use Rattle.transport.specs.Lists.{all, at_most, within, within_z, total};
+ghost use Rattle.transport.specs.Limits.{max_side, max_amount, max_cost};
+ghost use Rattle.transport.specs.Sheet.{refusal, number_tests, sheet_tests, sheet_of};
+ghost use Rattle.sheet.specs.Check.{check_answer};
+
+use transport::{MAX_AMOUNT, MAX_COST, MAX_SIDE, MAX_SINKS, MAX_SOURCES};
 
 pub mod lists;
 
+#[derive(Drop)]
 pub enum SheetCheck {
     Accepted,
     Refused(u8),
@@ -23,14 +17,14 @@ pub enum SheetCheck {
 
 // Whether a sheet may have so many sources, or so many sinks, if there may be no more than `most`.
 fn side_fits(count: usize, most: usize) -> bool
-    ensures { λ r. ⌜ r ≡ within 1 most count ⌝ }
+    ensures { result ≡ within 1 most count }
 {
     1 <= count && count <= most
 }
 
 // Whether no amount is above its limit.
 fn amounts_within(amounts: &[u64]) -> bool
-    ensures { λ r. ⌜ r ≡ all (atMost maxAmount) (now (amounts .entry)) ⌝ }
+    ensures { result ≡ all (at_most max_amount) amounts.now }
 {
     let mut i: usize = 0;
     while i < amounts.len() {
@@ -44,7 +38,7 @@ fn amounts_within(amounts: &[u64]) -> bool
 
 // Whether every cost is within its limits, which are as far below 0 as above it.
 fn costs_within(costs: &[i64]) -> bool
-    ensures { λ r. ⌜ r ≡ all (withinZ (negℤ (pos maxCost)) (pos maxCost)) (now (costs .entry)) ⌝ }
+    ensures { result ≡ all (within_z (neg_ℤ (pos max_cost)) (pos max_cost)) costs.now }
 {
     let mut i: usize = 0;
     while i < costs.len() {
@@ -62,8 +56,8 @@ fn costs_within(costs: &[i64]) -> bool
 
 // The total of supplies or demands that are within their limits, so that it fits.
 pub fn total_of(amounts: &[u64]) -> u64
-    requires { ⌜ (length (now amounts) ≤ maxSide) × (all (atMost maxAmount) (now amounts) ≡ true) ⌝ }
-    ensures { λ r. ⌜ r ≡ total (now (amounts .entry)) ⌝ }
+    requires { (length amounts.now ≤ max_side) × (all (at_most max_amount) amounts.now ≡ true) }
+    ensures { result ≡ total amounts.now }
 {
     let mut sum: u64 = 0;
     let mut i: usize = 0;
@@ -76,10 +70,9 @@ pub fn total_of(amounts: &[u64]) -> u64
 
 // Refusals 3, 4, 5, 10 and 11 of a sheet whose sides are within their limits. A total is taken once its parts are known to be.
 pub fn check_numbers(supply: &[u64], demand: &[u64], cost: &[i64]) -> SheetCheck
-    requires { ⌜ (length (now supply) ≤ maxSide) × (length (now demand) ≤ maxSide) ⌝ }
-    ensures { λ r.
-        let S = sheetOf (now (supply .entry)) (now (demand .entry)) (now (cost .entry)) in
-        ⌜ r ≡ checkAnswer (refusal (numberTests S)) ⌝ }
+    requires { (length supply.now ≤ max_side) × (length demand.now ≤ max_side) }
+    ensures { let S = sheet_of supply.now demand.now cost.now in
+        result ≡ check_answer (refusal (number_tests S)) }
 {
     if !amounts_within(supply) {
         return SheetCheck::Refused(3);
@@ -110,9 +103,8 @@ pub fn check_numbers(supply: &[u64], demand: &[u64], cost: &[i64]) -> SheetCheck
 
 // The sheet check.
 pub fn check_sheet(supply: &[u64], demand: &[u64], cost: &[i64]) -> SheetCheck
-    ensures { λ r.
-        let S = sheetOf (now (supply .entry)) (now (demand .entry)) (now (cost .entry)) in
-        ⌜ r ≡ checkAnswer (refusal (sheetTests S)) ⌝ }
+    ensures { let S = sheet_of supply.now demand.now cost.now in
+        result ≡ check_answer (refusal (sheet_tests S)) }
 {
     let m = supply.len();
     let n = demand.len();

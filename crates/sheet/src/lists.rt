@@ -1,13 +1,10 @@
 // Lists of numbers.
-ghost use mathlib.Core.Path.{_≡_};
-ghost use mathlib.Core.List.{_++_};
-ghost use Prim.Native.Nat.{_≤_};
-ghost use lib.ListN.{length, drop};
+ghost use Rattle.std.specs.Prelude.{◌≡◌, ◌++◌, ◌≤◌, length, drop};
 
 // Copies a list to the front of a longer one.
 pub fn copy_list(from: &[u64], list: &mut [u64])
-    requires { ⌜ length (now from) ≤ length (now list) ⌝ }
-    ensures { λ r. ⌜ now (list .exit) ≡ now (from .entry) ++ drop (length (now (from .entry))) (now (list .entry)) ⌝ }
+    requires { length from.now ≤ length list.old }
+    ensures { list.new ≡ from.now ++ drop (length from.now) list.old }
 {
     let mut i: usize = 0;
     while i < from.len() {
@@ -18,8 +15,8 @@ pub fn copy_list(from: &[u64], list: &mut [u64])
 
 // The same with costs.
 pub fn copy_costs(from: &[i64], list: &mut [i64])
-    requires { ⌜ length (now from) ≤ length (now list) ⌝ }
-    ensures { λ r. ⌜ now (list .exit) ≡ now (from .entry) ++ drop (length (now (from .entry))) (now (list .entry)) ⌝ }
+    requires { length from.now ≤ length list.old }
+    ensures { list.new ≡ from.now ++ drop (length from.now) list.old }
 {
     let mut i: usize = 0;
     while i < from.len() {

@@ -1,17 +1,14 @@
 // Read sheet, section by section.
 pub mod whole_text;
 
-ghost use mathlib.Core.Path.{_≡_};
-ghost use lib.ListN.{length};
-ghost use Rattle·transport.specs.SheetText.{readSheetCall};
-ghost use Rattle·transport.specs.Calls.{lentAfter};
-ghost use Rattle·transport.specs.Answers.{readAnswer};
+ghost use Rattle.std.specs.Prelude.{◌≡◌, length};
+ghost use Rattle.transport.specs.SheetText.{read_sheet_call};
+ghost use Rattle.transport.specs.Calls.{lent_after};
+ghost use Rattle.transport.specs.Answers.{read_answer};
+
 use crate::whole_text::read_sections;
 use sheet_store::store_sheet;
-use transport::MAX_LANES;
-use transport::MAX_SINKS;
-use transport::MAX_SOURCES;
-use transport::ReadAnswer;
+use transport::{MAX_LANES, MAX_SINKS, MAX_SOURCES, ReadAnswer};
 
 // Read sheet: the counts of sources and sinks, which then stand in the lent lists with the costs; or the refusal, and the lists are as they were.
 // The text is read into lists of the largest sheet first, so that nothing is stored before all of it is known to be good.
@@ -21,14 +18,11 @@ pub fn read_sheet(
     demand: &mut [u64],
     cost: &mut [i64],
 ) -> ReadAnswer
-    ensures { λ r.
-        let a = readSheetCall (now (text .entry)) (length (now (supply .entry))) (length (now (demand .entry))) (length (now (cost .entry))) in
-        ⌜
-        (r ≡ readAnswer a)
-        × (now (supply .exit) ≡ lentAfter (λ S. S .supply) a (now (supply .entry)))
-        × (now (demand .exit) ≡ lentAfter (λ S. S .demand) a (now (demand .entry)))
-        × (now (cost .exit) ≡ lentAfter (λ S. S .cost) a (now (cost .entry)))
-        ⌝ }
+    ensures { let a = read_sheet_call text.now (length supply.old) (length demand.old) (length cost.old) in
+        (result ≡ read_answer a)
+        × (supply.new ≡ lent_after (λ S. S.supply) a supply.old)
+        × (demand.new ≡ lent_after (λ S. S.demand) a demand.old)
+        × (cost.new ≡ lent_after (λ S. S.cost) a cost.old) }
 {
     let mut supplies = [0u64; MAX_SOURCES];
     let mut demands = [0u64; MAX_SINKS];

@@ -1,22 +1,18 @@
 // The sections of a sheet text, one after the other up to the end of the text.
-ghost use mathlib.Core.Path.{_≡_};
-ghost use Prim.Native.Nat.{_*_, _≤_};
-ghost use lib.ListN.{length, take, drop};
-ghost use Rattle·transport.specs.Limits.{maxSources, maxSinks};
-ghost use Rattle·transport.specs.SheetText.{sheetReader};
-ghost use Rattle·tokens.specs.Reading.{placeOf};
-ghost use Rattle·line_reader.specs.SheetRead.{afterDemand, afterSupply};
-ghost use Rattle·sheet_reader·specs.specs.SheetAnswer.{answerOf, answerFits, sheetRead, readFits};
-use line_reader::read_costs;
-use line_reader::read_list;
+ghost use Rattle.std.specs.Prelude.{◌≡◌, ◌*◌, ◌≤◌, length, take, drop};
+ghost use Rattle.transport.specs.Limits.{max_sources, max_sinks};
+ghost use Rattle.transport.specs.SheetText.{sheet_reader};
+ghost use Rattle.tokens.specs.Reading.{place_of};
+ghost use Rattle.line_reader.specs.SheetRead.{after_demand, after_supply};
+ghost use Rattle.sheet_reader.specs.SheetAnswer.{answer_of, AnswerFits, sheet_read, ReadFits};
+
+use line_reader::{read_costs, read_list};
 use tokens::Taken;
-use transport::MAX_SINKS;
-use transport::MAX_SOURCES;
-use transport::ReadAnswer;
+use transport::{MAX_SINKS, MAX_SOURCES, ReadAnswer};
 
 // The answer where a reader is stuck: 9, with its place.
 fn not_sheet_text(found: Taken) -> ReadAnswer
-    ensures { λ r. ⌜ r ≡ ReadAnswer.NotSheetText (placeOf found) ⌝ }
+    ensures { result ≡ ReadAnswer.NotSheetText (place_of found) }
 {
     match found {
         Taken::Got { value: _, next } => ReadAnswer::NotSheetText(next),
@@ -26,13 +22,10 @@ fn not_sheet_text(found: Taken) -> ReadAnswer
 
 // What comes after the demands: the costs, into the front of their list, and the end of the text. Never `Refused`.
 fn read_after_demand(text: &[u8], at: usize, m: usize, n: usize, cost: &mut [i64]) -> ReadAnswer
-    requires { ⌜ (at ≤ length (now text)) × (m ≤ maxSources) × (1 ≤ n) × (n ≤ maxSinks) × (m * n ≤ length (now cost)) ⌝ }
-    ensures { λ r.
-        let t = now (text .entry) in
-        ⌜
-        (afterDemand m n (drop at t) ≡ answerOf t (λ a b. take (a * b) (now (cost .exit))) r)
-        × (answerFits t (λ a b. (a ≡ m) × (b ≡ n)) r)
-        ⌝ }
+    requires { (at ≤ length text.now) × (m ≤ max_sources) × (1 ≤ n) × (n ≤ max_sinks) × (m * n ≤ length cost.old) }
+    ensures { let t = text.now in
+        (after_demand m n (drop at t) ≡ answer_of t (λ a b. take (a * b) cost.new) result)
+        × (AnswerFits t (λ a b. (a ≡ m) × (b ≡ n)) result) }
 {
     let costs = read_costs(text, at, m, n, cost);
     let Taken::Got { value: _, next } = costs else {
@@ -55,18 +48,13 @@ fn read_after_supply(
     demand: &mut [u64],
     cost: &mut [i64],
 ) -> ReadAnswer
-    requires { ⌜
-        (at ≤ length (now text))
-        × (m ≤ maxSources)
-        × (maxSinks ≤ length (now demand))
-        × (maxSources * maxSinks ≤ length (now cost))
-        ⌝ }
-    ensures { λ r.
-        let t = now (text .entry) in
-        ⌜
-        (afterSupply m (drop at t) ≡ answerOf t (λ a b. (take b (now (demand .exit)), take (a * b) (now (cost .exit)))) r)
-        × (answerFits t (λ a b. (a ≡ m) × (1 ≤ b) × (b ≤ maxSinks)) r)
-        ⌝ }
+    requires { (at ≤ length text.now)
+        × (m ≤ max_sources)
+        × (max_sinks ≤ length demand.old)
+        × (max_sources * max_sinks ≤ length cost.old) }
+    ensures { let t = text.now in
+        (after_supply m (drop at t) ≡ answer_of t (λ a b. (take b demand.new, take (a * b) cost.new)) result)
+        × (AnswerFits t (λ a b. (a ≡ m) × (1 ≤ b) × (b ≤ max_sinks)) result) }
 {
     let demands = read_list(text, at, b"demand ", MAX_SINKS as u64, demand);
     let Taken::Got { value: n, next } = demands else {
@@ -82,13 +70,10 @@ pub fn read_sections(
     demand: &mut [u64],
     cost: &mut [i64],
 ) -> ReadAnswer
-    requires { ⌜ (maxSources ≤ length (now supply)) × (maxSinks ≤ length (now demand)) × (maxSources * maxSinks ≤ length (now cost)) ⌝ }
-    ensures { λ r.
-        let t = now (text .entry) in
-        ⌜
-        (sheetReader t ≡ sheetRead t (now (supply .exit)) (now (demand .exit)) (now (cost .exit)) r)
-        × (readFits t r)
-        ⌝ }
+    requires { (max_sources ≤ length supply.old) × (max_sinks ≤ length demand.old) × (max_sources * max_sinks ≤ length cost.old) }
+    ensures { let t = text.now in
+        (sheet_reader t ≡ sheet_read t supply.new demand.new cost.new result)
+        × (ReadFits t result) }
 {
     let supplies = read_list(text, 0, b"supply ", MAX_SOURCES as u64, supply);
     let Taken::Got { value: m, next } = supplies else {

@@ -1,26 +1,21 @@
 // A sheet that was read, stored in the lent lists.
-ghost use mathlib.Core.Path.{_≡_};
-ghost use mathlib.Core.Bool.{true, false};
-ghost use Prim.Native.Nat.{_*_, _≤_};
-ghost use lib.ListN.{length};
-ghost use Rattle·transport.specs.Limits.{maxSources, maxSinks};
-ghost use Rattle·transport.specs.Sheet.{sheetOf};
-ghost use Rattle·transport.specs.SheetText.{readTests};
-ghost use Rattle·transport.specs.Calls.{unless, lentAfter};
-ghost use Rattle·transport.specs.Answers.{readAnswer};
-ghost use Rattle·decimals.specs.Front.{front};
+ghost use Rattle.std.specs.Prelude.{◌≡◌, true, false, ◌*◌, ◌≤◌, length};
+ghost use Rattle.transport.specs.Limits.{max_sources, max_sinks};
+ghost use Rattle.transport.specs.Sheet.{sheet_of};
+ghost use Rattle.transport.specs.SheetText.{read_tests};
+ghost use Rattle.transport.specs.Calls.{unless, lent_after};
+ghost use Rattle.transport.specs.Answers.{read_answer};
+ghost use Rattle.decimals.specs.Front.{front};
+
 use sheet::SheetCheck;
-use sheet::lists::copy_costs;
-use sheet::lists::copy_list;
+use sheet::lists::{copy_costs, copy_list};
 use transport::ReadAnswer;
 
 // Copies a list to the front of a longer one if that is wanted; if not, the other stays as it was, whatever its length.
 fn store_list(from: &[u64], list: &mut [u64], wanted: bool)
-    requires { ⌜ (wanted ≡ true → length (now from) ≤ length (now list)) ⌝ }
-    ensures { λ r. ⌜
-        (wanted ≡ true → now (list .exit) ≡ front (now (from .entry)) (now (list .entry)))
-        × (wanted ≡ false → now (list .exit) ≡ now (list .entry))
-        ⌝ }
+    requires { wanted ≡ true → length from.now ≤ length list.old }
+    ensures { (wanted ≡ true → list.new ≡ front from.now list.old)
+        × (wanted ≡ false → list.new ≡ list.old) }
 {
     if wanted {
         copy_list(from, list);
@@ -29,11 +24,9 @@ fn store_list(from: &[u64], list: &mut [u64], wanted: bool)
 
 // The same with costs.
 fn store_costs(from: &[i64], list: &mut [i64], wanted: bool)
-    requires { ⌜ (wanted ≡ true → length (now from) ≤ length (now list)) ⌝ }
-    ensures { λ r. ⌜
-        (wanted ≡ true → now (list .exit) ≡ front (now (from .entry)) (now (list .entry)))
-        × (wanted ≡ false → now (list .exit) ≡ now (list .entry))
-        ⌝ }
+    requires { wanted ≡ true → length from.now ≤ length list.old }
+    ensures { (wanted ≡ true → list.new ≡ front from.now list.old)
+        × (wanted ≡ false → list.new ≡ list.old) }
 {
     if wanted {
         copy_costs(from, list);
@@ -49,20 +42,15 @@ pub fn store_sheet(
     demand: &mut [u64],
     cost: &mut [i64],
 ) -> ReadAnswer
-    requires { ⌜
-        (length (now «sheet_supply») ≤ maxSources)
-        × (length (now «sheet_demand») ≤ maxSinks)
-        × (length (now «sheet_cost») ≡ length (now «sheet_supply») * length (now «sheet_demand»))
-        ⌝ }
-    ensures { λ r.
-        let S = sheetOf (now («sheet_supply» .entry)) (now («sheet_demand» .entry)) (now («sheet_cost» .entry)) in
-        let a = unless (readTests (length (now (supply .entry))) (length (now (demand .entry))) (length (now (cost .entry))) S) S in
-        ⌜
-        (r ≡ readAnswer a)
-        × (now (supply .exit) ≡ lentAfter (λ S. S .supply) a (now (supply .entry)))
-        × (now (demand .exit) ≡ lentAfter (λ S. S .demand) a (now (demand .entry)))
-        × (now (cost .exit) ≡ lentAfter (λ S. S .cost) a (now (cost .entry)))
-        ⌝ }
+    requires { (length sheet_supply.now ≤ max_sources)
+        × (length sheet_demand.now ≤ max_sinks)
+        × (length sheet_cost.now ≡ length sheet_supply.now * length sheet_demand.now) }
+    ensures { let S = sheet_of sheet_supply.now sheet_demand.now sheet_cost.now in
+        let a = unless (read_tests (length supply.old) (length demand.old) (length cost.old) S) S in
+        (result ≡ read_answer a)
+        × (supply.new ≡ lent_after (λ S. S.supply) a supply.old)
+        × (demand.new ≡ lent_after (λ S. S.demand) a demand.old)
+        × (cost.new ≡ lent_after (λ S. S.cost) a cost.old) }
 {
     let check = sheet::check_numbers(sheet_supply, sheet_demand, sheet_cost);
     if let SheetCheck::Refused(number) = check {

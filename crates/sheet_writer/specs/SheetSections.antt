@@ -1,36 +1,36 @@
 -- The sections of the sheet text.
-use Rattle·prelude.specs.Words.{_≡_, List, _++_, append-assoc, ℕ, _*_, _≤_, ℤ, length}
-use Rattle·transport.specs.Text.{bytes, digits, wholeDigits}
-use Rattle·transport.specs.Sheet.{Sheet, roasteries, cafes}
-use Rattle·transport.specs.SheetText.{sheetText}
-use Rattle·sections.specs.Lines.{sectionText, section-of, number-lines, lines-rows}
+use Rattle.prelude.specs.Words.{◌≡◌, List, ◌++◌, append_assoc, ℕ, ◌*◌, ◌≤◌, ℤ, length}
+use Rattle.transport.specs.Text.{bytes, digits, whole_digits}
+use Rattle.transport.specs.Sheet.{Sheet, roasteries, cafes}
+use Rattle.transport.specs.SheetText.{sheet_text}
+use Rattle.sections.specs.Lines.{section_text, section_of, number_lines, lines_rows}
 
-abbrev pub supplySection : List ℕ → List ℕ
-supplySection supply = sectionText digits (bytes "supply ") (length supply) 1 supply
+abbrev pub supply_section : List ℕ → List ℕ
+supply_section supply = section_text digits (bytes "supply ") (length supply) 1 supply
 
-abbrev pub demandSection : List ℕ → List ℕ
-demandSection demand = sectionText digits (bytes "demand ") (length demand) 1 demand
+abbrev pub demand_section : List ℕ → List ℕ
+demand_section demand = section_text digits (bytes "demand ") (length demand) 1 demand
 
 -- m lines of n numbers.
-abbrev pub costSection : ℕ → ℕ → List ℤ → List ℕ
-costSection m n cost = sectionText wholeDigits (bytes "cost ") m n cost
+abbrev pub cost_section : ℕ → ℕ → List ℤ → List ℕ
+cost_section m n cost = section_text whole_digits (bytes "cost ") m n cost
 
 regroup : (a b c d e f : List ℕ) → a ++ b ++ c ++ d ++ e ++ f ≡ a ++ b ++ (c ++ d ++ (e ++ f))
-regroup a b c d e f = simp append-assoc
+regroup a b c d e f = simp append_assoc
 
 -- The sheet text is the three of them.
-pub sheet-sections : (S : Sheet) → 1 ≤ length (S .demand) → length (S .cost) ≡ length (S .supply) * length (S .demand)
-    → sheetText S ≡ supplySection (S .supply) ++ (demandSection (S .demand) ++ costSection (length (S .supply)) (length (S .demand)) (S .cost))
-unfolding sheetText roasteries cafes bytes
-sheet-sections S p e =
-    let m = length (S .supply) in
-    let n = length (S .demand) in
+pub sheet_sections : (S : Sheet) → 1 ≤ length S.demand → length S.cost ≡ length S.supply * length S.demand
+    → sheet_text S ≡ supply_section S.supply ++ (demand_section S.demand ++ cost_section (length S.supply) (length S.demand) S.cost)
+unfolding sheet_text roasteries cafes bytes
+sheet_sections S p e =
+    let m = length S.supply in
+    let n = length S.demand in
     rw (
-      number-lines (S .supply),
-      number-lines (S .demand),
-      lines-rows wholeDigits m n (S .cost) p e,
+      number_lines S.supply,
+      number_lines S.demand,
+      lines_rows whole_digits m n S.cost p e,
       regroup,
-      section-of digits "supply" m 1 (S .supply),
-      section-of digits "demand" n 1 (S .demand),
-      section-of wholeDigits "cost" m n (S .cost),
+      section_of digits "supply" m 1 S.supply,
+      section_of digits "demand" n 1 S.demand,
+      section_of whole_digits "cost" m n S.cost,
     )

@@ -1,24 +1,21 @@
 // Write sheet: three sections, each written in what the sections before it left of the output.
-ghost use mathlib.Core.Path.{_≡_};
-ghost use mathlib.Core.List.{_++_};
-ghost use Prim.Native.Nat.{_≤_};
-ghost use lib.ListN.{length};
-ghost use Rattle·transport.specs.Sheet.{sheetOf};
-ghost use Rattle·transport.specs.SheetText.{sheetText, writeSheetCall};
-ghost use Rattle·transport.specs.Calls.{lentAfter};
-ghost use Rattle·transport.specs.Answers.{writeAnswer};
-ghost use Rattle·transport.specs.Statements.{Accepted};
-ghost use Rattle·decimals.specs.Front.{front};
-ghost use Rattle·sheet_writer·specs.specs.SheetSections.{demandSection, costSection};
-use sections::section;
-use sections::wholes;
+ghost use Rattle.std.specs.Prelude.{◌≡◌, ◌++◌, ◌≤◌, length};
+ghost use Rattle.transport.specs.Sheet.{sheet_of};
+ghost use Rattle.transport.specs.SheetText.{sheet_text, write_sheet_call};
+ghost use Rattle.transport.specs.Calls.{lent_after};
+ghost use Rattle.transport.specs.Answers.{write_answer};
+ghost use Rattle.transport.specs.Statements.{Accepted};
+ghost use Rattle.decimals.specs.Front.{front};
+ghost use Rattle.sheet_writer.specs.SheetSections.{demand_section, cost_section};
+
+use sections::{section, wholes};
 use sheet::SheetCheck;
 use transport::WriteAnswer;
 
 // The length of the text of an accepted sheet.
 fn text_len(supply: &[u64], demand: &[u64], cost: &[i64]) -> usize
-    requires { ⌜ Accepted (sheetOf (now supply) (now demand) (now cost)) ⌝ }
-    ensures { λ r. ⌜ r ≡ length (sheetText (sheetOf (now (supply .entry)) (now (demand .entry)) (now (cost .entry)))) ⌝ }
+    requires { Accepted (sheet_of supply.now demand.now cost.now) }
+    ensures { result ≡ length (sheet_text (sheet_of supply.now demand.now cost.now)) }
 {
     let m = supply.len();
     let n = demand.len();
@@ -29,13 +26,10 @@ fn text_len(supply: &[u64], demand: &[u64], cost: &[i64]) -> usize
 
 // The sections after the first one, for a sheet of m sources: the demands, and the costs in what is left of the output.
 fn write_after_supply(m: usize, demand: &[u64], cost: &[i64], out: &mut [u8]) -> usize
-    requires { ⌜
-        (1 ≤ length (now demand))
-        × (length (demandSection (now demand) ++ costSection m (length (now demand)) (now cost)) ≤ length (now out))
-        ⌝ }
-    ensures { λ r.
-        let text = demandSection (now (demand .entry)) ++ costSection m (length (now (demand .entry))) (now (cost .entry)) in
-        ⌜ (r ≡ length text) × (now (out .exit) ≡ front text (now (out .entry))) ⌝ }
+    requires { (1 ≤ length demand.now)
+        × (length (demand_section demand.now ++ cost_section m (length demand.now) cost.now) ≤ length out.old) }
+    ensures { let text = demand_section demand.now ++ cost_section m (length demand.now) cost.now in
+        (result ≡ length text) × (out.new ≡ front text out.old) }
 {
     let n = demand.len();
     let at = section::write_section(b"demand ", n, demand, out);
@@ -44,13 +38,10 @@ fn write_after_supply(m: usize, demand: &[u64], cost: &[i64], out: &mut [u8]) ->
 
 // The text of an accepted sheet: the supplies, and the other sections in what is left of the output.
 fn write_text(supply: &[u64], demand: &[u64], cost: &[i64], out: &mut [u8]) -> usize
-    requires { ⌜
-        (Accepted (sheetOf (now supply) (now demand) (now cost)))
-        × (length (sheetText (sheetOf (now supply) (now demand) (now cost))) ≤ length (now out))
-        ⌝ }
-    ensures { λ r.
-        let text = sheetText (sheetOf (now (supply .entry)) (now (demand .entry)) (now (cost .entry))) in
-        ⌜ (r ≡ length text) × (now (out .exit) ≡ front text (now (out .entry))) ⌝ }
+    requires { (Accepted (sheet_of supply.now demand.now cost.now))
+        × (length (sheet_text (sheet_of supply.now demand.now cost.now)) ≤ length out.old) }
+    ensures { let text = sheet_text (sheet_of supply.now demand.now cost.now) in
+        (result ≡ length text) × (out.new ≡ front text out.old) }
 {
     let m = supply.len();
     let at = section::write_section(b"supply ", m, supply, out);
@@ -59,10 +50,9 @@ fn write_text(supply: &[u64], demand: &[u64], cost: &[i64], out: &mut [u8]) -> u
 
 // Write sheet: the length of the text, which then stands at the front of the output; or the refusal, and the output is as it was.
 pub fn write_sheet(supply: &[u64], demand: &[u64], cost: &[i64], out: &mut [u8]) -> WriteAnswer
-    ensures { λ r.
-        let S = sheetOf (now (supply .entry)) (now (demand .entry)) (now (cost .entry)) in
-        let a = writeSheetCall S (length (now (out .entry))) in
-        ⌜ (r ≡ writeAnswer a) × (now (out .exit) ≡ lentAfter (λ t. t) a (now (out .entry))) ⌝ }
+    ensures { let S = sheet_of supply.now demand.now cost.now in
+        let a = write_sheet_call S (length out.old) in
+        (result ≡ write_answer a) × (out.new ≡ lent_after (λ t. t) a out.old) }
 {
     let check = sheet::check_sheet(supply, demand, cost);
     if let SheetCheck::Refused(number) = check {

@@ -1,30 +1,26 @@
 // The first tableau of a sheet, dealt and laid out.
+ghost use Rattle.std.specs.Prelude.{◌≡◌, List, ℤ, length};
+ghost use Rattle.transport.specs.Sheet.{sheet_of};
+ghost use Rattle.transport.specs.Parties.{problem_of};
+ghost use Rattle.transport.specs.Tableau.{start};
+ghost use Rattle.transport.specs.Statements.{Accepted};
+ghost use Rattle.tree.specs.Layout.{node_room};
+ghost use Rattle.board.specs.Held.{Empty};
+ghost use Rattle.loading.specs.Loading.{Admitted};
+ghost use Rattle.solving.specs.First.{Dealt};
+
 use board::spread::lay_out;
 use cost_grid::spread_costs;
 use dealing::corner::first_tableau;
 use loading::Loading;
 use parties::number_parties;
 use sheet::SheetCheck;
-use transport::MAX_SIDE;
-use transport::Tableau;
-use tree::LANES;
-use tree::NODES;
-use tree::Price;
-ghost use mathlib.Core.Path.{_≡_};
-ghost use mathlib.Core.List.{List};
-ghost use lib.IntN.{ℤ};
-ghost use lib.ListN.{length};
-ghost use Rattle·transport.specs.Sheet.{sheetOf};
-ghost use Rattle·transport.specs.Parties.{problemOf};
-ghost use Rattle·transport.specs.Tableau.{start};
-ghost use Rattle·transport.specs.Statements.{Accepted};
-ghost use Rattle·tree.specs.Layout.{nodeRoom};
-ghost use Rattle·board.specs.Held.{Empty};
-ghost use Rattle·loading.specs.Loading.{Admitted};
-ghost use Rattle·solving·specs.specs.First.{Dealt};
+use transport::{MAX_SIDE, Tableau};
+use tree::{LANES, NODES, Price};
 
 // The parties of a sheet with the own numbers of rows and columns, and the first tableau of those
 // left.
+#[derive(Drop)]
 pub struct First {
     pub loading: Loading,
     pub tableau: Tableau,
@@ -33,12 +29,10 @@ pub struct First {
 // Of a sheet that passed its check: numbers the parties, and deals the first tableau of those left.
 // Costs play no part.
 pub fn deal_sheet(supply: &[u64], demand: &[u64]) -> First
-    requires { ⌜ ((cost : List ℤ) × Accepted (sheetOf (now supply) (now demand) cost)) ⌝ }
-    ensures { λ r. ⌜
-        ((cost : List ℤ) → Accepted (sheetOf (now (supply .entry)) (now (demand .entry)) cost)
-        → Dealt (sheetOf (now (supply .entry)) (now (demand .entry)) cost)
-        (r .loading .parties) (r .loading .rows) (r .loading .cols) (r .tableau))
-        ⌝ }
+    requires { (cost : List ℤ) × Accepted (sheet_of supply.now demand.now cost) }
+    ensures { (cost : List ℤ) → Accepted (sheet_of supply.now demand.now cost)
+        → Dealt (sheet_of supply.now demand.now cost)
+        result.loading.parties result.loading.rows result.loading.cols result.tableau }
 {
     let mut supplies = [0u64; MAX_SIDE];
     let mut demands = [0u64; MAX_SIDE];
@@ -79,20 +73,15 @@ pub fn begin_sheet(
     other: &mut [usize; NODES],
     lane: &mut [usize; NODES],
 ) -> Loading
-    requires { ⌜ Accepted (sheetOf (now supply) (now demand) (now cost)) ⌝ }
-    requires { ⌜
-        (length (now leaf) ≡ nodeRoom)
-        × (length (now other) ≡ nodeRoom)
-        × (length (now lane) ≡ nodeRoom)
-        × Empty (now q) (now e)
-        ⌝ }
-    ensures { λ r.
-        let S = sheetOf (now (supply .entry)) (now (demand .entry)) (now (cost .entry)) in
-        ⌜
-        Admitted S (start (problemOf S)) (r .parties) (r .rows) (r .cols) (now (q .exit)) (now (e .exit))
-        (now (spread .exit))
-        (now (leaf .exit)) (now (other .exit)) (now (lane .exit))
-        ⌝ }
+    requires accepted { Accepted (sheet_of supply.now demand.now cost.now) }
+    requires leaf_len { (length leaf.old ≡ node_room)
+        × (length other.old ≡ node_room)
+        × (length lane.old ≡ node_room)
+        × Empty q.old e.old }
+    ensures { let S = sheet_of supply.now demand.now cost.now in
+        Admitted S (start (problem_of S)) result.parties result.rows result.cols q.new e.new
+        spread.new
+        leaf.new other.new lane.new }
 {
     let first = deal_sheet(supply, demand);
     let begun = first.loading;

@@ -1,14 +1,12 @@
 // The cost of a plan.
-ghost use mathlib.Core.Path.{_≡_};
-ghost use lib.IntN.{pos, _*ℤ_};
-ghost use lib.ListN.{length};
-ghost use Rattle·transport.specs.Lists.{at, atZ, sumZ};
-ghost use Rattle·solving·specs.specs.Cost.{Summable};
+ghost use Rattle.std.specs.Prelude.{◌≡◌, pos, ◌*ℤ◌, length};
+ghost use Rattle.transport.specs.Lists.{at, at_z, sum_z};
+ghost use Rattle.solving.specs.Cost.{Summable};
 
 // The sum of quantity times cost, over the lanes that have a cost.
 pub fn plan_cost(plan: &[u64], cost: &[i64]) -> i64
-    requires { ⌜ Summable (now plan) (now cost) ⌝ }
-    ensures { λ r. ⌜ r ≡ sumZ (length (now (cost .entry))) (λ l. pos (at (now (plan .entry)) l) *ℤ atZ (now (cost .entry)) l) ⌝ }
+    requires { Summable plan.now cost.now }
+    ensures { result ≡ sum_z (length cost.now) (λ l. pos (at plan.now l) *ℤ at_z cost.now l) }
 {
     let mut sum: i64 = 0;
     let mut l: usize = 0;

@@ -1,19 +1,16 @@
 // The settled plan from the board of a finished tableau.
+ghost use Rattle.std.specs.Prelude.{true, List, ℤ};
+ghost use Rattle.transport.specs.Problem.{Problem};
+ghost use Rattle.transport.specs.declared.Cell.{Cell};
+ghost use Rattle.cost_grid.specs.Costs.{Costed};
+ghost use Rattle.rounds.specs.Begun.{Judged};
+ghost use Rattle.solving.specs.Finished.{SettledBags};
+
 use board::gather::draw;
 use settle::lanes::settle_lanes;
 use tight::tight_lanes;
 use transport::MAX_SIDE;
-use tree::LANES;
-use tree::NODES;
-use tree::Price;
-ghost use mathlib.Core.Bool.{true};
-ghost use mathlib.Core.List.{List};
-ghost use lib.IntN.{ℤ};
-ghost use Rattle·transport.specs.Problem.{Problem};
-ghost use Rattle·transport.specs.declared.Cell.{Cell};
-ghost use Rattle·cost_grid.specs.Costs.{Costed};
-ghost use Rattle·rounds.specs.Begun.{Judged};
-ghost use Rattle·solving·specs.specs.Finished.{SettledBags};
+use tree::{LANES, NODES, Price};
 
 // Settles the board of a finished tableau of m sources and n sinks: its bags become those of the optimal plan that carries more on the first lane where it
 // differs from any other.
@@ -25,12 +22,10 @@ pub fn settle_board(
     m: usize,
     n: usize,
 )
-    requires { ⌜ ((P : Problem) × (T : List Cell) × (e : List ℤ) × Judged P T (now q) e (now price) (now lane) m n true × Costed P (now cost)) ⌝ }
-    ensures { λ _. ⌜
-        ((P : Problem) (T : List Cell) (e : List ℤ)
-        → Judged P T (now (q .entry)) e (now (price .entry)) (now (lane .entry)) m n true → Costed P (now (cost .entry))
-        → SettledBags P m n (now (q .exit)))
-        ⌝ }
+    requires { (P : Problem) × (T : List Cell) × (e : List ℤ) × Judged P T q.old e price.now lane.now m n true × Costed P cost.now }
+    ensures { (P : Problem) (T : List Cell) (e : List ℤ)
+        → Judged P T q.old e price.now lane.now m n true → Costed P cost.now
+        → SettledBags P m n q.new }
 {
     let mut adj = [0u64; NODES];
     draw(lane, m, m + n - 1, &mut adj);

@@ -1,22 +1,20 @@
 // Start: the first tableau of a sheet.
-ghost use mathlib.Core.Path.{_≡_};
-ghost use Rattle·transport.specs.Sheet.{sheetOf};
-ghost use Rattle·transport.specs.Calls.{startCall};
-ghost use Rattle·transport.specs.Answers.{startAnswer};
+ghost use Rattle.std.specs.Prelude.{◌≡◌};
+ghost use Rattle.transport.specs.Sheet.{sheet_of};
+ghost use Rattle.transport.specs.Calls.{start_call};
+ghost use Rattle.transport.specs.Answers.{start_answer};
+
 use dealing::corner::first_tableau;
 use dealing::tableau::empty_tableau;
 use numbering::own_tableau;
 use parties::number_parties;
 use sheet::SheetCheck;
-use transport::MAX_SIDE;
-use transport::StartAnswer;
-use transport::StartOutcome;
+use transport::{MAX_SIDE, StartAnswer, StartOutcome};
 
 // Start gives the first tableau. Sheet check only.
 pub fn start(supply: &[u64], demand: &[u64], cost: &[i64]) -> StartAnswer
-    ensures { λ r.
-        let S = sheetOf (now (supply .entry)) (now (demand .entry)) (now (cost .entry)) in
-        ⌜ r ≡ startAnswer (startCall S) ⌝ }
+    ensures { let S = sheet_of supply.now demand.now cost.now in
+        result ≡ start_answer (start_call S) }
 {
     let check = sheet::check_sheet(supply, demand, cost);
     if let SheetCheck::Refused(number) = check {

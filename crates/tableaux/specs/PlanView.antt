@@ -1,34 +1,34 @@
 -- A plan as amounts on rows and columns: the view in which the theory of networks speaks of plans and their cost.
-use Rattle·prelude.specs.Words.{ℕ, zero, suc, _*_, arith, _≡_, List, ℤ, pos, _*ℤ_, length}
-use Rattle·integers.specs.Integer.{Z, _≈_, _⊗_, nat}
-use Rattle·integers.specs.Bridge.{toZ, z-add, z-mul}
-use Rattle·integers.specs.Sum.{sum}
-use Rattle·integers.specs.SumLaws.{sum-cong, sum-runs}
-use Rattle·network.specs.Flow.{On, Plan, cost}
-use Rattle·transport.specs.Lists.{sumTo, sumZ, at, atZ}
-use Rattle·transport.specs.Problem.{Problem, sources, sinks, place, laneCost}
-use Rattle·transport.specs.Laws.ProblemLaws.{lane}
-use Rattle·tableaux·specs.specs.ProblemPlans.{flowCost, Fulfils}
+use Rattle.prelude.specs.Words.{ℕ, zero, suc, ◌*◌, arith, ◌≡◌, List, ℤ, pos, ◌*ℤ◌, length}
+use Rattle.integers.specs.Integer.{Z, ◌≈◌, ◌⊗◌, nat}
+use Rattle.integers.specs.Bridge.{to_z, z-add, z-mul}
+use Rattle.integers.specs.Sum.{sum}
+use Rattle.integers.specs.SumLaws.{sum_cong, sum_runs}
+use Rattle.network.specs.Flow.{On, Plan, cost}
+use Rattle.transport.specs.Lists.{sum_to, sum_z, at, at_z}
+use Rattle.transport.specs.Problem.{Problem, sources, sinks, place, lane_cost}
+use Rattle.transport.specs.Laws.ProblemLaws.{lane}
+use Rattle.tableaux.specs.ProblemPlans.{flow_cost, Fulfils}
 
 -- What the plan Q carries from row i to column j, among n columns.
 abbrev pub carried : ℕ → List ℕ → ℕ → ℕ → Z
 carried n Q i j = nat (at Q (place n i j))
 
 abbrev pub supplies : Problem → ℕ → Z
-supplies P i = nat (at (P .supply) i)
+supplies P i = nat (at P.supply i)
 
 abbrev pub demands : Problem → ℕ → Z
-demands P j = nat (at (P .demand) j)
+demands P j = nat (at P.demand j)
 
 abbrev pub costs : Problem → ℕ → ℕ → Z
-costs P i j = toZ (laneCost P (lane i j))
+costs P i j = to_z (lane_cost P (lane i j))
 
 -- ---- sums of naturals
 
-pub sum-sumTo : (n : ℕ) (f : ℕ → ℕ) → sum n (λ k. nat (f k)) ≈ nat (sumTo n f)
-unfolding sumTo
-sum-sumTo zero f = omega arith
-sum-sumTo (suc n) f = omega (arith, sum-sumTo n f)
+pub sum-sum_to : (n : ℕ) (f : ℕ → ℕ) → sum n (λ k. nat (f k)) ≈ nat (sum_to n f)
+unfolding sum_to
+sum-sum_to zero f = omega arith
+sum-sum_to (suc n) f = omega (arith, sum-sum_to n f)
 
 -- ---- plans that fulfil the problem
 
@@ -37,8 +37,8 @@ pub fulfils-plan : {P : Problem} {k : ℕ} {Q : List ℕ} {T : ℕ → ℕ → T
 fulfils-plan {P} {k} {Q} on q = record {
   flow = record {
     on = on;
-    rows = λ i l. omega (arith, sum-sumTo (sinks P) (λ j. at Q (place (sinks P) i j)), q .rows i l);
-    cols = λ j l. omega (arith, sum-sumTo (sources P) (λ i. at Q (place (sinks P) i j)), q .columns j l);
+    rows = λ i l. omega (arith, sum-sum_to (sinks P) (λ j. at Q (place (sinks P) i j)), q.rows i l);
+    cols = λ j l. omega (arith, sum-sum_to (sources P) (λ i. at Q (place (sinks P) i j)), q.columns j l);
   };
   nonneg = λ i j k l. omega arith;
 }
@@ -47,29 +47,29 @@ pub plan-fulfils : {P : Problem} {k : ℕ} {Q : List ℕ} {T : ℕ → ℕ → T
     → Plan (sources P) (sinks P) T k (carried (sinks P) Q) (supplies P) (demands P) → Fulfils P k Q
 plan-fulfils {P} {k} {Q} e p = record {
   quantities = e;
-  rows = λ i l. omega (arith, sum-sumTo (sinks P) (λ j. at Q (place (sinks P) i j)), p .flow .rows i l);
-  columns = λ j l. omega (arith, sum-sumTo (sources P) (λ i. at Q (place (sinks P) i j)), p .flow .cols j l);
+  rows = λ i l. omega (arith, sum-sum_to (sinks P) (λ j. at Q (place (sinks P) i j)), p.flow.rows i l);
+  columns = λ j l. omega (arith, sum-sum_to (sources P) (λ i. at Q (place (sinks P) i j)), p.flow.cols j l);
 }
 
 -- ---- their cost
 
-sum-sumZ : (n : ℕ) (f : ℕ → ℤ) → toZ (sumZ n f) ≈ sum n (λ k. toZ (f k))
-unfolding sumZ
-sum-sumZ zero f = omega arith
-sum-sumZ (suc n) f = omega (arith, z-add (sumZ n f) (f n), sum-sumZ n f)
+sum-sum_z : (n : ℕ) (f : ℕ → ℤ) → to_z (sum_z n f) ≈ sum n (λ k. to_z (f k))
+unfolding sum_z
+sum-sum_z zero f = omega arith
+sum-sum_z (suc n) f = omega (arith, z-add (sum_z n f) (f n), sum-sum_z n f)
 
 -- A plan by places in sheet order.
-pub places-cost : (N : ℕ) (Q : List ℕ) (c : List ℤ) → toZ (sumZ N (λ l. pos (at Q l) *ℤ atZ c l)) ≈ sum N (λ l. nat (at Q l) ⊗ toZ (atZ c l))
-places-cost N Q c =
-    let each = sum-cong N (λ l. toZ (pos (at Q l) *ℤ atZ c l)) (λ l. nat (at Q l) ⊗ toZ (atZ c l)) (λ l h. z-mul (pos (at Q l)) (atZ c l)) in
-    omega (arith, sum-sumZ N (λ l. pos (at Q l) *ℤ atZ c l))
+pub places_cost : (N : ℕ) (Q : List ℕ) (c : List ℤ) → to_z (sum_z N (λ l. pos (at Q l) *ℤ at_z c l)) ≈ sum N (λ l. nat (at Q l) ⊗ to_z (at_z c l))
+places_cost N Q c =
+    let each = sum_cong N (λ l. to_z (pos (at Q l) *ℤ at_z c l)) (λ l. nat (at Q l) ⊗ to_z (at_z c l)) (λ l h. z-mul (pos (at Q l)) (at_z c l)) in
+    omega (arith, sum-sum_z N (λ l. pos (at Q l) *ℤ at_z c l))
 
 -- .. and added up by rows.
 pub lanes-cost : (m n : ℕ) (Q : List ℕ) (c : List ℤ)
-    → toZ (sumZ (m * n) (λ l. pos (at Q l) *ℤ atZ c l)) ≈ cost m n (λ i j. toZ (atZ c (place n i j))) (carried n Q)
+    → to_z (sum_z (m * n) (λ l. pos (at Q l) *ℤ at_z c l)) ≈ cost m n (λ i j. to_z (at_z c (place n i j))) (carried n Q)
 unfolding place
-lanes-cost m n Q c = omega (arith, places-cost (m * n) Q c, sum-runs m n (λ l. nat (at Q l) ⊗ toZ (atZ c l)))
+lanes-cost m n Q c = omega (arith, places_cost (m * n) Q c, sum_runs m n (λ l. nat (at Q l) ⊗ to_z (at_z c l)))
 
-pub cost-flowCost : (P : Problem) (Q : List ℕ) → cost (sources P) (sinks P) (costs P) (carried (sinks P) Q) ≈ toZ (flowCost P Q)
-unfolding flowCost laneCost
-cost-flowCost P Q = omega (arith, lanes-cost (sources P) (sinks P) Q (P .cost))
+pub cost-flow_cost : (P : Problem) (Q : List ℕ) → cost (sources P) (sinks P) (costs P) (carried (sinks P) Q) ≈ to_z (flow_cost P Q)
+unfolding flow_cost lane_cost
+cost-flow_cost P Q = omega (arith, lanes-cost (sources P) (sinks P) Q P.cost)

@@ -1,17 +1,16 @@
 // The tight lanes, on which settling moves bags: those of reduced cost 0, so of least cost together.
+ghost use Rattle.std.specs.Prelude.{◌<◌};
+ghost use Rattle.tight.specs.Tight.{Ranged, TightRow, TightLanes};
+
 use transport::MAX_SIDE;
-use tree::LANES;
-use tree::NODES;
-use tree::Price;
 use tree::mask::set_bit;
-ghost use Prim.Native.Nat.{_<_};
-ghost use Rattle·tight·specs.specs.Tight.{Ranged, TightRow, TightLanes};
+use tree::{LANES, NODES, Price};
 
 // The columns of row i, of n, where the reduced cost is 0.
 fn tight_in_row(cost: &[Price; LANES], price: &[Price; NODES], m: usize, n: usize, i: usize) -> u64
-    requires { ⌜ Ranged (now cost) (now price) m n ⌝ }
-    requires { ⌜ i < m ⌝ }
-    ensures { λ r. ⌜ TightRow (now (cost .entry)) (now (price .entry)) m i n r ⌝ }
+    requires ranged { Ranged cost.now price.now m n }
+    requires i_lt_m { i < m }
+    ensures { TightRow cost.now price.now m i n result }
 {
     let own = price[i];
     let mut tight: u64 = 0;
@@ -33,8 +32,8 @@ pub fn tight_lanes(
     m: usize,
     n: usize,
 )
-    requires { ⌜ Ranged (now cost) (now price) m n ⌝ }
-    ensures { λ _. ⌜ TightLanes (now (cost .entry)) (now (price .entry)) m n m (now (tight .exit)) ⌝ }
+    requires { Ranged cost.now price.now m n }
+    ensures { TightLanes cost.now price.now m n m tight.new }
 {
     *tight = [0; MAX_SIDE];
     let mut i = 0;

@@ -1,17 +1,16 @@
 // What comes next in a text, by its bytes.
-ghost use mathlib.Core.Path.{_≡_};
-ghost use Prim.Native.Nat.{_≤_};
-ghost use lib.ListN.{length, drop};
-ghost use Rattle·transport.specs.Text.{kindOf};
-ghost use Rattle·transport.specs.SheetText.{word};
-ghost use Rattle·sections.specs.Lines.{ending};
-ghost use Rattle·tokens·specs.specs.Reading.{kindNext, byteNext, digitNext, readingOf, placeOf};
+ghost use Rattle.std.specs.Prelude.{◌≡◌, ◌≤◌, length, drop};
+ghost use Rattle.transport.specs.Text.{kind_of};
+ghost use Rattle.transport.specs.SheetText.{word};
+ghost use Rattle.sections.specs.Lines.{ending};
+ghost use Rattle.tokens.specs.Reading.{kind_next, byte_next, digit_next, reading_of, place_of};
+
 use crate::Taken;
 use transport::ByteKind;
 
 // The kind of a byte.
 fn kind_of(b: u8) -> ByteKind
-    ensures { λ r. ⌜ r ≡ kindOf b ⌝ }
+    ensures { result ≡ kind_of b }
 {
     match b {
         b'0'..=b'9' => ByteKind::Digit,
@@ -24,7 +23,7 @@ fn kind_of(b: u8) -> ByteKind
 
 // The kind of the byte that comes next; `Other` at the end of the text.
 fn kind_at(text: &[u8], at: usize) -> ByteKind
-    ensures { λ r. ⌜ r ≡ kindNext (drop at (now (text .entry))) ⌝ }
+    ensures { result ≡ kind_next (drop at text.now) }
 {
     if text.len() <= at {
         return ByteKind::Other;
@@ -34,7 +33,7 @@ fn kind_at(text: &[u8], at: usize) -> ByteKind
 
 // Whether a digit comes next.
 pub fn digit_at(text: &[u8], at: usize) -> bool
-    ensures { λ r. ⌜ r ≡ digitNext (drop at (now (text .entry))) ⌝ }
+    ensures { result ≡ digit_next (drop at text.now) }
 {
     let kind = kind_at(text, at);
     match kind {
@@ -48,7 +47,7 @@ pub fn digit_at(text: &[u8], at: usize) -> bool
 
 // Whether the end of a number comes next: a line end after the last one of its line, else a space. `left` counts as in `sections::lines`.
 pub fn end_at(text: &[u8], at: usize, left: usize) -> bool
-    ensures { λ r. ⌜ r ≡ byteNext (ending left) (drop at (now (text .entry))) ⌝ }
+    ensures { result ≡ byte_next (ending left) (drop at text.now) }
 {
     let kind = kind_at(text, at);
     match kind {
@@ -62,7 +61,7 @@ pub fn end_at(text: &[u8], at: usize, left: usize) -> bool
 
 // Whether this byte comes next.
 pub fn byte_at(text: &[u8], at: usize, byte: u8) -> bool
-    ensures { λ r. ⌜ r ≡ byteNext byte (drop at (now (text .entry))) ⌝ }
+    ensures { result ≡ byte_next byte (drop at text.now) }
 {
     if text.len() <= at {
         return false;
@@ -72,11 +71,9 @@ pub fn byte_at(text: &[u8], at: usize, byte: u8) -> bool
 
 // These bytes.
 pub fn read_word(text: &[u8], at: usize, expected: &[u8]) -> Taken
-    requires { ⌜ at ≤ length (now text) ⌝ }
-    ensures { λ r. ⌜
-        (word (now (expected .entry)) (drop at (now (text .entry))) ≡ readingOf (now (text .entry)) (λ v. tt) r)
-        × (placeOf r ≤ length (now (text .entry)))
-        ⌝ }
+    requires { at ≤ length text.now }
+    ensures { (word expected.now (drop at text.now) ≡ reading_of text.now (λ v. tt) result)
+        × (place_of result ≤ length text.now) }
 {
     let mut next = at;
     let mut i: usize = 0;

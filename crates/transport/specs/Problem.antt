@@ -1,10 +1,7 @@
 -- The balanced problem (001 to 003) that tableaux are about: amounts in bags with equal totals, and what each lane counts. Behind every sheet stands one
 -- (Extended.extended).
-use mathlib.Core.List.{List}
-use Prim.Native.Nat.{ℕ, _+_, _*_}
-use lib.IntN.{ℤ}
-use lib.ListN.{length}
-use Rattle·transport·specs.specs.Lists.{atZ, grid}
+use Rattle.std.specs.Prelude.{List, ℕ, ◌+◌, ◌*◌, ℤ, length}
+use Rattle.transport.specs.Lists.{at_z, grid}
 
 -- A supply for each source, a demand for each sink, both in bags, and a cost for each lane, in cents a bag and in sheet order.
 pub record Problem : Type 0 where
@@ -14,11 +11,11 @@ pub record Problem : Type 0 where
 
 -- m, the number of sources.
 unfoldable pub sources : Problem → ℕ
-sources P = length (P .supply)
+sources P = length P.supply
 
 -- n, the number of sinks.
 unfoldable pub sinks : Problem → ℕ
-sinks P = length (P .demand)
+sinks P = length P.demand
 
 -- A lane, from a source (its row) to a sink (its column), both counted from 0.
 pub record Lane : Type 0 where
@@ -34,5 +31,5 @@ unfoldable pub place : ℕ → ℕ → ℕ → ℕ
 place n i j = i * n + j
 
 -- The cost of a lane.
-unfoldable pub laneCost : Problem → Lane → ℤ
-laneCost P l = atZ (P .cost) (place (sinks P) (l .row) (l .col))
+unfoldable pub lane_cost : Problem → Lane → ℤ
+lane_cost P l = at_z P.cost (place (sinks P) l.row l.col)

@@ -1,28 +1,24 @@
 -- Rounds (paper 01, "Prices and rounds", second paragraph): the entering lane, the loop's signs, the step, the pivot; and runs of rounds.
-use mathlib.Core.Bool.{Bool, true, false, not, cond}
-use mathlib.Core.List.{List, [], _∷_, map}
-use Prim.Native.Nat.{ℕ, zero, suc, _+_, _*_}
-use lib.Dec.{eqb, ltb}
-use lib.IntN.{ℤ, pos, negsuc, _-ℤ_}
-use lib.Signed.{ltZ}
-use Rattle·transport·specs.specs.Lists.{keep, firstLeast, total}
-use Rattle·transport·specs.specs.Limits.{costBelow, costAbove}
-use Rattle·transport·specs.specs.Problem.{Problem, sources, sinks, Lane, lanes, place}
-use Rattle·transport·specs.specs.Amount.{Pair, add, subtract, less}
-use Rattle·transport·specs.specs.Tableau.{Cell, laneOf, withAmount, basisOf, sameLane, noCell}
-use Rattle·transport·specs.specs.Leaf.{Strike, strikes}
-use Rattle·transport·specs.specs.Potential.{reducedCost, isFinished}
+use Rattle.std.specs.Prelude.{Bool, true, false, not, cond, List, [], ◌∷◌, map, ℕ, zero, suc, ◌+◌, ◌*◌, eqb, ltb, ℤ, pos, negsuc, ◌-ℤ◌}
+use Rattle.std.specs.Int.Signed.{lt_z}
+use Rattle.transport.specs.Lists.{keep, first_least, total}
+use Rattle.transport.specs.Limits.{cost_below, cost_above}
+use Rattle.transport.specs.Problem.{Problem, sources, sinks, Lane, lanes, place}
+use Rattle.transport.specs.Amount.{Pair, add, subtract, less}
+use Rattle.transport.specs.Tableau.{Cell, lane_of, with_amount, basis_for, same_lane, no_cell}
+use Rattle.transport.specs.Leaf.{Strike, strikes}
+use Rattle.transport.specs.Potential.{reduced_cost, is_finished_of}
 
 -- The entering lane: of least reduced cost, and of several the first in sheet order.
 unfoldable pub entering : Problem → List Cell → Lane
 entering P T =
-    firstLeast (λ k l. ltZ (reducedCost P T k) (reducedCost P T l)) (laneOf noCell) (lanes (sources P) (sinks P))
+    first_least (λ k l. lt_z (reduced_cost P T k) (reduced_cost P T l)) (lane_of no_cell) (lanes (sources P) (sinks P))
 
 -- ---- the loop's signs
 
 -- The weights with y taken from node k.
-unfoldable pub takeFrom : (ℕ → ℤ) → ℕ → ℤ → ℕ → ℤ
-takeFrom weight k y = λ j. elim (eqb j k) [
+unfoldable pub take_from : (ℕ → ℤ) → ℕ → ℤ → ℕ → ℤ
+take_from weight k y = λ j. elim (eqb j k) [
   | true ↦ weight j -ℤ y
   | false ↦ weight j
 ]
@@ -32,22 +28,22 @@ takeFrom weight k y = λ j. elim (eqb j k) [
 unfoldable pub flow : (ℕ → ℤ) → List Strike → Lane → ℤ
 flow weight [] l = pos 0
 flow weight (s ∷ ss) l =
-    let y = weight (s .leaf) in
-    elim (sameLane l (s .lane)) [
+    let y = weight s.leaf in
+    elim (same_lane l s.lane) [
       | true ↦ y
-      | false ↦ flow (takeFrom (takeFrom weight (s .leaf) y) (s .other) y) ss l
+      | false ↦ flow (take_from (take_from weight s.leaf y) s.other y) ss l
     ]
 
 -- The sign of each basic cell on the loop that the entering lane closes, 0 off the loop: a plus at the entering lane takes 1 from both its nodes, and the basic
 -- cells make up for it.
 unfoldable pub sign : ℕ → List Strike → Lane → Lane → ℤ
-sign m ss enter = flow (takeFrom (takeFrom (λ k. pos 0) (enter .row) (pos 1)) (m + enter .col) (pos 1)) ss
+sign m ss enter = flow (take_from (take_from (λ k. pos 0) enter.row (pos 1)) (m + enter.col) (pos 1)) ss
 
 -- ---- the step and the pivot
 
 -- The cell that leaves: of the minus cells, the one with the smallest pair.
 unfoldable pub leaving : (Lane → ℤ) → List Cell → Cell
-leaving signOf T = firstLeast (λ a b. less (a .amount) (b .amount)) noCell (keep (λ c. ltZ (signOf (laneOf c)) (pos 0)) T)
+leaving sign_of T = first_least (λ a b. less a.amount b.amount) no_cell (keep (λ c. lt_z (sign_of (lane_of c)) (pos 0)) T)
 
 -- What the step makes of a pair, by the sign of its cell.
 unfoldable pub gain : ℤ → Pair → Pair → Pair
@@ -56,21 +52,21 @@ gain (pos (suc k)) step a = add a step
 gain (negsuc k) step a = subtract a step
 
 unfoldable pub shift : (Lane → ℤ) → Pair → Cell → Cell
-shift signOf step c = withAmount (laneOf c) (gain (signOf (laneOf c)) step (c .amount))
+shift sign_of step c = with_amount (lane_of c) (gain (sign_of (lane_of c)) step c.amount)
 
 -- A cell put into its place in sheet order.
 unfoldable pub insert : ℕ → Cell → List Cell → List Cell
 insert n c [] = c ∷ []
 insert n c (d ∷ ds) =
     let rest = d ∷ insert n c ds in
-    cond (ltb (place n (c .row) (c .col)) (place n (d .row) (d .col))) (c ∷ d ∷ ds) rest
+    cond (ltb (place n c.row c.col) (place n d.row d.col)) (c ∷ d ∷ ds) rest
 
 -- The tableau after the lane has entered: the entering cell holds the step, and the cell that held the step is gone.
 unfoldable pub pivot : ℕ → ℕ → List Cell → Lane → List Cell
 pivot m n T enter =
-    let signOf = sign m (strikes m n (basisOf T)) enter in
-    let out = leaving signOf T in
-    insert n (withAmount enter (out .amount)) (map (shift signOf (out .amount)) (keep (λ c. not (sameLane (laneOf c) (laneOf out))) T))
+    let sign_of = sign m (strikes m n (basis_for T)) enter in
+    let out = leaving sign_of T in
+    insert n (with_amount enter out.amount) (map (shift sign_of out.amount) (keep (λ c. not (same_lane (lane_of c) (lane_of out))) T))
 
 -- ---- the round
 
@@ -84,14 +80,14 @@ pub record Run : Type 0 where
   pub rounds : ℕ
 
 unfoldable pub run : Problem → ℕ → List Cell → Run
-run P zero T = record { finished = isFinished P T; tableau = T; rounds = 0 }
-run P (suc allowance) T = elim (isFinished P T) [
+run P zero T = record { finished = is_finished_of P T; tableau = T; rounds = 0 }
+run P (suc allowance) T = elim (is_finished_of P T) [
   | true ↦ record { finished = true; tableau = T; rounds = 0 }
   | false ↦
       let r = run P allowance (next P T) in
-      record { finished = r .finished; tableau = r .tableau; rounds = suc (r .rounds) }
+      record { finished = r.finished; tableau = r.tableau; rounds = suc r.rounds }
 ]
 
 -- More rounds than any run makes: what all amounts are worth, times the range of costs. (That every run finishes within it is a theorem.)
-unfoldable pub roundBound : Problem → ℕ
-roundBound P = (costBelow + costAbove) * ((2 * sources P + 1) * total (P .supply) + sources P)
+unfoldable pub round_bound : Problem → ℕ
+round_bound P = (cost_below + cost_above) * ((2 * sources P + 1) * total P.supply + sources P)

@@ -1,38 +1,34 @@
 -- The sheet text, and the calls that write and read it (paper 01, "Texts" and "Calls and their refusals"; paper 02, Two).
-use mathlib.Core.Bool.{Bool, true, false, _&&_, _||_, cond}
-use mathlib.Core.List.{List, [], _∷_, _++_, flatMap, flatten}
-use mathlib.Core.Option.{some}
-use Prim.Native.Nat.{ℕ, zero, suc, _+_, _*_, _-_}
-use lib.Dec.{eqb, leb}
-use lib.IntN.{ℤ, pos, negℤ}
-use lib.ListN.{length, take, drop}
-use Rattle·transport·specs.specs.Lists.{within}
-use Rattle·transport·specs.specs.Limits.{maxSources, maxSinks, maxDigits}
-use Rattle·transport·specs.specs.Sheet.{Sheet, roasteries, cafes, sheetTests, numberTests}
-use Rattle·transport·specs.specs.Calls.{Answer, refused, unless, tooShort}
-use Rattle·transport·specs.specs.Text.{bytes, byte, Digit, Space, LineEnd, Letter, Other, kindOf, wholeDigits, headLine, numberLine, rowLine}
+use Rattle.std.specs.Prelude.{Bool, true, false, ◌&&◌, ◌||◌, cond, ℕ, zero, suc, ◌+◌, ◌*◌, ◌-◌, eqb, leb, ℤ, pos, neg_ℤ, length, take, drop}
+use mathlib.Core.List.{List, [], ◌∷◌, ◌++◌, flat_map, flatten}
+use Rattle.std.proofs.Math.Option.{some}
+use Rattle.transport.specs.Lists.{within}
+use Rattle.transport.specs.Limits.{max_sources, max_sinks, max_digits}
+use Rattle.transport.specs.Sheet.{Sheet, roasteries, cafes, sheet_tests, number_tests}
+use Rattle.transport.specs.Calls.{Answer, refused, unless, too_short}
+use Rattle.transport.specs.Text.{bytes, byte, Digit, Space, LineEnd, Letter, Other, kind_of, whole_digits, head_line, number_line, row_line}
 
 -- ---- writing
 
 module _ {A : Type 0} where
   -- The first k rows of n numbers.
-  unfoldable pub rowsOf : ℕ → ℕ → List A → List (List A)
-  rowsOf zero n xs = []
-  rowsOf (suc k) n xs = take n xs ∷ rowsOf k n (drop n xs)
+  unfoldable pub rows_of : ℕ → ℕ → List A → List (List A)
+  rows_of zero n xs = []
+  rows_of (suc k) n xs = take n xs ∷ rows_of k n (drop n xs)
 
 -- `supply m` and m lines of one number; `demand n` and n lines of one number; `cost m` and m lines of n numbers, which may have a minus.
-unfoldable pub sheetText : Sheet → List ℕ
-sheetText S =
-    headLine "supply" (roasteries S)
-    ++ flatMap numberLine (S .supply)
-    ++ headLine "demand" (cafes S)
-    ++ flatMap numberLine (S .demand)
-    ++ headLine "cost" (roasteries S)
-    ++ flatMap (rowLine wholeDigits) (rowsOf (roasteries S) (cafes S) (S .cost))
+unfoldable pub sheet_text : Sheet → List ℕ
+sheet_text S =
+    head_line "supply" (roasteries S)
+    ++ flat_map number_line S.supply
+    ++ head_line "demand" (cafes S)
+    ++ flat_map number_line S.demand
+    ++ head_line "cost" (roasteries S)
+    ++ flat_map (row_line whole_digits) (rows_of (roasteries S) (cafes S) S.cost)
 
 -- The text, whose length is the call's answer. `room` is the length of the output.
-unfoldable pub writeSheetCall : Sheet → ℕ → Answer (List ℕ)
-writeSheetCall S room = unless (sheetTests S ++ ((tooShort room (length (sheetText S)), 8) ∷ [])) (sheetText S)
+unfoldable pub write_sheet_call : Sheet → ℕ → Answer (List ℕ)
+write_sheet_call S room = unless (sheet_tests S ++ ((too_short room (length (sheet_text S)), 8) ∷ [])) (sheet_text S)
 
 -- ---- reading: a reader takes its part from the front of a text, or is stuck before the first byte that cannot come there
 
@@ -43,17 +39,17 @@ pub data Reading (A : Type 0) : Type 0 where
 abbrev pub Reader : Type 0 → Type 0
 Reader A = List ℕ → Reading A
 
-infixl 10 _>>=_ _>>_
+infixl 10 ◌>>=◌ ◌>>◌
 module _ {A B : Type 0} where
   -- One reader, and then another on the rest.
-  unfoldable pub _>>=_ : Reader A → (A → Reader B) → Reader B
-  _>>=_ r f t = elim (r t) [
+  unfoldable pub ◌>>=◌ : Reader A → (A → Reader B) → Reader B
+  ◌>>=◌ r f t = elim (r t) [
     | stuck rest ↦ stuck rest
     | got a rest ↦ f a rest
   ]
 
-  unfoldable pub _>>_ : Reader A → Reader B → Reader B
-  _>>_ r s t = elim (r t) [
+  unfoldable pub ◌>>◌ : Reader A → Reader B → Reader B
+  ◌>>◌ r s t = elim (r t) [
     | stuck rest ↦ stuck rest
     | got a rest ↦ s rest
   ]
@@ -72,15 +68,15 @@ module _ {A : Type 0} where
     pure (x ∷ xs)
 
 -- One byte that passes the test.
-unfoldable pub byteThat : (ℕ → Bool) → Reader ℕ
-byteThat test [] = stuck []
-byteThat test (b ∷ t) = cond (test b) (got b t) (stuck (b ∷ t))
+unfoldable pub byte_that : (ℕ → Bool) → Reader ℕ
+byte_that test [] = stuck []
+byte_that test (b ∷ t) = cond (test b) (got b t) (stuck (b ∷ t))
 
 -- These bytes.
 unfoldable pub word : List ℕ → Reader (Unit {0})
 word [] = pure tt
 word (c ∷ cs) = do
-  byteThat (eqb c)
+  byte_that (eqb c)
   word cs
 
 -- The end of the text.
@@ -88,8 +84,8 @@ unfoldable pub end : Reader (Unit {0})
 end [] = got tt []
 end (b ∷ t) = stuck (b ∷ t)
 
-unfoldable pub isDigit : ℕ → Bool
-isDigit b = elim (kindOf b) [
+unfoldable pub is_digit : ℕ → Bool
+is_digit b = elim (kind_of b) [
   | Digit ↦ true
   | Space ↦ false
   | LineEnd ↦ false
@@ -97,27 +93,27 @@ isDigit b = elim (kindOf b) [
   | Other ↦ false
 ]
 
-unfoldable pub digitValue : ℕ → ℕ
-digitValue b = b - byte "0"
+unfoldable pub digit_value_of : ℕ → ℕ
+digit_value_of b = b - byte "0"
 
 -- At most k digits more of a number that begins with x, as long as the number passes the test.
-unfoldable pub moreDigits : (ℕ → Bool) → ℕ → ℕ → Reader ℕ
-moreDigits test zero x t = got x t
-moreDigits test (suc k) x [] = got x []
-moreDigits test (suc k) x (b ∷ t) = elim (isDigit b && test (x * 10 + digitValue b)) [
-  | true ↦ moreDigits test k (x * 10 + digitValue b) t
+unfoldable pub more_digits_of : (ℕ → Bool) → ℕ → ℕ → Reader ℕ
+more_digits_of test zero x t = got x t
+more_digits_of test (suc k) x [] = got x []
+more_digits_of test (suc k) x (b ∷ t) = elim (is_digit b && test (x * 10 + digit_value_of b)) [
+  | true ↦ more_digits_of test k (x * 10 + digit_value_of b) t
   | false ↦ got x (b ∷ t)
 ]
 
 -- One to seven digits, the first at least `low`, with no leading 0 except 0 itself.
-unfoldable pub numberFrom : ℕ → Reader ℕ
-numberFrom low = do
-  b ← byteThat (λ b. isDigit b && leb low (digitValue b))
-  moreDigits (λ x. true) (cond (eqb (digitValue b) 0) 0 (maxDigits - 1)) (digitValue b)
+unfoldable pub number_from : ℕ → Reader ℕ
+number_from low = do
+  b ← byte_that (λ b. is_digit b && leb low (digit_value_of b))
+  more_digits_of (λ x. true) (cond (eqb (digit_value_of b) 0) 0 (max_digits - 1)) (digit_value_of b)
 
 -- A supply or demand.
 unfoldable pub number : Reader ℕ
-number = numberFrom 0
+number = number_from 0
 
 -- `-` or nothing: whether there is a minus.
 unfoldable pub minus : Reader Bool
@@ -126,20 +122,20 @@ minus (b ∷ t) = cond (eqb (byte "-") b) (got true t) (got false (b ∷ t))
 
 -- A number after a minus, or without one.
 abbrev pub signed : Bool → ℕ → ℤ
-signed negative x = cond negative (negℤ (pos x)) (pos x)
+signed negative x = cond negative (neg_ℤ (pos x)) (pos x)
 
 -- A cost: it may begin with `-`, never before 0.
 unfoldable pub whole : Reader ℤ
 whole = do
   negative ← minus
-  x ← numberFrom (cond negative 1 0)
+  x ← number_from (cond negative 1 0)
   pure (signed negative x)
 
 -- m or n: from 1 to its limit, of one or two digits.
 unfoldable pub side : ℕ → Reader ℕ
 side most = do
-  b ← byteThat (λ b. isDigit b && within 1 most (digitValue b))
-  moreDigits (within 1 most) 1 (digitValue b)
+  b ← byte_that (λ b. is_digit b && within 1 most (digit_value_of b))
+  more_digits_of (within 1 most) 1 (digit_value_of b)
 
 module _ {A : Type 0} where
   -- One number, and LF.
@@ -164,32 +160,32 @@ module _ {A : Type 0} where
     pure (x ∷ xs)
 
 -- Sections in their order, each after its count. Both row counts must be the same m.
-unfoldable pub sheetReader : Reader Sheet
-sheetReader = do
+unfoldable pub sheet_reader : Reader Sheet
+sheet_reader = do
   word (bytes "supply ")
-  m ← line (side maxSources)
+  m ← line (side max_sources)
   supply ← times m (line number)
   word (bytes "demand ")
-  n ← line (side maxSinks)
+  n ← line (side max_sinks)
   demand ← times n (line number)
-  word (headLine "cost" m)
+  word (head_line "cost" m)
   rows ← times m (row whole n)
   end
   pure (record { supply = supply; demand = demand; cost = flatten rows })
 
 -- 9 with its place if the text is not a sheet text; else what the tests say of the sheet that was read.
-unfoldable pub readWith : (Sheet → List (Bool × ℕ)) → List ℕ → Answer Sheet
-readWith tests text = elim (sheetReader text) [
+unfoldable pub read_with : (Sheet → List (Bool × ℕ)) → List ℕ → Answer Sheet
+read_with tests text = elim (sheet_reader text) [
   | stuck rest ↦ refused (record { number = 9; position = some (length text - length rest) })
   | got S rest ↦ unless (tests S) S
 ]
 
 -- The rooms are the lengths of the lent lists for supplies, demands and costs.
-unfoldable pub readTests : ℕ → ℕ → ℕ → Sheet → List (Bool × ℕ)
-readTests supplyRoom demandRoom costRoom S =
-    numberTests S
-    ++ ((tooShort supplyRoom (roasteries S) || tooShort demandRoom (cafes S) || tooShort costRoom (roasteries S * cafes S), 8)
+unfoldable pub read_tests : ℕ → ℕ → ℕ → Sheet → List (Bool × ℕ)
+read_tests supplyRoom demandRoom costRoom S =
+    number_tests S
+    ++ ((too_short supplyRoom (roasteries S) || too_short demandRoom (cafes S) || too_short costRoom (roasteries S * cafes S), 8)
     ∷ [])
 
-unfoldable pub readSheetCall : List ℕ → ℕ → ℕ → ℕ → Answer Sheet
-readSheetCall text supplyRoom demandRoom costRoom = readWith (readTests supplyRoom demandRoom costRoom) text
+unfoldable pub read_sheet_call : List ℕ → ℕ → ℕ → ℕ → Answer Sheet
+read_sheet_call text supplyRoom demandRoom costRoom = read_with (read_tests supplyRoom demandRoom costRoom) text

@@ -28,63 +28,57 @@
 --   SheetTextOf              exactly the texts that the definition reads: grammar/Place.reader-iff
 --   Place                    the place that read sheet gives with 9: grammar/Place.place
 --   Undo                     write sheet and read sheet: grammar/SheetCalls.undo
-use mathlib.Core.Path.{_≡_}
-use mathlib.Core.Logic.{_↔_, _⊎_}
-use mathlib.Core.Bool.{Bool, true, false, cond}
-use mathlib.Core.List.{List, [], _∷_, map, List·Memᴰ}
-use Prim.Native.Nat.{ℕ, zero, suc, _+_, _*_, _^_, _≤_, _<_}
-use lib.IntN.{ℤ, pos, negsuc, natAbs, negℤ, _+ℤ_, _*ℤ_}
-use lib.Signed.{_≤ℤ_}
-use lib.ListN.{length, take, drop, getD}
-use Rattle·transport·specs.specs.declared.SolveAnswer.{SolveAnswer}
-use Rattle·transport·specs.specs.declared.SolveAnswer.the-variants as SolveAnswer
-use Rattle·transport·specs.specs.Lists.{sumTo, at, atZ, total, within}
-use Rattle·transport·specs.specs.Limits.{maxSources, maxSinks, maxSide, maxAmount, maxCost, maxDigits}
-use Rattle·transport·specs.specs.Problem.{Problem, sources, sinks, Lane, place, laneCost}
-use Rattle·transport·specs.specs.Sheet.{Sheet, roasteries, cafes}
-use Rattle·transport·specs.specs.Extended.{extended}
-use Rattle·transport·specs.specs.Parties.{rowsLeft, columnsLeft, problemOf}
-use Rattle·transport·specs.specs.Amount.{less, nothing, pairedSupply, pairedDemand}
-use Rattle·transport·specs.specs.Tableau.{Cell, noCell, basisSize, laneOf, basisOf, sameLane, start}
-use Rattle·transport·specs.specs.Leaf.{strikes}
-use Rattle·transport·specs.specs.Belonging.{rowTotal, columnTotal}
-use Rattle·transport·specs.specs.Potential.{isFinished}
-use Rattle·transport·specs.specs.OwnNumbers.{renumbered, roasteryPrices, cafePrices}
-use Rattle·transport·specs.specs.Round.{sign, leaving, next, Run}
-use Rattle·transport·specs.specs.Plan.{planCost}
-use Rattle·transport·specs.specs.Calls.{Answer, given, Solution, solution, solveCall}
-use Rattle·transport·specs.specs.Standing.{Edit, edited, Standing, Passes, editFrom, carriedOut}
-use Rattle·transport·specs.specs.SheetText.{sheetText}
+use Rattle.std.specs.Prelude.{◌≡◌, ◌↔◌, ◌⊎◌, Bool, true, false, cond, ℕ, zero, suc, ◌+◌, ◌*◌, ◌^◌, ◌≤◌, ◌<◌, ℤ, pos, negsuc, nat_abs, neg_ℤ, ◌+ℤ◌, ◌*ℤ◌, ◌≤ℤ◌, length, take, drop, get_or}
+use mathlib.Core.List.{List, [], ◌∷◌, map, Memᴰ}
+use Rattle.transport.specs.declared.SolveAnswer.{SolveAnswer}
+use Rattle.transport.specs.declared.SolveAnswer.TheVariants as SolveAnswer
+use Rattle.transport.specs.Lists.{sum_to, at, at_z, total, within}
+use Rattle.transport.specs.Limits.{max_sources, max_sinks, max_side, max_amount, max_cost, max_digits}
+use Rattle.transport.specs.Problem.{Problem, sources, sinks, Lane, place, lane_cost}
+use Rattle.transport.specs.Sheet.{Sheet, roasteries, cafes}
+use Rattle.transport.specs.Extended.{extended}
+use Rattle.transport.specs.Parties.{rows_left_of, columns_left, problem_of}
+use Rattle.transport.specs.Amount.{less, nothing, paired_supply_of, paired_demand_of}
+use Rattle.transport.specs.Tableau.{Cell, no_cell, basis_size, lane_of, basis_for, same_lane, start}
+use Rattle.transport.specs.Leaf.{strikes}
+use Rattle.transport.specs.Belonging.{row_total, column_total}
+use Rattle.transport.specs.Potential.{is_finished_of}
+use Rattle.transport.specs.OwnNumbers.{renumbered, roastery_prices, cafe_prices}
+use Rattle.transport.specs.Round.{sign, leaving, next, Run}
+use Rattle.transport.specs.Plan.{plan_cost_of}
+use Rattle.transport.specs.Calls.{Answer, given, Solution, solution, solve_call}
+use Rattle.transport.specs.Standing.{Edit, edited, Standing, Passes, edit_from, carried_out}
+use Rattle.transport.specs.SheetText.{sheet_text}
 
 -- ---- sheets
 
 -- The sheet is within the limits: all numbers of roasteries, cafés, supplies, demands and costs are, and there is a cost for each lane.
 pub record WithinLimits (S : Sheet) : Type 0 where
-  pub roasteriesLow : 1 ≤ roasteries S
-  pub roasteriesHigh : roasteries S ≤ maxSources
-  pub cafesLow : 1 ≤ cafes S
-  pub cafesHigh : cafes S ≤ maxSinks
-  pub costLength : length (S .cost) ≡ roasteries S * cafes S
-  pub supplyHigh : (i : ℕ) → at (S .supply) i ≤ maxAmount
-  pub demandHigh : (j : ℕ) → at (S .demand) j ≤ maxAmount
-  pub costLow : (l : ℕ) → negℤ (pos maxCost) ≤ℤ atZ (S .cost) l
-  pub costHigh : (l : ℕ) → atZ (S .cost) l ≤ℤ pos maxCost
+  pub roasteries_low : 1 ≤ roasteries S
+  pub roasteries_high : roasteries S ≤ max_sources
+  pub cafes_low : 1 ≤ cafes S
+  pub cafes_high : cafes S ≤ max_sinks
+  pub cost_length : length S.cost ≡ roasteries S * cafes S
+  pub supply_high : (i : ℕ) → at S.supply i ≤ max_amount
+  pub demand_high : (j : ℕ) → at S.demand j ≤ max_amount
+  pub cost_low : (l : ℕ) → neg_ℤ (pos max_cost) ≤ℤ at_z S.cost l
+  pub cost_high : (l : ℕ) → at_z S.cost l ≤ℤ pos max_cost
 
 -- The sheet is balanced: total supply is total demand.
 abbrev pub Balanced : Sheet → Type 0
-Balanced S = total (S .supply) ≡ total (S .demand)
+Balanced S = total S.supply ≡ total S.demand
 
 -- More is wanted than there is (the sheets of 5) ..
 abbrev pub Lacking : Sheet → Type 0
-Lacking S = total (S .supply) < total (S .demand)
+Lacking S = total S.supply < total S.demand
 
 -- .. and there is more than is wanted, with 32 cafés (the sheets of 10).
 abbrev pub Crowded : Sheet → Type 0
-Crowded S = (total (S .demand) < total (S .supply)) × (cafes S ≡ maxSide)
+Crowded S = (total S.demand < total S.supply) × (cafes S ≡ max_side)
 
 -- Nothing is wanted (the sheets of 11, but for those that are crowded too).
 abbrev pub Idle : Sheet → Type 0
-Idle S = total (S .demand) ≡ 0
+Idle S = total S.demand ≡ 0
 
 -- The sheet passes the sheet check.
 pub record Accepted (S : Sheet) : Type 0 where
@@ -99,14 +93,14 @@ pub record Accepted (S : Sheet) : Type 0 where
 -- times its demand.
 pub record Meets (S : Sheet) (k : ℕ) (Q : List ℕ) : Type 0 where
   pub quantities : length Q ≡ roasteries S * cafes S
-  pub rows : (i : ℕ) → i < roasteries S → sumTo (cafes S) (λ j. at Q (place (cafes S) i j)) ≤ k * at (S .supply) i
-  pub columns : (j : ℕ) → j < cafes S → sumTo (roasteries S) (λ i. at Q (place (cafes S) i j)) ≡ k * at (S .demand) j
+  pub rows : (i : ℕ) → i < roasteries S → sum_to (cafes S) (λ j. at Q (place (cafes S) i j)) ≤ k * at S.supply i
+  pub columns : (j : ℕ) → j < cafes S → sum_to (roasteries S) (λ i. at Q (place (cafes S) i j)) ≡ k * at S.demand j
 
 -- 01's own words, of balanced sheets: each roastery's add up to k times its supply.
 pub record MeetsExactly (S : Sheet) (k : ℕ) (Q : List ℕ) : Type 0 where
   pub quantities : length Q ≡ roasteries S * cafes S
-  pub rows : (i : ℕ) → i < roasteries S → sumTo (cafes S) (λ j. at Q (place (cafes S) i j)) ≡ k * at (S .supply) i
-  pub columns : (j : ℕ) → j < cafes S → sumTo (roasteries S) (λ i. at Q (place (cafes S) i j)) ≡ k * at (S .demand) j
+  pub rows : (i : ℕ) → i < roasteries S → sum_to (cafes S) (λ j. at Q (place (cafes S) i j)) ≡ k * at S.supply i
+  pub columns : (j : ℕ) → j < cafes S → sum_to (roasteries S) (λ i. at Q (place (cafes S) i j)) ≡ k * at S.demand j
 
 -- A plan in whole bags, taken k times to be compared with one in k-ths.
 unfoldable pub scaled : ℕ → List ℕ → List ℕ
@@ -133,20 +127,20 @@ pub record Joined (m n : ℕ) (T : ℕ → ℕ → Type 0) : Type 1 where
 pub record Basic (cells : List Cell) (i j : ℕ) : Type 0 where
   pub index : ℕ
   pub below : index < length cells
-  pub row : getD cells index noCell .row ≡ i
-  pub column : getD cells index noCell .col ≡ j
+  pub row : (get_or cells index no_cell).row ≡ i
+  pub column : (get_or cells index no_cell).col ≡ j
 
 -- The tableau belongs to the problem, in the paper's own words. With m + n − 1 cells, to join all is to join all without a loop.
 pub record Belongs (P : Problem) (cells : List Cell) : Type 1 where
-  pub count : length cells ≡ basisSize (sources P) (sinks P)
-  pub onSheet : (k : ℕ) → k < length cells → (getD cells k noCell .row < sources P) × (getD cells k noCell .col < sinks P)
+  pub count : length cells ≡ basis_size (sources P) (sinks P)
+  pub on_sheet : (k : ℕ) → k < length cells → ((get_or cells k no_cell).row < sources P) × ((get_or cells k no_cell).col < sinks P)
   pub order : (k : ℕ) → suc k < length cells
-      → place (sinks P) (getD cells k noCell .row) (getD cells k noCell .col)
-      < place (sinks P) (getD cells (suc k) noCell .row) (getD cells (suc k) noCell .col)
+      → place (sinks P) (get_or cells k no_cell).row (get_or cells k no_cell).col
+      < place (sinks P) (get_or cells (suc k) no_cell).row (get_or cells (suc k) no_cell).col
   pub joined : Joined (sources P) (sinks P) (Basic cells)
-  pub above : (k : ℕ) → k < length cells → less nothing (getD cells k noCell .amount) ≡ true
-  pub rows : (i : ℕ) → i < sources P → rowTotal cells i ≡ pairedSupply P i
-  pub columns : (j : ℕ) → j < sinks P → columnTotal cells j ≡ pairedDemand P j
+  pub above : (k : ℕ) → k < length cells → less nothing (get_or cells k no_cell).amount ≡ true
+  pub rows : (i : ℕ) → i < sources P → row_total cells i ≡ paired_supply_of P i
+  pub columns : (j : ℕ) → j < sinks P → column_total cells j ≡ paired_demand_of P j
 
 -- ---- belonging with struck parties (02, Four)
 
@@ -156,34 +150,34 @@ Left amounts k = (k < length amounts) × ¬ (at amounts k ≡ 0)
 
 -- The cells join all parties left: a split of these with no cell across leaves one side empty.
 abbrev pub JoinedLeft : Problem → List Cell → Type 0
-JoinedLeft E cells = (A B : ℕ → Bool) → ((i j : ℕ) → Basic cells i j → A i ≡ B j) → (p : ℕ) → Left (E .supply) p → A p ≡ true
-    → ((i : ℕ) → Left (E .supply) i → A i ≡ true) × ((j : ℕ) → Left (E .demand) j → B j ≡ true)
+JoinedLeft E cells = (A B : ℕ → Bool) → ((i j : ℕ) → Basic cells i j → A i ≡ B j) → (p : ℕ) → Left E.supply p → A p ≡ true
+    → ((i : ℕ) → Left E.supply i → A i ≡ true) × ((j : ℕ) → Left E.demand j → B j ≡ true)
 
 -- The last column left: the extra café where there is one, and else the last café left.
 pub record LastLeft (E : Problem) (j : ℕ) : Type 0 where
-  pub left : Left (E .demand) j
-  pub last : (h : ℕ) → Left (E .demand) h → h ≤ j
+  pub left : Left E.demand j
+  pub last : (h : ℕ) → Left E.demand h → h ≤ j
 
 -- The cells belong to the extended problem of a sheet, under the parties' own numbers: one cell fewer than parties left, each between two of these; they join
 -- all parties left, and the marks of the last demand count the roasteries left.
 pub record BelongsTo (E : Problem) (cells : List Cell) : Type 0 where
-  pub count : suc (length cells) ≡ length (rowsLeft E) + length (columnsLeft E)
-  pub covered : (k : ℕ) → k < length cells → Left (E .supply) (getD cells k noCell .row) × Left (E .demand) (getD cells k noCell .col)
+  pub count : suc (length cells) ≡ length (rows_left_of E) + length (columns_left E)
+  pub covered : (k : ℕ) → k < length cells → Left E.supply (get_or cells k no_cell).row × Left E.demand (get_or cells k no_cell).col
   pub order : (k : ℕ) → suc k < length cells
-      → place (sinks E) (getD cells k noCell .row) (getD cells k noCell .col)
-      < place (sinks E) (getD cells (suc k) noCell .row) (getD cells (suc k) noCell .col)
+      → place (sinks E) (get_or cells k no_cell).row (get_or cells k no_cell).col
+      < place (sinks E) (get_or cells (suc k) no_cell).row (get_or cells (suc k) no_cell).col
   pub joined : JoinedLeft E cells
-  pub above : (k : ℕ) → k < length cells → less nothing (getD cells k noCell .amount) ≡ true
-  pub rows : (i : ℕ) → Left (E .supply) i → rowTotal cells i ≡ record { q = pos (at (E .supply) i); e = pos 1 }
-  pub columns : (j : ℕ) → Left (E .demand) j → ¬ LastLeft E j → columnTotal cells j ≡ record { q = pos (at (E .demand) j); e = pos 0 }
-  pub lastColumn : (j : ℕ) → LastLeft E j → columnTotal cells j ≡ record { q = pos (at (E .demand) j); e = pos (length (rowsLeft E)) }
+  pub above : (k : ℕ) → k < length cells → less nothing (get_or cells k no_cell).amount ≡ true
+  pub rows : (i : ℕ) → Left E.supply i → row_total cells i ≡ record { q = pos (at E.supply i); e = pos 1 }
+  pub columns : (j : ℕ) → Left E.demand j → ¬ LastLeft E j → column_total cells j ≡ record { q = pos (at E.demand j); e = pos 0 }
+  pub last_column : (j : ℕ) → LastLeft E j → column_total cells j ≡ record { q = pos (at E.demand j); e = pos (length (rows_left_of E)) }
 
 -- ---- prices (01, "Prices and rounds")
 
 -- Prices: u by row and v by column, nothing for the first row, and together the lane's cost wherever a cell is basic.
 pub record PricesOf (P : Problem) (cells : List Cell) (u v : ℕ → ℤ) : Type 0 where
   pub root : u 0 ≡ pos 0
-  pub tight : (i j : ℕ) → Basic cells i j → u i +ℤ v j ≡ laneCost P (record { row = i; col = j })
+  pub tight : (i j : ℕ) → Basic cells i j → u i +ℤ v j ≡ lane_cost P (record { row = i; col = j })
 
 -- u and v are prices of the tableau, and the only ones.
 pub record OnlyPrices (P : Problem) (cells : List Cell) (u v : ℕ → ℤ) : Type 0 where
@@ -196,40 +190,40 @@ pub record OnlyPrices (P : Problem) (cells : List Cell) (u v : ℕ → ℤ) : Ty
 
 -- The way round, from lane k on: a lane in its row, then a lane in that one's column, and so on, until a lane stands in the column of the entering lane.
 pub data Way (enter : Lane) : Lane → List Lane → Type 0 where
-  closes : {k l : Lane} → l .row ≡ k .row → l .col ≡ enter .col → Way enter k (l ∷ [])
-  goes : {k l p : Lane} {ls : List Lane} → l .row ≡ k .row → p .col ≡ l .col → Way enter p ls → Way enter k (l ∷ p ∷ ls)
+  closes : {k l : Lane} → l.row ≡ k.row → l.col ≡ enter.col → Way enter k (l ∷ [])
+  goes : {k l p : Lane} {ls : List Lane} → l.row ≡ k.row → p.col ≡ l.col → Way enter p ls → Way enter k (l ∷ p ∷ ls)
 
 -- No lane stands twice in the list.
 pub data Apart : List Lane → Type 0 where
   empty : Apart []
-  fresh : {l : Lane} {ls : List Lane} → (List·Memᴰ l ls → ⊥) → Apart ls → Apart (l ∷ ls)
+  fresh : {l : Lane} {ls : List Lane} → (Memᴰ l ls → ⊥) → Apart ls → Apart (l ∷ ls)
 
 -- The entering lane and the others, all of them basic, are a loop: round from the entering lane back to it, and no lane twice.
 pub record Loop (cells : List Cell) (enter : Lane) (others : List Lane) : Type 0 where
   pub way : Way enter enter others
   pub apart : Apart (enter ∷ others)
-  pub basic : (l : Lane) → List·Memᴰ l others → Basic cells (l .row) (l .col)
+  pub basic : (l : Lane) → Memᴰ l others → Basic cells l.row l.col
 
 -- Plus, minus, plus, minus and so on.
-pub data Alternate (signOf : Lane → ℤ) : List Lane → Type 0 where
-  none : Alternate signOf []
-  pair : {l p : Lane} {ls : List Lane} → signOf l ≡ pos 1 → signOf p ≡ negsuc 0 → Alternate signOf ls → Alternate signOf (l ∷ p ∷ ls)
+pub data Alternate (sign_of : Lane → ℤ) : List Lane → Type 0 where
+  none : Alternate sign_of []
+  pair : {l p : Lane} {ls : List Lane} → sign_of l ≡ pos 1 → sign_of p ≡ negsuc 0 → Alternate sign_of ls → Alternate sign_of (l ∷ p ∷ ls)
 
 -- The signs that the definition gives to the basic cells ..
-abbrev pub basicSign : Problem → List Cell → Lane → Lane → ℤ
-basicSign P cells enter = sign (sources P) (strikes (sources P) (sinks P) (basisOf cells)) enter
+abbrev pub basic_sign : Problem → List Cell → Lane → Lane → ℤ
+basic_sign P cells enter = sign (sources P) (strikes (sources P) (sinks P) (basis_for cells)) enter
 
 -- .. with the plus at the entering lane.
-unfoldable pub loopSign : Problem → List Cell → Lane → Lane → ℤ
-loopSign P cells enter l = cond (sameLane l enter) (pos 1) (basicSign P cells enter l)
+unfoldable pub loop_sign : Problem → List Cell → Lane → Lane → ℤ
+loop_sign P cells enter l = cond (same_lane l enter) (pos 1) (basic_sign P cells enter l)
 
 -- The entering lane closes one loop, round which the signs alternate, and no lane off it has a sign.
 pub record OneLoop (P : Problem) (cells : List Cell) (enter : Lane) : Type 0 where
   pub others : List Lane
   pub loop : Loop cells enter others
-  pub one : (lanes : List Lane) → Loop cells enter lanes → (l : Lane) → List·Memᴰ l lanes ↔ List·Memᴰ l others
-  pub alternate : Alternate (loopSign P cells enter) (enter ∷ others)
-  pub off : (l : Lane) → ¬ List·Memᴰ l (enter ∷ others) → loopSign P cells enter l ≡ pos 0
+  pub one : (lanes : List Lane) → Loop cells enter lanes → (l : Lane) → Memᴰ l lanes ↔ Memᴰ l others
+  pub alternate : Alternate (loop_sign P cells enter) (enter ∷ others)
+  pub off : (l : Lane) → ¬ Memᴰ l (enter ∷ others) → loop_sign P cells enter l ≡ pos 0
 
 -- ---- the step (01, "Prices and rounds")
 
@@ -237,18 +231,18 @@ pub record OneLoop (P : Problem) (cells : List Cell) (enter : Lane) : Type 0 whe
 
 -- A basic cell with a minus.
 pub record MinusCell (P : Problem) (cells : List Cell) (enter : Lane) (c : Cell) : Type 0 where
-  pub basic : List·Memᴰ c cells
-  pub minus : basicSign P cells enter (laneOf c) ≡ negsuc 0
+  pub basic : Memᴰ c cells
+  pub minus : basic_sign P cells enter (lane_of c) ≡ negsuc 0
 
 -- A minus cell that holds the step: on none is the pair smaller.
 pub record HoldsStep (P : Problem) (cells : List Cell) (enter : Lane) (c : Cell) : Type 0 where
   pub cell : MinusCell P cells enter c
-  pub smallest : (d : Cell) → MinusCell P cells enter d → less (d .amount) (c .amount) ≡ false
+  pub smallest : (d : Cell) → MinusCell P cells enter d → less d.amount c.amount ≡ false
 
 -- The cell that leaves holds the step, and no other does.
 pub record OneStep (P : Problem) (cells : List Cell) (enter : Lane) : Type 0 where
-  pub holds : HoldsStep P cells enter (leaving (basicSign P cells enter) cells)
-  pub noTie : (c d : Cell) → HoldsStep P cells enter c → HoldsStep P cells enter d → c ≡ d
+  pub holds : HoldsStep P cells enter (leaving (basic_sign P cells enter) cells)
+  pub no_tie_of : (c d : Cell) → HoldsStep P cells enter c → HoldsStep P cells enter d → c ≡ d
 
 -- ---- rounds (01, "Prices and rounds" and "Calls and their refusals")
 
@@ -259,8 +253,8 @@ after P (suc k) cells = after P k (next P cells)
 
 -- It takes k rounds to come to a finished tableau, and no fewer.
 pub record FirstFinished (P : Problem) (cells : List Cell) (k : ℕ) : Type 0 where
-  pub finished : isFinished P (after P k cells) ≡ true
-  pub before : (h : ℕ) → h < k → isFinished P (after P h cells) ≡ false
+  pub finished : is_finished_of P (after P k cells) ≡ true
+  pub before : (h : ℕ) → h < k → is_finished_of P (after P h cells) ≡ false
 
 -- ---- the best plan (01, "Settling"; demand 3; 02, One and Two)
 
@@ -268,17 +262,17 @@ pub record FirstFinished (P : Problem) (cells : List Cell) (k : ℕ) : Type 0 wh
 -- on the first lane where they differ.
 pub record Best (S : Sheet) (plan : List ℕ) (cost : ℤ) : Type 0 where
   pub meets : Meets S 1 plan
-  pub shown : cost ≡ planCost S plan
-  pub least : (k : ℕ) (Q : List ℕ) → 1 ≤ k → Meets S k Q → (pos k *ℤ cost) ≤ℤ planCost S Q
-  pub first : (k : ℕ) (Q : List ℕ) → 1 ≤ k → Meets S k Q → planCost S Q ≡ (pos k *ℤ cost)
+  pub shown : cost ≡ plan_cost_of S plan
+  pub least : (k : ℕ) (Q : List ℕ) → 1 ≤ k → Meets S k Q → (pos k *ℤ cost) ≤ℤ plan_cost_of S Q
+  pub first : (k : ℕ) (Q : List ℕ) → 1 ≤ k → Meets S k Q → plan_cost_of S Q ≡ (pos k *ℤ cost)
       → (l : ℕ) → FirstDifference (scaled k plan) Q l → at Q l < at (scaled k plan) l
 
 -- The same in 01's own words, of balanced sheets: ours and Q meet every supply exactly.
 pub record BestExactly (S : Sheet) (plan : List ℕ) (cost : ℤ) : Type 0 where
   pub meets : MeetsExactly S 1 plan
-  pub shown : cost ≡ planCost S plan
-  pub least : (k : ℕ) (Q : List ℕ) → 1 ≤ k → MeetsExactly S k Q → (pos k *ℤ cost) ≤ℤ planCost S Q
-  pub first : (k : ℕ) (Q : List ℕ) → 1 ≤ k → MeetsExactly S k Q → planCost S Q ≡ (pos k *ℤ cost)
+  pub shown : cost ≡ plan_cost_of S plan
+  pub least : (k : ℕ) (Q : List ℕ) → 1 ≤ k → MeetsExactly S k Q → (pos k *ℤ cost) ≤ℤ plan_cost_of S Q
+  pub first : (k : ℕ) (Q : List ℕ) → 1 ≤ k → MeetsExactly S k Q → plan_cost_of S Q ≡ (pos k *ℤ cost)
       → (l : ℕ) → FirstDifference (scaled k plan) Q l → at Q l < at (scaled k plan) l
 
 -- ---- prices that prove a plan (02, One and Four)
@@ -286,21 +280,21 @@ pub record BestExactly (S : Sheet) (plan : List ℕ) (cost : ℤ) : Type 0 where
 -- Prices by roastery and by café, struck ones among them, from which anyone can tell that no plan costs less: no lane costs less than the two of its ends, a
 -- lane that carries bags costs just them, and where a roastery keeps bags no other has a greater price.
 pub record Certified (S : Sheet) (u v : ℕ → ℤ) (plan : List ℕ) : Type 0 where
-  pub lanes : (i j : ℕ) → i < roasteries S → j < cafes S → (u i +ℤ v j) ≤ℤ atZ (S .cost) (place (cafes S) i j)
-  pub used : (i j : ℕ) → i < roasteries S → j < cafes S → 1 ≤ at plan (place (cafes S) i j) → u i +ℤ v j ≡ atZ (S .cost) (place (cafes S) i j)
-  pub kept : (i : ℕ) → i < roasteries S → sumTo (cafes S) (λ j. at plan (place (cafes S) i j)) < at (S .supply) i
+  pub lanes : (i j : ℕ) → i < roasteries S → j < cafes S → (u i +ℤ v j) ≤ℤ at_z S.cost (place (cafes S) i j)
+  pub used : (i j : ℕ) → i < roasteries S → j < cafes S → 1 ≤ at plan (place (cafes S) i j) → u i +ℤ v j ≡ at_z S.cost (place (cafes S) i j)
+  pub kept : (i : ℕ) → i < roasteries S → sum_to (cafes S) (λ j. at plan (place (cafes S) i j)) < at S.supply i
       → (h : ℕ) → h < roasteries S → u h ≤ℤ u i
 
 -- No price passes 63,000,000 in size (01, "Prices and rounds"), no struck party's either.
 pub record PricesWithin (S : Sheet) (u v : ℕ → ℤ) : Type 0 where
-  pub rows : (i : ℕ) → i < roasteries S → natAbs (u i) ≤ 63_000_000
-  pub columns : (j : ℕ) → j < cafes S → natAbs (v j) ≤ 63_000_000
+  pub rows : (i : ℕ) → i < roasteries S → nat_abs (u i) ≤ 63_000_000
+  pub columns : (j : ℕ) → j < cafes S → nat_abs (v j) ≤ 63_000_000
 
 -- ---- run and solve (01, "Calls and their refusals")
 
 -- None of the tableaux after 0 to k rounds is finished.
 abbrev pub Unfinished : Problem → List Cell → ℕ → Type 0
-Unfinished P cells k = (h : ℕ) → h ≤ k → isFinished P (after P h cells) ≡ false
+Unfinished P cells k = (h : ℕ) → h ≤ k → is_finished_of P (after P h cells) ≡ false
 
 -- Run: finished, where the first finished tableau is within the allowance, with that tableau and its rounds; spent, where it is not, with the tableau after all
 -- rounds that were allowed.
@@ -311,16 +305,16 @@ pub record RunOf (P : Problem) (allowance : ℕ) (cells : List Cell) (r : Run) :
 -- Solve counts its rounds from the start, and shows the prices of the first finished tableau, with those of struck parties and without the extra café's. That
 -- tableau belongs to the problem of the parties left.
 pub record FromFirstFinished (S : Sheet) (s : Solution) : Type 1 where
-  pub reached : FirstFinished (problemOf S) (start (problemOf S)) (s .rounds)
-  pub belongs : Belongs (problemOf S) (after (problemOf S) (s .rounds) (start (problemOf S)))
-  pub u : s .u ≡ roasteryPrices S (after (problemOf S) (s .rounds) (start (problemOf S)))
-  pub v : s .v ≡ cafePrices S (after (problemOf S) (s .rounds) (start (problemOf S)))
+  pub reached : FirstFinished (problem_of S) (start (problem_of S)) s.rounds
+  pub belongs : Belongs (problem_of S) (after (problem_of S) s.rounds (start (problem_of S)))
+  pub u : s.u ≡ roastery_prices S (after (problem_of S) s.rounds (start (problem_of S)))
+  pub v : s.v ≡ cafe_prices S (after (problem_of S) s.rounds (start (problem_of S)))
 
 -- The lists lent to solve are long enough for m and n prices and m × n quantities.
-pub record LongEnough (S : Sheet) (uRoom vRoom planRoom : ℕ) : Type 0 where
+pub record LongEnough (S : Sheet) (uRoom vRoom plan_room : ℕ) : Type 0 where
   pub u : roasteries S ≤ uRoom
   pub v : cafes S ≤ vRoom
-  pub plan : roasteries S * cafes S ≤ planRoom
+  pub plan : roasteries S * cafes S ≤ plan_room
 
 -- What is bought of each call of solve: r is its answer; the lent lists hold u, v and plan before it, and uAfter, vAfter and planAfter after it.
 pub record Bought (S : Sheet) (r : SolveAnswer) (u v : List ℤ) (plan : List ℕ) (uAfter vAfter : List ℤ) (planAfter : List ℕ) : Type 0 where
@@ -347,45 +341,45 @@ pub record Bought (S : Sheet) (r : SolveAnswer) (u v : List ℤ) (plan : List �
 -- too.
 pub record EqualPrices (S : Sheet) : Type 0 where
   pub same : (T U : List Cell) → BelongsTo (extended S) T → BelongsTo (extended S) U
-      → isFinished (problemOf S) (renumbered (extended S) T) ≡ true
-      → isFinished (problemOf S) (renumbered (extended S) U) ≡ true
-      → (roasteryPrices S (renumbered (extended S) T) ≡ roasteryPrices S (renumbered (extended S) U))
-      × (cafePrices S (renumbered (extended S) T) ≡ cafePrices S (renumbered (extended S) U))
+      → is_finished_of (problem_of S) (renumbered (extended S) T) ≡ true
+      → is_finished_of (problem_of S) (renumbered (extended S) U) ≡ true
+      → (roastery_prices S (renumbered (extended S) T) ≡ roastery_prices S (renumbered (extended S) U))
+      × (cafe_prices S (renumbered (extended S) T) ≡ cafe_prices S (renumbered (extended S) U))
 
 -- An accepted edit gave s. Solve accepts the edited sheet, and cost, prices and settled plan equal
 -- those of solving it from nothing. The plan is best for the edited sheet. The rounds are those
 -- made by the edit, from where it began to the first finished tableau. What then stands passes the
 -- first check.
-pub record FromNothing (St : Standing) (e : Edit) (uRoom vRoom planRoom : ℕ) (s : Solution) : Type 0 where
-  pub solved : solveCall (edited (St .sheet) e) uRoom vRoom planRoom ≡ given (solution (edited (St .sheet) e))
-  pub cost : s .cost ≡ solution (edited (St .sheet) e) .cost
-  pub u : s .u ≡ solution (edited (St .sheet) e) .u
-  pub v : s .v ≡ solution (edited (St .sheet) e) .v
-  pub plan : s .plan ≡ solution (edited (St .sheet) e) .plan
-  pub best : Best (edited (St .sheet) e) (s .plan) (s .cost)
-  pub rounds : FirstFinished (problemOf (edited (St .sheet) e)) (editFrom St e) (s .rounds)
-  pub stands : Passes (carriedOut St e)
+pub record FromNothing (St : Standing) (e : Edit) (uRoom vRoom plan_room : ℕ) (s : Solution) : Type 0 where
+  pub solved : solve_call (edited St.sheet e) uRoom vRoom plan_room ≡ given (solution (edited St.sheet e))
+  pub cost : s.cost ≡ (solution (edited St.sheet e)).cost
+  pub u : s.u ≡ (solution (edited St.sheet e)).u
+  pub v : s.v ≡ (solution (edited St.sheet e)).v
+  pub plan : s.plan ≡ (solution (edited St.sheet e)).plan
+  pub best : Best (edited St.sheet e) s.plan s.cost
+  pub rounds : FirstFinished (problem_of (edited St.sheet e)) (edit_from St e) s.rounds
+  pub stands : Passes (carried_out St e)
 
 -- ---- texts (01, "Texts")
 
 -- A sheet that has a text: m and n are 1 to 32, there is a cost for each lane, and no number has more than seven digits, a minus aside.
 pub record HasText (S : Sheet) : Type 0 where
-  pub sides : (within 1 maxSources (roasteries S) ≡ true) × (within 1 maxSinks (cafes S) ≡ true)
-  pub lengths : length (S .cost) ≡ roasteries S * cafes S
-  pub numbers : (k : ℕ) → (at (S .supply) k < 10 ^ maxDigits) × (at (S .demand) k < 10 ^ maxDigits) × (natAbs (atZ (S .cost) k) < 10 ^ maxDigits)
+  pub sides : (within 1 max_sources (roasteries S) ≡ true) × (within 1 max_sinks (cafes S) ≡ true)
+  pub lengths : length S.cost ≡ roasteries S * cafes S
+  pub numbers : (k : ℕ) → (at S.supply k < 10 ^ max_digits) × (at S.demand k < 10 ^ max_digits) × (nat_abs (at_z S.cost k) < 10 ^ max_digits)
 
 -- The text is a sheet text, that of S.
 pub record SheetTextOf (S : Sheet) (text : List ℕ) : Type 0 where
   pub sheet : HasText S
-  pub written : text ≡ sheetText S
+  pub written : text ≡ sheet_text S
 
 -- Some sheet text begins with the first p bytes of the text.
 pub record Shared (text : List ℕ) (p : ℕ) : Type 0 where
   pub sheet : Sheet
   pub has : HasText sheet
-  pub inText : p ≤ length text
-  pub inOther : p ≤ length (sheetText sheet)
-  pub same : take p text ≡ take p (sheetText sheet)
+  pub in_text : p ≤ length text
+  pub in_other : p ≤ length (sheet_text sheet)
+  pub same : take p text ≡ take p (sheet_text sheet)
 
 -- The place: how many bytes the text has, at most, in common with the beginning of a sheet text.
 pub record Place (text : List ℕ) (p : ℕ) : Type 0 where
@@ -394,5 +388,5 @@ pub record Place (text : List ℕ) (p : ℕ) : Type 0 where
 
 -- Writing and reading undo each other, both ways. `write` gives the text of a sheet, and `read` the sheet of a text.
 pub record Undo (write : Sheet → Answer (List ℕ)) (read : List ℕ → Answer Sheet) : Type 0 where
-  pub readWritten : (S : Sheet) (text : List ℕ) → write S ≡ given text → read text ≡ given S
-  pub writeRead : (text : List ℕ) (S : Sheet) → read text ≡ given S → write S ≡ given text
+  pub read_written : (S : Sheet) (text : List ℕ) → write S ≡ given text → read text ≡ given S
+  pub write_read : (text : List ℕ) (S : Sheet) → read text ≡ given S → write S ≡ given text

@@ -1,20 +1,14 @@
 // Potentials: the prices of the nodes.
-use crate::LANES;
-use crate::NODES;
-use crate::Price;
-use crate::mask;
+ghost use Rattle.std.specs.Prelude.{◌≡◌, true, cond, ℕ, ◌+◌, ◌<◌, ◌≤◌, ◌^◌, pos, nat_abs, neg_ℤ, ◌+ℤ◌, length, get_or};
+ghost use Rattle.transport.specs.Limits.{cost_above};
+ghost use Rattle.transport.specs.Potential.{potential_by};
+ghost use Rattle.tree.specs.Mask.{has};
+ghost use Rattle.tree.specs.Bits.{Touched};
+ghost use Rattle.tree.specs.Repriced.{Repriced};
+ghost use Rattle.tree.specs.Layout.{stride, node_room, cost_of, strikes_of, StrikesInRoom};
+
+use crate::{LANES, NODES, Price, mask};
 use transport::MAX_SIDE;
-ghost use mathlib.Core.Path.{_≡_};
-ghost use mathlib.Core.Bool.{true, cond};
-ghost use Prim.Native.Nat.{ℕ, _+_, _<_, _≤_, _^_};
-ghost use lib.IntN.{pos, natAbs, negℤ, _+ℤ_};
-ghost use lib.ListN.{length, getD};
-ghost use Rattle·transport.specs.Limits.{costAbove};
-ghost use Rattle·transport.specs.Potential.{potentialBy};
-ghost use Rattle·tree·specs.specs.Mask.{has};
-ghost use Rattle·tree·specs.specs.Bits.{Touched};
-ghost use Rattle·tree·specs.specs.Repriced.{Repriced};
-ghost use Rattle·tree·specs.specs.Layout.{stride, nodeRoom, costOf, strikesOf, StrikesInRoom};
 
 // Back through the strikes: a leaf's potential is its lane's cost less the potential at the other end; a node that is never struck, as the root, has 0.
 pub fn potentials(
@@ -25,14 +19,12 @@ pub fn potentials(
     count: usize,
     price: &mut [Price; NODES],
 )
-    requires { ⌜ StrikesInRoom (now leaf) (now other) (now lane) count ⌝ }
-    requires { ⌜ ((l : ℕ) → natAbs (getD (now cost) l (pos 0)) ≤ costAbove) ⌝ }
-    ensures { λ _. ⌜
-        (length (now (price .exit)) ≡ nodeRoom)
-        × ((k : ℕ) → k < nodeRoom
-        → getD (now (price .exit)) k (pos 0)
-        ≡ potentialBy (costOf (now (cost .entry))) (strikesOf (now (leaf .entry)) (now (other .entry)) (now (lane .entry)) count) k)
-        ⌝ }
+    requires strikes_in_room { StrikesInRoom leaf.now other.now lane.now count }
+    requires by_index { (l : ℕ) → nat_abs (get_or cost.now l (pos 0)) ≤ cost_above }
+    ensures { (length price.new ≡ node_room)
+        × ((k : ℕ) → k < node_room
+        → get_or price.new k (pos 0)
+        ≡ potential_by (cost_of cost.now) (strikes_of leaf.now other.now lane.now count) k) }
 {
     *price = [0; NODES];
     let mut k = count;
@@ -47,9 +39,9 @@ pub fn potentials(
 
 // Adds x to the price of each node of `at`.
 fn raise(price: &mut [Price; NODES], at: u64, x: Price)
-    requires { ⌜ length (now price) ≡ nodeRoom ⌝ }
-    requires { ⌜ ((k : ℕ) → k < nodeRoom → has at k ≡ true → natAbs (getD (now price) k (pos 0)) + natAbs x < 2 ^ 31) ⌝ }
-    ensures { λ _. ⌜ Touched (λ z. z +ℤ x) (pos 0) (now (price .entry)) at (now (price .exit)) ⌝ }
+    requires price_len { length price.old ≡ node_room }
+    requires by_index { (k : ℕ) → k < node_room → has at k ≡ true → nat_abs (get_or price.old k (pos 0)) + nat_abs x < 2 ^ 31 }
+    ensures { Touched (λ z. z +ℤ x) (pos 0) price.old at price.new }
 {
     let mut bits = at;
     while bits != 0 {
@@ -61,9 +53,9 @@ fn raise(price: &mut [Price; NODES], at: u64, x: Price)
 
 // How far the prices of the nodes of `far` move, so that the lane with that reduced cost, from `row`, becomes tight.
 fn toward(far: u64, row: usize, reduced: Price) -> Price
-    requires { ⌜ row < nodeRoom ⌝ }
-    requires { ⌜ natAbs reduced ≤ 2 ^ 29 ⌝ }
-    ensures { λ r. ⌜ r ≡ cond (has far row) reduced (negℤ reduced) ⌝ }
+    requires row_lt_node_room { row < node_room }
+    requires reduced_bound { nat_abs reduced ≤ 2 ^ 29 }
+    ensures { result ≡ cond (has far row) reduced (neg_ℤ reduced) }
 {
     if mask::has_bit(far, row) {
         reduced
@@ -74,9 +66,9 @@ fn toward(far: u64, row: usize, reduced: Price) -> Price
 
 // The prices after an exchange of lanes: those of the nodes of `far` move, rows one way and columns the other.
 pub fn reprice(price: &mut [Price; NODES], m: usize, far: u64, row: usize, reduced: Price)
-    requires { ⌜ (m ≤ stride) × (row < stride) × (natAbs reduced ≤ 2 ^ 29) ⌝ }
-    requires { ⌜ (length (now price) ≡ nodeRoom) × ((k : ℕ) → k < nodeRoom → natAbs (getD (now price) k (pos 0)) ≤ 2 ^ 29) ⌝ }
-    ensures { λ _. ⌜ Repriced m far (cond (has far row) reduced (negℤ reduced)) (now (price .entry)) (now (price .exit)) ⌝ }
+    requires m_le_stride { (m ≤ stride) × (row < stride) × (nat_abs reduced ≤ 2 ^ 29) }
+    requires price_len { (length price.old ≡ node_room) × ((k : ℕ) → k < node_room → nat_abs (get_or price.old k (pos 0)) ≤ 2 ^ 29) }
+    ensures { Repriced m far (cond (has far row) reduced (neg_ℤ reduced)) price.old price.new }
 {
     let x = toward(far, row, reduced);
     let rows = far & mask::first_bits(m);

@@ -1,38 +1,34 @@
 // Striking off leaves: a node with a single lane is taken away with that lane, again and again. The lanes join all nodes without a loop exactly if m + n - 1
 // are struck. Nodes and lanes are numbered as in lib.rt: source i is node i, sink j is node m + j, and node 0 is the root, which is never struck.
-use crate::NODES;
-use crate::mask;
+ghost use Rattle.std.specs.Prelude.{◌≡◌, cond, List, ◌+◌, ◌<◌, ◌≤◌, length};
+ghost use Rattle.transport.specs.Problem.{Lane};
+ghost use Rattle.tree.specs.Layout.{stride, node_room, strikes_of};
+ghost use Rattle.tree.specs.Links.{Links, Masks, other_end_of, own_bit_of, lane_to_of, joins};
+ghost use Rattle.tree.specs.Queue.{Queue};
+ghost use Rattle.tree.specs.Strip.{Stripped};
+
+use crate::{NODES, mask};
 use transport::MAX_SIDE;
-ghost use mathlib.Core.Path.{_≡_};
-ghost use mathlib.Core.Bool.{cond};
-ghost use mathlib.Core.List.{List};
-ghost use Prim.Native.Nat.{_+_, _<_, _≤_};
-ghost use lib.ListN.{length};
-ghost use Rattle·transport.specs.Problem.{Lane};
-ghost use Rattle·tree·specs.specs.Layout.{stride, nodeRoom, strikesOf};
-ghost use Rattle·tree·specs.specs.Links.{Links, Masks, otherEnd, ownBit, laneTo, joins};
-ghost use Rattle·tree·specs.specs.Queue.{Queue};
-ghost use Rattle·tree·specs.specs.Strip.{Stripped};
 
 // The node at the other end of a node's lane.
 fn other_end(node: usize, bit: usize, m: usize) -> usize
-    requires { ⌜ (m ≤ stride) × (bit < nodeRoom) ⌝ }
-    ensures { λ r. ⌜ r ≡ otherEnd m node bit ⌝ }
+    requires { (m ≤ stride) × (bit < node_room) }
+    ensures { result ≡ other_end_of m node bit }
 {
     if node < m { m + bit } else { bit }
 }
 
 // The bit that stands for the node in the mask at the other end.
 fn own_bit(node: usize, m: usize) -> usize
-    ensures { λ r. ⌜ r ≡ ownBit m node ⌝ }
+    ensures { result ≡ own_bit_of m node }
 {
     if node < m { node } else { node - m }
 }
 
 // The place of a node's lane.
 fn lane_to(node: usize, bit: usize, m: usize) -> usize
-    requires { ⌜ (m ≤ stride) × (node < nodeRoom) × (bit < nodeRoom) ⌝ }
-    ensures { λ r. ⌜ r ≡ laneTo m node bit ⌝ }
+    requires { (m ≤ stride) × (node < node_room) × (bit < node_room) }
+    ensures { result ≡ lane_to_of m node bit }
 {
     if node < m {
         node * MAX_SIDE + bit
@@ -43,7 +39,7 @@ fn lane_to(node: usize, bit: usize, m: usize) -> usize
 
 // 1 if the node is to be queued, as a leaf that is not the root; else 0.
 fn joins_queue(node: usize, lanes: u64) -> usize
-    ensures { λ r. ⌜ r ≡ cond (joins node lanes) 1 0 ⌝ }
+    ensures { result ≡ cond (joins node lanes) 1 0 }
 {
     if node != 0 {
         if mask::is_single(lanes) {
@@ -55,9 +51,9 @@ fn joins_queue(node: usize, lanes: u64) -> usize
 
 // Queues the leaves that there are from the start, in the order of the nodes.
 fn first_leaves(live: &[u64; NODES], leaf: &mut [usize; NODES], m: usize, n: usize) -> usize
-    requires { ⌜ Links m n (now live) ⌝ }
-    requires { ⌜ length (now leaf) ≡ nodeRoom ⌝ }
-    ensures { λ r. ⌜ (length (now (leaf .exit)) ≡ nodeRoom) × Queue (m + n) (now (live .entry)) (now (leaf .exit)) 0 r ⌝ }
+    requires links { Links m n live.now }
+    requires leaf_len { length leaf.old ≡ node_room }
+    ensures { (length leaf.new ≡ node_room) × Queue (m + n) live.now leaf.new 0 result }
 {
     let mut tail = 0;
     let mut node = 1;
@@ -80,13 +76,11 @@ pub fn strike(
     m: usize,
     n: usize,
 ) -> usize
-    requires { ⌜ Links m n (now adj) ⌝ }
-    requires { ⌜ (length (now adj) ≡ nodeRoom) × (length (now leaf) ≡ nodeRoom) × (length (now other) ≡ nodeRoom) × (length (now lane) ≡ nodeRoom) ⌝ }
-    ensures { λ _. ⌜ (length (now (leaf .exit)) ≡ nodeRoom) × (length (now (other .exit)) ≡ nodeRoom) × (length (now (lane .exit)) ≡ nodeRoom) ⌝ }
-    ensures { λ r. ⌜
-        ((B : List Lane) → Masks m n B (now (adj .entry))
-        → Stripped m n B (strikesOf (now (leaf .exit)) (now (other .exit)) (now (lane .exit)) r) r)
-        ⌝ }
+    requires links { Links m n adj.now }
+    requires adj_len { (length adj.now ≡ node_room) × (length leaf.old ≡ node_room) × (length other.old ≡ node_room) × (length lane.old ≡ node_room) }
+    ensures leaf_len { (length leaf.new ≡ node_room) × (length other.new ≡ node_room) × (length lane.new ≡ node_room) }
+    ensures stripped { (B : List Lane) → Masks m n B adj.now
+        → Stripped m n B (strikes_of leaf.new other.new lane.new result) result }
 {
     let mut live = *adj;
     let mut tail = first_leaves(adj, leaf, m, n);

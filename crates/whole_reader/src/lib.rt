@@ -1,21 +1,18 @@
 // Whole numbers: numbers that may begin with a minus.
-ghost use mathlib.Core.Path.{_≡_};
-ghost use Prim.Native.Nat.{_≤_, _^_};
-ghost use lib.ListN.{length, drop};
-ghost use Rattle·transport.specs.SheetText.{whole};
-ghost use Rattle·sections.specs.Lines.{ending};
-ghost use Rattle·tokens.specs.Reading.{endReading};
-ghost use Rattle·whole_reader·specs.specs.Wholes.{wholeReading, wholePlace, signedTaken, valueBelow};
-use number_reader::read_end;
-use number_reader::read_number;
-use tokens::Taken;
-use tokens::TakenWhole;
+ghost use Rattle.std.specs.Prelude.{◌≡◌, ◌≤◌, ◌^◌, length, drop};
+ghost use Rattle.transport.specs.SheetText.{whole};
+ghost use Rattle.sections.specs.Lines.{ending};
+ghost use Rattle.tokens.specs.Reading.{end_reading};
+ghost use Rattle.whole_reader.specs.Wholes.{whole_reading, whole_place, signed_taken, ValueBelow};
+
+use number_reader::{read_end, read_number};
 use tokens::bytes::byte_at;
+use tokens::{Taken, TakenWhole};
 
 // A number that was read, with its sign.
 fn signed(negative: bool, number: Taken) -> TakenWhole
-    requires { ⌜ valueBelow (2 ^ 63) number ⌝ }
-    ensures { λ r. ⌜ r ≡ signedTaken negative number ⌝ }
+    requires { ValueBelow (2 ^ 63) number }
+    ensures { result ≡ signed_taken negative number }
 {
     match number {
         Taken::Got { value, next } => {
@@ -29,11 +26,9 @@ fn signed(negative: bool, number: Taken) -> TakenWhole
 
 // A whole number and the byte that ends it: after a minus the number is not 0.
 pub fn read_whole(text: &[u8], at: usize, left: usize) -> TakenWhole
-    requires { ⌜ at ≤ length (now text) ⌝ }
-    ensures { λ r. ⌜
-        (endReading (ending left) (whole (drop at (now (text .entry)))) ≡ wholeReading (now (text .entry)) r)
-        × (wholePlace r ≤ length (now (text .entry)))
-        ⌝ }
+    requires { at ≤ length text.now }
+    ensures { (end_reading (ending left) (whole (drop at text.now)) ≡ whole_reading text.now result)
+        × (whole_place result ≤ length text.now) }
 {
     let negative = byte_at(text, at, b'-');
     let first = at + negative as usize;

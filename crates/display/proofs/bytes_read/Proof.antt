@@ -1,15 +1,15 @@
 -- The two cases of the lesser.
-use Rattle·prelude.specs.Words.{arith}
-use Rattle·transport.specs.Limits.{maxText}
-use Rattle·display·proofs.proofs.bytes_read.Statement.{statement}
-use Rattle·display·proofs.proofs.bytes_read.Tie as tie
+use Rattle.prelude.specs.Words.{arith}
+use Rattle.transport.specs.Limits.{max_text}
+use Rattle.display.proofs.bytes_read.Statement.{statement}
+use Rattle.display.proofs.bytes_read.Tie as tie
 
 returns : tie.Need-returns
-unfolding maxText
+unfolding max_text
 returns c = omega arith
 
 returns-2 : tie.Need-returns-2
-unfolding maxText
+unfolding max_text
 returns-2 c = omega arith
 
 pub bytes-read-spec : {M : Type 1} → statement M

@@ -1,9 +1,9 @@
 -- `numbering::number_in` meets its contract.
-use Rattle·numbering·proofs.proofs.number_in.Statement.{statement}
-use Rattle·numbering·proofs.proofs.number_in.Tie as tie
+use Rattle.numbering.proofs.number_in.Statement.{statement}
+use Rattle.numbering.proofs.number_in.Tie as tie
 
 returns : tie.Need-returns
-returns c = c .number-of .ensures _ (c .before .before .numbers .ensures)
+returns c = c.number_of_lem.ensures _ c.before.before.numbers.ensures
 
 pub number-in-spec : {M : Type 1} → statement M
-number-in-spec = tie.close (tie.spec (λ c κs. c .before .pre) (λ c κs. tt) returns)
+number-in-spec = tie.close (tie.spec (λ c κs. c.before.requires) (λ c κs. tt) returns)

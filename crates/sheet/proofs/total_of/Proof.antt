@@ -1,45 +1,45 @@
 -- The loop's invariant: the sum of the first i amounts, each of which is within its limit.
-use Rattle·prelude.specs.Words.{needs, _≡_, ap, _∙_, ℕ, _≤_, _-_, _*_, arith, length, getD}
-use Rattle·transport.specs.Lists.{sumTo, at, total}
-use Rattle·transport.specs.Limits.{maxSide, maxAmount}
-use Rattle·transport.specs.Laws.ListLaws.{sumTo-zero, sumTo-one}
-use Rattle·transport.specs.Laws.SheetLaws.{all-most}
-use Rattle·sheet·proofs.proofs.total_of.Statement.{statement}
-use Rattle·sheet·proofs.proofs.total_of.Tie as tie
+use Rattle.prelude.specs.Words.{rules, ◌≡◌, ap, ◌∙◌, ℕ, ◌≤◌, ◌-◌, ◌*◌, arith, length, get_or}
+use Rattle.transport.specs.Lists.{sum_to, at, total}
+use Rattle.transport.specs.Limits.{max_side, max_amount}
+use Rattle.transport.specs.Laws.ListLaws.{sum_to-zero, sum_to-one}
+use Rattle.transport.specs.Laws.SheetLaws.{all_most}
+use Rattle.sheet.proofs.total_of.Statement.{statement}
+use Rattle.sheet.proofs.total_of.Tie as tie
 
-abbrev Inv-loop : tie.InvT-loop
-Inv-loop amounts sum₀ i₀ sum i = (i ≤ length amounts) × (sum ≤ i * maxAmount) × (sum ≡ sumTo i (at amounts))
+abbrev invariant-loop : tie.invariant-loop
+invariant-loop amounts sum₀ i₀ sum i = (i ≤ length amounts) × (sum ≤ i * max_amount) × (sum ≡ sum_to i (at amounts))
 
-abbrev μ-loop : tie.MeasureT-loop
-μ-loop amounts sum₀ i₀ sum i = length amounts - i
+abbrev decreases-loop : tie.decreases-loop
+decreases-loop amounts sum₀ i₀ sum i = length amounts - i
 
-loop-holds : tie.Need-loop-holds Inv-loop μ-loop
-loop-holds c = (omega arith, omega arith, rw sumTo-zero)
+loop-holds : tie.Need-loop-init invariant-loop decreases-loop
+loop-holds c = (omega arith, omega arith, rw sum_to-zero)
 
-small : (c : tie.In-loop Inv-loop μ-loop) → getD (c .before .before .args .amounts .now) (c .before .loop .i) 0 ≤ maxAmount
+small : (c : tie.In-loop invariant-loop decreases-loop) → get_or c.before.before.args.amounts.now c.before.loop.i 0 ≤ max_amount
 unfolding at
-small c = all-most maxAmount (c .before .before .args .amounts .now) (c .before .before .pre .1) (c .before .loop .i)
+small c = all_most max_amount c.before.before.args.amounts.now c.before.before.requires.1 c.before.loop.i
 
-add-sum : tie.Need-add-sum Inv-loop μ-loop
-unfolding maxSide maxAmount
-add-sum c = omega (arith, small (c .before))
+add-sum : tie.Need-overflow-add-sum invariant-loop decreases-loop
+unfolding max_side max_amount
+add-sum c = omega (arith, small c.before)
 
-loop-again : tie.Need-loop-again Inv-loop μ-loop
+loop-again : tie.Need-loop-preserved invariant-loop decreases-loop
 unfolding at
 loop-again c =
-    let s = c .before .before .before .args .amounts .now in
-    let i = c .before .before .loop in
-    (omega arith, omega (arith, small (c .before)), omega (arith, sumTo-one (i .i) (at s)))
+    let s = c.before.before.before.args.amounts.now in
+    let i = c.before.before.loop in
+    (omega arith, omega (arith, small c.before), omega (arith, sum_to-one i.i (at s)))
 
-returns : tie.Need-returns Inv-loop μ-loop
+returns : tie.Need-returns invariant-loop decreases-loop
 unfolding total
 returns c =
-    let s = c .before .before .args .amounts .now in
-    let i = c .before .loop in
-    let whole : i .i ≡ length s = omega arith in
-    i .inv .2 ∙ ap (λ (k : ℕ). sumTo k (at s)) whole
+    let s = c.before.before.args.amounts.now in
+    let i = c.before.loop in
+    let whole : i.i ≡ length s = omega arith in
+    i.invariant.2 ∙ ap (λ (k : ℕ). sum_to k (at s)) whole
 
 pub total-of-spec : {M : Type 1} → statement M
 total-of-spec =
-    tie.close (tie.spec Inv-loop μ-loop loop-holds (λ c. search needs) (λ c. search needs) add-sum (λ c. search needs) (λ c. search needs)
+    tie.close (tie.spec invariant-loop decreases-loop loop-holds (λ c. search rules) (λ c. search rules) add-sum (λ c. search rules) (λ c. search rules)
     loop-again returns)

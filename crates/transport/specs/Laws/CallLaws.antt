@@ -1,14 +1,14 @@
 -- Laws of Calls: the value or the first refusal, what a lent list then holds, and rooms.
-use Rattle·prelude.specs.Words.{_≡_, refl, sym, _∙_, ap, _↔_, Bool, true, false, _||_, true≢false, List, [], _∷_, _++_, none, some, ℕ, _*_, _≤_, _<_, arith}
-use Rattle·prelude.specs.Words.{ltb-false, lt-ltb, le-ltb, length, drop, by-option, some≢none}
-use Rattle·transport·specs.specs.Sheet.{Sheet, roasteries, cafes, refusal}
-use Rattle·transport·specs.specs.Laws.SheetLaws.{refusal-yes, refusal-no, refusal-clear, refusal-pass, refusal-stands}
-use Rattle·transport·specs.specs.Calls.{Refusal, refused, given, refusedBy, unless, lentAfter, tooShort, Solution}
+use Rattle.prelude.specs.Words.{◌≡◌, refl, sym, ◌∙◌, ap, ◌↔◌, Bool, true, false, ◌||◌, true≢false, List, [], ◌∷◌, ◌++◌, none, some, ℕ, ◌*◌, ◌≤◌, ◌<◌, arith}
+use Rattle.prelude.specs.Words.{ltb-false, lt-ltb, le-ltb, length, drop, by_option, some≢none}
+use Rattle.transport.specs.Sheet.{Sheet, roasteries, cafes, refusal}
+use Rattle.transport.specs.Laws.SheetLaws.{refusal_yes, refusal_no, refusal-clear, refusal-pass, refusal-stands}
+use Rattle.transport.specs.Calls.{Refusal, refused, given, refused_by, unless, lent_after, too_short, Solution}
 
 -- ---- answers
 
 pub refused≢given : {A : Type 0} {r : Refusal} {a : A} → refused r ≡ given a → ⊥
-refused≢given e = let n : _≡_ {A = ℕ} 0 1 = cc in omega arith
+refused≢given e = let n : ◌≡◌ {A = ℕ} 0 1 = cc in omega arith
 
 -- ---- the value, unless a test refuses
 
@@ -17,89 +17,89 @@ module _ {A : Type 0} (tests : List (Bool × ℕ)) (x : A) where
   unfolding unless
   unless-given e = rw (e, unless)
 
-  pub unless-refused : (k : ℕ) → refusal tests ≡ some k → unless tests x ≡ refusedBy k
+  pub unless-refused : (k : ℕ) → refusal tests ≡ some k → unless tests x ≡ refused_by k
   unfolding unless
   unless-refused k e = rw (e, unless)
 
-  pub unless-given-iff : (y : A) → (unless tests x ≡ given y) ↔ (refusal tests ≡ none) × (y ≡ x)
-  unfolding refusedBy
-  unless-given-iff y = (
-    (λ f. by-option (refusal tests) (λ e. (e, let same : y ≡ x = cc (unless-given e) in same))
+  pub unless-given_iff : (y : A) → (unless tests x ≡ given y) ↔ (refusal tests ≡ none) × (y ≡ x)
+  unfolding refused_by
+  unless-given_iff y = (
+    (λ f. by_option (refusal tests) (λ e. (e, let same : y ≡ x = cc (unless-given e) in same))
         (λ k e. absurd (refused≢given (sym (unless-refused k e) ∙ f)))),
-    (λ h. unless-given (h .0) ∙ ap given (sym (h .1))),
+    (λ h. unless-given h.0 ∙ ap given (sym h.1)),
   )
 
   -- What a test refuses by has no place.
-  pub unless-placeless : (r : Refusal) → unless tests x ≡ refused r → r .position ≡ none
-  unfolding refusedBy
-  unless-placeless r f = by-option (refusal tests) (λ e. absurd (refused≢given (sym f ∙ unless-given e))) (λ k e.
+  pub unless_placeless : (r : Refusal) → unless tests x ≡ refused r → r.position ≡ none
+  unfolding refused_by
+  unless_placeless r f = by_option (refusal tests) (λ e. absurd (refused≢given (sym f ∙ unless-given e))) (λ k e.
       let same : record { number = k; position = none } ≡ r = cc (unless-refused k e) in
-      sym (ap (λ (q : Refusal). q .position) same))
+      sym (ap (λ (q : Refusal). q.position) same))
 
 -- ---- one test more at the end
 
 module _ (ts : List (Bool × ℕ)) (t : Bool × ℕ) where
-  pub refusal-last : (refusal (ts ++ (t ∷ [])) ≡ none) ↔ (refusal ts ≡ none) × (t .0 ≡ false)
+  pub refusal-last : (refusal (ts ++ (t ∷ [])) ≡ none) ↔ (refusal ts ≡ none) × (t.0 ≡ false)
   unfolding refusal
   refusal-last = (
-    (λ f. by-option (refusal ts) (λ e. (e, refusal-clear t [] (sym (refusal-pass ts (t ∷ []) e) ∙ f) .0))
+    (λ f. by_option (refusal ts) (λ e. (e, (refusal-clear t [] (sym (refusal-pass ts (t ∷ []) e) ∙ f)).0))
         (λ k e. absurd (some≢none (sym (refusal-stands ts (t ∷ []) k e) ∙ f)))),
-    (λ h. refusal-pass ts (t ∷ []) (h .0) ∙ refusal-no t [] (h .1)),
+    (λ h. refusal-pass ts (t ∷ []) h.0 ∙ refusal_no t [] h.1),
   )
 
 module _ {A : Type 0} (tests : List (Bool × ℕ)) (last : Bool) (number : ℕ) (x : A) where
-  pub unless-before : (k : ℕ) → refusal tests ≡ some k → unless (tests ++ ((last, number) ∷ [])) x ≡ refusedBy k
+  pub unless-before : (k : ℕ) → refusal tests ≡ some k → unless (tests ++ ((last, number) ∷ [])) x ≡ refused_by k
   unless-before k e = unless-refused (tests ++ ((last, number) ∷ [])) x k (refusal-stands tests ((last, number) ∷ []) k e)
 
-  pub unless-last : refusal tests ≡ none → last ≡ true → unless (tests ++ ((last, number) ∷ [])) x ≡ refusedBy number
+  pub unless-last : refusal tests ≡ none → last ≡ true → unless (tests ++ ((last, number) ∷ [])) x ≡ refused_by number
   unless-last e t =
-      unless-refused (tests ++ ((last, number) ∷ [])) x number (refusal-pass tests ((last, number) ∷ []) e ∙ refusal-yes (last, number) [] t)
+      unless-refused (tests ++ ((last, number) ∷ [])) x number (refusal-pass tests ((last, number) ∷ []) e ∙ refusal_yes (last, number) [] t)
 
   pub unless-none : refusal tests ≡ none → last ≡ false → unless (tests ++ ((last, number) ∷ [])) x ≡ given x
-  unless-none e t = unless-given (tests ++ ((last, number) ∷ [])) x (refusal-last tests (last, number) .1 (e, t))
+  unless-none e t = unless-given (tests ++ ((last, number) ∷ [])) x ((refusal-last tests (last, number)).1 (e, t))
 
 -- ---- lent lists
 
 module _ {A B : Type 0} (part : A → List B) where
-  pub lent-refused : (k : ℕ) (old : List B) → lentAfter part (refusedBy k) old ≡ old
-  unfolding lentAfter refusedBy
+  pub lent-refused : (k : ℕ) (old : List B) → lent_after part (refused_by k) old ≡ old
+  unfolding lent_after refused_by
   lent-refused k old = refl
 
-  pub lent-given : (x : A) (old : List B) → lentAfter part (given x) old ≡ part x ++ drop (length (part x)) old
-  unfolding lentAfter
+  pub lent-given : (x : A) (old : List B) → lent_after part (given x) old ≡ part x ++ drop (length (part x)) old
+  unfolding lent_after
   lent-given x old = refl
 
 -- ---- rooms
 
-pub room-iff : (room needed : ℕ) → (tooShort room needed ≡ false) ↔ (needed ≤ room)
-unfolding tooShort
-room-iff room needed = (ltb-false room needed, le-ltb room needed)
+pub room_iff : (room needed : ℕ) → (too_short room needed ≡ false) ↔ (needed ≤ room)
+unfolding too_short
+room_iff room needed = (ltb-false room needed, le-ltb room needed)
 
-pub short-yes : (room needed : ℕ) → room < needed → tooShort room needed ≡ true
-unfolding tooShort
-short-yes room needed p = lt-ltb room needed p
+pub short_yes : (room needed : ℕ) → room < needed → too_short room needed ≡ true
+unfolding too_short
+short_yes room needed p = lt-ltb room needed p
 
-pub short-no : (room needed : ℕ) → needed ≤ room → tooShort room needed ≡ false
-short-no room needed p = room-iff room needed .1 p
+pub short_no : (room needed : ℕ) → needed ≤ room → too_short room needed ≡ false
+short_no room needed p = (room_iff room needed).1 p
 
-or-false-iff : (a b : Bool) → (a || b ≡ false) ↔ (a ≡ false) × (b ≡ false)
-or-false-iff true b = (λ e. absurd (true≢false e), λ h. h .0)
-or-false-iff false b = (λ e. (refl, e), λ h. h .1)
+or-false_iff : (a b : Bool) → (a || b ≡ false) ↔ (a ≡ false) × (b ≡ false)
+or-false_iff true b = (λ e. absurd (true≢false e), λ h. h.0)
+or-false_iff false b = (λ e. (refl, e), λ h. h.1)
 
 -- Three lent lists.
-pub rooms-iff : (a x b y c z : ℕ) → (tooShort a x || tooShort b y || tooShort c z ≡ false) ↔ (x ≤ a) × (y ≤ b) × (z ≤ c)
-rooms-iff a x b y c z = (
+pub rooms_iff : (a x b y c z : ℕ) → (too_short a x || too_short b y || too_short c z ≡ false) ↔ (x ≤ a) × (y ≤ b) × (z ≤ c)
+rooms_iff a x b y c z = (
   λ e.
-      let h = or-false-iff (tooShort a x || tooShort b y) (tooShort c z) .0 e in
-      let k = or-false-iff (tooShort a x) (tooShort b y) .0 (h .0) in
-      (room-iff a x .0 (k .0), room-iff b y .0 (k .1), room-iff c z .0 (h .1)),
+      let h = (or-false_iff (too_short a x || too_short b y) (too_short c z)).0 e in
+      let k = (or-false_iff (too_short a x) (too_short b y)).0 h.0 in
+      ((room_iff a x).0 k.0, (room_iff b y).0 k.1, (room_iff c z).0 h.1),
   λ h.
-      or-false-iff (tooShort a x || tooShort b y) (tooShort c z) .1
-      (or-false-iff (tooShort a x) (tooShort b y) .1 (room-iff a x .1 (h .0), room-iff b y .1 (h .1)), room-iff c z .1 (h .2)),
+      (or-false_iff (too_short a x || too_short b y) (too_short c z)).1
+      ((or-false_iff (too_short a x) (too_short b y)).1 ((room_iff a x).1 h.0, (room_iff b y).1 h.1), (room_iff c z).1 h.2),
 )
 
 -- The solution fills m, n and m × n places of the lent lists.
 pub record Fills (S : Sheet) (s : Solution) : Type 0 where
-  pub u : length (s .u) ≡ roasteries S
-  pub v : length (s .v) ≡ cafes S
-  pub plan : length (s .plan) ≡ roasteries S * cafes S
+  pub u : length s.u ≡ roasteries S
+  pub v : length s.v ≡ cafes S
+  pub plan : length s.plan ≡ roasteries S * cafes S

@@ -1,213 +1,213 @@
 -- The laws of Sheet: the first refusal, and what the sheet check says.
-use Rattle·prelude.specs.Words.{ℕ, _*_, _≤_, _<_, arith, decLt, _≡_, refl, sym, ap, _∙_, Bool, true, false, not, _&&_, and-false, List, [], _∷_, _++_}
-use Rattle·prelude.specs.Words.{append-nil, none, some, leb, ltb, T, ℤ, pos, negsuc, negℤ, leZ, ltZ, _≤ℤ_, leZ-yes, length, leb-true, le-leb, lt-leb, eqb-true}
-use Rattle·prelude.specs.Words.{eq-eqb, ne-eqb, le-ltb, lt-ltb, ltb-true, ltb-false, not-false, by-test, clash, by-cases, some≢none}
-use Rattle·transport·specs.specs.Lists.{all, at, atZ, total, atMost, within, withinZ}
-use Rattle·transport·specs.specs.Limits.{maxSources, maxSinks, maxSide, maxAmount, maxCost}
-use Rattle·transport·specs.specs.Sheet.{Sheet, roasteries, cafes, badSides, badLength, badAmount, badCost, lacking, crowded, idle, numberTests, sheetTests}
-use Rattle·transport·specs.specs.Sheet.{refusal}
-use Rattle·transport·specs.specs.Statements.{WithinLimits, Lacking, Crowded, Idle, Accepted}
-use Rattle·transport·specs.specs.Laws.ListLaws.{and-left, and-right, all-at, all-of, at-past, atZ-past}
+use Rattle.prelude.specs.Words.{ℕ, ◌*◌, ◌≤◌, ◌<◌, arith, dec_lt, ◌≡◌, refl, sym, ap, ◌∙◌, Bool, true, false, not, ◌&&◌, and-false, List, [], ◌∷◌, ◌++◌}
+use Rattle.prelude.specs.Words.{append-nil, none, some, leb, ltb, T, ℤ, pos, negsuc, neg_ℤ, le_z, lt_z, ◌≤ℤ◌, le_z_yes, length, leb-true, le-leb, lt-leb, eqb-true}
+use Rattle.prelude.specs.Words.{eq-eqb, ne_eqb, le-ltb, lt-ltb, ltb-true, ltb-false, not-false, by_test, clash, by_cases, some≢none}
+use Rattle.transport.specs.Lists.{all, at, at_z, total, at_most, within, within_z}
+use Rattle.transport.specs.Limits.{max_sources, max_sinks, max_side, max_amount, max_cost}
+use Rattle.transport.specs.Sheet.{Sheet, roasteries, cafes, bad_sides, bad_length, bad_amount, bad_cost, lacking, crowded, idle, number_tests, sheet_tests}
+use Rattle.transport.specs.Sheet.{refusal}
+use Rattle.transport.specs.Statements.{WithinLimits, Lacking, Crowded, Idle, Accepted}
+use Rattle.transport.specs.Laws.ListLaws.{and_left, and_right, all-at, all_of, at-past, at_z-past}
 
 -- ---- refusal
 
-pub refusal-yes : (t : Bool × ℕ) (ts : List (Bool × ℕ)) → t .0 ≡ true → refusal (t ∷ ts) ≡ some (t .1)
+pub refusal_yes : (t : Bool × ℕ) (ts : List (Bool × ℕ)) → t.0 ≡ true → refusal (t ∷ ts) ≡ some t.1
 unfolding refusal
-refusal-yes t ts e = rw (e, refusal)
+refusal_yes t ts e = rw (e, refusal)
 
-pub refusal-no : (t : Bool × ℕ) (ts : List (Bool × ℕ)) → t .0 ≡ false → refusal (t ∷ ts) ≡ refusal ts
+pub refusal_no : (t : Bool × ℕ) (ts : List (Bool × ℕ)) → t.0 ≡ false → refusal (t ∷ ts) ≡ refusal ts
 unfolding refusal
-refusal-no t ts e = rw (e, refusal)
+refusal_no t ts e = rw (e, refusal)
 
 -- Where nothing is refused, the first test does not hold, and none of the others refuses.
-pub refusal-clear : (t : Bool × ℕ) (ts : List (Bool × ℕ)) → refusal (t ∷ ts) ≡ none → (t .0 ≡ false) × (refusal ts ≡ none)
-refusal-clear t ts e = by-test (t .0) (λ p. absurd (some≢none (sym (refusal-yes t ts p) ∙ e))) (λ p. (p, sym (refusal-no t ts p) ∙ e))
+pub refusal-clear : (t : Bool × ℕ) (ts : List (Bool × ℕ)) → refusal (t ∷ ts) ≡ none → (t.0 ≡ false) × (refusal ts ≡ none)
+refusal-clear t ts e = by_test t.0 (λ p. absurd (some≢none (sym (refusal_yes t ts p) ∙ e))) (λ p. (p, sym (refusal_no t ts p) ∙ e))
 
 -- Tests that refuse nothing leave it to those after them ..
 pub refusal-pass : (ts us : List (Bool × ℕ)) → refusal ts ≡ none → refusal (ts ++ us) ≡ refusal us
 refusal-pass [] us e = refl
-refusal-pass (t ∷ ts) us e = let (p, q) = refusal-clear t ts e in refusal-no t (ts ++ us) p ∙ refusal-pass ts us q
+refusal-pass (t ∷ ts) us e = let (p, q) = refusal-clear t ts e in refusal_no t (ts ++ us) p ∙ refusal-pass ts us q
 
 -- .. and a refusal stands, whatever is tested after it.
 pub refusal-stands : (ts us : List (Bool × ℕ)) (k : ℕ) → refusal ts ≡ some k → refusal (ts ++ us) ≡ some k
 unfolding refusal
 refusal-stands [] us k e = absurd (some≢none (sym e))
-refusal-stands (t ∷ ts) us k e = by-test (t .0)
-    (λ p. refusal-yes t (ts ++ us) p ∙ sym (refusal-yes t ts p) ∙ e)
-    (λ p. refusal-no t (ts ++ us) p ∙ refusal-stands ts us k (sym (refusal-no t ts p) ∙ e))
+refusal-stands (t ∷ ts) us k e = by_test t.0
+    (λ p. refusal_yes t (ts ++ us) p ∙ sym (refusal_yes t ts p) ∙ e)
+    (λ p. refusal_no t (ts ++ us) p ∙ refusal-stands ts us k (sym (refusal_no t ts p) ∙ e))
 
 -- ---- the sheet check
 
 pub within-true : (low high x : ℕ) → within low high x ≡ true → (low ≤ x) × (x ≤ high)
 unfolding within
-within-true low high x e = (leb-true low x (and-left (leb low x) (leb x high) e), leb-true x high (and-right (leb low x) (leb x high) e))
+within-true low high x e = (leb-true low x (and_left (leb low x) (leb x high) e), leb-true x high (and_right (leb low x) (leb x high) e))
 
 pub true-within : (low high x : ℕ) → low ≤ x → x ≤ high → within low high x ≡ true
 unfolding within
 true-within low high x p q = rw (le-leb low x p, le-leb x high q)
 
 -- Below the bounds, and above them.
-pub within-low : (low high x : ℕ) → x < low → within low high x ≡ false
+pub within_low : (low high x : ℕ) → x < low → within low high x ≡ false
 unfolding within
-within-low low high x p = rw (lt-leb low x p)
+within_low low high x p = rw (lt-leb low x p)
 
 pub within-high : (low high x : ℕ) → high < x → within low high x ≡ false
 unfolding within
 within-high low high x p = rw (lt-leb x high p, and-false)
 
-withinZ-true : (low high z : ℤ) → withinZ low high z ≡ true → (low ≤ℤ z) × (z ≤ℤ high)
-unfolding withinZ
-withinZ-true low high z e = (leZ-yes (rw (and-left (leZ low z) (leZ z high) e) tt), leZ-yes (rw (and-right (leZ low z) (leZ z high) e) tt))
+within_z-true : (low high z : ℤ) → within_z low high z ≡ true → (low ≤ℤ z) × (z ≤ℤ high)
+unfolding within_z
+within_z-true low high z e = (le_z_yes (rw (and_left (le_z low z) (le_z z high) e) tt), le_z_yes (rw (and_right (le_z low z) (le_z z high) e) tt))
 
-true-withinZ : (low high z : ℤ) → low ≤ℤ z → z ≤ℤ high → withinZ low high z ≡ true
-unfolding withinZ
-true-withinZ low high z p q =
+true-within_z : (low high z : ℤ) → low ≤ℤ z → z ≤ℤ high → within_z low high z ≡ true
+unfolding within_z
+true-within_z low high z p q =
     let yes : (b : Bool) → T b → b ≡ true = λ b. elim b [ true ↦ λ t. refl | false ↦ λ t. absurd t ] in
-    rw (yes (leZ low z) (p .le), yes (leZ z high) (q .le))
+    rw (yes (le_z low z) p.le, yes (le_z z high) q.le)
 
 -- As the code tests it, by the strict order.
-pub withinZ-tests : (low high z : ℤ) → withinZ low high z ≡ not (ltZ z low) && not (ltZ high z)
-unfolding withinZ
-withinZ-tests low high z = rw (le-lt low z, le-lt z high)
+pub within_z-tests : (low high z : ℤ) → within_z low high z ≡ not (lt_z z low) && not (lt_z high z)
+unfolding within_z
+within_z-tests low high z = rw (le-lt low z, le-lt z high)
   where
     nat : (a b : ℕ) → leb a b ≡ not (ltb b a)
-    nat a b = by-test (ltb b a) (λ e. rw e (lt-leb a b (ltb-true b a e))) (λ e. rw e (le-leb a b (ltb-false b a e)))
+    nat a b = by_test (ltb b a) (λ e. rw e (lt-leb a b (ltb-true b a e))) (λ e. rw e (le-leb a b (ltb-false b a e)))
 
-    le-lt : (a b : ℤ) → leZ a b ≡ not (ltZ b a)
+    le-lt : (a b : ℤ) → le_z a b ≡ not (lt_z b a)
     le-lt (pos a) (pos b) = nat a b
     le-lt (pos a) (negsuc b) = refl
     le-lt (negsuc a) (pos b) = refl
     le-lt (negsuc a) (negsuc b) = nat b a
 
 -- No number of the list is above the bound.
-pub all-most : (high : ℕ) (xs : List ℕ) → all (atMost high) xs ≡ true → (k : ℕ) → at xs k ≤ high
-unfolding at atMost
-all-most high xs e k = by-cases (decLt k (length xs))
-    (λ l. leb-true _ high (all-at (atMost high) xs 0 k e l))
+pub all_most : (high : ℕ) (xs : List ℕ) → all (at_most high) xs ≡ true → (k : ℕ) → at xs k ≤ high
+unfolding at at_most
+all_most high xs e k = by_cases (dec_lt k (length xs))
+    (λ l. leb-true _ high (all-at (at_most high) xs 0 k e l))
     (λ l. omega (arith, at-past xs k (omega arith)))
 
-most-all : (high : ℕ) (xs : List ℕ) → ((k : ℕ) → at xs k ≤ high) → all (atMost high) xs ≡ true
-unfolding at atMost
-most-all high xs most = all-of (atMost high) xs 0 (λ k l. le-leb _ high (most k))
+most-all : (high : ℕ) (xs : List ℕ) → ((k : ℕ) → at xs k ≤ high) → all (at_most high) xs ≡ true
+unfolding at at_most
+most-all high xs most = all_of (at_most high) xs 0 (λ k l. le-leb _ high (most k))
 
 -- Beyond the list stands 0, which is within bounds that have it between them.
-all-withinZ-at : (low high : ℤ) (zs : List ℤ) → low ≤ℤ pos 0 → pos 0 ≤ℤ high → all (withinZ low high) zs ≡ true
-    → (k : ℕ) → (low ≤ℤ atZ zs k) × (atZ zs k ≤ℤ high)
-unfolding atZ
-all-withinZ-at low high zs p q e k = by-cases (decLt k (length zs))
-    (λ l. withinZ-true low high _ (all-at (withinZ low high) zs (pos 0) k e l))
-    (λ l. rw (atZ-past zs k (omega arith)) (p, q))
+all-within_z-at : (low high : ℤ) (zs : List ℤ) → low ≤ℤ pos 0 → pos 0 ≤ℤ high → all (within_z low high) zs ≡ true
+    → (k : ℕ) → (low ≤ℤ at_z zs k) × (at_z zs k ≤ℤ high)
+unfolding at_z
+all-within_z-at low high zs p q e k = by_cases (dec_lt k (length zs))
+    (λ l. within_z-true low high _ (all-at (within_z low high) zs (pos 0) k e l))
+    (λ l. rw (at_z-past zs k (omega arith)) (p, q))
 
-within-limits : (S : Sheet) → badSides S .0 ≡ false → badLength S .0 ≡ false → badAmount S .0 ≡ false → badCost S .0 ≡ false → WithinLimits S
-unfolding badSides badLength badAmount badCost roasteries cafes maxCost
+within-limits : (S : Sheet) → (bad_sides S).0 ≡ false → (bad_length S).0 ≡ false → (bad_amount S).0 ≡ false → (bad_cost S).0 ≡ false → WithinLimits S
+unfolding bad_sides bad_length bad_amount bad_cost roasteries cafes max_cost
 within-limits S sides lengths amounts costs =
-    let sides : within 1 maxSources (roasteries S) && within 1 maxSinks (cafes S) ≡ true = not-false _ sides in
-    let amounts : all (atMost maxAmount) (S .supply) && all (atMost maxAmount) (S .demand) ≡ true = not-false _ amounts in
-    let costs : all (withinZ (negℤ (pos maxCost)) (pos maxCost)) (S .cost) ≡ true = not-false _ costs in
-    let costs = all-withinZ-at (negℤ (pos maxCost)) (pos maxCost) (S .cost) (leZ-yes tt) (leZ-yes tt) costs in
-    let rows = within-true 1 maxSources (roasteries S) (and-left _ (within 1 maxSinks (cafes S)) sides) in
-    let columns = within-true 1 maxSinks (cafes S) (and-right (within 1 maxSources (roasteries S)) _ sides) in
+    let sides : within 1 max_sources (roasteries S) && within 1 max_sinks (cafes S) ≡ true = not-false _ sides in
+    let amounts : all (at_most max_amount) S.supply && all (at_most max_amount) S.demand ≡ true = not-false _ amounts in
+    let costs : all (within_z (neg_ℤ (pos max_cost)) (pos max_cost)) S.cost ≡ true = not-false _ costs in
+    let costs = all-within_z-at (neg_ℤ (pos max_cost)) (pos max_cost) S.cost (le_z_yes tt) (le_z_yes tt) costs in
+    let rows = within-true 1 max_sources (roasteries S) (and_left _ (within 1 max_sinks (cafes S)) sides) in
+    let columns = within-true 1 max_sinks (cafes S) (and_right (within 1 max_sources (roasteries S)) _ sides) in
     record {
-      roasteriesLow = rows .0;
-      roasteriesHigh = rows .1;
-      cafesLow = columns .0;
-      cafesHigh = columns .1;
-      costLength = eqb-true _ _ (not-false _ lengths);
-      supplyHigh = all-most maxAmount (S .supply) (and-left _ (all (atMost maxAmount) (S .demand)) amounts);
-      demandHigh = all-most maxAmount (S .demand) (and-right (all (atMost maxAmount) (S .supply)) _ amounts);
-      costLow = λ l. costs l .0;
-      costHigh = λ l. costs l .1;
+      roasteries_low = rows.0;
+      roasteries_high = rows.1;
+      cafes_low = columns.0;
+      cafes_high = columns.1;
+      cost_length = eqb-true _ _ (not-false _ lengths);
+      supply_high = all_most max_amount S.supply (and_left _ (all (at_most max_amount) S.demand) amounts);
+      demand_high = all_most max_amount S.demand (and_right (all (at_most max_amount) S.supply) _ amounts);
+      cost_low = λ l. (costs l).0;
+      cost_high = λ l. (costs l).1;
     }
 
 -- The tests that a sheet within the limits passes.
 record Passes (S : Sheet) : Type 0 where
-  sides : badSides S .0 ≡ false
-  lengths : badLength S .0 ≡ false
-  amounts : badAmount S .0 ≡ false
-  costs : badCost S .0 ≡ false
+  sides : (bad_sides S).0 ≡ false
+  lengths : (bad_length S).0 ≡ false
+  amounts : (bad_amount S).0 ≡ false
+  costs : (bad_cost S).0 ≡ false
 
 module _ {S : Sheet} (h : WithinLimits S) where
-  pub supplies-most : all (atMost maxAmount) (S .supply) ≡ true
-  supplies-most = most-all maxAmount (S .supply) (h .supplyHigh)
+  pub supplies-most : all (at_most max_amount) S.supply ≡ true
+  supplies-most = most-all max_amount S.supply h.supply_high
 
-  pub demands-most : all (atMost maxAmount) (S .demand) ≡ true
-  demands-most = most-all maxAmount (S .demand) (h .demandHigh)
+  pub demands-most : all (at_most max_amount) S.demand ≡ true
+  demands-most = most-all max_amount S.demand h.demand_high
 
 limits-pass : {S : Sheet} → WithinLimits S → Passes S
-unfolding badSides badLength badAmount badCost atZ
+unfolding bad_sides bad_length bad_amount bad_cost at_z
 limits-pass {S} h = record {
-  sides = rw (true-within 1 maxSources (roasteries S) (h .roasteriesLow) (h .roasteriesHigh), true-within 1 maxSinks (cafes S) (h .cafesLow) (h .cafesHigh));
-  lengths = rw (eq-eqb (length (S .cost)) (roasteries S * cafes S) (h .costLength));
+  sides = rw (true-within 1 max_sources (roasteries S) h.roasteries_low h.roasteries_high, true-within 1 max_sinks (cafes S) h.cafes_low h.cafes_high);
+  lengths = rw (eq-eqb (length S.cost) (roasteries S * cafes S) h.cost_length);
   amounts = rw (supplies-most h, demands-most h);
-  costs = rw (all-of (withinZ (negℤ (pos maxCost)) (pos maxCost)) (S .cost) (pos 0) (λ k l. true-withinZ _ _ _ (h .costLow k) (h .costHigh k)));
+  costs = rw (all_of (within_z (neg_ℤ (pos max_cost)) (pos max_cost)) S.cost (pos 0) (λ k l. true-within_z _ _ _ (h.cost_low k) (h.cost_high k)));
 }
 
 -- 5, 10 and 11, each exactly on its condition.
 module _ (S : Sheet) where
-  pub lacking-yes : Lacking S → lacking S .0 ≡ true
+  pub lacking_yes : Lacking S → (lacking S).0 ≡ true
   unfolding lacking
-  lacking-yes l = lt-ltb (total (S .supply)) (total (S .demand)) l
+  lacking_yes l = lt-ltb (total S.supply) (total S.demand) l
 
-  pub lacking-no : ¬ Lacking S → lacking S .0 ≡ false
+  pub lacking_no : ¬ Lacking S → (lacking S).0 ≡ false
   unfolding lacking
-  lacking-no l = le-ltb (total (S .supply)) (total (S .demand)) (omega arith)
+  lacking_no l = le-ltb (total S.supply) (total S.demand) (omega arith)
 
-  pub crowded-yes : Crowded S → crowded S .0 ≡ true
+  pub crowded_yes : Crowded S → (crowded S).0 ≡ true
   unfolding crowded
-  crowded-yes (l, e) = rw (lt-ltb (total (S .demand)) (total (S .supply)) l, eq-eqb (cafes S) maxSide e)
+  crowded_yes (l, e) = rw (lt-ltb (total S.demand) (total S.supply) l, eq-eqb (cafes S) max_side e)
 
-  pub crowded-no : ¬ Crowded S → crowded S .0 ≡ false
+  pub crowded_no : ¬ Crowded S → (crowded S).0 ≡ false
   unfolding crowded
-  crowded-no c = by-cases (decLt (total (S .demand)) (total (S .supply)))
-      (λ l. rw (ne-eqb (cafes S) maxSide (λ e. c (l, e)), and-false))
-      (λ l. rw (le-ltb (total (S .demand)) (total (S .supply)) (omega arith)))
+  crowded_no c = by_cases (dec_lt (total S.demand) (total S.supply))
+      (λ l. rw (ne_eqb (cafes S) max_side (λ e. c (l, e)), and-false))
+      (λ l. rw (le-ltb (total S.demand) (total S.supply) (omega arith)))
 
-  pub idle-yes : Idle S → idle S .0 ≡ true
+  pub idle_yes : Idle S → (idle S).0 ≡ true
   unfolding idle
-  idle-yes e = eq-eqb (total (S .demand)) 0 e
+  idle_yes e = eq-eqb (total S.demand) 0 e
 
-  pub idle-no : ¬ Idle S → idle S .0 ≡ false
+  pub idle_no : ¬ Idle S → (idle S).0 ≡ false
   unfolding idle
-  idle-no n = ne-eqb (total (S .demand)) 0 n
+  idle_no n = ne_eqb (total S.demand) 0 n
 
 -- A sheet that nothing is refused of is accepted.
-pub accepted : (S : Sheet) → refusal (sheetTests S) ≡ none → Accepted S
-unfolding sheetTests numberTests
+pub accepted : (S : Sheet) → refusal (sheet_tests S) ≡ none → Accepted S
+unfolding sheet_tests number_tests
 accepted S e =
-    let (sides, e) = refusal-clear (badSides S) (badLength S ∷ numberTests S) e in
-    let (lengths, e) = refusal-clear (badLength S) (numberTests S) e in
-    let (amounts, e) = refusal-clear (badAmount S) (badCost S ∷ lacking S ∷ crowded S ∷ idle S ∷ []) e in
-    let (costs, e) = refusal-clear (badCost S) (lacking S ∷ crowded S ∷ idle S ∷ []) e in
+    let (sides, e) = refusal-clear (bad_sides S) (bad_length S ∷ number_tests S) e in
+    let (lengths, e) = refusal-clear (bad_length S) (number_tests S) e in
+    let (amounts, e) = refusal-clear (bad_amount S) (bad_cost S ∷ lacking S ∷ crowded S ∷ idle S ∷ []) e in
+    let (costs, e) = refusal-clear (bad_cost S) (lacking S ∷ crowded S ∷ idle S ∷ []) e in
     let (short, e) = refusal-clear (lacking S) (crowded S ∷ idle S ∷ []) e in
     let (full, e) = refusal-clear (crowded S) (idle S ∷ []) e in
     let (wants, e) = refusal-clear (idle S) [] e in
     record {
       limits = within-limits S sides lengths amounts costs;
-      enough = λ l. clash (lacking-yes S l) short;
-      room = λ c. clash (crowded-yes S c) full;
-      wanting = λ i. clash (idle-yes S i) wants;
+      enough = λ l. clash (lacking_yes S l) short;
+      room = λ c. clash (crowded_yes S c) full;
+      wanting = λ i. clash (idle_yes S i) wants;
     }
 
 -- The tests that a sheet within the limits passes leave it to 5, 10, 11 and those after them.
-pub limits-left : {S : Sheet} → WithinLimits S → (ts : List (Bool × ℕ)) → refusal (sheetTests S ++ ts) ≡ refusal (lacking S ∷ crowded S ∷ idle S ∷ ts)
-unfolding sheetTests numberTests
+pub limits-left : {S : Sheet} → WithinLimits S → (ts : List (Bool × ℕ)) → refusal (sheet_tests S ++ ts) ≡ refusal (lacking S ∷ crowded S ∷ idle S ∷ ts)
+unfolding sheet_tests number_tests
 limits-left {S} w ts =
     let p = limits-pass w in
     let later = lacking S ∷ crowded S ∷ idle S ∷ ts in
-    refusal-no (badSides S) (badLength S ∷ badAmount S ∷ badCost S ∷ later) (p .sides)
-    ∙ refusal-no (badLength S) (badAmount S ∷ badCost S ∷ later) (p .lengths)
-    ∙ refusal-no (badAmount S) (badCost S ∷ later) (p .amounts)
-    ∙ refusal-no (badCost S) later (p .costs)
+    refusal_no (bad_sides S) (bad_length S ∷ bad_amount S ∷ bad_cost S ∷ later) p.sides
+    ∙ refusal_no (bad_length S) (bad_amount S ∷ bad_cost S ∷ later) p.lengths
+    ∙ refusal_no (bad_amount S) (bad_cost S ∷ later) p.amounts
+    ∙ refusal_no (bad_cost S) later p.costs
 
 -- .. and an accepted sheet to those after them.
-pub accepted-left : {S : Sheet} → Accepted S → (ts : List (Bool × ℕ)) → refusal (sheetTests S ++ ts) ≡ refusal ts
+pub accepted-left : {S : Sheet} → Accepted S → (ts : List (Bool × ℕ)) → refusal (sheet_tests S ++ ts) ≡ refusal ts
 accepted-left {S} ok ts =
-    limits-left (ok .limits) ts
-    ∙ refusal-no (lacking S) (crowded S ∷ idle S ∷ ts) (lacking-no S (ok .enough))
-    ∙ refusal-no (crowded S) (idle S ∷ ts) (crowded-no S (ok .room))
-    ∙ refusal-no (idle S) ts (idle-no S (ok .wanting))
+    limits-left ok.limits ts
+    ∙ refusal_no (lacking S) (crowded S ∷ idle S ∷ ts) (lacking_no S ok.enough)
+    ∙ refusal_no (crowded S) (idle S ∷ ts) (crowded_no S ok.room)
+    ∙ refusal_no (idle S) ts (idle_no S ok.wanting)
 
 -- Of an accepted sheet nothing is refused.
-pub passes : {S : Sheet} → Accepted S → refusal (sheetTests S) ≡ none
+pub passes : {S : Sheet} → Accepted S → refusal (sheet_tests S) ≡ none
 unfolding refusal
-passes {S} ok = ap refusal (sym (append-nil (sheetTests S))) ∙ accepted-left ok []
+passes {S} ok = ap refusal (sym (append-nil (sheet_tests S))) ∙ accepted-left ok []

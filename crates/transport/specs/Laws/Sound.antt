@@ -1,114 +1,114 @@
 -- What the theory of rounds asks of a balanced problem; and the problem of the parties left of an accepted sheet has it. The bound on amounts is one on the
 -- total, and costs are bounded from both sides, so that the theory serves problems that are more than a sheet's.
-use Rattle·prelude.specs.Words.{ℕ, _*_, _≤_, _<_, arith, mul-le-mul-right, _≡_, sym, _∙_, by-cases, List, decLt, ℕ-discrete, pos, negℤ, _≤ℤ_, leZ-yes, none}
-use Rattle·prelude.specs.Words.{length, length-append}
-use Rattle·transport·specs.specs.Lists.{at, atZ, total}
-use Rattle·transport·specs.specs.Limits.{maxSources, maxSinks, maxSide, maxAmount, maxBags, maxCost, costBelow, costAbove}
-use Rattle·transport·specs.specs.Problem.{Problem, sources, sinks, laneCost}
-use Rattle·transport·specs.specs.Sheet.{Sheet, roasteries, cafes, sheetTests, refusal}
-use Rattle·transport·specs.specs.Extended.{surplus, wanted, extended}
-use Rattle·transport·specs.specs.Parties.{left, rowsLeft, columnsLeft, struck, problemOf}
-use Rattle·transport·specs.specs.Statements.{Accepted}
-use Rattle·transport·specs.specs.Laws.ListLaws.{sumTo-each, sumTo-bound, at-past}
-use Rattle·transport·specs.specs.Laws.SheetLaws.{accepted}
-use Rattle·transport·specs.specs.Laws.ProblemLaws.{grid-each, length-grid}
-use Rattle·transport·specs.specs.Laws.ExtendedLaws.{without, with, extra, wanted-total, cost-each}
-use Rattle·transport·specs.specs.Laws.PartiesLaws.{left-at, length-left, amountsLeft, length-amounts, amounts-at, total-left, some-left}
+use Rattle.prelude.specs.Words.{ℕ, ◌*◌, ◌≤◌, ◌<◌, arith, mul-le-mul_right, ◌≡◌, sym, ◌∙◌, by_cases, List, dec_lt, ℕ_discrete, pos, neg_ℤ, ◌≤ℤ◌, le_z_yes, none}
+use Rattle.prelude.specs.Words.{length, length-append}
+use Rattle.transport.specs.Lists.{at, at_z, total}
+use Rattle.transport.specs.Limits.{max_sources, max_sinks, max_side, max_amount, max_bags, max_cost, cost_below, cost_above}
+use Rattle.transport.specs.Problem.{Problem, sources, sinks, lane_cost}
+use Rattle.transport.specs.Sheet.{Sheet, roasteries, cafes, sheet_tests, refusal}
+use Rattle.transport.specs.Extended.{surplus, wanted, extended}
+use Rattle.transport.specs.Parties.{left, rows_left_of, columns_left, struck, problem_of}
+use Rattle.transport.specs.Statements.{Accepted}
+use Rattle.transport.specs.Laws.ListLaws.{sum_to-each, sum_to_bound, at-past}
+use Rattle.transport.specs.Laws.SheetLaws.{accepted}
+use Rattle.transport.specs.Laws.ProblemLaws.{grid-each, length-grid}
+use Rattle.transport.specs.Laws.ExtendedLaws.{without, with, extra, wanted-total, cost-each}
+use Rattle.transport.specs.Laws.PartiesLaws.{left_at, length-left, amounts_left, length-amounts, amounts-at, total_left, some_left}
 
 pub record Sound (P : Problem) : Type 0 where
-  pub sourcesLow : 1 ≤ sources P
-  pub sourcesHigh : sources P ≤ maxSide
-  pub sinksLow : 1 ≤ sinks P
-  pub sinksHigh : sinks P ≤ maxSide
-  pub costLength : length (P .cost) ≡ sources P * sinks P
-  pub supplyLow : (i : ℕ) → i < sources P → 1 ≤ at (P .supply) i
-  pub demandLow : (j : ℕ) → j < sinks P → 1 ≤ at (P .demand) j
-  pub bags : total (P .supply) ≤ maxBags
-  pub balance : total (P .supply) ≡ total (P .demand)
-  pub costLow : (l : ℕ) → negℤ (pos costBelow) ≤ℤ atZ (P .cost) l
-  pub costHigh : (l : ℕ) → atZ (P .cost) l ≤ℤ pos costAbove
+  pub sources_low : 1 ≤ sources P
+  pub sources_high : sources P ≤ max_side
+  pub sinks_low : 1 ≤ sinks P
+  pub sinks_high : sinks P ≤ max_side
+  pub cost_length : length P.cost ≡ sources P * sinks P
+  pub supply_low : (i : ℕ) → i < sources P → 1 ≤ at P.supply i
+  pub demand_low : (j : ℕ) → j < sinks P → 1 ≤ at P.demand j
+  pub bags : total P.supply ≤ max_bags
+  pub balance : total P.supply ≡ total P.demand
+  pub cost_low : (l : ℕ) → neg_ℤ (pos cost_below) ≤ℤ at_z P.cost l
+  pub cost_high : (l : ℕ) → at_z P.cost l ≤ℤ pos cost_above
 
 -- ---- the limits are within the room
 
-pub sources-room : maxSources ≤ maxSide
-unfolding maxSources maxSide
+pub sources-room : max_sources ≤ max_side
+unfolding max_sources max_side
 sources-room = omega arith
 
-pub sinks-room : maxSinks ≤ maxSide
-unfolding maxSinks maxSide
+pub sinks-room : max_sinks ≤ max_side
+unfolding max_sinks max_side
 sinks-room = omega arith
 
 -- ---- no amount is more than all bags
 
-at-most : (xs : List ℕ) (k : ℕ) → at xs k ≤ total xs
+at_most : (xs : List ℕ) (k : ℕ) → at xs k ≤ total xs
 unfolding total
-at-most xs k = by-cases (decLt k (length xs)) (λ l. sumTo-each (length xs) (at xs) k l) (λ l. omega (arith, at-past xs k (omega arith)))
+at_most xs k = by_cases (dec_lt k (length xs)) (λ l. sum_to-each (length xs) (at xs) k l) (λ l. omega (arith, at-past xs k (omega arith)))
 
 module _ {P : Problem} (ok : Sound P) where
-  pub supply-most : (i : ℕ) → at (P .supply) i ≤ maxBags
-  supply-most i = omega (arith, at-most (P .supply) i, ok .bags)
+  pub supply-most : (i : ℕ) → at P.supply i ≤ max_bags
+  supply-most i = omega (arith, at_most P.supply i, ok.bags)
 
-  pub demand-most : (j : ℕ) → at (P .demand) j ≤ maxBags
-  demand-most j = omega (arith, at-most (P .demand) j, ok .bags, ok .balance)
+  pub demand-most : (j : ℕ) → at P.demand j ≤ max_bags
+  demand-most j = omega (arith, at_most P.demand j, ok.bags, ok.balance)
 
 -- ---- the problem behind a sheet
 
 -- Each of those left has an amount.
-amount-left : (xs : List ℕ) (k : ℕ) → k < length (left xs) → 1 ≤ at (amountsLeft xs) k
-amount-left xs k l = rw (amounts-at xs k l) (left-at xs k l .1)
+amount-left : (xs : List ℕ) (k : ℕ) → k < length (left xs) → 1 ≤ at (amounts_left xs) k
+amount-left xs k l = rw (amounts-at xs k l) (left_at xs k l).1
 
-zero-between : (negℤ (pos costBelow) ≤ℤ pos 0) × (pos 0 ≤ℤ pos costAbove)
-unfolding costBelow costAbove maxCost
-zero-between = (leZ-yes tt, leZ-yes tt)
+zero_between : (neg_ℤ (pos cost_below) ≤ℤ pos 0) × (pos 0 ≤ℤ pos cost_above)
+unfolding cost_below cost_above max_cost
+zero_between = (le_z_yes tt, le_z_yes tt)
 
 module _ {S : Sheet} (ok : Accepted S) where
   -- Room for all columns, since a surplus and 32 cafés are refused.
-  pub wanted-room : length (wanted S) ≤ maxSide
+  pub wanted_room : length (wanted S) ≤ max_side
   unfolding cafes surplus
-  wanted-room = elim (extra S) [
-    | without z e ↦ rw e (omega (arith, ok .limits .cafesHigh, sinks-room))
-    | with z e ↦ by-cases (ℕ-discrete (cafes S) maxSide)
-        (λ f. absurd (ok .room (omega arith, f)))
-        (λ f. rw (e, length-append) (omega (arith, ok .limits .cafesHigh, sinks-room)))
+  wanted_room = elim (extra S) [
+    | without z e ↦ rw e (omega (arith, ok.limits.cafes_high, sinks-room))
+    | with z e ↦ by_cases (ℕ_discrete (cafes S) max_side)
+        (λ f. absurd (ok.room (omega arith, f)))
+        (λ f. rw (e, length-append) (omega (arith, ok.limits.cafes_high, sinks-room)))
   ]
 
-  pub bags-of : total (S .supply) ≤ maxBags
-  unfolding maxBags total roasteries
-  bags-of =
-      let right = mul-le-mul-right {m = roasteries S} {n = maxSide} maxAmount (omega (arith, ok .limits .roasteriesHigh, sources-room)) in
-      omega (arith, sumTo-bound (roasteries S) maxAmount (at (S .supply)) (λ k l. ok .limits .supplyHigh k))
+  pub bags_of : total S.supply ≤ max_bags
+  unfolding max_bags total roasteries
+  bags_of =
+      let right = mul-le-mul_right {m = roasteries S} {n = max_side} max_amount (omega (arith, ok.limits.roasteries_high, sources-room)) in
+      omega (arith, sum_to_bound (roasteries S) max_amount (at S.supply) (λ k l. ok.limits.supply_high k))
 
   -- The columns want all that there is, and something is wanted: so somebody is left on either side.
-  extended-balance : total (S .supply) ≡ total (wanted S)
-  extended-balance = sym (wanted-total S (omega (arith, ok .enough)))
+  extended-balance : total S.supply ≡ total (wanted S)
+  extended-balance = sym (wanted-total S (omega (arith, ok.enough)))
 
-  pub rows-left : 1 ≤ length (left (S .supply))
-  rows-left = some-left (S .supply) (omega (arith, ok .enough, ok .wanting))
+  pub rows_left : 1 ≤ length (left S.supply)
+  rows_left = some_left S.supply (omega (arith, ok.enough, ok.wanting))
 
   pub columns-left : 1 ≤ length (left (wanted S))
-  columns-left = some-left (wanted S) (omega (arith, extended-balance, ok .enough, ok .wanting))
+  columns-left = some_left (wanted S) (omega (arith, extended-balance, ok.enough, ok.wanting))
 
-  pub sound : Sound (problemOf S)
-  unfolding problemOf struck extended sources sinks rowsLeft columnsLeft roasteries laneCost costBelow costAbove maxCost
+  pub sound : Sound (problem_of S)
+  unfolding problem_of struck extended sources sinks rows_left_of columns_left roasteries lane_cost cost_below cost_above max_cost
   sound =
-      let h = ok .limits in
-      let rows = length-amounts (S .supply) in
+      let h = ok.limits in
+      let rows = length-amounts S.supply in
       let columns = length-amounts (wanted S) in
       record {
-        sourcesLow = omega (arith, rows, rows-left);
-        sourcesHigh = omega (arith, rows, length-left (S .supply), h .roasteriesHigh, sources-room);
-        sinksLow = omega (arith, columns, columns-left);
-        sinksHigh = omega (arith, columns, length-left (wanted S), wanted-room);
-        costLength = rw (rows, columns) (length-grid (length (left (wanted S))) _ (length (left (S .supply))));
-        supplyLow = λ i l. amount-left (S .supply) i (rw rows at l);
-        demandLow = λ j l. amount-left (wanted S) j (rw columns at l);
-        bags = rw (total-left (S .supply)) bags-of;
-        balance = total-left (S .supply) ∙ extended-balance ∙ sym (total-left (wanted S));
-        costLow = grid-each (length (left (S .supply))) (length (left (wanted S))) _ (λ c. negℤ (pos costBelow) ≤ℤ c) (zero-between .0)
-            (λ i j. cost-each S (λ c. negℤ (pos costBelow) ≤ℤ c) (zero-between .0) (ok .limits .costLow) _);
-        costHigh = grid-each (length (left (S .supply))) (length (left (wanted S))) _ (λ c. c ≤ℤ pos costAbove) (zero-between .1)
-            (λ i j. cost-each S (λ c. c ≤ℤ pos costAbove) (zero-between .1) (ok .limits .costHigh) _);
+        sources_low = omega (arith, rows, rows_left);
+        sources_high = omega (arith, rows, length-left S.supply, h.roasteries_high, sources-room);
+        sinks_low = omega (arith, columns, columns-left);
+        sinks_high = omega (arith, columns, length-left (wanted S), wanted_room);
+        cost_length = rw (rows, columns) (length-grid (length (left (wanted S))) _ (length (left S.supply)));
+        supply_low = λ i l. amount-left S.supply i (rw rows at l);
+        demand_low = λ j l. amount-left (wanted S) j (rw columns at l);
+        bags = rw (total_left S.supply) bags_of;
+        balance = total_left S.supply ∙ extended-balance ∙ sym (total_left (wanted S));
+        cost_low = grid-each (length (left S.supply)) (length (left (wanted S))) _ (λ c. neg_ℤ (pos cost_below) ≤ℤ c) zero_between.0
+            (λ i j. cost-each S (λ c. neg_ℤ (pos cost_below) ≤ℤ c) zero_between.0 ok.limits.cost_low _);
+        cost_high = grid-each (length (left S.supply)) (length (left (wanted S))) _ (λ c. c ≤ℤ pos cost_above) zero_between.1
+            (λ i j. cost-each S (λ c. c ≤ℤ pos cost_above) zero_between.1 ok.limits.cost_high _);
       }
 
-pub accepted-sound : (S : Sheet) → refusal (sheetTests S) ≡ none → Sound (problemOf S)
+pub accepted-sound : (S : Sheet) → refusal (sheet_tests S) ≡ none → Sound (problem_of S)
 accepted-sound S e = sound (accepted S e)

@@ -1,47 +1,47 @@
 -- `unfolding opened` opens every definition of the specification, to compute with.
-use mathlib.Core.List.{flatMap, flatten, zipWith}
-use Rattle·transport·specs.specs.Lists.{all, keep, leastFrom, firstLeast, table, padded, below, grid, downTo, sumTo, sumZ, at, atZ, total, leastOf, atMost}
-use Rattle·transport·specs.specs.Lists.{within, withinZ, firstOf}
-use Rattle·transport·specs.specs.Limits.{maxSources, maxSinks, maxSide, maxAmount, maxBags, maxCost, costBelow, costAbove, maxCells, maxDigits, maxText}
-use Rattle·transport·specs.specs.Limits.{maxPlanText}
-use Rattle·transport·specs.specs.Problem.{sources, sinks, lanes, place, laneCost}
-use Rattle·transport·specs.specs.Sheet.{roasteries, cafes, badSides, badLength, badAmount, badCost, lacking, crowded, idle, numberTests, sheetTests, refusal}
-use Rattle·transport·specs.specs.Extended.{surplus, wanted, costAt, extended}
-use Rattle·transport·specs.specs.Parties.{isLeft, left, among, rowsLeft, columnsLeft, struck, problemOf}
-use Rattle·transport·specs.specs.Amount.{eqZ, nothing, add, subtract, less, same, smaller, addUp, pairedSupply, pairedDemand}
-use Rattle·transport·specs.specs.Tableau.{basisSize, laneOf, withAmount, basisOf, sameLane, noCell, cellsOf, tableauOf, noTableau, corner, start}
-use Rattle·transport·specs.specs.Leaf.{touches, strikeAt, onlyOne, firstLeaf, strikeOff, strikes}
-use Rattle·transport·specs.specs.Belonging.{onSheet, inOrder, aboveZero, rowTotal, columnTotal, balanced, spans, cellsBelong, belongs}
-use Rattle·transport·specs.specs.Potential.{potentialBy, potential, sourcePrices, sinkPrices, reducedCost, isFinished}
-use Rattle·transport·specs.specs.OwnNumbers.{own, renumbered, covers, belongsTo, rowPrice, columnPrice, cafePrice, roasteryPrice, roasteryPrices, cafePrices}
-use Rattle·transport·specs.specs.Round.{entering, takeFrom, flow, sign, leaving, gain, shift, insert, pivot, next, run, roundBound}
-use Rattle·transport·specs.specs.Plan.{planCost, rowPlans, plansFor, plans, settled}
-use Rattle·transport·specs.specs.Calls.{refusedBy, unless, lentAfter, tableauTests, inside, tooShort, startCall, round, roundCall, runFrom, runCall, settleCall}
-use Rattle·transport·specs.specs.Calls.{solutionFrom, solution, solveCall, finishedTests, solveTests}
-use Rattle·transport·specs.specs.Standing.{edited, lastTableau, setUpCall, standingTests, maxCounter, badEdit, editTests}
-use Rattle·transport·specs.specs.Standing.{editFrom, editCall, carriedOut, standsAfter, keptSheet, spare, structOf, standingOf}
-use Rattle·transport·specs.specs.Text.{bytes, kindOf, digitsUpTo, digits, wholeDigits, headLine, numberLine, rowLine}
-use Rattle·transport·specs.specs.SheetText.{rowsOf, sheetText, writeSheetCall, _>>=_, _>>_, pure, times, byteThat, word, end, isDigit, digitValue, moreDigits}
-use Rattle·transport·specs.specs.SheetText.{numberFrom, number, minus, whole, side, line, row, sheetReader, readWith, readTests, readSheetCall}
-use Rattle·transport·specs.specs.PlanText.{wholeLine, carried, used, laneLine, planText, writePlanCall, refusedLine, printed, fitting, shown}
-use Rattle·transport·specs.specs.Answers.{startAnswer, startSays, prices, noPrices, roundAnswer, roundSays, runOutcome, runAnswer, runSays, settleAnswer}
-use Rattle·transport·specs.specs.Answers.{settleSays, solveAnswer, solveSays, setUpAnswer, editAnswer, readAnswer, readSays, writeAnswer, writeSays}
-use Rattle·transport·specs.specs.Statements.{scaled, loopSign, after}
+use mathlib.Core.List.{flat_map, flatten, zip_with}
+use Rattle.transport.specs.Lists.{all, keep, least_from, first_least, table, padded, below, grid, down_to, sum_to, sum_z, at, at_z, total, least_for, at_most}
+use Rattle.transport.specs.Lists.{within, within_z, first_of}
+use Rattle.transport.specs.Limits.{max_sources, max_sinks, max_side, max_amount, max_bags, max_cost, cost_below, cost_above, max_cells, max_digits, max_text}
+use Rattle.transport.specs.Limits.{max_plan_text}
+use Rattle.transport.specs.Problem.{sources, sinks, lanes, place, lane_cost}
+use Rattle.transport.specs.Sheet.{roasteries, cafes, bad_sides, bad_length, bad_amount, bad_cost, lacking, crowded, idle, number_tests, sheet_tests, refusal}
+use Rattle.transport.specs.Extended.{surplus, wanted, cost_at, extended}
+use Rattle.transport.specs.Parties.{is_left, left, among, rows_left_of, columns_left, struck, problem_of}
+use Rattle.transport.specs.Amount.{eq_z, nothing, add, subtract, less, same, smaller, add_up, paired_supply_of, paired_demand_of}
+use Rattle.transport.specs.Tableau.{basis_size, lane_of, with_amount, basis_for, same_lane, no_cell, cells_of, tableau_of, no_tableau, corner, start}
+use Rattle.transport.specs.Leaf.{touches, strike_at, only_one, first_leaf, strike_off, strikes}
+use Rattle.transport.specs.Belonging.{on_sheet, in_order, above_zero, row_total, column_total, balanced, spans, cells_belong, belongs}
+use Rattle.transport.specs.Potential.{potential_by, potential, source_prices_of, sink_prices, reduced_cost, is_finished_of}
+use Rattle.transport.specs.OwnNumbers.{own, renumbered, covers, belongs_to, row_price_of, column_price_of, cafe_price_of, roastery_price_of, roastery_prices, cafe_prices}
+use Rattle.transport.specs.Round.{entering, take_from, flow, sign, leaving, gain, shift, insert, pivot, next, run, round_bound}
+use Rattle.transport.specs.Plan.{plan_cost_of, row_plans, plans_for, plans, settled}
+use Rattle.transport.specs.Calls.{refused_by, unless, lent_after, tableau_tests, inside, too_short, start_call, round, round_call, run_from, run_call, settle_call}
+use Rattle.transport.specs.Calls.{solution_from, solution, solve_call, finished_tests, solve_tests}
+use Rattle.transport.specs.Standing.{edited, last_tableau_of, set_up_call, standing_tests, max_counter, bad_edit, edit_tests}
+use Rattle.transport.specs.Standing.{edit_from, edit_call, carried_out, stands_after, kept_sheet, spare, struct_of, standing_of}
+use Rattle.transport.specs.Text.{bytes, kind_of, digits_up_to, digits, whole_digits, head_line, number_line, row_line}
+use Rattle.transport.specs.SheetText.{rows_of, sheet_text, write_sheet_call, ◌>>=◌, ◌>>◌, pure, times, byte_that, word, end, is_digit, digit_value_of, more_digits_of}
+use Rattle.transport.specs.SheetText.{number_from, number, minus, whole, side, line, row, sheet_reader, read_with, read_tests, read_sheet_call}
+use Rattle.transport.specs.PlanText.{whole_line, carried, used, lane_line, plan_text, write_plan_call, refused_line, printed, fitting, shown}
+use Rattle.transport.specs.Answers.{start_answer, start_says, prices, no_prices, round_answer, round_says, run_outcome, run_answer, run_says, settle_answer}
+use Rattle.transport.specs.Answers.{settle_says, solve_answer, solve_says, set_up_answer, edit_answer, read_answer, read_says, write_answer, write_says}
+use Rattle.transport.specs.Statements.{scaled, loop_sign, after}
 
 unfoldable pub opened : Unit {0}
-unfolding flatMap flatten zipWith all keep leastFrom firstLeast table padded below grid downTo sumTo sumZ at atZ total leastOf atMost within withinZ
-    maxSources maxSinks maxSide maxAmount maxBags maxCost costBelow costAbove maxCells maxDigits maxText maxPlanText sources sinks lanes place
-    laneCost roasteries cafes surplus wanted costAt extended isLeft left among rowsLeft columnsLeft struck problemOf own renumbered covers belongsTo
-    rowPrice columnPrice cafePrice roasteryPrice roasteryPrices badSides badLength badAmount badCost lacking crowded idle numberTests sheetTests
-    refusal eqZ nothing add subtract less same smaller addUp pairedSupply pairedDemand basisSize laneOf withAmount basisOf sameLane noCell cellsOf
-    tableauOf noTableau corner start onSheet inOrder aboveZero rowTotal columnTotal balanced touches strikeAt onlyOne firstLeaf strikeOff strikes
-    spans cellsBelong belongs potentialBy potential sourcePrices sinkPrices reducedCost isFinished entering takeFrom flow sign leaving gain shift
-    insert pivot next round run planCost rowPlans plansFor plans settled refusedBy unless lentAfter tableauTests inside tooShort startCall cafePrices
-    roundCall runFrom runCall settleCall roundBound solutionFrom solution solveCall bytes kindOf digitsUpTo digits wholeDigits headLine numberLine
-    rowLine rowsOf sheetText writeSheetCall _>>=_ _>>_ pure times byteThat word end isDigit digitValue moreDigits numberFrom number minus whole side
-    line row sheetReader readWith readTests readSheetCall wholeLine carried used laneLine planText writePlanCall refusedLine printed fitting shown
-    startAnswer startSays prices noPrices roundAnswer roundSays runOutcome runAnswer runSays settleAnswer settleSays solveAnswer solveSays readAnswer
-    readSays writeAnswer writeSays scaled loopSign after firstOf finishedTests solveTests edited lastTableau setUpCall
-    standingTests maxCounter badEdit editTests editFrom editCall carriedOut standsAfter keptSheet spare structOf
-    standingOf setUpAnswer editAnswer
+unfolding flat_map flatten zip_with all keep least_from first_least table padded below grid down_to sum_to sum_z at at_z total least_for at_most within within_z
+    max_sources max_sinks max_side max_amount max_bags max_cost cost_below cost_above max_cells max_digits max_text max_plan_text sources sinks lanes place
+    lane_cost roasteries cafes surplus wanted cost_at extended is_left left among rows_left_of columns_left struck problem_of own renumbered covers belongs_to
+    row_price_of column_price_of cafe_price_of roastery_price_of roastery_prices bad_sides bad_length bad_amount bad_cost lacking crowded idle number_tests sheet_tests
+    refusal eq_z nothing add subtract less same smaller add_up paired_supply_of paired_demand_of basis_size lane_of with_amount basis_for same_lane no_cell cells_of
+    tableau_of no_tableau corner start on_sheet in_order above_zero row_total column_total balanced touches strike_at only_one first_leaf strike_off strikes
+    spans cells_belong belongs potential_by potential source_prices_of sink_prices reduced_cost is_finished_of entering take_from flow sign leaving gain shift
+    insert pivot next round run plan_cost_of row_plans plans_for plans settled refused_by unless lent_after tableau_tests inside too_short start_call cafe_prices
+    round_call run_from run_call settle_call round_bound solution_from solution solve_call bytes kind_of digits_up_to digits whole_digits head_line number_line
+    row_line rows_of sheet_text write_sheet_call ◌>>=◌ ◌>>◌ pure times byte_that word end is_digit digit_value_of more_digits_of number_from number minus whole side
+    line row sheet_reader read_with read_tests read_sheet_call whole_line carried used lane_line plan_text write_plan_call refused_line printed fitting shown
+    start_answer start_says prices no_prices round_answer round_says run_outcome run_answer run_says settle_answer settle_says solve_answer solve_says read_answer
+    read_says write_answer write_says scaled loop_sign after first_of finished_tests solve_tests edited last_tableau_of set_up_call
+    standing_tests max_counter bad_edit edit_tests edit_from edit_call carried_out stands_after kept_sheet spare struct_of
+    standing_of set_up_answer edit_answer
 opened = tt

@@ -1,30 +1,30 @@
 -- Both pairs are those of the sheet whose lanes cost nothing.
-use Rattle·prelude.specs.Words.{arith, refl}
-use Rattle·transport.specs.Laws.Sound.{supply-most, demand-most}
-use Rattle·transport.specs.Limits.{maxSide, maxAmount, maxBags}
-use Rattle·transport.specs.Problem.{sources, sinks}
-use Rattle·dealing·specs.specs.Corner.{costless}
-use Rattle·dealing·proofs.proofs.corner.first_corner.Statement.{statement}
-use Rattle·dealing·proofs.proofs.corner.first_corner.Tie as tie
+use Rattle.prelude.specs.Words.{arith, refl}
+use Rattle.transport.specs.Laws.Sound.{supply-most, demand-most}
+use Rattle.transport.specs.Limits.{max_side, max_amount, max_bags}
+use Rattle.transport.specs.Problem.{sources, sinks}
+use Rattle.dealing.specs.Corner.{costless}
+use Rattle.dealing.proofs.corner.first_corner.Statement.{statement}
+use Rattle.dealing.proofs.corner.first_corner.Tie as tie
 
 paired-supply-requires : tie.Need-paired-supply-requires
 unfolding sources
 paired-supply-requires c κs =
-    let ok = c .before .before .pre in
-    (ok .sourcesLow, supply-most ok 0)
+    let ok = c.before.before.requires in
+    (ok.sources_low, supply-most ok 0)
 
 paired-demand-requires : tie.Need-paired-demand-requires
-unfolding sources sinks maxSide maxBags maxAmount
+unfolding sources sinks max_side max_bags max_amount
 paired-demand-requires c κs =
-    let ok = c .before .before .before .pre in
-    (ok .sinksLow, demand-most ok 0, omega (arith, ok .sourcesHigh))
+    let ok = c.before.before.before.requires in
+    (ok.sinks_low, demand-most ok 0, omega (arith, ok.sources_high))
 
 returns : tie.Need-returns
 unfolding sources
 returns c =
-    let a = c .before .before .before .before .args in
-    let S = costless (a .supply .now) (a .demand .now) in
-    rw (c .before .paired-supply .ensures S refl, c .paired-demand .ensures S refl refl)
+    let a = c.before.before.before.before.args in
+    let S = costless a.supply.now a.demand.now in
+    rw (c.before.paired-supply.ensures S refl, c.paired-demand.ensures S refl refl)
 
 pub first-corner-spec : {M : Type 1} → statement M
 first-corner-spec = tie.close (tie.spec paired-supply-requires paired-demand-requires returns)

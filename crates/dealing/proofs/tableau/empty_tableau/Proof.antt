@@ -1,14 +1,14 @@
 -- Both sides are the same zeros.
-use Rattle·prelude.specs.Words.{refl}
-use Rattle·transport.specs.Lists.{padded}
-use Rattle·transport.specs.Limits.{maxCells, maxSide}
-use Rattle·transport.specs.Amount.{nothing}
-use Rattle·transport.specs.Tableau.{noCell, tableauOf, noTableau}
-use Rattle·dealing·proofs.proofs.tableau.empty_tableau.Statement.{statement}
-use Rattle·dealing·proofs.proofs.tableau.empty_tableau.Tie as tie
+use Rattle.prelude.specs.Words.{refl}
+use Rattle.transport.specs.Lists.{padded}
+use Rattle.transport.specs.Limits.{max_cells, max_side}
+use Rattle.transport.specs.Amount.{nothing}
+use Rattle.transport.specs.Tableau.{no_cell, tableau_of, no_tableau}
+use Rattle.dealing.proofs.tableau.empty_tableau.Statement.{statement}
+use Rattle.dealing.proofs.tableau.empty_tableau.Tie as tie
 
 returns : tie.Need-returns
-unfolding noTableau tableauOf padded maxCells maxSide noCell nothing
+unfolding no_tableau tableau_of padded max_cells max_side no_cell nothing
 returns c = refl
 
 pub empty-tableau-spec : {M : Type 1} → statement M

@@ -1,95 +1,95 @@
 -- `editing::solve::carry_out` meets its contract: the edited sheet is refused, or solved from where
 -- the edit begins.
-use Rattle·prelude.specs.Words.{_≡_, sym, _∙_, none, _*_, _≤_, arith, length, needs}
-use Rattle·transport.specs.Sheet.{Sheet, sheetOf, roasteries, cafes, refusal, sheetTests}
-use Rattle·transport.specs.Laws.SheetLaws.{accepted}
-use Rattle·transport.specs.Laws.Sound.{sources-room, sinks-room}
-use Rattle·tree.specs.Layout.{stride-is}
-use Rattle·sheet.specs.Check.{accepted-none, refused-some}
-use Rattle·solving.specs.Rooms.{tests-none}
-use Rattle·solving.specs.Told.{told-by}
-use Rattle·editing·specs.specs.SolvedAs.{sheet-refused, room-refused}
-use Rattle·editing·proofs.proofs.solve.carry_out.Statement.{statement}
-use Rattle·editing·proofs.proofs.solve.carry_out.Tie as tie
+use Rattle.prelude.specs.Words.{◌≡◌, sym, ◌∙◌, none, ◌*◌, ◌≤◌, arith, length, rules}
+use Rattle.transport.specs.Sheet.{Sheet, sheet_of, roasteries, cafes, refusal, sheet_tests}
+use Rattle.transport.specs.Laws.SheetLaws.{accepted}
+use Rattle.transport.specs.Laws.Sound.{sources-room, sinks-room}
+use Rattle.tree.specs.Layout.{stride-is}
+use Rattle.sheet.specs.Check.{accepted-none, refused-some}
+use Rattle.solving.specs.Rooms.{tests-none}
+use Rattle.solving.specs.Told.{told-by}
+use Rattle.editing.specs.SolvedAs.{sheet-refused, room-refused}
+use Rattle.editing.proofs.solve.carry_out.Statement.{statement}
+use Rattle.editing.proofs.solve.carry_out.Tie as tie
 
-abbrev startOf : tie.After-check-edited → tie.Start
-startOf k = k .before .before .before .before
+abbrev start_of : tie.After-check-edited → tie.Start
+start_of k = k.before.before.before.before
 
-abbrev sheetAt : tie.Start → Sheet
-sheetAt s = let a = s .args in sheetOf (a .supply .now) (a .demand .now) (a .cost .now)
+abbrev sheet_at : tie.Start → Sheet
+sheet_at s = let a = s.args in sheet_of a.supply.now a.demand.now a.cost.now
 
 returns : tie.Need-returns
 returns c = λ S T w a.
-    let told = c .before .before .before in
-    let k = told .before .before in
-    let refuses = refused-some _ _ (sym (k .check-edited .ensures) ∙ told .check .given .1) in
-    sheet-refused (sheetAt (startOf k)) _ _ _ _ _ _ refuses (c .refused .ensures .0)
+    let told = c.before.before.before in
+    let k = told.before.before in
+    let refuses = refused-some _ _ (sym k.check-edited.ensures ∙ told.check.given.1) in
+    sheet-refused (sheet_at (start_of k)) _ _ _ _ _ _ refuses c.refused.ensures.0
 
 -- ---- the sheet passed its check
 
 abbrev start : tie.After-enum-told → tie.Start
-start a = startOf (a .before .before)
+start a = start_of a.before.before
 
-passed : (a : tie.After-enum-told) → refusal (sheetTests (sheetAt (start a))) ≡ none
-passed a = accepted-none _ (sym (a .before .before .check-edited .ensures) ∙ a .enum-told .given .1)
+passed : (a : tie.After-enum-told) → refusal (sheet_tests (sheet_at (start a))) ≡ none
+passed a = accepted-none _ (sym a.before.before.check-edited.ensures ∙ a.enum_told.given.1)
 
 missing-room-requires : tie.Need-missing-room-requires
 unfolding roasteries cafes
 missing-room-requires c κs =
-    let limits = accepted (sheetAt (start c)) (passed c) .limits in (
-      omega (arith, stride-is, limits .roasteriesHigh, sources-room),
-      omega (arith, stride-is, limits .cafesHigh, sinks-room),
+    let limits = (accepted (sheet_at (start c)) (passed c)).limits in (
+      omega (arith, stride-is, limits.roasteries_high, sources-room),
+      omega (arith, stride-is, limits.cafes_high, sinks-room),
     )
 
 returns-2 : tie.Need-returns-2
 unfolding roasteries cafes
 returns-2 c = λ S T w admitted.
-    let a = c .before .before .before .before in
-    room-refused (sheetAt (start a)) _ _ _ _ _ (passed a) (omega arith) (c .refused2 .ensures .0)
+    let a = c.before.before.before.before in
+    room-refused (sheet_at (start a)) _ _ _ _ _ (passed a) (omega arith) c.refused2.ensures.0
 
 -- ---- the lists have room
 
 abbrev told : tie.Else1 → tie.After-enum-told
-told d = d .before .before
+told d = d.before.before
 
-rooms : (d : tie.Else1) → let a = start (told d) .args in
-    (length (a .supply .now) ≤ length (a .u .now))
-    × (length (a .demand .now) ≤ length (a .v .now))
-    × (length (a .supply .now) * length (a .demand .now) ≤ length (a .plan .now))
+rooms : (d : tie.Else1) → let a = (start (told d)).args in
+    (length a.supply.now ≤ length a.u.now)
+    × (length a.demand.now ≤ length a.v.now)
+    × (length a.supply.now * length a.demand.now ≤ length a.plan.now)
 rooms d = (omega arith, omega arith, omega arith)
 
 begin-edit-requires : tie.Need-begin-edit-requires
 begin-edit-requires c κs =
-    let a = told (c .before .before .before .before .before .before) in
+    let a = told c.before.before.before.before.before.before in
     let s = start a in
-    (accepted (sheetAt s) (passed a), s .pre)
+    (accepted (sheet_at s) (passed a), s.pre)
 
 abbrev fits : tie.After-begin-edit → tie.Else1
-fits b = b .before .before .before .before .before .before .before
+fits b = b.before.before.before.before.before.before.before
 
 solve-from-requires : tie.Need-solve-from-requires
 solve-from-requires c κs =
-    let b = c .before .before .before .before .before .before .before .before .before in
+    let b = c.before.before.before.before.before.before.before.before.before in
     let s = start (told (fits b)) in
-    let (S, T, w, admitted) = s .pre in
-    ((_, b .begin-edit .ensures S T w admitted), rooms (fits b))
+    let (S, T, w, admitted) = s.pre in
+    ((_, b.begin-edit.ensures S T w admitted), rooms (fits b))
 
 returns-3 : tie.Need-returns-3
 unfolding roasteries cafes
 returns-3 c = λ S T w admitted.
-    let o = c .before .before .before .before in
-    let b = o .before .before .before .before .before .before .before .before .before .before in
+    let o = c.before.before.before.before in
+    let b = o.before.before.before.before.before.before.before.before.before.before in
     let a = told (fits b) in
-    let (given, last) = o .solve-from .ensures _ (b .begin-edit .ensures S T w admitted) in
+    let (given, last) = o.solve-from.ensures _ (b.begin-edit.ensures S T w admitted) in
     record {
-      told = told-by (tests-none (sheetAt (start a)) _ _ _ _ (passed a) (rooms (fits b))) given;
+      told = told-by (tests-none (sheet_at (start a)) _ _ _ _ (passed a) (rooms (fits b))) given;
       tableau = λ e. last;
     }
 
 pub carry-out-spec : {M : Type 1} → statement M
 carry-out-spec = tie.close
-    (tie.spec (λ c κs. let (S, T, w, admitted) = c .before .before .before .pre in (S, w)) (λ c. search needs)
+    (tie.spec (λ c κs. let (S, T, w, admitted) = c.before.before.before.requires in (S, w)) (λ c. search rules)
     (λ c κs. tt) (λ c κs. tt) returns
-    (λ c. search needs) missing-room-requires
-    (λ c κs. tt) (λ c κs. tt) returns-2 begin-edit-requires solve-from-requires (λ c. search needs) (λ c. search needs)
-    (λ c. search needs) returns-3)
+    (λ c. search rules) missing-room-requires
+    (λ c κs. tt) (λ c κs. tt) returns-2 begin-edit-requires solve-from-requires (λ c. search rules) (λ c. search rules)
+    (λ c. search rules) returns-3)

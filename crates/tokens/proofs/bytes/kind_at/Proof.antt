@@ -1,9 +1,9 @@
 -- At the end no byte comes next, and before it the byte at the place does.
-use Rattle·prelude.specs.Words.{sym, _∙_, needs}
-use Rattle·tokens·specs.specs.Reading.{kind-end, kind-here}
-use Rattle·tokens·proofs.proofs.bytes.kind_at.Statement.{statement}
-use Rattle·tokens·proofs.proofs.bytes.kind_at.Tie as tie
+use Rattle.prelude.specs.Words.{sym, ◌∙◌, rules}
+use Rattle.tokens.specs.Reading.{kind_end, kind_here}
+use Rattle.tokens.proofs.bytes.kind_at.Statement.{statement}
+use Rattle.tokens.proofs.bytes.kind_at.Tie as tie
 
 pub kind-at-spec : {M : Type 1} → statement M
-kind-at-spec = tie.close (tie.spec (λ c. sym (kind-end _ _ (c .if1 .taken))) (λ c. search needs) (λ c κs. search needs)
-    (λ c. c .kind-of .ensures ∙ sym (kind-here _ _ (c .before .before .if1 .left))))
+kind-at-spec = tie.close (tie.spec (λ c. sym (kind_end _ _ c.if1.true)) (λ c. search rules) (λ c κs. search rules)
+    (λ c. c.kind-of.ensures ∙ sym (kind_here _ _ c.before.before.if1.false)))

@@ -1,7 +1,7 @@
 -- `tree::strike::other_end` meets its contract, in the two cases of a row and a column. Assumes nothing.
-use Rattle·prelude.specs.Words.{needs, lt-ltb, le-ltb}
-use Rattle·tree·proofs.proofs.strike.other_end.Statement.{statement}
-use Rattle·tree·proofs.proofs.strike.other_end.Tie as tie
+use Rattle.prelude.specs.Words.{rules, lt-ltb, le-ltb}
+use Rattle.tree.proofs.strike.other_end.Statement.{statement}
+use Rattle.tree.proofs.strike.other_end.Tie as tie
 
 pub other-end-spec : {M : Type 1} → statement M
-other-end-spec = tie.close (tie.spec (λ c. search needs) (λ c. rw (lt-ltb _ _ (c .if1 .taken))) (λ c. rw (le-ltb _ _ (c .if1 .left))))
+other-end-spec = tie.close (tie.spec (λ c. search rules) (λ c. rw (lt-ltb _ _ c.if1.true)) (λ c. rw (le-ltb _ _ c.if1.false)))
