@@ -6,7 +6,7 @@ use Rattle.transport.specs.Lists.{all, at, total}
 use Rattle.transport.specs.Laws.ListLaws.{and_left, and_right, all-at, member-table, table-member}
 use Rattle.transport.specs.Problem.{Problem, sources, sinks}
 use Rattle.transport.specs.Laws.ProblemLaws.{lane, problem}
-use Rattle.transport.proofs.Sound.{Sound, supply-most, demand-most}
+use Rattle.transport.specs.Laws.Sound.{Sound, supply-most, demand-most}
 use Rattle.transport.specs.Tableau.{no_cell, lane_of, basis_for, basis_size, cells_of}
 use Rattle.transport.specs.Belonging.{on_sheet, in_order, above_zero, balanced, spans, cells_belong, belongs}
 use Rattle.transport.specs.Round.{flow}

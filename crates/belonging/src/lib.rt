@@ -5,7 +5,7 @@ pub mod flows;
 pub mod weights;
 
 ghost use Rattle.std.specs.Prelude.{◌≡◌, true, List, ℤ, length};
-ghost use Rattle.transport.proofs.Sound.{Sound};
+ghost use Rattle.transport.specs.Laws.Sound.{Sound};
 ghost use Rattle.transport.specs.Tableau.{cells_of};
 ghost use Rattle.transport.specs.Belonging.{balanced, belongs};
 ghost use Rattle.transport.specs.declared.Cell.{Cell};

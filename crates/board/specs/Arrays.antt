@@ -2,7 +2,7 @@
 use Rattle.std.specs.Prelude.{◌≡◌, ◌+◌, ◌-◌, ◌*◌, ◌<◌, ◌≤◌}
 use Rattle.prelude.specs.Words.{true, List, ℕ, arith, ℤ, pos, length, get_or}
 use Rattle.transport.specs.Problem.{Problem, sources, sinks}
-use Rattle.transport.proofs.Sound.{Sound}
+use Rattle.transport.specs.Laws.Sound.{Sound}
 use Rattle.transport.specs.Tableau.{basis_for}
 use Rattle.transport.specs.Belonging.{cells_belong}
 use Rattle.transport.specs.declared.Cell.{Cell}

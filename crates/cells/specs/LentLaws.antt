@@ -7,7 +7,7 @@ use Rattle.std.proofs.lemmas.List.{take-append-le}
 use Rattle.transport.specs.Lists.{all, padded}
 use Rattle.transport.specs.Limits.{max_cells}
 use Rattle.transport.specs.Problem.{Problem, sources, sinks}
-use Rattle.transport.proofs.Sound.{Sound}
+use Rattle.transport.specs.Laws.Sound.{Sound}
 use Rattle.transport.specs.Tableau.{no_cell, lane_of, basis_for, basis_size, cells_of, tableau_of, no_tableau, lent_tableau_of}
 use Rattle.transport.specs.Belonging.{on_sheet, in_order, above_zero, balanced, spans, cells_belong, belongs}
 use Rattle.transport.specs.declared.Cell.{Cell}

@@ -12,7 +12,7 @@ use Rattle.transport.specs.Laws.ProblemLaws.{lane, place-below}
 use Rattle.transport.proofs.ExtendedLaws.{Extra, without, with, extra, cost-cafe, cost-extra, lane_cost-at}
 use Rattle.transport.specs.Laws.PartiesLaws.{left_at, length-left, left-append, left-whole, struck-sources, struck-sinks, struck-lane}
 use Rattle.transport.specs.Laws.RangeLaws.{abs_between}
-use Rattle.transport.proofs.Sound.{sources-room, sinks-room}
+use Rattle.transport.specs.Laws.Sound.{sources-room, sinks-room}
 use Rattle.transport.specs.Statements.{Accepted}
 use Rattle.tree.specs.Layout.{stride, stride-is, lane_room, get_or-all}
 use Rattle.tree.specs.Grid.{GridFilled}

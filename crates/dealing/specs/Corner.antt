@@ -6,7 +6,7 @@ pub use Rattle.dealing.specs.declared.corner.Corner.{Corner}
 use Rattle.transport.specs.Lists.{at_z}
 use Rattle.transport.specs.Limits.{max_side, max_amount, max_cells, max_bags, cost_below, cost_above}
 use Rattle.transport.specs.Problem.{Problem, sources, sinks}
-use Rattle.transport.proofs.Sound.{Sound, supply-most, demand-most}
+use Rattle.transport.specs.Laws.Sound.{Sound, supply-most, demand-most}
 use Rattle.transport.specs.Amount.{Fit, subtract, less, smaller, paired_supply_of, paired_demand_of}
 use Rattle.transport.specs.Laws.RangeLaws.{abs_diff, PairWithin}
 use Rattle.transport.specs.Tableau.{no_cell, basis_size, corner, start}

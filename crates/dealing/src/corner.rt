@@ -3,7 +3,7 @@ ghost use Rattle.std.specs.Prelude.{◌≡◌, ◌+◌, ◌<◌, ◌≤◌, leng
 ghost use Rattle.transport.specs.Lists.{at};
 ghost use Rattle.transport.specs.Limits.{max_bags};
 ghost use Rattle.transport.specs.Problem.{Problem, sources};
-ghost use Rattle.transport.proofs.Sound.{Sound};
+ghost use Rattle.transport.specs.Laws.Sound.{Sound};
 ghost use Rattle.transport.specs.Amount.{smaller, paired_supply_of, paired_demand_of};
 ghost use Rattle.transport.specs.Tableau.{tableau_of, start};
 ghost use Rattle.dealing.specs.Corner.{costless, first_corner_of, next_corner, cell_of, DealtTo};

@@ -20,7 +20,7 @@ use Rattle.transport.specs.Laws.ListLaws.{get_or-table, sum_to_cong, sum_to-one}
 use Rattle.transport.specs.Laws.ProblemLaws.{lane}
 use Rattle.transport.proofs.ExtendedLaws.{width_low, cost-cafe, cost-extra, lane_cost-at}
 use Rattle.transport.specs.Laws.PartiesLaws.{left_yes, among-left, struck-sources, struck-sinks}
-use Rattle.transport.proofs.Sound.{Sound}
+use Rattle.transport.specs.Laws.Sound.{Sound}
 use Rattle.tableaux.specs.PlanView.{costs}
 use Rattle.tableaux.specs.ProblemPlans.{flow_cost, Optimal}
 use Rattle.tableaux.specs.Least.{bags_for, row_potential, column_potential, reduced-parts, OnTight}

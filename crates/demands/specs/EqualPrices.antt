@@ -15,7 +15,8 @@ use Rattle.transport.specs.Statements.{Accepted, Belongs, EqualPrices}
 use Rattle.transport.specs.Laws.ListLaws.{table_cong, member-place}
 use Rattle.transport.specs.Laws.ProblemLaws.{lane}
 use Rattle.transport.specs.Laws.PartiesLaws.{is-left, left_at, among-left, struck-sources, struck-sinks}
-use Rattle.transport.proofs.Sound.{Sound, sound, rows_left}
+use Rattle.transport.specs.Laws.Sound.{Sound}
+use Rattle.transport.proofs.Sound.{sound, rows_left}
 use Rattle.tableaux.specs.EqualPotentials.{equal_potentials}
 use Rattle.reduction.specs.OwnBelonging.{belongs-struck}
 use Rattle.demands.specs.GivenPrices.{cafe-left, cafe-struck, roastery_left, roastery_struck, cost_less_row}

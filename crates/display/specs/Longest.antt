@@ -13,7 +13,8 @@ use Rattle.transport.specs.OwnNumbers.{roastery_prices, cafe_prices}
 use Rattle.transport.specs.Problem.{Lane, lanes, place, sinks}
 use Rattle.transport.specs.Laws.SheetLaws.{accepted}
 use Rattle.transport.proofs.ExtendedLaws.{width_low}
-use Rattle.transport.proofs.Sound.{sound, sources-room, sinks-room}
+use Rattle.transport.specs.Laws.Sound.{sources-room, sinks-room}
+use Rattle.transport.proofs.Sound.{sound}
 use Rattle.transport.specs.Statements.{Accepted, HasText}
 use Rattle.transport.specs.Calls.{solution_from, solution}
 use Rattle.transport.specs.Laws.ProblemLaws.{lane, place-below}

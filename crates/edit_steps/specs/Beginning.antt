@@ -15,7 +15,7 @@ use Rattle.transport.specs.Tableau.{start}
 use Rattle.transport.specs.Statements.{Accepted}
 use Rattle.transport.specs.Laws.PartiesLaws.{left_at}
 use Rattle.transport.specs.Laws.RangeLaws.{abs_between}
-use Rattle.transport.proofs.Sound.{sources-room, sinks-room}
+use Rattle.transport.specs.Laws.Sound.{sources-room, sinks-room}
 use Rattle.parties.specs.declared.Parties.{Parties}
 use Rattle.numbering.specs.Numbers.{left_growing}
 use Rattle.cost_grid.specs.Costs.{Spread}

@@ -7,7 +7,8 @@ use Rattle.transport.specs.Extended.{extended}
 use Rattle.transport.specs.Parties.{rows_left_of, columns_left, problem_of}
 use Rattle.transport.specs.OwnNumbers.{own}
 use Rattle.transport.specs.Statements.{Accepted, Belongs}
-use Rattle.transport.proofs.Sound.{sources-room, wanted_room}
+use Rattle.transport.specs.Laws.Sound.{sources-room}
+use Rattle.transport.proofs.Sound.{wanted_room}
 use Rattle.transport.specs.declared.Cell.{Cell}
 use Rattle.parties.specs.declared.Parties.{Parties}
 use Rattle.parties.specs.Parties.{PartiesOf}

@@ -2,7 +2,7 @@
 use Rattle.std.specs.Prelude.{◌≡◌, ◌↔◌, ◌*ℤ◌, ◌≤ℤ◌}
 use Rattle.prelude.specs.Words.{true, List, ℕ, pos}
 use Rattle.transport.specs.Problem.{Problem}
-use Rattle.transport.proofs.Sound.{Sound}
+use Rattle.transport.specs.Laws.Sound.{Sound}
 use Rattle.transport.specs.Potential.{is_finished_of}
 use Rattle.transport.specs.Statements.{Belongs}
 use Rattle.transport.specs.declared.Cell.{Cell}

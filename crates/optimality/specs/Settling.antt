@@ -16,7 +16,7 @@ use Rattle.transport.specs.Lists.{at}
 use Rattle.transport.specs.Laws.ListLaws.{get_d_map}
 use Rattle.transport.specs.Problem.{Problem, sources, sinks, Lane, lanes, place}
 use Rattle.transport.specs.Laws.PlanLaws.{scaled_at}
-use Rattle.transport.proofs.Sound.{Sound}
+use Rattle.transport.specs.Laws.Sound.{Sound}
 use Rattle.transport.specs.Laws.ProblemLaws.{lane, length-lanes, get_or-lanes, place-below, lane_placed}
 use Rattle.transport.specs.Amount.{eq_z}
 use Rattle.transport.specs.Laws.AmountLaws.{eq_z-true, eq_z-same}

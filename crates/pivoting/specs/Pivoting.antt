@@ -10,7 +10,7 @@ use Rattle.transport.specs.Limits.{max_side, max_amount, max_bags}
 use Rattle.transport.specs.Laws.ListLaws.{and_left}
 use Rattle.transport.specs.Problem.{Problem, sources, sinks, Lane, lane_cost}
 use Rattle.transport.specs.Laws.ProblemLaws.{lane}
-use Rattle.transport.proofs.Sound.{Sound, supply-most}
+use Rattle.transport.specs.Laws.Sound.{Sound, supply-most}
 use Rattle.transport.specs.Amount.{nothing, add, subtract, less, Fit}
 use Rattle.transport.specs.Laws.RangeLaws.{abs_add, abs_diff}
 use Rattle.transport.specs.Laws.AmountLaws.{less-q, less-e, lt_z_tie, fewer, equal, more, compared}

@@ -16,7 +16,7 @@ use Rattle.transport.specs.Extended.{extended}
 use Rattle.transport.specs.Parties.{left, rows_left_of}
 use Rattle.transport.specs.Statements.{Accepted}
 use Rattle.transport.specs.Laws.PartiesLaws.{left_at, length-left, left-grows, left-whole}
-use Rattle.transport.proofs.Sound.{sources-room, sinks-room}
+use Rattle.transport.specs.Laws.Sound.{sources-room, sinks-room}
 use Rattle.tableaux.specs.PlanView.{carried}
 use Rattle.tree.specs.Layout.{stride, stride-is}
 use Rattle.tree.specs.Grid.{GridFilled}

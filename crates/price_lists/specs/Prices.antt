@@ -19,7 +19,8 @@ use Rattle.transport.specs.Laws.RangeLaws.{abs_between, abs_diff}
 use Rattle.transport.specs.Laws.PartiesLaws.{left_yes, is-left, not_left, left_at, length-left, left-grows, left-append, among-left, struck-sources}
 use Rattle.transport.specs.Laws.PartiesLaws.{struck-sinks}
 use Rattle.transport.proofs.ExtendedLaws.{Extra, without, with, extra, width_low, wanted-at, beyond, lane_cost-at}
-use Rattle.transport.proofs.Sound.{sound, wanted_room, sources-room, sinks-room}
+use Rattle.transport.specs.Laws.Sound.{sources-room, sinks-room}
+use Rattle.transport.proofs.Sound.{sound, wanted_room}
 use Rattle.transport.specs.declared.Cell.{Cell}
 use Rattle.tree.specs.Layout.{max_potential, get_or-all}
 use Rattle.price_lists.specs.PriceLists.{max_price, Costs, RowPrices, cost_in, cost_in-small, row_slack, rows_least, column_slack, columns_least, least-small}

@@ -14,7 +14,7 @@ use Rattle.transport.specs.Laws.ProblemLaws.{lane_placed, length-grid, get_or-gr
 use Rattle.transport.specs.Laws.PlanLaws.{scaled_at}
 use Rattle.transport.proofs.ExtendedLaws.{without, with, extra, width_low, wanted-at}
 use Rattle.transport.specs.Laws.PartiesLaws.{struck-sinks, among-more, total_left}
-use Rattle.transport.proofs.Sound.{Sound}
+use Rattle.transport.specs.Laws.Sound.{Sound}
 use Rattle.plans.specs.Settled.{best-settled}
 use Rattle.tableaux.specs.ProblemPlans.{flow_cost, Fulfils, Optimal}
 use Rattle.reduction.specs.SheetLanes.{width_of, SameOnSheet, same-scaled, cost-same, first-same}

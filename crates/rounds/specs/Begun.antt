@@ -3,7 +3,7 @@ use Rattle.std.specs.Prelude.{◌+◌, ◌-◌, ◌<◌, ◌≤◌, ◌≡◌}
 use Rattle.prelude.specs.Words.{ℕ, arith, ◌∙◌, Bool, true, cond, List, Memᴰ, ℤ, pos, length, get_or}
 use Rattle.integers.specs.Bridge.{z-eq}
 use Rattle.transport.specs.Problem.{Problem, sources, sinks, Lane, lane_cost}
-use Rattle.transport.proofs.Sound.{Sound}
+use Rattle.transport.specs.Laws.Sound.{Sound}
 use Rattle.transport.specs.Tableau.{basis_for}
 use Rattle.transport.specs.Leaf.{strikes}
 use Rattle.transport.specs.Belonging.{spans, cells_belong}

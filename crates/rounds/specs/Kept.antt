@@ -19,7 +19,7 @@ use Rattle.transport.specs.Round.{entering, pivot, next}
 use Rattle.transport.specs.declared.Cell.{Cell}
 use Rattle.tableaux.specs.Potentials.{price_size, price_limit}
 use Rattle.transport.specs.Belonging.{cells_belong}
-use Rattle.transport.proofs.Sound.{Sound}
+use Rattle.transport.specs.Laws.Sound.{Sound}
 use Rattle.transport.specs.Statements.{Belongs}
 use Rattle.tableaux.specs.Belonging.{belongs_iff, fits_of, spans_of}
 use Rattle.tableaux.specs.Entering.{entering-inside, entering-new}

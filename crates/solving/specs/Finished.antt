@@ -9,7 +9,7 @@ use Rattle.network.specs.Settling.{DecidedTo, decided-start, decided-on, decided
 use Rattle.transport.specs.Lists.{table}
 use Rattle.transport.specs.Laws.ListLaws.{length-table}
 use Rattle.transport.specs.Problem.{Problem, sources, sinks}
-use Rattle.transport.proofs.Sound.{Sound, supply-most}
+use Rattle.transport.specs.Laws.Sound.{Sound, supply-most}
 use Rattle.transport.specs.Amount.{nothing}
 use Rattle.transport.specs.Belonging.{cells_belong}
 use Rattle.transport.specs.Potential.{potential, is_finished_of}

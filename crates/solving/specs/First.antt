@@ -7,7 +7,8 @@ use Rattle.transport.specs.Extended.{extended}
 use Rattle.transport.specs.Parties.{problem_of}
 use Rattle.transport.specs.Statements.{Accepted}
 use Rattle.transport.specs.Laws.PartiesLaws.{struck-sources, struck-sinks}
-use Rattle.transport.proofs.Sound.{Sound, sound}
+use Rattle.transport.specs.Laws.Sound.{Sound}
+use Rattle.transport.proofs.Sound.{sound}
 use Rattle.transport.specs.Tableau.{cells_of, tableau_of, basis_for, basis_size, start}
 use Rattle.transport.specs.declared.Tableau.{Tableau}
 use Rattle.tableaux.specs.View.{Inside, Distinct}

@@ -8,7 +8,7 @@ use Rattle.integers.specs.Sum.{sum, point}
 use Rattle.transport.specs.Lists.{all, at, below}
 use Rattle.transport.specs.Laws.ListLaws.{and_left, and_right, all-at, all_of, all-below, all-below-at, map-member, member-place}
 use Rattle.transport.specs.Problem.{Problem, sources, sinks, Lane, lane_cost, place}
-use Rattle.transport.proofs.Sound.{Sound}
+use Rattle.transport.specs.Laws.Sound.{Sound}
 use Rattle.transport.specs.Laws.ProblemLaws.{lane}
 use Rattle.transport.specs.Amount.{nothing, add, same, paired_supply_of, paired_demand_of}
 use Rattle.transport.specs.Laws.AmountLaws.{same_true, same_self}

@@ -10,7 +10,7 @@ use Rattle.network.specs.Measure.{cost-low, cost-high}
 use Rattle.transport.specs.Lists.{at, total}
 use Rattle.transport.specs.Limits.{max_side, max_amount, max_bags, max_cost, cost_below, cost_above}
 use Rattle.transport.specs.Problem.{Problem, sources, sinks, place, lane_cost}
-use Rattle.transport.proofs.Sound.{Sound}
+use Rattle.transport.specs.Laws.Sound.{Sound}
 use Rattle.transport.specs.Tableau.{start}
 use Rattle.transport.specs.Potential.{is_finished_of}
 use Rattle.transport.specs.Round.{next, run, round_bound}
@@ -62,7 +62,7 @@ module _ {P : Problem} (ok : Sound P) {T : List Cell} (w : Belongs P T) (c : ℕ
 -- ---- rounds of a sheet
 
 module _ {P : Problem} (ok : Sound P) where
-  -- A lane costs from −costBelow to cost_above, so the measure, raised by its lower bound, is from 0 to the bound of rounds.
+  -- A lane costs from −cost_below to cost_above, so the measure, raised by its lower bound, is from 0 to the bound of rounds.
   unfoldable pub raised : List Cell → Z
   raised T = measure P (costs P) T ⊕ nat (cost_below * all_value P)
 

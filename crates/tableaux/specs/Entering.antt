@@ -9,7 +9,7 @@ use Rattle.transport.specs.Laws.ListLaws.{by_key, FirstLeast, first_least-is}
 use Rattle.transport.specs.Laws.AmountLaws.{lt_z_weak}
 use Rattle.transport.specs.Problem.{Problem, sources, sinks, Lane, lanes, place}
 use Rattle.transport.specs.Laws.ProblemLaws.{lane, place-below, Placed, lane_placed, length-lanes, get_or-lanes, all_lanes}
-use Rattle.transport.proofs.Sound.{Sound}
+use Rattle.transport.specs.Laws.Sound.{Sound}
 use Rattle.transport.specs.Tableau.{lane_of, no_cell}
 use Rattle.transport.specs.Potential.{reduced_cost, is_finished_of}
 use Rattle.transport.specs.Round.{entering}

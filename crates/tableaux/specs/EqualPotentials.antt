@@ -6,7 +6,7 @@ use Rattle.network.specs.Flow.{Tight}
 use Rattle.network.specs.Basis.{in_cells}
 use Rattle.network.specs.Crosswise.{tight_crosswise}
 use Rattle.transport.specs.Problem.{Problem, sources, sinks, lane_cost}
-use Rattle.transport.proofs.Sound.{Sound}
+use Rattle.transport.specs.Laws.Sound.{Sound}
 use Rattle.transport.specs.Potential.{potential, is_finished_of}
 use Rattle.transport.specs.Statements.{Basic, Belongs}
 use Rattle.transport.specs.declared.Cell.{Cell}

@@ -11,7 +11,7 @@ use Rattle.network.specs.Duality.{least, least-tight}
 use Rattle.transport.specs.Lists.{at}
 use Rattle.transport.specs.Laws.ListLaws.{get_d_map}
 use Rattle.transport.specs.Problem.{Problem, sources, sinks, Lane, lanes, place, lane_cost}
-use Rattle.transport.proofs.Sound.{Sound}
+use Rattle.transport.specs.Laws.Sound.{Sound}
 use Rattle.transport.specs.Laws.ProblemLaws.{lane, length-lanes, get_or-lanes, place-below, all-lanes-at}
 use Rattle.transport.specs.Amount.{nothing, less}
 use Rattle.transport.specs.Tableau.{no_cell}

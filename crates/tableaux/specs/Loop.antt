@@ -8,7 +8,7 @@ use Rattle.integers.specs.Bridge.{to_z, z-eq, eq-z}
 use Rattle.integers.specs.Sum.{sum, point}
 use Rattle.integers.specs.SumLaws.{sum-add}
 use Rattle.transport.specs.Problem.{Problem, sources, sinks, Lane}
-use Rattle.transport.proofs.Sound.{Sound}
+use Rattle.transport.specs.Laws.Sound.{Sound}
 use Rattle.transport.specs.Laws.ProblemLaws.{lane}
 use Rattle.transport.specs.Tableau.{basis_for}
 use Rattle.transport.specs.Leaf.{Strike, strikes}

@@ -15,7 +15,7 @@ use Rattle.network.specs.Pivot.{loop, loop-at, loop-off, lowers, value, valued}
 use Rattle.network.specs.Round.{Tableau, Choice, after, some-minus, tableau_cong, value-above, round-cost, round, no_tie}
 use Rattle.transport.specs.Laws.ListLaws.{member-at, member-place}
 use Rattle.transport.specs.Problem.{Problem, sources, sinks, Lane}
-use Rattle.transport.proofs.Sound.{Sound}
+use Rattle.transport.specs.Laws.Sound.{Sound}
 use Rattle.transport.specs.Laws.ProblemLaws.{lane}
 use Rattle.transport.specs.Amount.{nothing, less}
 use Rattle.transport.specs.Tableau.{no_cell, lane_of, basis_size}

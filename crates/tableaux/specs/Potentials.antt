@@ -9,7 +9,7 @@ use Rattle.transport.specs.Limits.{max_side, max_cost, cost_below, cost_above, m
 use Rattle.transport.specs.Lists.{at_z}
 use Rattle.transport.specs.Problem.{Problem, sources, sinks, Lane, place, lane_cost}
 use Rattle.transport.specs.Laws.RangeLaws.{abs_diff, abs_between}
-use Rattle.transport.proofs.Sound.{Sound}
+use Rattle.transport.specs.Laws.Sound.{Sound}
 use Rattle.transport.specs.Laws.ProblemLaws.{lane}
 use Rattle.transport.specs.Tableau.{basis_size, basis_for}
 use Rattle.transport.specs.Leaf.{Strike, strikes}

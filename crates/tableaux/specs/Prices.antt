@@ -7,7 +7,7 @@ use Rattle.transport.specs.Problem.{Problem, sources, sinks, lane_cost}
 use Rattle.transport.specs.Potential.{potential, source_prices_of, sink_prices}
 use Rattle.transport.specs.Statements.{Basic, Belongs, PricesOf, OnlyPrices}
 use Rattle.transport.specs.Laws.ListLaws.{get_or-table}
-use Rattle.transport.proofs.Sound.{Sound}
+use Rattle.transport.specs.Laws.Sound.{Sound}
 use Rattle.transport.specs.Laws.ProblemLaws.{lane}
 use Rattle.transport.specs.declared.Cell.{Cell}
 use Rattle.network.specs.Joined.{potentials_unique}

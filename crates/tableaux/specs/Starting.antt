@@ -8,7 +8,7 @@ use Rattle.network.specs.Staircase.{Step, staircase}
 use Rattle.transport.specs.Lists.{keep, sum_to, at, total}
 use Rattle.transport.specs.Laws.ListLaws.{sum_to-part}
 use Rattle.transport.specs.Problem.{Problem, sources, sinks, place}
-use Rattle.transport.proofs.Sound.{Sound}
+use Rattle.transport.specs.Laws.Sound.{Sound}
 use Rattle.transport.specs.Amount.{nothing, add, subtract, less, same, smaller, add_up, paired_supply_of, paired_demand_of}
 use Rattle.transport.specs.Laws.AmountLaws.{same_true, same_self, less_weak}
 use Rattle.transport.specs.Tableau.{no_cell, basis_size, corner, start}

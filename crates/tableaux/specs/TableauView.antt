@@ -11,7 +11,7 @@ use Rattle.network.specs.Round.{Tableau, bags-nonneg}
 use Rattle.transport.specs.Lists.{at}
 use Rattle.transport.specs.Laws.ListLaws.{member-place}
 use Rattle.transport.specs.Problem.{Problem, sources, sinks}
-use Rattle.transport.proofs.Sound.{Sound}
+use Rattle.transport.specs.Laws.Sound.{Sound}
 use Rattle.transport.specs.Amount.{nothing, add, paired_supply_of, paired_demand_of}
 use Rattle.transport.specs.Tableau.{no_cell, basis_size}
 use Rattle.transport.specs.Belonging.{row_total, column_total}

@@ -6,7 +6,7 @@ use Rattle.integers.specs.Bridge.{eq-z, z-eq, z-ev, !, ◌-'◌}
 use Rattle.transport.specs.Laws.ListLaws.{is_false}
 use Rattle.transport.specs.Limits.{max_cost, cost_above}
 use Rattle.transport.specs.Problem.{Problem, sources, sinks, place, lane_cost}
-use Rattle.transport.proofs.Sound.{Sound}
+use Rattle.transport.specs.Laws.Sound.{Sound}
 use Rattle.transport.specs.Laws.ProblemLaws.{lane}
 use Rattle.transport.specs.Amount.{eq_z}
 use Rattle.transport.specs.Laws.AmountLaws.{eq_z-true, eq_z-same}

@@ -25,7 +25,7 @@ max_bags = max_side * max_amount
 unfoldable pub max_cost : ℕ
 max_cost = 1_000_000
 
--- What a lane of a balanced problem may cost: from −costBelow to cost_above. The costs of a sheet are such.
+-- What a lane of a balanced problem may cost: from −cost_below to cost_above. The costs of a sheet are such.
 unfoldable pub cost_below : ℕ
 cost_below = max_cost
 

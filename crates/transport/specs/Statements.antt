@@ -1,7 +1,7 @@
 -- What the paper and the demands say, in their own words: the types that the theorems and contracts inhabit. Of the algorithm they cite no more than what a
 -- sentence speaks of, as the signs, the cell that leaves and the next tableau.
 --
--- In the paper's order, with the theorem that proves each (CRATE/MODULE.NAME, in specs/). Problems are those of accepted sheets (proofs/Sound), tableaux are
+-- In the paper's order, with the theorem that proves each (CRATE/MODULE.NAME, in specs/). Problems are those of accepted sheets (Laws.Sound), tableaux are
 -- any that belong, and an entering lane is any that is not basic, as the definition's is (tableaux/Entering.entering-inside, entering-new).
 --   Accepted                 exactly the sheets that pass the sheet check: transport/Laws.SheetLaws.accepted, passes
 --   Meets                    exactly the plans that the definition lists: plans/Plans.plans-sound, plans-complete
@@ -17,12 +17,12 @@
 --   Best                     the definition's solution: demands/Demand3.solution-best
 --   Certified                the definition's solution, by the prices that calls give: demands/Certificate.solution_certified
 --   PricesWithin             the prices that calls give, of any tableau that belongs: demands/GivenPrices.given-within
---   RunOf                    the definition's run: tableaux/Running.run-of
+--   RunOf                    the definition's run: tableaux/Running.run_of
 --   FromFirstFinished        the definition's solution: demands/Demand3.solution-finished
 --   Bought                   stands in the contract of solve; by demands/Bought.bought
 --   BestExactly              the plan bought for a balanced sheet: demands/Bought.bought-balanced
 --   EqualPrices              of any two finished tableaux: demands/EqualPrices.equal-prices
---   FromNothing              an accepted edit: demands/FromNothing.from-nothing
+--   FromNothing              an accepted edit: demands/FromNothing.from_nothing
 --   Passes (Standing)        what is set up, and what stands after any edit:
 --                            demands/FromNothing.set-up-stands, edit_stands
 --   SheetTextOf              exactly the texts that the definition reads: grammar/Place.reader_iff

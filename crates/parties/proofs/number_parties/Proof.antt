@@ -6,7 +6,7 @@ use Rattle.transport.specs.Sheet.{Sheet, roasteries, cafes, sheet_of}
 use Rattle.transport.specs.Extended.{surplus}
 use Rattle.transport.specs.Statements.{Accepted}
 use Rattle.transport.specs.Laws.SheetLaws.{supplies-most, demands-most}
-use Rattle.transport.proofs.Sound.{sources-room, sinks-room}
+use Rattle.transport.specs.Laws.Sound.{sources-room, sinks-room}
 use Rattle.parties.specs.Parties.{parties_even, parties-extra, extra-room}
 use Rattle.parties.proofs.number_parties.Statement.{statement}
 use Rattle.parties.proofs.number_parties.Tie as tie

@@ -2,7 +2,7 @@
 use Rattle.prelude.specs.Words.{arith, rules}
 use Rattle.transport.specs.Limits.{max_side}
 use Rattle.transport.specs.Sheet.{Sheet, sheet_of, roasteries, cafes}
-use Rattle.transport.proofs.Sound.{sources-room, sinks-room}
+use Rattle.transport.specs.Laws.Sound.{sources-room, sinks-room}
 use Rattle.round_call.specs.Round.{round-prices}
 use Rattle.round_call.proofs.finished_round.Statement.{statement}
 use Rattle.round_call.proofs.finished_round.Tie as tie

@@ -4,7 +4,7 @@ use Rattle.prelude.specs.Words.{arith, â„•, mul-le-mul_left, refl, sym, subst, â
 use Rattle.transport.specs.Limits.{max_side}
 use Rattle.transport.specs.Sheet.{Sheet, roasteries, cafes, refusal, sheet_of}
 use Rattle.transport.specs.Parties.{problem_of}
-use Rattle.transport.proofs.Sound.{sources-room, sinks-room}
+use Rattle.transport.specs.Laws.Sound.{sources-room, sinks-room}
 use Rattle.transport.specs.Calls.{tableau_tests, inside}
 use Rattle.transport.specs.declared.Tableau.{Tableau}
 use Rattle.sheet.specs.Check.{accepted-none, refused-some}

@@ -5,7 +5,7 @@ use Rattle.transport.specs.Lists.{within}
 use Rattle.transport.specs.Limits.{max_sources, max_sinks}
 use Rattle.transport.specs.Sheet.{Sheet, sheet_of}
 use Rattle.transport.specs.Laws.SheetLaws.{within-true}
-use Rattle.transport.proofs.Sound.{sources-room, sinks-room}
+use Rattle.transport.specs.Laws.Sound.{sources-room, sinks-room}
 use Rattle.sheet.specs.Check.{check-some}
 use Rattle.sheet.specs.Laws.{sides_product}
 use Rattle.sheet.specs.Refusals.{refused-sources, refused-sinks, refused-length, sheet-numbers}

@@ -3,7 +3,7 @@
 -- (must-fail/refusal_after_store) fails only at the return that refuses.
 use Rattle.std.specs.Prelude.{◌≡◌, ◌&&◌}
 use Rattle.prelude.specs.Words.{sym, ap, ◌∙◌, Bool, true, false, none, rules, leb-true, not-true, not-false, leb, length, le_trans}
-use Rattle.transport.proofs.Sound.{sources-room, sinks-room}
+use Rattle.transport.specs.Laws.Sound.{sources-room, sinks-room}
 use Rattle.transport.specs.Sheet.{Sheet, refusal, number_tests, sheet_of}
 use Rattle.sheet.specs.Check.{accepted-none, refused-some}
 use Rattle.sheet_store.specs.ReadCall.{all_fit, stored_number, stored_tight, stored_given}

@@ -1,6 +1,6 @@
 -- Both pairs are those of the sheet whose lanes cost nothing.
 use Rattle.prelude.specs.Words.{arith, refl}
-use Rattle.transport.proofs.Sound.{supply-most, demand-most}
+use Rattle.transport.specs.Laws.Sound.{supply-most, demand-most}
 use Rattle.transport.specs.Limits.{max_side, max_amount, max_bags}
 use Rattle.transport.specs.Problem.{sources, sinks}
 use Rattle.dealing.specs.Corner.{costless}

@@ -4,7 +4,7 @@ use Rattle.std.specs.Prelude.{◌≡◌, ◌+◌, ◌-◌, ◌*◌, ◌≤◌, �
 use Rattle.prelude.specs.Words.{sym, ap, ◌∙◌, List, ℕ, arith, length, take, drop, rules}
 use Rattle.transport.specs.Problem.{place}
 use Rattle.transport.specs.Sheet.{roasteries, cafes}
-use Rattle.transport.proofs.Sound.{sources-room, sinks-room}
+use Rattle.transport.specs.Laws.Sound.{sources-room, sinks-room}
 use Rattle.sheet.specs.Check.{check_answer}
 use Rattle.edit_steps.specs.Edits.{same-supply, same-demand, new-placed, same-roasteries, same-cafes}
 use Rattle.edit_steps.specs.Edits.{amounts-tests, cost-tests}

@@ -4,7 +4,7 @@ use Rattle.std.specs.Prelude.{◌≡◌, ◌*◌, ◌≤◌}
 use Rattle.prelude.specs.Words.{sym, ◌∙◌, none, arith, length, rules}
 use Rattle.transport.specs.Sheet.{Sheet, sheet_of, roasteries, cafes, refusal, sheet_tests}
 use Rattle.transport.specs.Laws.SheetLaws.{accepted}
-use Rattle.transport.proofs.Sound.{sources-room, sinks-room}
+use Rattle.transport.specs.Laws.Sound.{sources-room, sinks-room}
 use Rattle.tree.specs.Layout.{stride-is}
 use Rattle.sheet.specs.Check.{accepted-none, refused-some}
 use Rattle.solving.specs.Rooms.{tests-none}

@@ -1,7 +1,7 @@
 -- Each way out is a case of `next_corner`; that the next row or column is there, and that the pairs are in range, follows from where the rule stands.
 use Rattle.std.specs.Prelude.{◌≡◌}
 use Rattle.prelude.specs.Words.{arith, add-one, refl, sym, ◌∙◌, true, false, rules}
-use Rattle.transport.proofs.Sound.{supply-most, demand-most}
+use Rattle.transport.specs.Laws.Sound.{supply-most, demand-most}
 use Rattle.transport.specs.Limits.{max_side, max_amount, max_bags}
 use Rattle.transport.specs.Problem.{sources, sinks}
 use Rattle.transport.specs.Amount.{less}
