@@ -1,13 +1,14 @@
 -- Each way out is a case of `refusal`; the totals are taken where both lists are known to be within their limits.
 use Rattle.std.specs.Prelude.{◌≡◌, ◌↔◌, ◌≤◌}
-use Rattle.prelude.specs.Words.{sym, ap, ◌∙◌, true, false, not, true≢false, arith, ltb, pos, neg_ℤ, not-true, not-false, eqb-true}
-use Rattle.prelude.specs.Words.{eqb-false, eq-eqb, ltb-true, ltb-false, rules, clash}
+use Rattle.prelude.specs.Words.{sym, ap, ◌∙◌, true, not, true≢false, arith, pos, neg_ℤ, not-true, not-false, eqb-true}
+use Rattle.prelude.specs.Words.{eqb-false, eq-eqb, rules, clash}
 use Rattle.transport.specs.Lists.{all, at_most, within_z, total}
 use Rattle.transport.specs.Limits.{max_side, max_amount, max_cost}
 use Rattle.transport.specs.Sheet.{Sheet, cafes, sheet_of}
 use Rattle.transport.specs.Statements.{Lacking, Crowded}
 use Rattle.sheet.specs.Check.{check-none, check-some}
 use Rattle.sheet.specs.Refusals.{refused-supply, refused-demand, refused-cost, refused-lacking, refused-crowded, refused-idle, numbers-accepted}
+use Rattle.std.proofs.lemmas.Bool.Decides.{nat_tests}
 use Rattle.sheet.proofs.check_numbers.Statement.{statement}
 use Rattle.sheet.proofs.check_numbers.Tie as tie
 use Rattle.sheet.proofs.check_numbers.Lts.{then-supply_total-demand_total, else-supply_total-demand_total}
@@ -55,31 +56,32 @@ module _ (c : tie.After-total_of-demand_total) where
   sums : (c.before.total_of-supply_total.result ≡ total T.supply) × (c.total_of-demand_total.result ≡ total T.demand)
   sums = (c.before.total_of-supply_total.ensures, c.total_of-demand_total.ensures)
 
-  -- What the code takes for lacking.
-  short : ltb c.before.total_of-supply_total.result c.total_of-demand_total.result ≡ true → Lacking T
-  short e = omega (arith, ltb-true c.before.total_of-supply_total.result c.total_of-demand_total.result e, sums)
-
-  long : ltb c.before.total_of-supply_total.result c.total_of-demand_total.result ≡ false → total T.demand ≤ total T.supply
-  long e = omega (arith, ltb-false c.before.total_of-supply_total.result c.total_of-demand_total.result e, sums)
-
   -- The numbers are within their limits, so that what the totals say is all that is left to say.
   left : {A : Type 0} → (all (at_most max_amount) T.supply ≡ true → all (at_most max_amount) T.demand ≡ true
       → all (within_z (neg_ℤ (pos max_cost)) (pos max_cost)) T.cost ≡ true → A) → A
   left law = let d = demands costs in law (supplies-fit (supplies d.before)) (demands-fit d) (costs-fit c.before.before)
 
+-- What the code takes for lacking, whatever the form of its test.
+short : (c : tie.Then-lacking) → Lacking (T c.before.before)
+short c = let s = sums c.before.before in grind (arith, nat_tests)
+
+long : (c : tie.Else-lacking) → total (T c.before.before).demand ≤ total (T c.before.before).supply
+long c = let s = sums c.before.before in grind (arith, nat_tests)
+
 -- What the code takes for crowded, where the sheet is not lacking.
 crowded-is : (c : tie.Else-lacking) → (c.before.if-supply_total-demand_total.crowded ≡ true) ↔ Crowded (T c.before.before)
 unfolding cafes max_side
 crowded-is c =
-    let t = c.before.before in
-    let enough = long t c.if-lacking.false-raw in (
+    let s = sums c.before.before in
+    let enough = long c in (
       λ y. elim c.before.if-supply_total-demand_total.branch [
-        | then-supply_total-demand_total w ↦ (omega (arith, enough, w.if-supply_total-demand_total.true, sums t), eqb-true _ _ (sym w.crowded-is ∙ y))
+        | then-supply_total-demand_total w ↦
+            (omega (arith, enough, w.if-supply_total-demand_total.true, s), grind (arith, nat_tests))
         | else-supply_total-demand_total w ↦ clash y (w.crowded-is ∙ ap not (eq-eqb _ _ w.if-supply_total-demand_total.false))
       ],
       λ (l, n). elim c.before.if-supply_total-demand_total.branch [
-        | then-supply_total-demand_total w ↦ w.crowded-is ∙ eq-eqb _ _ n
-        | else-supply_total-demand_total w ↦ absurd (omega (arith, w.if-supply_total-demand_total.false, sums t))
+        | then-supply_total-demand_total w ↦ grind (arith, nat_tests)
+        | else-supply_total-demand_total w ↦ absurd (omega (arith, w.if-supply_total-demand_total.false, s))
       ],
     )
 
@@ -89,7 +91,7 @@ module _ (c : tie.Else-crowded) where
   summed = c.before.before.before
 
   neither : (¬ Lacking (T summed)) × (¬ Crowded (T summed))
-  neither = (λ l. omega (arith, long summed c.before.if-lacking.false-raw), λ n. true≢false (sym ((crowded-is c.before).1 n) ∙ c.if-crowded.false))
+  neither = (λ l. omega (arith, long c.before), λ n. true≢false (sym ((crowded-is c.before).1 n) ∙ c.if-crowded.false))
 
 returns-6 : tie.Need-returns-then-idle
 returns-6 c =
@@ -112,6 +114,6 @@ check_numbers_spec =
     (λ c κs. search rules) returns-3
     (λ c κs. let s = supplies (demands c.before).before in ((start s.before).requires.0, supplies-fit s))
     (λ c κs. let d = demands c.before.before in ((start (supplies d.before).before).requires.1, demands-fit d))
-    (λ c. let t = c.before.before in rw (left t (refused-lacking (T t)) (short t c.if-lacking.true-raw), check-some))
+    (λ c. let t = c.before.before in rw (left t (refused-lacking (T t)) (short c), check-some))
     (λ c. let t = c.before.before.before in rw (left t (refused-crowded (T t)) ((crowded-is c.before).0 c.if-crowded.true), check-some))
     returns-6 returns-7)
