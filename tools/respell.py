@@ -1,5 +1,7 @@
 #!/usr/bin/env python3
-"""Spells the repository's own definitions and lemmas as today's Rattle spells names: words in snake case, a dash only between two names.
+"""Spells the repository's own definitions and lemmas as today's Rattle spells names.
+
+Words are in snake case, and a dash stands only between two names.
 
 usage: respell.py TABLE            over crates/ below the current folder, by TABLE (old, tab, new)
        respell.py --table FOLDER.. writes a table for the names that these folders declare
