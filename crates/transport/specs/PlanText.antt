@@ -1,12 +1,12 @@
 -- The plan text, write plan, and what the program prints (paper 01, "Texts").
-use Rattle.std.specs.Prelude.{not, cond, ℕ, suc, eqb, ℤ, length, take}
+use Rattle.std.specs.Prelude.{Some, None, not, cond, ℕ, suc, eqb, ℤ, length, take}
 use mathlib.Core.List.{List, [], ◌∷◌, ◌++◌, flat_map}
-use Rattle.std.proofs.Math.Option.{none, some}
 use Rattle.transport.specs.Lists.{keep, at}
 use Rattle.transport.specs.Limits.{max_text}
 use Rattle.transport.specs.Problem.{Lane, lanes, place}
+use Rattle.transport.specs.Refusals.{Refusal, number, place_of}
 use Rattle.transport.specs.Sheet.{Sheet, roasteries, cafes, sheet_tests, number_tests}
-use Rattle.transport.specs.Calls.{Refusal, Answer, refused, given, unless, too_short, solution}
+use Rattle.transport.specs.Calls.{Answer, refused, given, unless, too_short, solution}
 use Rattle.transport.specs.Text.{bytes, digits, whole_digits, head_line, number_line, row_line}
 use Rattle.transport.specs.SheetText.{read_with}
 
@@ -39,15 +39,15 @@ plan_text S =
 
 -- Write plan gives the plan text of the solved sheet; it refuses what write sheet refuses. `room` is the length of the output.
 unfoldable pub write_plan_call : Sheet → ℕ → Answer (List ℕ)
-write_plan_call S room = unless (sheet_tests S ++ ((too_short room (length (plan_text S)), 8) ∷ [])) (plan_text S)
+write_plan_call S room = unless (sheet_tests S ++ ((too_short room (length (plan_text S)), Refusal.TooShort) ∷ [])) (plan_text S)
 
 -- ---- the program
 
 -- `refused N`, or `refused 9 P` with the place P, and LF.
 unfoldable pub refused_line : Refusal → List ℕ
-refused_line r = bytes "refused " ++ (elim r.position [
-  | none ↦ number_line r.number
-  | some p ↦ row_line digits (r.number ∷ p ∷ [])
+refused_line r = bytes "refused " ++ (elim (place_of r) [
+  | None ↦ number_line (number r)
+  | Some p ↦ row_line digits (number r ∷ p ∷ [])
 ])
 
 -- What the program prints, given what stands on its standard input, of which it reads at most 9,757 bytes: one more than the longest sheet text.

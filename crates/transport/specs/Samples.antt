@@ -11,7 +11,8 @@ use Rattle.transport.specs.Tableau.{Cell, tableau_of, start}
 use Rattle.transport.specs.Potential.{reduced_cost}
 use Rattle.transport.specs.Round.{entering, next}
 use Rattle.transport.specs.Plan.{plan_cost_of}
-use Rattle.transport.specs.Calls.{Answer, refused, given, refused_by, unless, start_call, finished, moved, round_call, run_call, settle_call, solve_call}
+use Rattle.transport.specs.Refusals.{Refusal}
+use Rattle.transport.specs.Calls.{Answer, refused, given, unless, start_call, finished, moved, round_call, run_call, settle_call, solve_call}
 use Rattle.transport.specs.Standing.{Edit, edited, Standing, set_up_call, standing_tests, max_counter, edit_call, carried_out, stands_after, kept_sheet}
 use Rattle.transport.specs.Standing.{spare, struct_of, standing_of}
 use Rattle.transport.specs.declared.Change.TheVariants as Change
@@ -132,7 +133,7 @@ abbrev read_cost : String → Answer Sheet
 read_cost c = read_sheet_call (with_cost c) 32 32 1024
 
 abbrev stuck_at : ℕ → Answer Sheet
-stuck_at p = refused (record { number = 9; position = some p })
+stuck_at p = refused (Refusal.NotSheetText p)
 
 -- Four: P1's sheet with a closed café between its two ..
 abbrev sheet_closed : Sheet
@@ -210,13 +211,13 @@ samples =
     ∷ (solve_call (one_lane 1 1 (pos 0)) 1 1 1 is given (record { cost = pos 0; rounds = 0; u = pos 0 ∷ []; v = pos 0 ∷ []; plan = 1 ∷ [] }))
     -- P7
     ∷ (solve_call (one_lane 1_000_000 1_000_000 (pos 1_000_000)) 1 1 1 is given (record { cost = pos 1_000_000_000_000; rounds = 0; u = pos 0 ∷ []; v = pos 1_000_000 ∷ []; plan = 1_000_000 ∷ [] }))
-    ∷ (solve_call (one_lane 1_000_000 1_000_000 (pos 1_000_001)) 1 1 1 is refused_by 4)
+    ∷ (solve_call (one_lane 1_000_000 1_000_000 (pos 1_000_001)) 1 1 1 is refused Refusal.Cost)
     -- P8: the first sheet is accepted since One, and the second lacks bags since Four
     ∷ (solve_call (one_lane 3 2 (pos 0)) 1 1 1 is given (record { cost = pos 0; rounds = 0; u = pos 0 ∷ []; v = pos 0 ∷ []; plan = 2 ∷ [] }))
-    ∷ (solve_call (one_lane 0 2 (pos 0)) 1 1 1 is refused_by 5)
+    ∷ (solve_call (one_lane 0 2 (pos 0)) 1 1 1 is refused Refusal.Lacking)
     -- P9
-    ∷ (round_call sheet3 (tableau_of (cell 1 1 (pos 5) (pos 0) ∷ cell 1 2 (pos 0) (pos 0) ∷ cell 2 2 (pos 5) (pos 1) ∷ [])) is refused_by 6)
-    ∷ (settle_call sheet1 (tableau_of start1) 4 is refused_by 7)
+    ∷ (round_call sheet3 (tableau_of (cell 1 1 (pos 5) (pos 0) ∷ cell 1 2 (pos 0) (pos 0) ∷ cell 2 2 (pos 5) (pos 1) ∷ [])) is refused Refusal.NotBelonging)
+    ∷ (settle_call sheet1 (tableau_of start1) 4 is refused Refusal.Unfinished)
     -- the texts with 9, and the worked text
     ∷ (read_sheet_call [] 32 32 1024 is stuck_at 0)
     ∷ (read_sheet_call (bytes "supply 33") 32 32 1024 is stuck_at 8)
@@ -228,8 +229,8 @@ samples =
     ∷ (printed (bytes "supply 1\n3\ndemand 1\n2\ncost 1\n0\n") is bytes "total 1\n0\nrounds 1\n0\nroasteries 1\n0\ncafes 1\n0\nlanes 1\n1 1 2\n")
     ∷ (printed (bytes "supply 1\n2\ndemand 1\n3\ncost 1\n0\n") is bytes "refused 5\n")
     -- too short a list or output: 8
-    ∷ (solve_call sheet1 2 2 3 is refused_by 8)
-    ∷ (write_plan_call sheet1 70 is refused_by 8)
+    ∷ (solve_call sheet1 2 2 3 is refused Refusal.TooShort)
+    ∷ (write_plan_call sheet1 70 is refused Refusal.TooShort)
     -- One: the tableau has the extra café as its last column, and prices and plan do not
     ∷ (lane_cost (extended sheet_dear) (lane 1 1) is pos 5)
     ∷ (lane_cost (extended sheet_dear) (lane 1 2) is pos 0)
@@ -248,9 +249,9 @@ samples =
     ∷ (solve_call sheet_extra_later 2 2 4 is given (record { cost = pos 4; rounds = 2; u = pos 0 ∷ pos 0 ∷ []; v = pos 2 ∷ pos 0 ∷ []; plan = 0 ∷ 1 ∷ 2 ∷ 0 ∷ [] }))
     -- 31 cafés leave room for the extra one, 32 do not; more wanted than there is: 5, with 32 cafés too
     ∷ (solve_call (sheet_wide 40 31) 1 31 31 is given (record { cost = pos 31; rounds = 0; u = pos 0 ∷ []; v = replicate 31 (pos 1); plan = replicate 31 1 }))
-    ∷ (solve_call (sheet_wide 40 32) 1 32 32 is refused_by 10)
-    ∷ (write_sheet_call (sheet_wide 40 32) 1000 is refused_by 10)
-    ∷ (solve_call (sheet_wide 31 32) 1 32 32 is refused_by 5)
+    ∷ (solve_call (sheet_wide 40 32) 1 32 32 is refused Refusal.Crowded)
+    ∷ (write_sheet_call (sheet_wide 40 32) 1000 is refused Refusal.Crowded)
+    ∷ (solve_call (sheet_wide 31 32) 1 32 32 is refused Refusal.Lacking)
     -- Two: negative costs, prices and totals
     ∷ (solve_call sheet_earns 2 1 2 is given (record { cost = below_zero 14; rounds = 1; u = pos 0 ∷ below_zero 6 ∷ []; v = pos 1 ∷ []; plan = 1 ∷ 3 ∷ [] }))
     ∷ (start_call sheet_both is given start_both)
@@ -261,7 +262,7 @@ samples =
     ∷ (solve_call sheet_both 2 3 6 is given (record { cost = below_zero 3; rounds = 2; u = pos 0 ∷ pos 3 ∷ []; v = below_zero 4 ∷ below_zero 3 ∷ below_zero 1 ∷ []; plan = 0 ∷ 0 ∷ 2 ∷ 1 ∷ 2 ∷ 0 ∷ [] }))
     -- the extremes, and one beyond; the greatest and the least total on their lines (reduction/Totals has that no total is beyond them)
     ∷ (solve_call (one_lane 1_000_000 1_000_000 (below_zero 1_000_000)) 1 1 1 is given (record { cost = below_zero 1_000_000_000_000; rounds = 0; u = pos 0 ∷ []; v = below_zero 1_000_000 ∷ []; plan = 1_000_000 ∷ [] }))
-    ∷ (solve_call (one_lane 1_000_000 1_000_000 (below_zero 1_000_001)) 1 1 1 is refused_by 4)
+    ∷ (solve_call (one_lane 1_000_000 1_000_000 (below_zero 1_000_001)) 1 1 1 is refused Refusal.Cost)
     ∷ (whole_line (pos 32_000_000_000_000) is bytes "32000000000000\n")
     ∷ (whole_line (below_zero 32_000_000_000_000) is bytes "-32000000000000\n")
     -- texts with a minus: a cost may have one, never before 0, and no amount and no count does
@@ -269,9 +270,9 @@ samples =
     ∷ (write_sheet_call (one_lane 2 2 (below_zero 3)) 32 is given (with_cost "-3\n"))
     ∷ (printed (with_cost "-3\n") is bytes "total 1\n-6\nrounds 1\n0\nroasteries 1\n0\ncafes 1\n-3\nlanes 1\n1 1 2\n")
     ∷ (read_cost "-1000000\n" is given (one_lane 2 2 (below_zero 1_000_000)))
-    ∷ (read_cost "-1000001\n" is refused_by 4)
-    ∷ (read_cost "1000001\n" is refused_by 4)
-    ∷ (read_cost "-9999999\n" is refused_by 4)
+    ∷ (read_cost "-1000001\n" is refused Refusal.Cost)
+    ∷ (read_cost "1000001\n" is refused Refusal.Cost)
+    ∷ (read_cost "-9999999\n" is refused Refusal.Cost)
     ∷ (read_cost "-10000000\n" is stuck_at 37)
     ∷ (read_cost "-0\n" is stuck_at 30)
     ∷ (read_cost "-01\n" is stuck_at 30)
@@ -296,8 +297,8 @@ samples =
     ∷ (solve_call sheet_closed 2 3 6 is given (record { cost = pos 14; rounds = 1; u = pos 0 ∷ negsuc 1 ∷ []; v = pos 4 ∷ pos 5 ∷ pos 1 ∷ []; plan = 1 ∷ 0 ∷ 2 ∷ 4 ∷ 0 ∷ 0 ∷ [] }))
     ∷ (printed (bytes "supply 2\n3\n4\ndemand 3\n5\n0\n2\ncost 2\n4 7 1\n2 3 6\n") is bytes "total 1\n14\nrounds 1\n1\nroasteries 2\n0\n-2\ncafes 3\n4\n5\n1\nlanes 3\n1 1 1\n1 3 2\n2 1 4\n")
     -- a cell at a closed café, P1's numbers, or a cell more: 6
-    ∷ (round_call sheet_closed (tableau_of (cell 1 1 (pos 3) (pos 1) ∷ cell 2 1 (pos 2) (negsuc 0) ∷ cell 2 2 (pos 2) (pos 2) ∷ [])) is refused_by 6)
-    ∷ (round_call sheet_closed (tableau_of (start_closed ++ (cell 3 3 (pos 1) (pos 0) ∷ []))) is refused_by 6)
+    ∷ (round_call sheet_closed (tableau_of (cell 1 1 (pos 3) (pos 1) ∷ cell 2 1 (pos 2) (negsuc 0) ∷ cell 2 2 (pos 2) (pos 2) ∷ [])) is refused Refusal.NotBelonging)
+    ∷ (round_call sheet_closed (tableau_of (start_closed ++ (cell 3 3 (pos 1) (pos 0) ∷ []))) is refused Refusal.NotBelonging)
     -- the first roastery left has price 0; the empty one's is the least over all cafés: 9 − 4, 1 − 5 at the closed one, or 9 − 1
     ∷ (start_call sheet_empty is given (cell 2 1 (pos 3) (pos 1) ∷ cell 3 1 (pos 2) (negsuc 0) ∷ cell 3 3 (pos 2) (pos 2) ∷ []))
     ∷ (solve_call sheet_empty 3 3 9 is given (record { cost = pos 14; rounds = 1; u = below_zero 4 ∷ pos 0 ∷ below_zero 2 ∷ []; v = pos 4 ∷ pos 5 ∷ pos 1 ∷ []; plan = 0 ∷ 0 ∷ 0 ∷ 1 ∷ 0 ∷ 2 ∷ 4 ∷ 0 ∷ 0 ∷ [] }))
@@ -310,19 +311,19 @@ samples =
     -- one lane left, and nobody
     ∷ (start_call sheet_one_left is given (cell 2 2 (pos 2) (pos 1) ∷ []))
     ∷ (solve_call sheet_one_left 3 2 6 is given (record { cost = pos 8; rounds = 0; u = below_zero 2 ∷ pos 0 ∷ pos 2 ∷ []; v = pos 3 ∷ pos 4 ∷ []; plan = 0 ∷ 0 ∷ 0 ∷ 2 ∷ 0 ∷ 0 ∷ [] }))
-    ∷ (solve_call (one_lane 0 0 (pos 0)) 1 1 1 is refused_by 11)
-    ∷ (solve_call (one_lane 3 0 (pos 0)) 1 1 1 is refused_by 11)
-    ∷ (read_sheet_call (bytes "supply 1\n3\ndemand 1\n0\ncost 1\n7\n") 1 1 1 is refused_by 11)
+    ∷ (solve_call (one_lane 0 0 (pos 0)) 1 1 1 is refused Refusal.Idle)
+    ∷ (solve_call (one_lane 3 0 (pos 0)) 1 1 1 is refused Refusal.Idle)
+    ∷ (read_sheet_call (bytes "supply 1\n3\ndemand 1\n0\ncost 1\n7\n") 1 1 1 is refused Refusal.Idle)
     ∷ (printed (bytes "supply 1\n0\ndemand 1\n0\ncost 1\n7\n") is bytes "refused 11\n")
-    ∷ (solve_call (one_lane 1_000_001 0 (pos 0)) 1 1 1 is refused_by 3)
+    ∷ (solve_call (one_lane 1_000_001 0 (pos 0)) 1 1 1 is refused Refusal.Amount)
     -- 10 counts closed cafés, and comes before 11
-    ∷ (solve_call (sheet_wide_closed 40) 1 32 32 is refused_by 10)
-    ∷ (solve_call (record { supply = 1 ∷ []; demand = replicate 32 0; cost = replicate 32 (pos 0) }) 1 32 32 is refused_by 10)
+    ∷ (solve_call (sheet_wide_closed 40) 1 32 32 is refused Refusal.Crowded)
+    ∷ (solve_call (record { supply = 1 ∷ []; demand = replicate 32 0; cost = replicate 32 (pos 0) }) 1 32 32 is refused Refusal.Crowded)
     -- Five: what is set up, and its struct and back
     ∷ (set_up_call sheet1 is given (stands1 0))
     ∷ (set_up_call sheet_dear_closed is given stands_closed)
-    ∷ (set_up_call (one_lane 2 3 (pos 0)) is refused_by 5)
-    ∷ (set_up_call (one_lane 3 0 (pos 0)) is refused_by 11)
+    ∷ (set_up_call (one_lane 2 3 (pos 0)) is refused Refusal.Lacking)
+    ∷ (set_up_call (one_lane 3 0 (pos 0)) is refused Refusal.Idle)
     ∷ (kept_sheet (struct_of sheet1) is sheet1)
     ∷ ((spare (struct_of sheet1)).0 is replicate 30 0)
     -- a cost edit goes on from the kept tableau: one round, where the edited sheet from nothing takes none, and all else is the same
@@ -342,25 +343,25 @@ samples =
     ∷ (edit_call stands_closed (set_cost 1 2 (below_zero 9)) 2 2 4 is given (record { cost = pos 8; rounds = 0; u = pos 0 ∷ below_zero 4 ∷ []; v = pos 5 ∷ below_zero 9 ∷ []; plan = 1 ∷ 0 ∷ 3 ∷ 0 ∷ [] }))
     ∷ (edit_call stands_closed (set_amounts 2 2 3 2) 2 2 4 is given (record { cost = pos 12; rounds = 1; u = pos 0 ∷ below_zero 4 ∷ []; v = pos 5 ∷ pos 2 ∷ []; plan = 1 ∷ 2 ∷ 3 ∷ 0 ∷ [] }))
     -- as solve refuses the edited sheet: 3, 4, 5, 11, and 8 last; a refusal alters nothing
-    ∷ (edit_call (stands1 0) (set_amounts 1 1 1_000_001 9) 2 2 3 is refused_by 3)
-    ∷ (edit_call (stands1 0) (set_cost 1 1 (pos 1_000_001)) 2 2 3 is refused_by 4)
-    ∷ (edit_call (stands1 0) (set_amounts 1 1 3 6) 2 2 3 is refused_by 5)
-    ∷ (edit_call (record { sheet = one_lane 1 1 (pos 0); tableau = tableau_of (cell 1 1 (pos 1) (pos 1) ∷ []); counter = 0 }) (set_amounts 1 1 1 0) 1 1 1 is refused_by 11)
-    ∷ (edit_call (stands1 0) (set_cost 1 1 (pos 1)) 2 2 3 is refused_by 8)
+    ∷ (edit_call (stands1 0) (set_amounts 1 1 1_000_001 9) 2 2 3 is refused Refusal.Amount)
+    ∷ (edit_call (stands1 0) (set_cost 1 1 (pos 1_000_001)) 2 2 3 is refused Refusal.Cost)
+    ∷ (edit_call (stands1 0) (set_amounts 1 1 3 6) 2 2 3 is refused Refusal.Lacking)
+    ∷ (edit_call (record { sheet = one_lane 1 1 (pos 0); tableau = tableau_of (cell 1 1 (pos 1) (pos 1) ∷ []); counter = 0 }) (set_amounts 1 1 1 0) 1 1 1 is refused Refusal.Idle)
+    ∷ (edit_call (stands1 0) (set_cost 1 1 (pos 1)) 2 2 3 is refused Refusal.TooShort)
     ∷ (stands_after (edit_call (stands1 0) (set_cost 1 1 (pos 1)) 2 2 3) (stands1 0) (carried_out (stands1 0) (set_cost 1 1 (pos 1))) is stands1 0)
     -- 12 before these: a party not on the sheet, the extra café, the counter at its largest value
-    ∷ (edit_call (stands1 0) (set_cost 3 1 (pos 1_000_001)) 2 2 4 is refused_by 12)
-    ∷ (edit_call (stands1 0) (set_amounts 1 3 1 9) 2 2 4 is refused_by 12)
-    ∷ (edit_call stands_closed (set_cost 1 3 (pos 1)) 2 2 4 is refused_by 12)
-    ∷ (edit_call (stands1 max_counter) (set_cost 1 1 (pos 1_000_001)) 2 2 4 is refused_by 12)
+    ∷ (edit_call (stands1 0) (set_cost 3 1 (pos 1_000_001)) 2 2 4 is refused Refusal.BadEdit)
+    ∷ (edit_call (stands1 0) (set_amounts 1 3 1 9) 2 2 4 is refused Refusal.BadEdit)
+    ∷ (edit_call stands_closed (set_cost 1 3 (pos 1)) 2 2 4 is refused Refusal.BadEdit)
+    ∷ (edit_call (stands1 max_counter) (set_cost 1 1 (pos 1_000_001)) 2 2 4 is refused Refusal.BadEdit)
     ∷ (carried_out (stands1 (max_counter - 1)) (set_cost 1 2 (pos 1)) is stands1 max_counter)
     -- and before that the first check: 7, 6, and 1 for more parties than the arrays have room for
-    ∷ (edit_call (record { sheet = sheet1; tableau = tableau_of start1; counter = max_counter }) (set_cost 3 1 (pos 1)) 2 2 4 is refused_by 7)
-    ∷ (edit_call (record { sheet = sheet1; tableau = record { cells = (tableau_of next1).cells; count = 64 }; counter = 0 }) (set_cost 3 1 (pos 1)) 2 2 4 is refused_by 6)
-    ∷ (unless {A = ℕ} (standing_tests (standing_of (record { sheet = record { m = 33; n = 2; supply = replicate 32 1; demand = replicate 32 1; cost = [] }; tableau = tableau_of next1; counter = 0 }))) 0 is refused_by 1)
+    ∷ (edit_call (record { sheet = sheet1; tableau = tableau_of start1; counter = max_counter }) (set_cost 3 1 (pos 1)) 2 2 4 is refused Refusal.Unfinished)
+    ∷ (edit_call (record { sheet = sheet1; tableau = record { cells = (tableau_of next1).cells; count = 64 }; counter = 0 }) (set_cost 3 1 (pos 1)) 2 2 4 is refused Refusal.NotBelonging)
+    ∷ (unless {A = ℕ} (standing_tests (standing_of (record { sheet = record { m = 33; n = 2; supply = replicate 32 1; demand = replicate 32 1; cost = [] }; tableau = tableau_of next1; counter = 0 }))) 0 is refused Refusal.Sides)
     -- traps: the least reduced cost enters, and not the first negative one; a count beyond the array does not belong
     ∷ (entering (extended sheet10) (start (extended sheet10)) is lane 1 3)
-    ∷ (round_call sheet1 (record { cells = (tableau_of start1).cells; count = 64 }) is refused_by 6)
+    ∷ (round_call sheet1 (record { cells = (tableau_of start1).cells; count = 64 }) is refused Refusal.NotBelonging)
     ∷ []
 
 pub samples-hold : Hold samples

@@ -4,6 +4,7 @@ use mathlib.Core.List.{List, [], ◌∷◌, ◌++◌, flat_map, flatten}
 use Rattle.std.proofs.Math.Option.{some}
 use Rattle.transport.specs.Lists.{within}
 use Rattle.transport.specs.Limits.{max_sources, max_sinks, max_digits}
+use Rattle.transport.specs.Refusals.{Refusal}
 use Rattle.transport.specs.Sheet.{Sheet, roasteries, cafes, sheet_tests, number_tests}
 use Rattle.transport.specs.Calls.{Answer, refused, unless, too_short}
 use Rattle.transport.specs.Text.{bytes, byte, Digit, Space, LineEnd, Letter, Other, kind_of, whole_digits, head_line, number_line, row_line}
@@ -28,7 +29,7 @@ sheet_text S =
 
 -- The text, whose length is the call's answer. `room` is the length of the output.
 unfoldable pub write_sheet_call : Sheet → ℕ → Answer (List ℕ)
-write_sheet_call S room = unless (sheet_tests S ++ ((too_short room (length (sheet_text S)), 8) ∷ [])) (sheet_text S)
+write_sheet_call S room = unless (sheet_tests S ++ ((too_short room (length (sheet_text S)), Refusal.TooShort) ∷ [])) (sheet_text S)
 
 -- ---- reading: a reader takes its part from the front of a text, or is stuck before the first byte that cannot come there
 
@@ -174,17 +175,17 @@ sheet_reader = do
   pure (record { supply = supply; demand = demand; cost = flatten rows })
 
 -- 9 with its place if the text is not a sheet text; else what the tests say of the sheet that was read.
-unfoldable pub read_with : (Sheet → List (Bool × ℕ)) → List ℕ → Answer Sheet
+unfoldable pub read_with : (Sheet → List (Bool × Refusal)) → List ℕ → Answer Sheet
 read_with tests text = elim (sheet_reader text) [
-  | stuck rest ↦ refused (record { number = 9; position = some (length text - length rest) })
+  | stuck rest ↦ refused (Refusal.NotSheetText (length text - length rest))
   | got S rest ↦ unless (tests S) S
 ]
 
 -- The rooms are the lengths of the lent lists for supplies, demands and costs.
-unfoldable pub read_tests : ℕ → ℕ → ℕ → Sheet → List (Bool × ℕ)
+unfoldable pub read_tests : ℕ → ℕ → ℕ → Sheet → List (Bool × Refusal)
 read_tests supplyRoom demandRoom costRoom S =
     number_tests S
-    ++ ((too_short supplyRoom (roasteries S) || too_short demandRoom (cafes S) || too_short costRoom (roasteries S * cafes S), 8)
+    ++ ((too_short supplyRoom (roasteries S) || too_short demandRoom (cafes S) || too_short costRoom (roasteries S * cafes S), Refusal.TooShort)
     ∷ [])
 
 unfoldable pub read_sheet_call : List ℕ → ℕ → ℕ → ℕ → Answer Sheet

@@ -9,6 +9,7 @@ use Rattle.transport.specs.declared.Standing as Declared
 use Rattle.transport.specs.Lists.{first_of, padded}
 use Rattle.transport.specs.Limits.{max_sources, max_sinks}
 use Rattle.transport.specs.Problem.{place}
+use Rattle.transport.specs.Refusals.{Refusal}
 use Rattle.transport.specs.Sheet.{Sheet, sheet_of, roasteries, cafes, sheet_tests, refusal}
 use Rattle.transport.specs.Parties.{problem_of}
 use Rattle.transport.specs.Tableau.{Cell, Tableau, tableau_of, start}
@@ -44,7 +45,7 @@ unfoldable pub set_up_call : Sheet → Answer Standing
 set_up_call S = unless (sheet_tests S) (record { sheet = S; tableau = last_tableau_of S (start (problem_of S)); counter = 0 })
 
 -- The first check of a standing sheet: as settle checks sheet and tableau, without 8.
-unfoldable pub standing_tests : Standing → List (Bool × ℕ)
+unfoldable pub standing_tests : Standing → List (Bool × Refusal)
 standing_tests St = finished_tests St.sheet St.tableau
 
 abbrev pub Passes : Standing → Type 0
@@ -57,13 +58,13 @@ unfoldable pub max_counter : ℕ
 max_counter = 2 ^ 64 - 1
 
 -- 12: the edit names a roastery or café not on the sheet, or the counter is at its largest value.
-unfoldable pub bad_edit : Standing → Edit → Bool × ℕ
+unfoldable pub bad_edit : Standing → Edit → Bool × Refusal
 bad_edit St e =
     let S = St.sheet in
-    (not (ltb e.row (roasteries S) && ltb e.col (cafes S)) || eqb St.counter max_counter, 12)
+    (not (ltb e.row (roasteries S) && ltb e.col (cafes S)) || eqb St.counter max_counter, Refusal.BadEdit)
 
 -- The first check, then 12, then solve's refusals for the edited sheet, of which 8 is the last.
-unfoldable pub edit_tests : Standing → Edit → ℕ → ℕ → ℕ → List (Bool × ℕ)
+unfoldable pub edit_tests : Standing → Edit → ℕ → ℕ → ℕ → List (Bool × Refusal)
 edit_tests St e uRoom vRoom plan_room =
     standing_tests St ++ (bad_edit St e ∷ solve_tests (edited St.sheet e) uRoom vRoom plan_room)
 

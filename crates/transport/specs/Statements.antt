@@ -29,9 +29,11 @@
 --   Place                    the place that read sheet gives with 9: grammar/Place.place
 --   Undo                     write sheet and read sheet: grammar/SheetCalls.undo
 use Rattle.std.specs.Prelude.{◌≡◌, ◌↔◌, ◌⊎◌, Bool, true, false, cond, ℕ, zero, suc, ◌+◌, ◌*◌, ◌^◌, ◌≤◌, ◌<◌, ℤ, pos, negsuc, nat_abs, neg_ℤ, ◌+ℤ◌}
-use Rattle.std.specs.Prelude.{◌*ℤ◌, ◌≤ℤ◌, length, take, drop, get_or}
+use Rattle.std.specs.Prelude.{◌*ℤ◌, ◌≤ℤ◌, length, take, drop, get_or, Ok, Err}
+use Rattle.std.specs.declared.result.Result.{Result}
 use mathlib.Core.List.{List, [], ◌∷◌, map, Memᴰ}
 use Rattle.transport.specs.declared.SolveAnswer.{SolveAnswer}
+use Rattle.transport.specs.Refusals.{Refusal}
 use Rattle.transport.specs.Lists.{sum_to, at, at_z, total, within}
 use Rattle.transport.specs.Limits.{max_sources, max_sinks, max_side, max_amount, max_cost, max_digits}
 use Rattle.transport.specs.Problem.{Problem, sources, sinks, Lane, place, lane_cost}
@@ -317,19 +319,20 @@ pub record LongEnough (S : Sheet) (uRoom vRoom plan_room : ℕ) : Type 0 where
   pub plan : roasteries S * cafes S ≤ plan_room
 
 -- What is bought of each call of solve: r is its answer; the lent lists hold u, v and plan before it, and uAfter, vAfter and planAfter after it.
-pub record Bought (S : Sheet) (r : SolveAnswer) (u v : List ℤ) (plan : List ℕ) (uAfter vAfter : List ℤ) (planAfter : List ℕ) : Type 0 where
+pub record Bought (S : Sheet) (r : Result SolveAnswer Refusal) (u v : List ℤ) (plan : List ℕ) (uAfter vAfter : List ℤ) (planAfter : List ℕ) : Type 0 where
   -- Demand 3 (02, One and Four): for every sheet within the limits that is neither lacking nor crowded nor idle, with lists long enough, solve gives a plan,
   -- and it is best at the cost shown.
   pub solved : WithinLimits S → LongEnough S (length u) (length v) (length plan) → ¬ Lacking S → ¬ Crowded S → ¬ Idle S
-      → (cost : ℤ) × (rounds : ℕ) × (r ≡ SolveAnswer.Solved cost rounds) × Best S (take (roasteries S * cafes S) planAfter) cost
+      → (cost : ℤ) × (rounds : ℕ) × (r ≡ Ok (record { cost = cost; rounds = rounds })) × Best S (take (roasteries S * cafes S) planAfter) cost
   -- Demand 3 (02, One and Four): of sheets within the limits, with lists long enough, solve refuses exactly the lacking, the crowded and the idle ones, by 5,
   -- by 10 and by 11, of which a sheet that is both crowded and idle gets 10.
   pub refuses : WithinLimits S → LongEnough S (length u) (length v) (length plan)
-      → (k : ℕ) → (r ≡ SolveAnswer.Refused k) ↔ ((k ≡ 5) × Lacking S) ⊎ ((k ≡ 10) × Crowded S) ⊎ ((k ≡ 11) × Idle S × ¬ Crowded S)
+      → (k : Refusal)
+      → (r ≡ Err k) ↔ ((k ≡ Refusal.Lacking) × Lacking S) ⊎ ((k ≡ Refusal.Crowded) × Crowded S) ⊎ ((k ≡ Refusal.Idle) × Idle S × ¬ Crowded S)
   -- Demand 1: a refusal alters no byte of lent memory.
-  pub unchanged : (k : ℕ) → r ≡ SolveAnswer.Refused k → (uAfter ≡ u) × (vAfter ≡ v) × (planAfter ≡ plan)
+  pub unchanged : (k : Refusal) → r ≡ Err k → (uAfter ≡ u) × (vAfter ≡ v) × (planAfter ≡ plan)
   -- Paper 01: on success a lent list changes only in the places that the result fills.
-  pub rest : (cost : ℤ) (rounds : ℕ) → r ≡ SolveAnswer.Solved cost rounds
+  pub rest : (cost : ℤ) (rounds : ℕ) → r ≡ Ok (record { cost = cost; rounds = rounds })
       → (drop (roasteries S) uAfter ≡ drop (roasteries S) u)
       × (drop (cafes S) vAfter ≡ drop (cafes S) v)
       × (drop (roasteries S * cafes S) planAfter ≡ drop (roasteries S * cafes S) plan)

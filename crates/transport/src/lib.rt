@@ -3,6 +3,7 @@
 
 ghost use Rattle.std.specs.Prelude.{◌≡◌};
 ghost use Rattle.transport.specs.Amount.{add, subtract, less, Fit};
+ghost use Rattle.transport.specs.Refusals.{number, place_of};
 
 // The most sources, and the most sinks, that a sheet may have.
 pub const MAX_SOURCES: usize = 32;
@@ -89,38 +90,79 @@ pub struct Tableau {
     pub count: usize,
 }
 
-// In every answer `Refused` holds the number of the refusal. What a field holds where it has no meaning is zero.
-
-// The answer of start: the first tableau.
-#[derive(Clone, Copy)]
-pub struct StartAnswer {
-    pub outcome: StartOutcome,
-    pub tableau: Tableau,
+// Why a call refuses. docs/FORMATS.md explains each, under its number.
+#[derive(Clone, Copy, PartialEq, Eq)]
+pub enum Refusal {
+    // The sheet has no roastery or no café, or too many.
+    Sides,
+    // The list of costs is not as long as there are lanes.
+    CostCount,
+    // A supply or a demand is above its limit.
+    Amount,
+    // A cost is beyond its limits.
+    Cost,
+    // The cafés want more than there is.
+    Lacking,
+    // The tableau does not belong to the sheet.
+    NotBelonging,
+    // The tableau is not finished.
+    Unfinished,
+    // A lent list, or the output, is too short.
+    TooShort,
+    // The text is no sheet text: the place of the first byte that cannot stand there.
+    NotSheetText(usize),
+    // There is a surplus, and no column is left for the extra café that takes it.
+    Crowded,
+    // The cafés want nothing.
+    Idle,
+    // The edit names a party that is not on the sheet, or the counter is full.
+    BadEdit,
 }
 
-#[derive(Clone, Copy)]
-pub enum StartOutcome {
-    Started,
-    Refused(u8),
+impl Refusal {
+    // The number under which programs in other languages and texts know it.
+    pub fn number(self) -> u8
+        ensures { result ≡ number self }
+    {
+        match self {
+            Refusal::Sides => 1,
+            Refusal::CostCount => 2,
+            Refusal::Amount => 3,
+            Refusal::Cost => 4,
+            Refusal::Lacking => 5,
+            Refusal::NotBelonging => 6,
+            Refusal::Unfinished => 7,
+            Refusal::TooShort => 8,
+            Refusal::NotSheetText(_) => 9,
+            Refusal::Crowded => 10,
+            Refusal::Idle => 11,
+            Refusal::BadEdit => 12,
+        }
+    }
+
+    // The place that comes with it, if it is that of a text.
+    pub fn place(self) -> Option<usize>
+        ensures { result ≡ place_of self }
+    {
+        match self {
+            Refusal::NotSheetText(place) => Some(place),
+            _ => None,
+        }
+    }
 }
 
-// The answer of round: the next tableau, or the potentials (prices) of a finished one.
+// What a round gives: the next tableau, or the potentials (prices) of a finished one. What a field
+// holds where it has no meaning is zero.
 #[derive(Clone, Copy)]
-pub struct RoundAnswer {
-    pub outcome: RoundOutcome,
-    pub tableau: Tableau,
-    pub u: [i64; MAX_SIDE],
-    pub v: [i64; MAX_SIDE],
+pub enum RoundAnswer {
+    Moved(Tableau),
+    Finished {
+        u: [i64; MAX_SIDE],
+        v: [i64; MAX_SIDE],
+    },
 }
 
-#[derive(Clone, Copy)]
-pub enum RoundOutcome {
-    Moved,
-    Finished,
-    Refused(u8),
-}
-
-// The answer of run: the last tableau, with the rounds made.
+// What a run gives: its last tableau, with the rounds made.
 #[derive(Clone, Copy)]
 pub struct RunAnswer {
     pub outcome: RunOutcome,
@@ -131,21 +173,13 @@ pub struct RunAnswer {
 pub enum RunOutcome {
     Finished(u64),
     Spent(u64),
-    Refused(u8),
 }
 
-// The answer of settle; the plan stands in the lent list.
+// What solve gives; the potentials and the plan stand in the lent lists.
 #[derive(Clone, Copy)]
-pub enum SettleAnswer {
-    Settled,
-    Refused(u8),
-}
-
-// The answer of solve; the potentials and the plan stand in the lent lists.
-#[derive(Clone, Copy)]
-pub enum SolveAnswer {
-    Solved { cost: i64, rounds: u64 },
-    Refused(u8),
+pub struct SolveAnswer {
+    pub cost: i64,
+    pub rounds: u64,
 }
 
 // A sheet by value. Its m supplies, n demands and m × n costs, in sheet order, stand at the fronts
@@ -206,19 +240,11 @@ pub struct EditAnswer {
     pub after: Standing,
 }
 
-// The answer of read sheet: how many sources and sinks the lent lists now hold; `NotSheetText` is refusal 9 with its place.
+// What read sheet gives: how many sources and sinks the lent lists now hold.
 #[derive(Clone, Copy)]
-pub enum ReadAnswer {
-    Sheet { sources: usize, sinks: usize },
-    NotSheetText(usize),
-    Refused(u8),
-}
-
-// The answer of write sheet and of write plan: the length of the text in the lent output.
-#[derive(Clone, Copy)]
-pub enum WriteAnswer {
-    Written(usize),
-    Refused(u8),
+pub struct Counts {
+    pub sources: usize,
+    pub sinks: usize,
 }
 
 // The kind of a byte of a text.

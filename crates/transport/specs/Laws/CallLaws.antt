@@ -2,9 +2,10 @@
 use Rattle.std.specs.Prelude.{◌≡◌, ◌↔◌, ◌||◌, ◌∷◌, ◌++◌, ◌*◌, ◌≤◌, ◌<◌}
 use Rattle.prelude.specs.Words.{refl, sym, ◌∙◌, ap, Bool, true, false, true≢false, List, [], none, some, ℕ, arith}
 use Rattle.prelude.specs.Words.{ltb-false, lt-ltb, le-ltb, length, drop, by_option, some≢none}
+use Rattle.transport.specs.Refusals.{Refusal}
 use Rattle.transport.specs.Sheet.{Sheet, roasteries, cafes, refusal}
 use Rattle.transport.specs.Laws.SheetLaws.{refusal_yes, refusal_no, refusal-clear, refusal-pass, refusal-stands}
-use Rattle.transport.specs.Calls.{Refusal, refused, given, refused_by, unless, lent_after, too_short, Solution}
+use Rattle.transport.specs.Calls.{refused, given, unless, lent_after, too_short, Solution}
 
 -- ---- answers
 
@@ -13,33 +14,30 @@ refused≢given e = let n : ◌≡◌ {A = ℕ} 0 1 = cc in omega arith
 
 -- ---- the value, unless a test refuses
 
-module _ {A : Type 0} (tests : List (Bool × ℕ)) (x : A) where
+module _ {A : Type 0} (tests : List (Bool × Refusal)) (x : A) where
   pub unless-given : refusal tests ≡ none → unless tests x ≡ given x
   unfolding unless
   unless-given e = rw (e, unless)
 
-  pub unless-refused : (k : ℕ) → refusal tests ≡ some k → unless tests x ≡ refused_by k
+  pub unless-refused : (k : Refusal) → refusal tests ≡ some k → unless tests x ≡ refused k
   unfolding unless
   unless-refused k e = rw (e, unless)
 
   pub unless-given_iff : (y : A) → (unless tests x ≡ given y) ↔ (refusal tests ≡ none) × (y ≡ x)
-  unfolding refused_by
   unless-given_iff y = (
     (λ f. by_option (refusal tests) (λ e. (e, let same : y ≡ x = cc (unless-given e) in same))
         (λ k e. absurd (refused≢given (sym (unless-refused k e) ∙ f)))),
     (λ h. unless-given h.0 ∙ ap given (sym h.1)),
   )
 
-  -- What a test refuses by has no place.
-  pub unless_placeless : (r : Refusal) → unless tests x ≡ refused r → r.position ≡ none
-  unfolding refused_by
-  unless_placeless r f = by_option (refusal tests) (λ e. absurd (refused≢given (sym f ∙ unless-given e))) (λ k e.
-      let same : record { number = k; position = none } ≡ r = cc (unless-refused k e) in
-      sym (ap (λ (q : Refusal). q.position) same))
+  -- A refusal is one of the tests'.
+  pub unless_refusal : (r : Refusal) → unless tests x ≡ refused r → refusal tests ≡ some r
+  unless_refusal r f = by_option (refusal tests) (λ e. absurd (refused≢given (sym f ∙ unless-given e))) (λ k e.
+      let same : k ≡ r = cc (unless-refused k e, f) in e ∙ ap some same)
 
 -- ---- one test more at the end
 
-module _ (ts : List (Bool × ℕ)) (t : Bool × ℕ) where
+module _ (ts : List (Bool × Refusal)) (t : Bool × Refusal) where
   pub refusal-last : (refusal (ts ++ (t ∷ [])) ≡ none) ↔ (refusal ts ≡ none) × (t.0 ≡ false)
   unfolding refusal
   refusal-last = (
@@ -48,22 +46,22 @@ module _ (ts : List (Bool × ℕ)) (t : Bool × ℕ) where
     (λ h. refusal-pass ts (t ∷ []) h.0 ∙ refusal_no t [] h.1),
   )
 
-module _ {A : Type 0} (tests : List (Bool × ℕ)) (last : Bool) (number : ℕ) (x : A) where
-  pub unless-before : (k : ℕ) → refusal tests ≡ some k → unless (tests ++ ((last, number) ∷ [])) x ≡ refused_by k
-  unless-before k e = unless-refused (tests ++ ((last, number) ∷ [])) x k (refusal-stands tests ((last, number) ∷ []) k e)
+module _ {A : Type 0} (tests : List (Bool × Refusal)) (last : Bool) (r : Refusal) (x : A) where
+  pub unless-before : (k : Refusal) → refusal tests ≡ some k → unless (tests ++ ((last, r) ∷ [])) x ≡ refused k
+  unless-before k e = unless-refused (tests ++ ((last, r) ∷ [])) x k (refusal-stands tests ((last, r) ∷ []) k e)
 
-  pub unless-last : refusal tests ≡ none → last ≡ true → unless (tests ++ ((last, number) ∷ [])) x ≡ refused_by number
+  pub unless-last : refusal tests ≡ none → last ≡ true → unless (tests ++ ((last, r) ∷ [])) x ≡ refused r
   unless-last e t =
-      unless-refused (tests ++ ((last, number) ∷ [])) x number (refusal-pass tests ((last, number) ∷ []) e ∙ refusal_yes (last, number) [] t)
+      unless-refused (tests ++ ((last, r) ∷ [])) x r (refusal-pass tests ((last, r) ∷ []) e ∙ refusal_yes (last, r) [] t)
 
-  pub unless-none : refusal tests ≡ none → last ≡ false → unless (tests ++ ((last, number) ∷ [])) x ≡ given x
-  unless-none e t = unless-given (tests ++ ((last, number) ∷ [])) x ((refusal-last tests (last, number)).1 (e, t))
+  pub unless-none : refusal tests ≡ none → last ≡ false → unless (tests ++ ((last, r) ∷ [])) x ≡ given x
+  unless-none e t = unless-given (tests ++ ((last, r) ∷ [])) x ((refusal-last tests (last, r)).1 (e, t))
 
 -- ---- lent lists
 
 module _ {A B : Type 0} (part : A → List B) where
-  pub lent-refused : (k : ℕ) (old : List B) → lent_after part (refused_by k) old ≡ old
-  unfolding lent_after refused_by
+  pub lent-refused : (k : Refusal) (old : List B) → lent_after part (refused k) old ≡ old
+  unfolding lent_after
   lent-refused k old = refl
 
   pub lent-given : (x : A) (old : List B) → lent_after part (given x) old ≡ part x ++ drop (length (part x)) old

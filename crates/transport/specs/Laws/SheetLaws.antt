@@ -8,30 +8,31 @@ use Rattle.transport.specs.Lists.{all, at, at_z, total, at_most, within, within_
 use Rattle.transport.specs.Limits.{max_sources, max_sinks, max_side, max_amount, max_cost}
 use Rattle.transport.specs.Sheet.{Sheet, roasteries, cafes, bad_sides, bad_length, bad_amount, bad_cost, lacking, crowded, idle, number_tests, sheet_tests}
 use Rattle.transport.specs.Sheet.{refusal}
+use Rattle.transport.specs.Refusals.{Refusal}
 use Rattle.transport.specs.Statements.{WithinLimits, Lacking, Crowded, Idle, Accepted}
 use Rattle.transport.specs.Laws.ListLaws.{and_left, and_right, all-at, all_of, at-past, at_z-past}
 
 -- ---- refusal
 
-pub refusal_yes : (t : Bool × ℕ) (ts : List (Bool × ℕ)) → t.0 ≡ true → refusal (t ∷ ts) ≡ some t.1
+pub refusal_yes : (t : Bool × Refusal) (ts : List (Bool × Refusal)) → t.0 ≡ true → refusal (t ∷ ts) ≡ some t.1
 unfolding refusal
 refusal_yes t ts e = rw (e, refusal)
 
-pub refusal_no : (t : Bool × ℕ) (ts : List (Bool × ℕ)) → t.0 ≡ false → refusal (t ∷ ts) ≡ refusal ts
+pub refusal_no : (t : Bool × Refusal) (ts : List (Bool × Refusal)) → t.0 ≡ false → refusal (t ∷ ts) ≡ refusal ts
 unfolding refusal
 refusal_no t ts e = rw (e, refusal)
 
 -- Where nothing is refused, the first test does not hold, and none of the others refuses.
-pub refusal-clear : (t : Bool × ℕ) (ts : List (Bool × ℕ)) → refusal (t ∷ ts) ≡ none → (t.0 ≡ false) × (refusal ts ≡ none)
+pub refusal-clear : (t : Bool × Refusal) (ts : List (Bool × Refusal)) → refusal (t ∷ ts) ≡ none → (t.0 ≡ false) × (refusal ts ≡ none)
 refusal-clear t ts e = by_test t.0 (λ p. absurd (some≢none (sym (refusal_yes t ts p) ∙ e))) (λ p. (p, sym (refusal_no t ts p) ∙ e))
 
 -- Tests that refuse nothing leave it to those after them ..
-pub refusal-pass : (ts us : List (Bool × ℕ)) → refusal ts ≡ none → refusal (ts ++ us) ≡ refusal us
+pub refusal-pass : (ts us : List (Bool × Refusal)) → refusal ts ≡ none → refusal (ts ++ us) ≡ refusal us
 refusal-pass [] us e = refl
 refusal-pass (t ∷ ts) us e = let (p, q) = refusal-clear t ts e in refusal_no t (ts ++ us) p ∙ refusal-pass ts us q
 
 -- .. and a refusal stands, whatever is tested after it.
-pub refusal-stands : (ts us : List (Bool × ℕ)) (k : ℕ) → refusal ts ≡ some k → refusal (ts ++ us) ≡ some k
+pub refusal-stands : (ts us : List (Bool × Refusal)) (k : Refusal) → refusal ts ≡ some k → refusal (ts ++ us) ≡ some k
 unfolding refusal
 refusal-stands [] us k e = absurd (some≢none (sym e))
 refusal-stands (t ∷ ts) us k e = by_test t.0
@@ -191,7 +192,7 @@ accepted S e =
     }
 
 -- The tests that a sheet within the limits passes leave it to 5, 10, 11 and those after them.
-pub limits-left : {S : Sheet} → WithinLimits S → (ts : List (Bool × ℕ)) → refusal (sheet_tests S ++ ts) ≡ refusal (lacking S ∷ crowded S ∷ idle S ∷ ts)
+pub limits-left : {S : Sheet} → WithinLimits S → (ts : List (Bool × Refusal)) → refusal (sheet_tests S ++ ts) ≡ refusal (lacking S ∷ crowded S ∷ idle S ∷ ts)
 unfolding sheet_tests number_tests
 limits-left {S} w ts =
     let p = limits-pass w in
@@ -202,7 +203,7 @@ limits-left {S} w ts =
     ∙ refusal_no (bad_cost S) later p.costs
 
 -- .. and an accepted sheet to those after them.
-pub accepted-left : {S : Sheet} → Accepted S → (ts : List (Bool × ℕ)) → refusal (sheet_tests S ++ ts) ≡ refusal ts
+pub accepted-left : {S : Sheet} → Accepted S → (ts : List (Bool × Refusal)) → refusal (sheet_tests S ++ ts) ≡ refusal ts
 accepted-left {S} ok ts =
     limits-left ok.limits ts
     ∙ refusal_no (lacking S) (crowded S ∷ idle S ∷ ts) (lacking_no S ok.enough)

@@ -17,7 +17,7 @@ use Rattle.transport.specs.OwnNumbers.{own, renumbered, covers, belongs_to, row_
 use Rattle.transport.specs.OwnNumbers.{roastery_prices, cafe_prices}
 use Rattle.transport.specs.Round.{entering, take_from, flow, sign, leaving, gain, shift, insert, pivot, next, run, round_bound}
 use Rattle.transport.specs.Plan.{plan_cost_of, row_plans, plans_for, plans, settled}
-use Rattle.transport.specs.Calls.{refused_by, unless, lent_after, tableau_tests, inside, too_short, start_call, round, round_call, run_from, run_call}
+use Rattle.transport.specs.Calls.{unless, lent_after, tableau_tests, inside, too_short, start_call, round, round_call, run_from, run_call}
 use Rattle.transport.specs.Calls.{settle_call}
 use Rattle.transport.specs.Calls.{solution_from, solution, solve_call, finished_tests, solve_tests}
 use Rattle.transport.specs.Standing.{edited, last_tableau_of, set_up_call, standing_tests, max_counter, bad_edit, edit_tests}
@@ -27,6 +27,7 @@ use Rattle.transport.specs.SheetText.{rows_of, sheet_text, write_sheet_call, ◌
 use Rattle.transport.specs.SheetText.{more_digits_of}
 use Rattle.transport.specs.SheetText.{number_from, number, minus, whole, side, line, row, sheet_reader, read_with, read_tests, read_sheet_call}
 use Rattle.transport.specs.PlanText.{whole_line, carried, used, lane_line, plan_text, write_plan_call, refused_line, printed, fitting, shown}
+use Rattle.transport.specs.Answers.{result_of, said, round_shown, round_read, run_shown, run_read, solve_shown, counts_of}
 use Rattle.transport.specs.Answers.{start_answer, start_says, prices, no_prices, round_answer, round_says, run_outcome, run_answer, run_says, settle_answer}
 use Rattle.transport.specs.Answers.{settle_says, solve_answer, solve_says, set_up_answer, edit_answer, read_answer, read_says, write_answer, write_says}
 use Rattle.transport.specs.Statements.{scaled, loop_sign, after}
@@ -41,12 +42,13 @@ unfolding flat_map flatten zip_with all keep least_from first_least table padded
     cells_of
     tableau_of no_tableau corner start on_sheet in_order above_zero row_total column_total balanced touches strike_at only_one first_leaf strike_off strikes
     spans cells_belong belongs potential_by potential source_prices_of sink_prices reduced_cost is_finished_of entering take_from flow sign leaving gain shift
-    insert pivot next round run plan_cost_of row_plans plans_for plans settled refused_by unless lent_after tableau_tests inside too_short start_call
+    insert pivot next round run plan_cost_of row_plans plans_for plans settled unless lent_after tableau_tests inside too_short start_call
     cafe_prices
     round_call run_from run_call settle_call round_bound solution_from solution solve_call bytes kind_of digits_up_to digits whole_digits head_line number_line
     row_line rows_of sheet_text write_sheet_call ◌>>=◌ ◌>>◌ pure times byte_that word end is_digit digit_value_of more_digits_of number_from number minus
     whole side
     line row sheet_reader read_with read_tests read_sheet_call whole_line carried used lane_line plan_text write_plan_call refused_line printed fitting shown
+    result_of said round_shown round_read run_shown run_read solve_shown counts_of
     start_answer start_says prices no_prices round_answer round_says run_outcome run_answer run_says settle_answer settle_says solve_answer solve_says
     read_answer
     read_says write_answer write_says scaled loop_sign after first_of finished_tests solve_tests edited last_tableau_of set_up_call
