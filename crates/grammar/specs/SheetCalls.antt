@@ -1,14 +1,17 @@
 -- Read sheet and write sheet: when they succeed, that they undo each other, and what refusal 9 says.
-use Rattle.std.specs.Prelude.{◌≡◌, ◌↔◌, ◌||◌, ◌*◌, ◌-◌, ◌≤◌}
-use Rattle.prelude.specs.Words.{refl, sym, ◌∙◌, ap, Bool, false, List, [], none, some, ℕ, suc, arith, mul-le-mul, dec_le, length}
+use Rattle.std.specs.Prelude.{is_none, ◌≡◌, ◌↔◌, ◌||◌, ◌*◌, ◌-◌, ◌≤◌}
+use Rattle.prelude.specs.Words.{refl, sym, ◌∙◌, ap, Bool, true, false, List, [], none, some, ℕ, suc, arith, mul-le-mul, dec_le, length}
 use Rattle.prelude.specs.Words.{take, take_all, by_cases, some≢none}
 use Rattle.transport.specs.Limits.{max_sources, max_sinks, max_text}
-use Rattle.transport.specs.Sheet.{Sheet, roasteries, cafes, refusal, sheet_tests, number_tests}
-use Rattle.transport.specs.Calls.{Refusal, refused, given, unless, too_short}
+use Rattle.transport.specs.declared.Refusal.{Refusal}
+use Rattle.transport.specs.Refusals.{place_of}
+use Rattle.transport.specs.Lists.{all}
+use Rattle.transport.specs.Sheet.{Sheet, roasteries, cafes, refusal, sheet_tests, number_tests, bad_amount, bad_cost, lacking, crowded, idle}
+use Rattle.transport.specs.Calls.{refused, given, unless, too_short}
 use Rattle.transport.specs.SheetText.{stuck, got, sheet_text, sheet_reader, write_sheet_call, read_with, read_tests, read_sheet_call}
-use Rattle.transport.specs.Laws.SheetLaws.{accepted, passes}
+use Rattle.transport.specs.Laws.SheetLaws.{accepted, passes, refusal-other}
 use Rattle.transport.specs.Statements.{Accepted, SheetTextOf, Place, Undo}
-use Rattle.transport.specs.Laws.CallLaws.{refusal-last, unless-given_iff, unless_placeless, room_iff, rooms_iff, refused≢given}
+use Rattle.transport.specs.Laws.CallLaws.{refusal-last, unless-given_iff, unless_refusal, room_iff, rooms_iff, refused≢given}
 use Rattle.grammar.specs.Numbers.{within_iff}
 use Rattle.grammar.specs.Exact.{stuck≢got, by_reading}
 use Rattle.grammar.specs.Place.{reader_iff, place, place_unique, place-cut}
@@ -28,21 +31,21 @@ write_sheet_iff S room text = (
   λ h. (unless-given_iff _ (sheet_text S) text).1 ((refusal-last (sheet_tests S) short).1 (passes h.0, fits.1 h.1), h.2),
 )
   where
-    short : Bool × ℕ
-    short = (too_short room (length (sheet_text S)), 8)
+    short : Bool × Refusal
+    short = (too_short room (length (sheet_text S)), Refusal.TooShort)
 
     fits : (too_short room (length (sheet_text S)) ≡ false) ↔ (length (sheet_text S) ≤ room)
     fits = room_iff room (length (sheet_text S))
 
 -- ---- read sheet
 
-module _ (tests : Sheet → List (Bool × ℕ)) (text : List ℕ) where
+module _ (tests : Sheet → List (Bool × Refusal)) (text : List ℕ) where
   pub read_got : (S : Sheet) (rest : List ℕ) → sheet_reader text ≡ got S rest → read_with tests text ≡ unless (tests S) S
   unfolding read_with
   read_got S rest e = rw (e, read_with)
 
   pub read_stuck : (rest : List ℕ) → sheet_reader text ≡ stuck rest
-      → read_with tests text ≡ refused (record { number = 9; position = some (length text - length rest) })
+      → read_with tests text ≡ refused (Refusal.NotSheetText (length text - length rest))
   unfolding read_with
   read_stuck rest e = rw (e, read_with)
 
@@ -59,20 +62,36 @@ module _ (tests : Sheet → List (Bool × ℕ)) (text : List ℕ) where
   )
 
   -- Reading gives refusal 9 exactly on a text that is no sheet text, and with it the place (`Statements.Place`).
-  pub nine_iff : (p : ℕ)
-      → (read_with tests text ≡ refused (record { number = 9; position = some p })) ↔ ((S : Sheet) → SheetTextOf S text → ⊥) × Place text p
-  nine_iff p = (
+  -- The tests refuse no sheet for its text.
+  pub nine_iff : ((S : Sheet) (p : ℕ) → refusal (tests S) ≡ some (Refusal.NotSheetText p) → ⊥) → (p : ℕ)
+      → (read_with tests text ≡ refused (Refusal.NotSheetText p)) ↔ ((S : Sheet) → SheetTextOf S text → ⊥) × Place text p
+  nine_iff other p = (
     λ f. by_reading (sheet_reader text)
         (λ rest e.
-        let r : ◌≡◌ {A = Refusal} (record { number = 9; position = some (length text - length rest) }) (record { number = 9; position = some p }) =
-        cc (read_stuck rest e) in let q : some (length text - length rest) ≡ some p = ap (λ (x : Refusal). x.position) r in
-        let same : length text - length rest ≡ p = cc in
+        let same : length text - length rest ≡ p = cc (read_stuck rest e, f) in
         (λ S h. stuck≢got (sym e ∙ (reader_iff text S []).1 (refl, h)), rw same at (place text rest e)))
-        (λ R rest e. let h : some p ≡ none = unless_placeless (tests R) R _ (sym (read_got R rest e) ∙ f) in absurd (some≢none h)),
-    λ (other, h). by_reading (sheet_reader text)
+        (λ R rest e. absurd (other R p (unless_refusal (tests R) R _ (sym (read_got R rest e) ∙ f)))),
+    λ (none_is, h). by_reading (sheet_reader text)
         (λ rest e. rw (← place_unique text _ p (place text rest e) h) (read_stuck rest e))
-        (λ R rest e. absurd (other R ((reader_iff text R rest).0 e).1)),
+        (λ R rest e. absurd (none_is R ((reader_iff text R rest).0 e).1)),
   )
+
+-- Of read sheet, and of what the program reads.
+pub read_nine : (text : List ℕ) (a b c p : ℕ)
+    → (read_sheet_call text a b c ≡ refused (Refusal.NotSheetText p)) ↔ ((S : Sheet) → SheetTextOf S text → ⊥) × Place text p
+unfolding read_sheet_call read_tests number_tests all bad_amount bad_cost lacking crowded idle
+read_nine text a b c = nine_iff (read_tests a b c) text (λ S. refusal-other (read_tests a b c S) (others S))
+  where
+    others : (S : Sheet) → all (λ t. is_none (place_of t.1)) (read_tests a b c S) ≡ true
+    others S = refl
+
+pub shown_nine : (text : List ℕ) (p : ℕ)
+    → (read_with number_tests text ≡ refused (Refusal.NotSheetText p)) ↔ ((S : Sheet) → SheetTextOf S text → ⊥) × Place text p
+unfolding number_tests all bad_amount bad_cost lacking crowded idle
+shown_nine text = nine_iff number_tests text (λ S. refusal-other (number_tests S) (others S))
+  where
+    others : (S : Sheet) → all (λ t. is_none (place_of t.1)) (number_tests S) ≡ true
+    others S = refl
 
 -- A text is read exactly if it is a sheet text, of a sheet within the limits that is neither lacking nor crowded, and the lent lists are long enough.
 pub read_sheet_iff : (text : List ℕ) (a b c : ℕ) (S : Sheet) → (read_sheet_call text a b c ≡ given S)
@@ -86,8 +105,8 @@ read_sheet_iff text a b c S = (
       (h.0, (refusal-last (number_tests S) short).1 ((text-accepted S h.0.sheet).1 h.1, rooms.1 (h.2, h.3, h.4))),
 )
   where
-    short : Bool × ℕ
-    short = (too_short a (roasteries S) || too_short b (cafes S) || too_short c (roasteries S * cafes S), 8)
+    short : Bool × Refusal
+    short = (too_short a (roasteries S) || too_short b (cafes S) || too_short c (roasteries S * cafes S), Refusal.TooShort)
 
     rooms : (short.0 ≡ false) ↔ (roasteries S ≤ a) × (cafes S ≤ b) × (roasteries S * cafes S ≤ c)
     rooms = rooms_iff a (roasteries S) b (cafes S) c (roasteries S * cafes S)
@@ -111,7 +130,7 @@ undo = record {
 -- ---- the first 9,757 bytes
 
 -- What a text that is longer than any sheet text is refused by stands in its first 9,757 bytes: reading those gives the same answer as reading the whole.
-pub read_cut : (tests : Sheet → List (Bool × ℕ)) (text : List ℕ) → read_with tests (take (suc max_text) text) ≡ read_with tests text
+pub read_cut : (tests : Sheet → List (Bool × Refusal)) (text : List ℕ) → read_with tests (take (suc max_text) text) ≡ read_with tests text
 read_cut tests text = by_cases (dec_le (length text) (suc max_text)) (λ l. rw (take_all (suc max_text) text l)) (λ l. by_reading (sheet_reader text)
     (λ rest e. let h = place-cut text rest e (omega arith) in
     read_stuck tests (take (suc max_text) text) h.0 h.1 ∙ rw h.2 (sym (read_stuck tests text rest e)))

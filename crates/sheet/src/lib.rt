@@ -7,15 +7,7 @@ ghost use Rattle.transport.specs.Limits.{max_side, max_amount, max_cost};
 ghost use Rattle.transport.specs.Sheet.{refusal, number_tests, sheet_tests, sheet_of};
 ghost use Rattle.sheet.specs.Check.{check_answer};
 
-use transport::{MAX_AMOUNT, MAX_COST, MAX_SIDE, MAX_SINKS, MAX_SOURCES};
-
-pub mod lists;
-
-#[derive(Clone, Copy)]
-pub enum SheetCheck {
-    Accepted,
-    Refused(u8),
-}
+use transport::{MAX_AMOUNT, MAX_COST, MAX_SIDE, MAX_SINKS, MAX_SOURCES, Refusal};
 
 // Whether a sheet may have so many sources, or so many sinks, if there may be no more than `most`.
 fn side_fits(count: usize, most: usize) -> bool
@@ -28,32 +20,14 @@ fn side_fits(count: usize, most: usize) -> bool
 fn amounts_within(amounts: &[u64]) -> bool
     ensures { result ≡ all (at_most max_amount) amounts.now }
 {
-    let mut i: usize = 0;
-    while i < amounts.len() {
-        if MAX_AMOUNT < amounts[i] {
-            return false;
-        }
-        i += 1;
-    }
-    true
+    amounts.iter().all(|x| *x <= MAX_AMOUNT)
 }
 
 // Whether every cost is within its limits, which are as far below 0 as above it.
 fn costs_within(costs: &[i64]) -> bool
     ensures { result ≡ all (within_z (neg_ℤ (pos max_cost)) (pos max_cost)) costs.now }
 {
-    let mut i: usize = 0;
-    while i < costs.len() {
-        let x = costs[i];
-        if x < -MAX_COST {
-            return false;
-        }
-        if MAX_COST < x {
-            return false;
-        }
-        i += 1;
-    }
-    true
+    costs.iter().all(|x| -MAX_COST <= *x && *x <= MAX_COST)
 }
 
 // The total of supplies or demands that are within their limits, so that it fits.
@@ -62,28 +36,26 @@ pub fn total_of(amounts: &[u64]) -> u64
     ensures { result ≡ total amounts.now }
 {
     let mut sum: u64 = 0;
-    let mut i: usize = 0;
-    while i < amounts.len() {
-        sum += amounts[i];
-        i += 1;
+    for x in amounts {
+        sum += *x;
     }
     sum
 }
 
 // Refusals 3, 4, 5, 10 and 11 of a sheet whose sides are within their limits. A total is taken once its parts are known to be.
-pub fn check_numbers(supply: &[u64], demand: &[u64], cost: &[i64]) -> SheetCheck
+pub fn check_numbers(supply: &[u64], demand: &[u64], cost: &[i64]) -> Result<(), Refusal>
     requires { (length supply.now ≤ max_side) × (length demand.now ≤ max_side) }
     ensures { let S = sheet_of supply.now demand.now cost.now in
         result ≡ check_answer (refusal (number_tests S)) }
 {
     if !amounts_within(supply) {
-        return SheetCheck::Refused(3);
+        return Err(Refusal::Amount);
     }
     if !amounts_within(demand) {
-        return SheetCheck::Refused(3);
+        return Err(Refusal::Amount);
     }
     if !costs_within(cost) {
-        return SheetCheck::Refused(4);
+        return Err(Refusal::Cost);
     }
     let supply_total = total_of(supply);
     let demand_total = total_of(demand);
@@ -92,32 +64,32 @@ pub fn check_numbers(supply: &[u64], demand: &[u64], cost: &[i64]) -> SheetCheck
     let crowded = supply_total != demand_total && demand.len() == MAX_SIDE;
     let idle = demand_total == 0;
     if lacking {
-        return SheetCheck::Refused(5);
+        return Err(Refusal::Lacking);
     }
     if crowded {
-        return SheetCheck::Refused(10);
+        return Err(Refusal::Crowded);
     }
     if idle {
-        return SheetCheck::Refused(11);
+        return Err(Refusal::Idle);
     }
-    SheetCheck::Accepted
+    Ok(())
 }
 
 // The sheet check.
-pub fn check_sheet(supply: &[u64], demand: &[u64], cost: &[i64]) -> SheetCheck
+pub fn check_sheet(supply: &[u64], demand: &[u64], cost: &[i64]) -> Result<(), Refusal>
     ensures { let S = sheet_of supply.now demand.now cost.now in
         result ≡ check_answer (refusal (sheet_tests S)) }
 {
     let m = supply.len();
     let n = demand.len();
     if !side_fits(m, MAX_SOURCES) {
-        return SheetCheck::Refused(1);
+        return Err(Refusal::Sides);
     }
     if !side_fits(n, MAX_SINKS) {
-        return SheetCheck::Refused(1);
+        return Err(Refusal::Sides);
     }
     if cost.len() != m * n {
-        return SheetCheck::Refused(2);
+        return Err(Refusal::CostCount);
     }
     check_numbers(supply, demand, cost)
 }

@@ -1,6 +1,6 @@
 -- The laws of Sheet: the first refusal, and what the sheet check says.
-use Rattle.std.specs.Prelude.{◌*◌, ◌≤◌, ◌<◌, ◌≡◌, ◌&&◌, ◌∷◌, ◌++◌, ◌≤ℤ◌}
-use Rattle.prelude.specs.Words.{ℕ, arith, dec_lt, refl, sym, ap, ◌∙◌, Bool, true, false, not, and-false, List, []}
+use Rattle.std.specs.Prelude.{is_none, ◌*◌, ◌≤◌, ◌<◌, ◌≡◌, ◌&&◌, ◌∷◌, ◌++◌, ◌≤ℤ◌}
+use Rattle.prelude.specs.Words.{true≢false, ℕ, arith, dec_lt, refl, sym, ap, ◌∙◌, Bool, true, false, not, and-false, List, []}
 use Rattle.prelude.specs.Words.{append-nil, none, some, leb, ltb, T, ℤ, pos, negsuc, neg_ℤ, le_z, lt_z, le_z_yes, length, leb-true, le-leb}
 use Rattle.prelude.specs.Words.{lt-leb, eqb-true}
 use Rattle.prelude.specs.Words.{eq-eqb, ne_eqb, le-ltb, lt-ltb, ltb-true, ltb-false, not-false, by_test, clash, by_cases, some≢none}
@@ -8,7 +8,7 @@ use Rattle.transport.specs.Lists.{all, at, at_z, total, at_most, within, within_
 use Rattle.transport.specs.Limits.{max_sources, max_sinks, max_side, max_amount, max_cost}
 use Rattle.transport.specs.Sheet.{Sheet, roasteries, cafes, bad_sides, bad_length, bad_amount, bad_cost, lacking, crowded, idle, number_tests, sheet_tests}
 use Rattle.transport.specs.Sheet.{refusal}
-use Rattle.transport.specs.Refusals.{Refusal}
+use Rattle.transport.specs.Refusals.{Refusal, place_of}
 use Rattle.transport.specs.Statements.{WithinLimits, Lacking, Crowded, Idle, Accepted}
 use Rattle.transport.specs.Laws.ListLaws.{and_left, and_right, all-at, all_of, at-past, at_z-past}
 
@@ -30,6 +30,16 @@ refusal-clear t ts e = by_test t.0 (λ p. absurd (some≢none (sym (refusal_yes 
 pub refusal-pass : (ts us : List (Bool × Refusal)) → refusal ts ≡ none → refusal (ts ++ us) ≡ refusal us
 refusal-pass [] us e = refl
 refusal-pass (t ∷ ts) us e = let (p, q) = refusal-clear t ts e in refusal_no t (ts ++ us) p ∙ refusal-pass ts us q
+
+-- Tests that refuse by no text refuse nothing by one.
+pub refusal-other : (ts : List (Bool × Refusal)) → all (λ t. is_none (place_of t.1)) ts ≡ true
+    → (p : ℕ) → refusal ts ≡ some (Refusal.NotSheetText p) → ⊥
+unfolding all refusal
+refusal-other [] h p e = some≢none (sym e)
+refusal-other (t ∷ ts) h p e = by_test t.0
+    (λ y. let same : t.1 ≡ Refusal.NotSheetText p = cc (refusal_yes t ts y, e) in
+        true≢false (sym (and_left _ _ h) ∙ ap (λ r. is_none (place_of r)) same))
+    (λ n. refusal-other ts (and_right (is_none (place_of t.1)) _ h) p (sym (refusal_no t ts n) ∙ e))
 
 -- .. and a refusal stands, whatever is tested after it.
 pub refusal-stands : (ts us : List (Bool × Refusal)) (k : Refusal) → refusal ts ≡ some k → refusal (ts ++ us) ≡ some k
