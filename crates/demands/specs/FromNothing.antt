@@ -17,7 +17,7 @@ use Rattle.transport.specs.Belonging.{cells_belong}
 use Rattle.transport.specs.Potential.{is_finished_of}
 use Rattle.transport.specs.OwnNumbers.{own, renumbered, covers, belongs_to}
 use Rattle.transport.specs.Round.{run, round_bound}
-use Rattle.transport.specs.Calls.{given, refused_by, Solution, tableau_tests, inside, finished_tests, run_from}
+use Rattle.transport.specs.Calls.{given, Solution, tableau_tests, inside, finished_tests, run_from}
 use Rattle.transport.specs.Calls.{solution_from, solution, solve_tests, solve_call}
 use Rattle.transport.specs.Standing.{edited, Standing, Passes, last_tableau_of, set_up_call, standing_tests, bad_edit}
 use Rattle.transport.specs.Standing.{edit_tests, edit_from, carried_out, edit_call, stands_after}
@@ -185,7 +185,7 @@ set-up-stands S St e =
 -- Whatever an edit answers, the sheet that then stands passes the first check.
 module _ (St : Standing) (e : Edit) (uRoom vRoom plan_room : ℕ) where
   pub edit_stands : Passes St → Passes (stands_after (edit_call St e uRoom vRoom plan_room) St (carried_out St e))
-  unfolding stands_after refused_by edit_call
+  unfolding stands_after edit_call
   edit_stands w =
       let tests = edit_tests St e uRoom vRoom plan_room in
       let s : Solution = solution_from (edited St.sheet e) (edit_from St e) in
