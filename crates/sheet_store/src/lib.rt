@@ -9,31 +9,7 @@ ghost use Rattle.transport.specs.Calls.{unless, lent_after};
 ghost use Rattle.transport.specs.Answers.{read_answer};
 ghost use Rattle.decimals.specs.Front.{front};
 
-use sheet::SheetCheck;
-use sheet::lists::{copy_costs, copy_list};
-use transport::ReadAnswer;
-
-// Copies a list to the front of a longer one if that is wanted; if not, the other stays as it was, whatever its length.
-fn store_list(from: &[u64], list: &mut [u64], wanted: bool)
-    requires { wanted ≡ true → length from.now ≤ length list.old }
-    ensures { (wanted ≡ true → list.new ≡ front from.now list.old)
-        × (wanted ≡ false → list.new ≡ list.old) }
-{
-    if wanted {
-        copy_list(from, list);
-    }
-}
-
-// The same with costs.
-fn store_costs(from: &[i64], list: &mut [i64], wanted: bool)
-    requires { wanted ≡ true → length from.now ≤ length list.old }
-    ensures { (wanted ≡ true → list.new ≡ front from.now list.old)
-        × (wanted ≡ false → list.new ≡ list.old) }
-{
-    if wanted {
-        copy_costs(from, list);
-    }
-}
+use transport::{Counts, Refusal};
 
 // A sheet that was read goes to the lent lists, unless 3, 4, 5, 10, 11 or 8 refuses it.
 pub fn store_sheet(
@@ -43,7 +19,7 @@ pub fn store_sheet(
     supply: &mut [u64],
     demand: &mut [u64],
     cost: &mut [i64],
-) -> ReadAnswer
+) -> Result<Counts, Refusal>
     requires { (length sheet_supply.now ≤ max_sources)
         × (length sheet_demand.now ≤ max_sinks)
         × (length sheet_cost.now ≡ length sheet_supply.now * length sheet_demand.now) }
@@ -54,23 +30,19 @@ pub fn store_sheet(
         × (demand.new ≡ lent_after (λ S. S.demand) a demand.old)
         × (cost.new ≡ lent_after (λ S. S.cost) a cost.old) }
 {
-    let check = sheet::check_numbers(sheet_supply, sheet_demand, sheet_cost);
-    if let SheetCheck::Refused(number) = check {
-        return ReadAnswer::Refused(number);
-    }
+    sheet::check_numbers(sheet_supply, sheet_demand, sheet_cost)?;
     let supply_fits = sheet_supply.len() <= supply.len();
     let demand_fits = sheet_demand.len() <= demand.len();
     let cost_fits = sheet_cost.len() <= cost.len();
     // No list is stored unless all three fit.
-    let fits = supply_fits && demand_fits && cost_fits;
-    store_list(sheet_supply, supply, fits);
-    store_list(sheet_demand, demand, fits);
-    store_costs(sheet_cost, cost, fits);
-    if !fits {
-        return ReadAnswer::Refused(8);
+    if !(supply_fits && demand_fits && cost_fits) {
+        return Err(Refusal::TooShort);
     }
-    ReadAnswer::Sheet {
+    supply[..sheet_supply.len()].copy_from_slice(sheet_supply);
+    demand[..sheet_demand.len()].copy_from_slice(sheet_demand);
+    cost[..sheet_cost.len()].copy_from_slice(sheet_cost);
+    Ok(Counts {
         sources: sheet_supply.len(),
         sinks: sheet_demand.len(),
-    }
+    })
 }
