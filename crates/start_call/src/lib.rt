@@ -7,24 +7,16 @@ ghost use Rattle.transport.specs.Calls.{start_call};
 ghost use Rattle.transport.specs.Answers.{start_answer};
 
 use dealing::corner::first_tableau;
-use dealing::tableau::empty_tableau;
 use numbering::own_tableau;
 use parties::number_parties;
-use sheet::SheetCheck;
-use transport::{MAX_SIDE, StartAnswer, StartOutcome};
+use transport::{MAX_SIDE, Refusal, Tableau};
 
 // Start gives the first tableau. Sheet check only.
-pub fn start(supply: &[u64], demand: &[u64], cost: &[i64]) -> StartAnswer
+pub fn start(supply: &[u64], demand: &[u64], cost: &[i64]) -> Result<Tableau, Refusal>
     ensures { let S = sheet_of supply.now demand.now cost.now in
         result ≡ start_answer (start_call S) }
 {
-    let check = sheet::check_sheet(supply, demand, cost);
-    if let SheetCheck::Refused(number) = check {
-        return StartAnswer {
-            outcome: StartOutcome::Refused(number),
-            tableau: empty_tableau(),
-        };
-    }
+    sheet::check_sheet(supply, demand, cost)?;
     let mut supplies = [0u64; MAX_SIDE];
     let mut demands = [0u64; MAX_SIDE];
     let mut rows = [0usize; MAX_SIDE];
@@ -40,10 +32,5 @@ pub fn start(supply: &[u64], demand: &[u64], cost: &[i64]) -> StartAnswer
     let m = parties.rows;
     let n = parties.columns;
     let first = first_tableau(&supplies[..m], &demands[..n]);
-    // A name of its own, so that a program that forgets the parties' own numbers is an operand away.
-    let own = own_tableau(first, &rows[..m], &cols[..n]);
-    StartAnswer {
-        outcome: StartOutcome::Started,
-        tableau: own,
-    }
+    Ok(own_tableau(first, &rows[..m], &cols[..n]))
 }
