@@ -43,7 +43,7 @@ front-stays {xs} {count} {list} f x = record {
   front = take-set-le count list count x (omega arith) ∙ f.front;
 }
 
-front-room : {xs : List ℕ} {count : ℕ} {list : List ℕ} → Front xs count list → count ≤ length list
+pub front-room : {xs : List ℕ} {count : ℕ} {list : List ℕ} → Front xs count list → count ≤ length list
 front-room {xs} {count} {list} f = omega (arith, ap length f.front, length-take count list, f.counted)
 
 -- ---- one side
@@ -105,55 +105,38 @@ amounts-more xs x =
 
 -- The parties left of the sheet, an extra café among them: how many there are, their amounts, which are those of the problem behind the sheet, and their own
 -- numbers. The cafés of the sheet that are left are the first columns.
-pub record PartiesOf (S : Sheet) (p : Parties) (supplyList demandList rowList columnList : List ℕ) : Type 0 where
+pub record PartiesOf (S : Sheet) (p : Parties) : Type 0 where
   pub row_count_of : p.rows ≡ length (rows_left_of (extended S))
   pub column_count_of : p.columns ≡ length (columns_left (extended S))
-  pub supplies_room : p.rows ≤ length supplyList
-  pub demands_room : p.columns ≤ length demandList
-  pub rows_room : p.rows ≤ length rowList
-  pub cols_room : p.columns ≤ length columnList
-  pub cafes_room : p.cafes ≤ length columnList
-  pub supplies : take p.rows supplyList ≡ (problem_of S).supply
-  pub demands : take p.columns demandList ≡ (problem_of S).demand
-  pub row_numbers : take p.rows rowList ≡ rows_left_of (extended S)
-  pub column_numbers : take p.columns columnList ≡ columns_left (extended S)
-  pub cafe_numbers : take p.cafes columnList ≡ left S.demand
+  pub supplies_room : p.rows ≤ length p.supplies
+  pub demands_room : p.columns ≤ length p.demands
+  pub supplies : take p.rows p.supplies ≡ (problem_of S).supply
+  pub demands : take p.columns p.demands ≡ (problem_of S).demand
+  pub row_numbers : take p.rows p.row_numbers ≡ rows_left_of (extended S)
+  pub column_numbers : take p.columns p.column_numbers ≡ columns_left (extended S)
+  pub cafe_numbers : take p.cafes p.column_numbers ≡ left S.demand
 
-module _ {S : Sheet} {p : Parties} {supplyList demandList rowList columnList : List ℕ} (h : PartiesOf S p supplyList demandList rowList columnList) where
-  -- The fronts of the lists are lent as lists of their own: the amounts are those of the problem behind the sheet ..
-  pub parties-problem : problem (take p.rows supplyList) (take p.columns demandList) (problem_of S).cost ≡ problem_of S
+module _ {S : Sheet} {p : Parties} (h : PartiesOf S p) where
+  -- The amounts are those of the problem behind the sheet ..
+  pub parties-problem : problem (take p.rows p.supplies) (take p.columns p.demands) (problem_of S).cost ≡ problem_of S
   parties-problem = rw (h.supplies, h.demands)
 
-  -- .. and each is as long as is asked for.
-  pub supplies-lent : p.rows ≡ length (take p.rows supplyList)
-  supplies-lent = sym (length-take-le p.rows supplyList h.supplies_room)
+  -- .. and each list is as long as there are parties.
+  pub supplies-lent : length (take p.rows p.supplies) ≡ p.rows
+  supplies-lent = length-take-le p.rows p.supplies h.supplies_room
 
-  pub demands-lent : p.columns ≡ length (take p.columns demandList)
-  demands-lent = sym (length-take-le p.columns demandList h.demands_room)
-
-  pub rows-lent : p.rows ≡ length (take p.rows rowList)
-  rows-lent = sym (length-take-le p.rows rowList h.rows_room)
-
-  pub columns-lent : p.columns ≡ length (take p.columns columnList)
-  columns-lent = sym (length-take-le p.columns columnList h.cols_room)
-
-  pub cafes-lent : p.cafes ≡ length (take p.cafes columnList)
-  cafes-lent = sym (length-take-le p.cafes columnList h.cafes_room)
+  pub demands-lent : length (take p.columns p.demands) ≡ p.columns
+  demands-lent = length-take-le p.columns p.demands h.demands_room
 
 -- Costs play no part.
 pub parties-amounts : {supply demand : List ℕ} {cost other : List ℤ} {p : Parties}
-    {supplyList demandList rowList columnList : List ℕ}
-    → PartiesOf (sheet_of supply demand cost) p supplyList demandList rowList columnList
-    → PartiesOf (sheet_of supply demand other) p supplyList demandList rowList columnList
+    → PartiesOf (sheet_of supply demand cost) p → PartiesOf (sheet_of supply demand other) p
 unfolding problem_of struck extended wanted surplus rows_left_of columns_left
 parties-amounts h = record {
   row_count_of = h.row_count_of;
   column_count_of = h.column_count_of;
   supplies_room = h.supplies_room;
   demands_room = h.demands_room;
-  rows_room = h.rows_room;
-  cols_room = h.cols_room;
-  cafes_room = h.cafes_room;
   supplies = h.supplies;
   demands = h.demands;
   row_numbers = h.row_numbers;
@@ -162,18 +145,14 @@ parties-amounts h = record {
 }
 
 -- Both sides are numbered: the rows, and the columns, of which the first are the cafés left.
-parties_of : (S : Sheet) {m n k : ℕ} {supplyList demandList rowList columnList : List ℕ}
-    → Numbered S.supply m supplyList rowList → Numbered (wanted S) n demandList columnList → Front (left S.demand) k columnList
-    → PartiesOf S (record { rows = m; columns = n; cafes = k }) supplyList demandList rowList columnList
+parties_of : (S : Sheet) (p : Parties) → Numbered S.supply p.rows p.supplies p.row_numbers
+    → Numbered (wanted S) p.columns p.demands p.column_numbers → Front (left S.demand) p.cafes p.column_numbers → PartiesOf S p
 unfolding problem_of struck extended rows_left_of columns_left
-parties_of S rows columns cafes = record {
+parties_of S p rows columns cafes = record {
   row_count_of = rows.own_front.counted;
   column_count_of = columns.own_front.counted;
   supplies_room = front-room rows.amount_front;
   demands_room = front-room columns.amount_front;
-  rows_room = front-room rows.own_front;
-  cols_room = front-room columns.own_front;
-  cafes_room = front-room cafes;
   supplies = rows.amount_front.front;
   demands = columns.amount_front.front;
   row_numbers = rows.own_front.front;
@@ -181,28 +160,32 @@ parties_of S rows columns cafes = record {
   cafe_numbers = cafes.front;
 }
 
-module _ (S : Sheet) {m n : ℕ} {supplyList demandList rowList columnList : List ℕ} where
+module _ (S : Sheet) (p : Parties) where
   -- These are all columns where nothing stays at home ..
-  pub parties_even : surplus S ≡ 0 → Numbered S.supply m supplyList rowList → Numbered S.demand n demandList columnList
-      → PartiesOf S (record { rows = m; columns = n; cafes = n }) supplyList demandList rowList columnList
-  parties_even z rows cafes = elim (extra S) [ with y e ↦ absurd (omega arith) | without y e ↦ parties_of S rows (rw e cafes) cafes.own_front ]
+  pub parties_even : surplus S ≡ 0 → p.cafes ≡ p.columns → Numbered S.supply p.rows p.supplies p.row_numbers
+      → Numbered S.demand p.columns p.demands p.column_numbers → PartiesOf S p
+  parties_even z all rows cafes = elim (extra S) [
+    | with y e ↦ absurd (omega arith)
+    | without y e ↦ parties_of S p rows (rw e cafes) (rw all cafes.own_front)
+  ]
 
   -- .. and else the extra café, which takes what stays at home, comes after them. Its own number is the one after all cafés.
-  pub parties-extra : (home : ℕ) → home ≡ surplus S → 1 ≤ home → n < max_side
-      → Numbered S.supply m supplyList rowList → Numbered S.demand n demandList columnList
-      → PartiesOf S (record { rows = m; columns = n + 1; cafes = n }) supplyList (set demandList n home) rowList (set columnList n (length S.demand))
-  parties-extra home is some room rows cafes = go (extra S)
+  pub parties-extra : {demandList columnList : List ℕ} (home : ℕ) → home ≡ surplus S → 1 ≤ home → p.cafes < max_side
+      → Numbered S.supply p.rows p.supplies p.row_numbers → Numbered S.demand p.cafes demandList columnList
+      → p.columns ≡ p.cafes + 1 → p.demands ≡ set demandList p.cafes home → p.column_numbers ≡ set columnList p.cafes (length S.demand)
+      → PartiesOf S p
+  parties-extra {demandList} {columnList} home is some room rows cafes columns demands own = go (extra S)
     where
-      go : Extra S
-          → PartiesOf S (record { rows = m; columns = n + 1; cafes = n }) supplyList (set demandList n home) rowList (set columnList n (length S.demand))
+      go : Extra S → PartiesOf S p
       go (without y e) = absurd (omega arith)
       go (with y e) =
-          let both : Listed (S.demand ++ (home ∷ [])) (left S.demand ++ (length S.demand ∷ [])) (n + 1) (set demandList n home)
-          (set columnList n (length S.demand)) = record {
+          let both : Listed (S.demand ++ (home ∷ [])) (left S.demand ++ (length S.demand ∷ [])) (p.cafes + 1) (set demandList p.cafes home)
+          (set columnList p.cafes (length S.demand)) = record {
             amount_front = rw (amounts-more S.demand home) (front-more cafes.amount_front room home);
             own_front = front-more cafes.own_front room (length S.demand);
           } in
-          parties_of S rows (rw (e, ← is, left-append S.demand home some) both) (front-stays cafes.own_front (length S.demand))
+          parties_of S p rows (rw (columns, demands, own, e, ← is, left-append S.demand home some) both)
+          (rw own (front-stays cafes.own_front (length S.demand)))
 
 -- For it there is room.
 pub extra-room : {S : Sheet} {n : ℕ} {demandList columnList : List ℕ} → Accepted S → 1 ≤ surplus S → Numbered S.demand n demandList columnList → n < max_side

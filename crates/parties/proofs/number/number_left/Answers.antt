@@ -3,8 +3,8 @@ use Rattle.std.proofs.Common.{arith, rules}
 use Rattle.transport.specs.Lists.{at}
 use Rattle.transport.specs.Limits.{max_side}
 use Rattle.parties.specs.Parties.{listed-none, listed-room, listed_yes, listed_no, listed-all}
-use Rattle.parties.proofs.number_left.Goals as goal
-use Rattle.parties.proofs.number_left.Goals.{then-x-gt0, else-x-gt0}
+use Rattle.parties.proofs.number.number_left.Goals as goal
+use Rattle.parties.proofs.number.number_left.Goals.{then-x-gt0, else-x-gt0}
 
 pub loop-k-init : goal.loop-k-init
 unfolding max_side
