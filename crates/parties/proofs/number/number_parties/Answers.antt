@@ -49,7 +49,7 @@ invariant_of-result c =
       in_room = elim c.if-surplus-gt0.branch [
         | then-surplus-gt0 w ↦
             let room = extra-room c.requires.1 (omega arith) c.number_left-cafes.ensures in
-            rw (w.columns-is, w.column_numbers-is) (omega arith, omega (arith, length-set c.number_left-cafes.new.own c.number_left-cafes.result (length c.args.demand.now)), omega arith)
+            rw (w.columns-is, w.column_numbers-is, length-set) (omega arith, omega arith, omega arith)
         | else-surplus-gt0 w ↦ rw (w.columns-is, w.column_numbers-is) (omega arith, omega arith, omega arith)
       ];
     }
