@@ -20,21 +20,21 @@ pub sides-room : {S : Sheet} → Accepted S → (length (extended S).supply ≤ 
 unfolding extended roasteries
 sides-room ok = (omega (arith, ok.limits.roasteries_high, sources-room), wanted_room ok)
 
-module _ {S : Sheet} (ok : Accepted S) {p : Parties} {supplies demands rows cols : List ℕ} (h : PartiesOf S p supplies demands rows cols) where
-  pub rows_growing : Growing (take p.rows rows)
+module _ {S : Sheet} (ok : Accepted S) {p : Parties} (h : PartiesOf S p) where
+  pub rows_growing : Growing (take p.rows p.row_numbers)
   unfolding rows_left_of
   rows_growing = rw h.row_numbers (left_growing (extended S).supply (sides-room ok).0)
 
-  pub columns_growing : Growing (take p.columns cols)
+  pub columns_growing : Growing (take p.columns p.column_numbers)
   unfolding columns_left
   columns_growing = rw h.column_numbers (left_growing (extended S).demand (sides-room ok).1)
 
   -- A tableau of the parties left stands between those that have own numbers ..
-  pub own-within : {T : List Cell} → Belongs (problem_of S) T → Within (take p.rows rows) (take p.columns cols) T
+  pub own-within : {T : List Cell} → Belongs (problem_of S) T → Within (take p.rows p.row_numbers) (take p.columns p.column_numbers) T
   unfolding problem_of
   own-within {T} b = rw (h.row_numbers, h.column_numbers) (belongs-within (extended S) (sides-room ok).0 (sides-room ok).1 T b)
 
   -- .. and gets these.
-  pub own-lent : (T : List Cell) → map (own_cell_of (take p.rows rows) (take p.columns cols)) T ≡ own (extended S) T
+  pub own-lent : (T : List Cell) → map (own_cell_of (take p.rows p.row_numbers) (take p.columns p.column_numbers)) T ≡ own (extended S) T
   unfolding own own_cell_of
   own-lent T = rw (h.row_numbers, h.column_numbers)

@@ -8,6 +8,8 @@ use transport::MAX_SIDE;
 
 pub mod number;
 
+pub use number::{number_parties, own_number};
+
 // The rows and the columns of those left, and of the columns the cafés, which come first. Their
 // amounts and their own numbers stand at the fronts of arrays with room for any side.
 #[derive(Clone, Copy)]

@@ -9,7 +9,7 @@ ghost use Rattle.transport.specs.Answers.{start_answer};
 use dealing::corner::first_tableau;
 use numbering::own_tableau;
 use parties::number_parties;
-use transport::{MAX_SIDE, Refusal, Tableau};
+use transport::{Refusal, Tableau};
 
 // Start gives the first tableau. Sheet check only.
 pub fn start(supply: &[u64], demand: &[u64], cost: &[i64]) -> Result<Tableau, Refusal>
@@ -17,20 +17,7 @@ pub fn start(supply: &[u64], demand: &[u64], cost: &[i64]) -> Result<Tableau, Re
         result ≡ start_answer (start_call S) }
 {
     sheet::check_sheet(supply, demand, cost)?;
-    let mut supplies = [0u64; MAX_SIDE];
-    let mut demands = [0u64; MAX_SIDE];
-    let mut rows = [0usize; MAX_SIDE];
-    let mut cols = [0usize; MAX_SIDE];
-    let parties = number_parties(
-        supply,
-        demand,
-        &mut supplies,
-        &mut demands,
-        &mut rows,
-        &mut cols,
-    );
-    let m = parties.rows;
-    let n = parties.columns;
-    let first = first_tableau(&supplies[..m], &demands[..n]);
-    Ok(own_tableau(first, &rows[..m], &cols[..n]))
+    let parties = number_parties(supply, demand);
+    let first = first_tableau(parties.supplies(), parties.demands());
+    Ok(own_tableau(first, parties.row_numbers(), parties.column_numbers()))
 }
