@@ -4,12 +4,8 @@ use Rattle.transport.specs.Lists.{padded}
 use Rattle.transport.specs.Limits.{max_cells, max_side}
 use Rattle.transport.specs.Amount.{nothing}
 use Rattle.transport.specs.Tableau.{no_cell, tableau_of, no_tableau}
-use Rattle.dealing.proofs.tableau.empty_tableau.Statement.{statement}
-use Rattle.dealing.proofs.tableau.empty_tableau.Tie as tie
+use Rattle.dealing.proofs.tableau.empty_tableau.Goals as goal
 
-returns : tie.Need-returns
+pub returns : goal.returns
 unfolding no_tableau tableau_of padded max_cells max_side no_cell nothing
 returns c = refl
-
-pub empty_tableau_spec : {M : Type 1} → statement M
-empty_tableau_spec = tie.close (tie.spec returns)
