@@ -27,9 +27,7 @@ pub fn potentials(
         ≡ potential_by (cost_of cost.now) (strikes_of leaf.now other.now lane.now count) k) }
 {
     *price = [0; NODES];
-    let mut k = count;
-    while k > 0 {
-        k -= 1;
+    for k in (0..count).rev() {
         let p = leaf[k];
         let o = other[k];
         let l = lane[k];

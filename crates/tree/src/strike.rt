@@ -56,11 +56,9 @@ fn first_leaves(live: &[u64; NODES], leaf: &mut [usize; NODES], m: usize, n: usi
     ensures { (length leaf.new ≡ node_room) × Queue (m + n) live.now leaf.new 0 result }
 {
     let mut tail = 0;
-    let mut node = 1;
-    while node < m + n {
+    for node in 1..m + n {
         leaf[tail] = node;
         tail += joins_queue(node, live[node]);
-        node += 1;
     }
     tail
 }
