@@ -44,7 +44,7 @@ fn raise(price: &mut [Price; NODES], at: u64, x: Price)
     let mut bits = at;
     while bits != 0 {
         let k = mask::first_bit(bits);
-        price[k] = price[k] + x;
+        price[k] += x;
         bits = mask::rest(bits);
     }
 }
@@ -58,7 +58,7 @@ fn toward(far: u64, row: usize, reduced: Price) -> Price
     if mask::has_bit(far, row) {
         reduced
     } else {
-        0 - reduced
+        -reduced
     }
 }
 
@@ -71,5 +71,5 @@ pub fn reprice(price: &mut [Price; NODES], m: usize, far: u64, row: usize, reduc
     let x = toward(far, row, reduced);
     let rows = far & mask::first_bits(m);
     raise(price, rows, x);
-    raise(price, far ^ rows, 0 - x);
+    raise(price, far ^ rows, -x);
 }

@@ -41,12 +41,7 @@ fn lane_to(node: usize, bit: usize, m: usize) -> usize
 fn joins_queue(node: usize, lanes: u64) -> usize
     ensures { result ≡ cond (joins node lanes) 1 0 }
 {
-    if node != 0 {
-        if mask::is_single(lanes) {
-            return 1;
-        }
-    }
-    0
+    usize::from(node != 0 && mask::is_single(lanes))
 }
 
 // Queues the leaves that there are from the start, in the order of the nodes.
@@ -83,6 +78,7 @@ pub fn strike(
     let mut live = *adj;
     let mut tail = first_leaves(adj, leaf, m, n);
     let mut k = 0;
+    // A while: the queue grows as it is gone through, so that no range holds its end.
     while k < tail {
         let node = leaf[k];
         let lanes = live[node];

@@ -16,6 +16,6 @@ loop-bits-preserved c =
     let back : to_z w32 (of_z w32 a.x) ≡ a.x = search rules in
     let g : Touching (λ z. z +ℤ a.x) (pos 0) a.price.now a.at i.bits i.price = rw back at i.invariant in
     let room : nat_abs (get_or i.price k (pos 0)) + nat_abs a.x < 2 ^ 31 =
-        rw (touch-still g r) (c.requires.by_index k f.0 (g.part k (has-least r))) in
+    rw (touch-still g r) (c.requires.by_index k f.0 (g.part k (has-least r))) in
     rw (c.rest-bits.ensures, sum_back w32 (get_or i.price k (pos 0)) a.x room, back, touch-still g r)
-        (touch_step g r (omega arith))
+    (touch_step g r (omega arith))

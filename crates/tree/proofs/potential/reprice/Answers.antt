@@ -34,7 +34,7 @@ pub raise-requires-2-clause-by_index : goal.raise-requires-2-clause-by_index
 raise-requires-2-clause-by_index c k l e =
     let r = (goal.at.raise-requires-2-clause-by_index c).After-raise in
     rw (minus r, rows-only c.args.m c.args.far (first r) k (rw c.first_bits.ensures at e))
-        (omega (arith, small r, abs_neg c.toward-x.result, c.requires.price_len.1 k l))
+    (omega (arith, small r, abs_neg c.toward-x.result, c.requires.price_len.1 k l))
 
 pub returns : goal.returns
 returns c =
