@@ -21,7 +21,7 @@ fn graft(masks: &mut [u64; NODES], at: u64, x: u64)
     let mut bits = at;
     while bits != 0 {
         let k = mask::first_bit(bits);
-        masks[k] = masks[k] ^ x;
+        masks[k] ^= x;
         bits = mask::rest(bits);
     }
 }
@@ -32,9 +32,7 @@ fn hang(leaf: &[usize; NODES], other: &[usize; NODES], count: usize, path: &mut 
     ensures { Hanging leaf.now other.now count path.new 0 }
 {
     *path = [0; NODES];
-    let mut k = count;
-    while k > 0 {
-        k -= 1;
+    for k in (0..count).rev() {
         let p = leaf[k];
         let o = other[k];
         path[p] = mask::set_bit(path[o], k);
@@ -47,10 +45,8 @@ fn turn_over(path: &[u64; NODES], nodes: usize, sub: &mut [u64; NODES])
     ensures { Turning path.now nodes sub.new }
 {
     *sub = [0; NODES];
-    let mut p = 0;
-    while p < nodes {
+    for p in 0..nodes {
         graft(sub, path[p], mask::set_bit(0, p));
-        p += 1;
     }
 }
 
@@ -95,13 +91,13 @@ pub fn loop_slots(path: &[u64; NODES], lane: &[usize; NODES], row: usize, sink: 
     while bits != 0 {
         let t = mask::first_bit(bits);
         let l = lane[t];
-        far = far | (path[l / MAX_SIDE] & mask::set_bit(0, t));
+        far |= path[l / MAX_SIDE] & mask::set_bit(0, t);
         bits = mask::rest(bits);
     }
     let plus = cycle & (far ^ own);
     Loop {
         minus: cycle ^ plus,
-        plus: plus,
+        plus,
     }
 }
 
