@@ -2,10 +2,10 @@
 use Rattle.std.proofs.Common.{◌-◌}
 use Rattle.tree.specs.Layout.{node_room}
 use Rattle.tree.specs.State.{StrikeState}
-use Rattle.tree.proofs.strike.strike.Given as goal
+use Rattle.tree.proofs.Basis.strike.Given as goal
 
 abbrev pub invariant-loop-k : goal.invariant-loop-k
-invariant-loop-k l = StrikeState l.m l.n l.adj l.live l.leaf l.other l.lane l.k l.tail
+invariant-loop-k l = StrikeState l.m l.n l.adj l.live l.self.leaf l.self.other l.self.lane l.k l.tail
 
 abbrev pub decreases-loop-k : goal.decreases-loop-k
 decreases-loop-k l = node_room - l.k
