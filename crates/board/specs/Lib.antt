@@ -5,3 +5,4 @@ pub mod Lanes
 pub mod Arrays
 pub mod Slots
 pub mod Drawing
+pub mod OnBoard

@@ -6,24 +6,31 @@ ghost use Rattle.board.specs.Slots.{pair_at};
 use transport::Pair;
 use tree::LANES;
 
-// The pair on a lane.
-pub fn pair_at(q: &[i64; LANES], e: &[i64; LANES], lane: usize) -> Pair
-    requires { lane < lane_room }
-    ensures { result ≡ pair_at q.now e.now lane }
-{
-    Pair {
-        q: q[lane],
-        e: e[lane],
-    }
+// The bags and the marks on each lane.
+#[derive(Drop)]
+pub struct Amounts {
+    pub q: [i64; LANES],
+    pub e: [i64; LANES],
 }
 
-// The lane then has this pair.
-pub fn put_pair(q: &mut [i64; LANES], e: &mut [i64; LANES], lane: usize, x: Pair)
-    requires { lane < lane_room }
-    ensures { (q.new ≡ set q.old lane x.q) × (e.new ≡ set e.old lane x.e) }
-{
-    let bags = x.q;
-    let marks = x.e;
-    q[lane] = bags;
-    e[lane] = marks;
+impl Amounts {
+    // The pair on a lane.
+    pub fn pair_at(&self, lane: usize) -> Pair
+        requires { lane < lane_room }
+        ensures { result ≡ pair_at self.now.q self.now.e lane }
+    {
+        Pair {
+            q: self.q[lane],
+            e: self.e[lane],
+        }
+    }
+
+    // The lane then has this pair.
+    pub fn put_pair(&mut self, lane: usize, x: Pair)
+        requires { lane < lane_room }
+        ensures { (self.new.q ≡ set self.old.q lane x.q) × (self.new.e ≡ set self.old.e lane x.e) }
+    {
+        self.q[lane] = x.q;
+        self.e[lane] = x.e;
+    }
 }

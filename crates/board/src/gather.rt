@@ -4,14 +4,15 @@ ghost use Rattle.transport.specs.Problem.{Problem};
 ghost use Rattle.transport.specs.Tableau.{tableau_of};
 ghost use Rattle.transport.specs.declared.Cell.{Cell};
 ghost use Rattle.tree.specs.Layout.{stride, node_room, lane_room};
-ghost use Rattle.board.specs.Arrays.{Board};
+ghost use Rattle.board.specs.OnBoard.{Shows};
 ghost use Rattle.board.specs.Drawing.{Redrawn};
 ghost use Rattle.board.specs.Lanes.{row_lanes_of, RowMasks, Lanes, gathered};
 
-use crate::amount::pair_at;
+use crate::Board;
+use crate::amount::Amounts;
 use crate::spread::link;
 use transport::{Cell, MAX_CELLS, MAX_SIDE, Pair, Tableau};
-use tree::{LANES, NODES, mask};
+use tree::{Basis, NODES, mask};
 
 // Behind the first `count` lanes come those of one more row, which begins at the lane `first`; the count then.
 fn row_lanes(mask: u64, first: usize, lanes: &mut [usize; NODES], count: usize) -> usize
@@ -46,11 +47,11 @@ fn basic_lanes(adj: &[u64; NODES], m: usize, lanes: &mut [usize; NODES]) -> usiz
 }
 
 // The cells on the basic lanes that the masks have.
-fn gather_cells(adj: &[u64; NODES], q: &[i64; LANES], e: &[i64; LANES], m: usize) -> Tableau
+fn gather_cells(adj: &[u64; NODES], amounts: &Amounts, m: usize) -> Tableau
     requires { RowMasks adj.now m }
-    ensures { result ≡ tableau_of (gathered m adj.now q.now e.now) }
+    ensures { result ≡ tableau_of (gathered m adj.now amounts.now.q amounts.now.e) }
 {
-    let mut lanes = [0usize; NODES];
+    let mut lanes = [0; NODES];
     let count = basic_lanes(adj, m, &mut lanes);
     let nothing = Pair { q: 0, e: 0 };
     let no_cell = Cell {
@@ -60,48 +61,37 @@ fn gather_cells(adj: &[u64; NODES], q: &[i64; LANES], e: &[i64; LANES], m: usize
     };
     let mut t = Tableau {
         cells: [no_cell; MAX_CELLS],
-        count: count,
+        count,
     };
-    let mut k = 0;
-    while k < count {
+    for k in 0..count {
         let l = lanes[k];
         t.cells[k] = Cell {
             row: l / MAX_SIDE,
             col: l % MAX_SIDE,
-            amount: pair_at(q, e, l),
+            amount: amounts.pair_at(l),
         };
-        k += 1;
     }
     t
 }
 
 // The masks of the basic lanes, drawn from the lanes of the first `count` slots.
-pub fn draw(lane: &[usize; NODES], m: usize, count: usize, adj: &mut [u64; NODES])
-    requires { (m ≤ stride) × (count ≤ node_room) × ((t : ℕ) → t < count → get_or lane.now t 0 / stride < m) }
-    ensures { Redrawn m lane.now count adj.new }
+pub fn draw(basis: &Basis, m: usize, count: usize, adj: &mut [u64; NODES])
+    requires { (m ≤ stride) × (count ≤ node_room) × ((t : ℕ) → t < count → get_or basis.now.lane t 0 / stride < m) }
+    ensures { Redrawn m basis.now.lane count adj.new }
 {
     *adj = [0; NODES];
-    let mut k = 0;
-    while k < count {
-        let l = lane[k];
+    for k in 0..count {
+        let l = basis.lane[k];
         link(adj, m, l / MAX_SIDE, l % MAX_SIDE);
-        k += 1;
     }
 }
 
-// The tableau that the arrays hold.
-pub fn gather(
-    lane: &[usize; NODES],
-    q: &[i64; LANES],
-    e: &[i64; LANES],
-    m: usize,
-    n: usize,
-) -> Tableau
-    requires { (P : Problem) × (T : List Cell) × (sub : List ℕ) × (path : List ℕ) × Board P T q.now e.now sub path lane.now m n }
-    ensures { (P : Problem) (T : List Cell) (sub path : List ℕ) → Board P T q.now e.now sub path lane.now m n
-        → result ≡ tableau_of T }
+// The tableau that the board holds.
+pub fn gather(board: &Board, m: usize, n: usize) -> Tableau
+    requires { (P : Problem) × (T : List Cell) × Shows P T board.now m n }
+    ensures { (P : Problem) (T : List Cell) → Shows P T board.now m n → result ≡ tableau_of T }
 {
-    let mut adj = [0u64; NODES];
-    draw(lane, m, m + n - 1, &mut adj);
-    gather_cells(&adj, q, e, m)
+    let mut adj = [0; NODES];
+    draw(&board.basis, m, m + n - 1, &mut adj);
+    gather_cells(&adj, &board.amounts, m)
 }

@@ -2,6 +2,7 @@ pub mod Mask
 pub mod MaskLaws
 pub mod Bits
 pub mod Layout
+pub mod Basis
 pub mod Grid
 pub mod Links
 pub mod Queue

@@ -5,35 +5,29 @@ ghost use Rattle.transport.specs.Potential.{potential_by};
 ghost use Rattle.tree.specs.Mask.{has};
 ghost use Rattle.tree.specs.Bits.{Touched};
 ghost use Rattle.tree.specs.Repriced.{Repriced};
-ghost use Rattle.tree.specs.Layout.{stride, node_room, cost_of, strikes_of, StrikesInRoom};
+ghost use Rattle.tree.specs.Layout.{stride, node_room, cost_of, StrikesInRoom};
+ghost use Rattle.tree.specs.Basis.{struck_off};
 
-use crate::{LANES, NODES, Price, mask};
+use crate::{Basis, LANES, NODES, Price, mask};
 use transport::MAX_SIDE;
 
-// Back through the strikes: a leaf's potential is its lane's cost less the potential at the other end; a node that is never struck, as the root, has 0.
-pub fn potentials(
-    cost: &[Price; LANES],
-    leaf: &[usize; NODES],
-    other: &[usize; NODES],
-    lane: &[usize; NODES],
-    count: usize,
-    price: &mut [Price; NODES],
-)
-    requires strikes_in_room { StrikesInRoom leaf.now other.now lane.now count }
-    requires by_index { (l : ℕ) → nat_abs (get_or cost.now l (pos 0)) ≤ cost_above }
-    ensures { (length price.new ≡ node_room)
-        × ((k : ℕ) → k < node_room
-        → get_or price.new k (pos 0)
-        ≡ potential_by (cost_of cost.now) (strikes_of leaf.now other.now lane.now count) k) }
-{
-    *price = [0; NODES];
-    let mut k = count;
-    while k > 0 {
-        k -= 1;
-        let p = leaf[k];
-        let o = other[k];
-        let l = lane[k];
-        price[p] = cost[l % MAX_SIDE * MAX_SIDE + l / MAX_SIDE] - price[o];
+impl Basis {
+    // Back through the strikes: a leaf's potential is its lane's cost less the potential at the
+    // other end; a node that is never struck, as the root, has 0.
+    pub fn potentials(&self, cost: &[Price; LANES], count: usize, price: &mut [Price; NODES])
+        requires strikes_in_room { StrikesInRoom self.now.leaf self.now.other self.now.lane count }
+        requires by_index { (l : ℕ) → nat_abs (get_or cost.now l (pos 0)) ≤ cost_above }
+        ensures { (length price.new ≡ node_room)
+            × ((k : ℕ) → k < node_room
+            → get_or price.new k (pos 0) ≡ potential_by (cost_of cost.now) (struck_off self.now count) k) }
+    {
+        *price = [0; NODES];
+        for k in (0..count).rev() {
+            let p = self.leaf[k];
+            let o = self.other[k];
+            let l = self.lane[k];
+            price[p] = cost[l % MAX_SIDE * MAX_SIDE + l / MAX_SIDE] - price[o];
+        }
     }
 }
 
@@ -46,7 +40,7 @@ fn raise(price: &mut [Price; NODES], at: u64, x: Price)
     let mut bits = at;
     while bits != 0 {
         let k = mask::first_bit(bits);
-        price[k] = price[k] + x;
+        price[k] += x;
         bits = mask::rest(bits);
     }
 }
@@ -60,7 +54,7 @@ fn toward(far: u64, row: usize, reduced: Price) -> Price
     if mask::has_bit(far, row) {
         reduced
     } else {
-        0 - reduced
+        -reduced
     }
 }
 
@@ -73,5 +67,5 @@ pub fn reprice(price: &mut [Price; NODES], m: usize, far: u64, row: usize, reduc
     let x = toward(far, row, reduced);
     let rows = far & mask::first_bits(m);
     raise(price, rows, x);
-    raise(price, far ^ rows, 0 - x);
+    raise(price, far ^ rows, -x);
 }

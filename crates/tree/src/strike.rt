@@ -2,12 +2,13 @@
 // are struck. Nodes and lanes are numbered as in lib.rt: source i is node i, sink j is node m + j, and node 0 is the root, which is never struck.
 ghost use Rattle.std.specs.Prelude.{◌≡◌, cond, List, ◌+◌, ◌<◌, ◌≤◌, length};
 ghost use Rattle.transport.specs.Problem.{Lane};
-ghost use Rattle.tree.specs.Layout.{stride, node_room, strikes_of};
+ghost use Rattle.tree.specs.Layout.{stride, node_room};
+ghost use Rattle.tree.specs.Basis.{struck_off};
 ghost use Rattle.tree.specs.Links.{Links, Masks, other_end_of, own_bit_of, lane_to_of, joins};
 ghost use Rattle.tree.specs.Queue.{Queue};
 ghost use Rattle.tree.specs.Strip.{Stripped};
 
-use crate::{NODES, mask};
+use crate::{Basis, NODES, mask};
 use transport::MAX_SIDE;
 
 // The node at the other end of a node's lane.
@@ -41,66 +42,53 @@ fn lane_to(node: usize, bit: usize, m: usize) -> usize
 fn joins_queue(node: usize, lanes: u64) -> usize
     ensures { result ≡ cond (joins node lanes) 1 0 }
 {
-    if node != 0 {
-        if mask::is_single(lanes) {
-            return 1;
-        }
-    }
-    0
+    usize::from(node != 0 && mask::is_single(lanes))
 }
 
 // Queues the leaves that there are from the start, in the order of the nodes.
 fn first_leaves(live: &[u64; NODES], leaf: &mut [usize; NODES], m: usize, n: usize) -> usize
-    requires links { Links m n live.now }
-    requires leaf_len { length leaf.old ≡ node_room }
+    requires { Links m n live.now }
     ensures { (length leaf.new ≡ node_room) × Queue (m + n) live.now leaf.new 0 result }
 {
     let mut tail = 0;
-    let mut node = 1;
-    while node < m + n {
+    for node in 1..m + n {
         leaf[tail] = node;
         tail += joins_queue(node, live[node]);
-        node += 1;
     }
     tail
 }
 
-// Strikes off leaves in the order in which they become leaves, and says how many. Strike k is the leaf, the node at the other end and the place of the lane.
-// `leaf` is the queue too: what is struck stands before k, what waits from k up to tail. A node that waits can lose its lane to its neighbour's strike only
-// where the two are cut off from the root; then the lanes do not join all nodes, and striking ends.
-pub fn strike(
-    adj: &[u64; NODES],
-    leaf: &mut [usize; NODES],
-    other: &mut [usize; NODES],
-    lane: &mut [usize; NODES],
-    m: usize,
-    n: usize,
-) -> usize
-    requires links { Links m n adj.now }
-    requires adj_len { (length adj.now ≡ node_room) × (length leaf.old ≡ node_room) × (length other.old ≡ node_room) × (length lane.old ≡ node_room) }
-    ensures leaf_len { (length leaf.new ≡ node_room) × (length other.new ≡ node_room) × (length lane.new ≡ node_room) }
-    ensures stripped { (B : List Lane) → Masks m n B adj.now
-        → Stripped m n B (strikes_of leaf.new other.new lane.new result) result }
-{
-    let mut live = *adj;
-    let mut tail = first_leaves(adj, leaf, m, n);
-    let mut k = 0;
-    while k < tail {
-        let node = leaf[k];
-        let lanes = live[node];
-        if lanes == 0 {
-            return k;
+impl Basis {
+    // Strikes off leaves in the order in which they become leaves, and says how many. Strike k is
+    // the leaf, the node at the other end and the place of the lane. `leaf` is the queue too: what
+    // is struck stands before k, what waits from k up to tail. A node that waits can lose its lane
+    // to its neighbour's strike only where the two are cut off from the root; then the lanes do not
+    // join all nodes, and striking ends.
+    pub fn strike(&mut self, adj: &[u64; NODES], m: usize, n: usize) -> usize
+        requires { Links m n adj.now }
+        ensures { (B : List Lane) → Masks m n B adj.now → Stripped m n B (struck_off self.new result) result }
+    {
+        let mut live = *adj;
+        let mut tail = first_leaves(adj, &mut self.leaf, m, n);
+        let mut k = 0;
+        // A while: the queue grows as it is gone through, so that no range holds its end.
+        while k < tail {
+            let node = self.leaf[k];
+            let lanes = live[node];
+            if lanes == 0 {
+                return k;
+            }
+            let bit = mask::first_bit(lanes);
+            let end = other_end(node, bit, m);
+            let rest = mask::clear_bit(live[end], own_bit(node, m));
+            self.other[k] = end;
+            self.lane[k] = lane_to(node, bit, m);
+            live[node] = 0;
+            live[end] = rest;
+            self.leaf[tail] = end;
+            tail += joins_queue(end, rest);
+            k += 1;
         }
-        let bit = mask::first_bit(lanes);
-        let end = other_end(node, bit, m);
-        let rest = mask::clear_bit(live[end], own_bit(node, m));
-        other[k] = end;
-        lane[k] = lane_to(node, bit, m);
-        live[node] = 0;
-        live[end] = rest;
-        leaf[tail] = end;
-        tail += joins_queue(end, rest);
-        k += 1;
+        k
     }
-    k
 }

@@ -1,8 +1,0 @@
--- `tree::strike::lane_to` meets its contract, in the two cases of a row and a column. Assumes nothing.
-use Rattle.prelude.specs.Words.{rules, lt-ltb, le-ltb}
-use Rattle.tree.proofs.strike.lane_to.Statement.{statement}
-use Rattle.tree.proofs.strike.lane_to.Tie as tie
-
-pub lane_to_spec : {M : Type 1} → statement M
-lane_to_spec = tie.close (tie.spec (λ c. search rules) (λ c. search rules) (λ c. search rules) (λ c. search rules)
-    (λ c. rw (lt-ltb _ _ c.if-node-m.true)) (λ c. rw (le-ltb _ _ c.if-node-m.false)))
