@@ -86,7 +86,7 @@ impl Corner {
             Corner {
                 row: self.row,
                 col,
-                supply: self.supply.subtract(self.demand),
+                supply: self.supply - self.demand,
                 demand: paired_demand(demand, col, supply.len()),
             }
         } else {
@@ -95,7 +95,7 @@ impl Corner {
                 row,
                 col: self.col,
                 supply: paired_supply(supply, row),
-                demand: self.demand.subtract(self.supply),
+                demand: self.demand - self.supply,
             }
         }
     }

@@ -5,6 +5,8 @@ ghost use Rattle.std.specs.Prelude.{◌≡◌};
 ghost use Rattle.transport.specs.Amount.{add, subtract, less, Fit};
 ghost use Rattle.transport.specs.Refusals.{number, place_of};
 
+use std::ops::{Add, Sub};
+
 // The most sources, and the most sinks, that a sheet may have.
 pub const MAX_SOURCES: usize = 32;
 
@@ -42,28 +44,38 @@ pub struct Pair {
     pub e: i64,
 }
 
-impl Pair {
-    // Part by part. The caller sees to it that neither part leaves the range.
-    pub fn add(self, o: Pair) -> Pair
-        requires { Fit self o }
-        ensures { result ≡ add self o }
-    {
+// Part by part. The caller sees to it that neither part leaves the range.
+impl Add for Pair {
+    type Output = Pair;
+
+    ghost can_add = { λ a b. Fit a b };
+
+    ghost add_gives = { λ a b sum. sum ≡ add a b };
+
+    fn add(self, o: Pair) -> Pair {
         Pair {
             q: self.q + o.q,
             e: self.e + o.e,
         }
     }
+}
 
-    pub fn subtract(self, o: Pair) -> Pair
-        requires { Fit self o }
-        ensures { result ≡ subtract self o }
-    {
+impl Sub for Pair {
+    type Output = Pair;
+
+    ghost can_sub = { λ a b. Fit a b };
+
+    ghost sub_gives = { λ a b difference. difference ≡ subtract a b };
+
+    fn sub(self, o: Pair) -> Pair {
         Pair {
             q: self.q - o.q,
             e: self.e - o.e,
         }
     }
+}
 
+impl Pair {
     // By bags first, then by marks.
     pub fn less(self, o: Pair) -> bool
         ensures { result ≡ less self o }

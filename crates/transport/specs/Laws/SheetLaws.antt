@@ -38,7 +38,7 @@ unfolding all refusal
 refusal-other [] h p e = some≢none (sym e)
 refusal-other (t ∷ ts) h p e = by_test t.0
     (λ y. let same : t.1 ≡ Refusal.NotSheetText p = cc (refusal_yes t ts y, e) in
-        true≢false (sym (and_left _ _ h) ∙ ap (λ r. is_none (place_of r)) same))
+    true≢false (sym (and_left _ _ h) ∙ ap (λ r. is_none (place_of r)) same))
     (λ n. refusal-other ts (and_right (is_none (place_of t.1)) _ h) p (sym (refusal_no t ts n) ∙ e))
 
 -- .. and a refusal stands, whatever is tested after it.

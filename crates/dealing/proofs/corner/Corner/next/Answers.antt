@@ -6,8 +6,8 @@ use Rattle.transport.specs.Problem.{sources, sinks}
 use Rattle.dealing.specs.Corner.{costless, next-right, next_down, dealt_to_fit, right-inside, down-inside}
 use Rattle.dealing.proofs.corner.Corner.next.Goals as goal
 
-pub subtract-requires : goal.subtract-requires
-subtract-requires c = (dealt_to_fit _ c.requires.sound _ c.requires.dealt_to).0
+pub sub-requires : goal.sub-requires
+sub-requires c = (dealt_to_fit _ c.requires.sound _ c.requires.dealt_to).0
 
 pub paired_demand-requires : goal.paired_demand-requires
 unfolding sources sinks max_side max_bags max_amount
@@ -21,16 +21,16 @@ paired_supply-requires c =
     let ok = c.requires.sound in
     (down-inside _ ok _ c.requires.dealt_to c.requires.col_in_bounds (sym c.if-less.ensures), supply-most ok _)
 
-pub subtract-requires-else-less : goal.subtract-requires-else-less
-subtract-requires-else-less c = (dealt_to_fit _ c.requires.sound _ c.requires.dealt_to).1
+pub sub-requires-else-less : goal.sub-requires-else-less
+sub-requires-else-less c = (dealt_to_fit _ c.requires.sound _ c.requires.dealt_to).1
 
 pub returns-then-less : goal.returns-then-less
 unfolding sources
 returns-then-less c =
     let S = costless c.args.supply.now c.args.demand.now in
-    rw (c.subtract.ensures, c.paired_demand.ensures S refl refl, add-one, next-right S c.args.self (sym c.if-less.ensures))
+    rw (c.sub.ensures, c.paired_demand.ensures S refl refl, add-one, next-right S c.args.self (sym c.if-less.ensures))
 
 pub returns-else-less : goal.returns-else-less
 returns-else-less c =
     let S = costless c.args.supply.now c.args.demand.now in
-    rw (c.subtract-else-less.ensures, c.paired_supply.ensures S refl, add-one, next_down S c.args.self (sym c.if-less.ensures))
+    rw (c.sub-else-less.ensures, c.paired_supply.ensures S refl, add-one, next_down S c.args.self (sym c.if-less.ensures))

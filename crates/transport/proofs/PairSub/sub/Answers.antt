@@ -2,7 +2,7 @@
 use Rattle.prelude.specs.Words.{rules}
 use Rattle.transport.specs.Amount.{subtract}
 use Rattle.transport.specs.Laws.RangeLaws.{diff_fits}
-use Rattle.transport.proofs.Pair.subtract.Goals as goal
+use Rattle.transport.proofs.PairSub.sub.Goals as goal
 
 pub returns : goal.returns
 unfolding subtract
