@@ -19,6 +19,7 @@ use Rattle.tableaux.specs.Order.{ordered_by, ordered_distinct}
 use Rattle.tree.specs.Layout.{stride, node_room, lane_at, lane_index, lane_index-at, strike_for, strikes_of}
 use Rattle.belonging.specs.FlowLaws.{weights_of}
 use Rattle.board.specs.CellTests.{on_board, cells_fit_of}
+use Rattle.board.specs.declared.Board.{Board}
 use Rattle.board.specs.Arrays.{Sides, sound-sides, Amounts}
 use Rattle.tree.specs.Links.{iff_same}
 use Rattle.tree.specs.Strip.{Stripped}
@@ -80,6 +81,9 @@ pub record Balancing (m n : ℕ) (T : List Cell) (q e : List ℤ) (leaf other la
   pub amounts : Amounts m n T q e
   pub long : length lanes ≡ node_room
   pub spanning : Spanning m n T (strikes_of leaf other lanes (m + n - 1))
+
+abbrev pub BalancingOn : ℕ → ℕ → List Cell → Board → Type 0
+BalancingOn m n T b = Balancing m n T b.amounts.q b.amounts.e b.basis.leaf b.basis.other b.basis.lane
 
 module _ (supply demand : List ℕ) (cost : List ℤ) {T : List Cell} {q e : List ℤ} (h : Amounts (length supply) (length demand) T q e)
     (leaf other lanes : List ℕ) (count : ℕ)

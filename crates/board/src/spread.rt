@@ -55,6 +55,7 @@ pub fn lay_out(t: Tableau, m: usize, n: usize, board: &mut Board) -> usize
     requires count_le_cell_room { (t.count ≤ cell_room) × Sides m n × Inside m n (cells_of t) × Distinct (cells_of t) }
     requires empty { Empty board.old.amounts.q board.old.amounts.e }
     ensures amounts { AmountsOf m n (cells_of t) board.new.amounts.q board.new.amounts.e }
+    ensures long { length board.new.basis.lane ≡ node_room }
     ensures stripped { Stripped m n (basis_for (cells_of t)) (struck_off board.new.basis result) result }
 {
     let mut adj = [0; NODES];

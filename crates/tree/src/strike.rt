@@ -66,7 +66,10 @@ impl Basis {
     // join all nodes, and striking ends.
     pub fn strike(&mut self, adj: &[u64; NODES], m: usize, n: usize) -> usize
         requires { Links m n adj.now }
-        ensures { (B : List Lane) → Masks m n B adj.now → Stripped m n B (struck_off self.new result) result }
+        ensures leaf_len { let b = self.new in
+            (length b.leaf ≡ node_room) × (length b.other ≡ node_room) × (length b.lane ≡ node_room) }
+        ensures stripped { (B : List Lane) → Masks m n B adj.now
+            → Stripped m n B (struck_off self.new result) result }
     {
         let mut live = *adj;
         let mut tail = first_leaves(adj, &mut self.leaf, m, n);

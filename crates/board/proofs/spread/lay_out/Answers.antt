@@ -4,7 +4,8 @@ use Rattle.board.specs.Held.{Held}
 use Rattle.board.proofs.spread.lay_out.Goals as goal
 use Rattle.board.proofs.spread.lay_out.Goals.{After-spread}
 
-held : (c : After-spread) → let x = c.spread.new in Held c.args.m c.args.n (cells_of c.args.t) x.adj x.amounts.q x.amounts.e
+held : (c : After-spread) → let x = c.spread.new in
+    Held c.args.m c.args.n (cells_of c.args.t) x.adj x.amounts.q x.amounts.e
 held c = c.spread.ensures _ c.requires.count_le_cell_room.1.cols_high
 
 pub strike-requires : goal.strike-requires
@@ -18,4 +19,5 @@ returns-clause-amounts c = held-amounts (held (goal.at.returns-clause-amounts c)
 pub returns-clause-stripped : goal.returns-clause-stripped
 returns-clause-stripped c =
     let (few, sides, inside, distinct) = c.requires.count_le_cell_room in
-    c.strike.ensures _ (basis_masks sides (held (goal.at.returns-clause-stripped c).After-spread) inside distinct)
+    let h = held (goal.at.returns-clause-stripped c).After-spread in
+    c.strike.ensures.stripped _ (basis_masks sides h inside distinct)

@@ -15,7 +15,8 @@ loop-k-init c =
     rw past (held_none c.requires.3 c.requires.4)
 
 -- The cell is on the sheet.
-inside : (c : In-loop-k) → let d = get_or c.args.t.cells (c.loop-k.k - 1) no_cell in (d.row < c.args.m) × (d.col < stride)
+inside : (c : In-loop-k) → let d = get_or c.args.t.cells (c.loop-k.k - 1) no_cell in
+    (d.row < c.args.m) × (d.col < stride)
 inside c = cell-inside c.args.t c.requires.2 (c.loop-k.k - 1) (omega arith) (omega arith)
 
 pub put_cell-requires : goal.put_cell-requires
@@ -32,7 +33,8 @@ loop-k-preserved c =
     let h = inside (goal.at.loop-k-preserved c).In-loop-k in
     let r : suc (i.k - 1) ≡ i.k = omega arith in
     let p = c.put_cell.ensures in
-    let held : Held c.args.m stride (drop (suc (i.k - 1)) (cells_of t)) i.adj i.amounts.q i.amounts.e = rw r i.invariant in
+    let held : Held c.args.m stride (drop (suc (i.k - 1)) (cells_of t)) i.adj i.amounts.q i.amounts.e =
+    rw r i.invariant in
     rw (cells-from t (i.k - 1) (omega arith) (omega arith), p.0, p.1, p.2)
     (held_more (get_or t.cells (i.k - 1) no_cell) held (omega arith) (omega arith) h.0 h.1)
 

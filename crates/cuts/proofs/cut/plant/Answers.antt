@@ -7,5 +7,5 @@ hang-requires c = let r = c.requires in struck-order _ _ _ _ r.struck.1 r.le_m.1
 
 pub returns-clause-tree : goal.returns-clause-tree
 returns-clause-tree c B st =
-    let r = c.requires in
-    planted _ _ _ _ _ _ refl (omega arith) st (struck-order _ _ _ _ st r.le_m.1 r.le_m.2) c.hang.ensures c.turn_over.ensures
+    let order = struck-order _ _ _ _ st c.requires.le_m.1 c.requires.le_m.2 in
+    planted _ _ _ _ _ _ refl (omega arith) st order c.hang.ensures c.turn_over.ensures

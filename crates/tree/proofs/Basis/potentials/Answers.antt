@@ -29,7 +29,9 @@ room : (c : In-loop-k) → let k = c.loop-k.k - 1 in
 unfolding cost_above max_cost
 room c =
     let r = c.requires in
-    omega (arith, priced-room _ _ _ _ _ c.loop-k.price (c.loop-k.k - 1) cost_above r.strikes_in_room r.by_index (omega arith) (after c))
+    let small = priced-room _ _ _ _ _ c.loop-k.price (c.loop-k.k - 1) cost_above r.strikes_in_room r.by_index
+    (omega arith) (after c) in
+    omega arith
 
 pub overflow_sub-price : goal.overflow_sub-price
 overflow_sub-price c = search (rules, diff_in, room (goal.at.overflow_sub-price c).In-loop-k)

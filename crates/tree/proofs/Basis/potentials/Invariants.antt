@@ -5,4 +5,5 @@ use Rattle.tree.specs.PotentialLaws.{Priced}
 use Rattle.tree.proofs.Basis.potentials.Given as goal
 
 abbrev pub invariant-loop-k : goal.invariant-loop-k
-invariant-loop-k l = (length l.price ≡ node_room) × Priced l.cost l.self.leaf l.self.other l.self.lane l.count l.price l.k
+invariant-loop-k l =
+    (length l.price ≡ node_room) × Priced l.cost l.self.leaf l.self.other l.self.lane l.count l.price l.k

@@ -25,8 +25,8 @@ offset_bounds-self-k c = omega (arith, tail-room (goal.at.offset_bounds-self-k c
 pub bounds-self-k : goal.bounds-self-k
 bounds-self-k c = omega (arith, tail-room (goal.at.bounds-self-k c).In-loop-k)
 
-pub returns-then-lanes-eq0 : goal.returns-then-lanes-eq0
-returns-then-lanes-eq0 c B M = state_lost c.loop-k.invariant B M c.loop-k-test.true c.if-lanes-eq0.true
+pub returns-then-lanes-eq0-clause-stripped : goal.returns-then-lanes-eq0-clause-stripped
+returns-then-lanes-eq0-clause-stripped c B M = state_lost c.loop-k.invariant B M c.loop-k-test.true c.if-lanes-eq0.true
 
 pub offset_bounds-self-tail : goal.offset_bounds-self-tail
 offset_bounds-self-tail c = omega (arith, tail-room (goal.at.offset_bounds-self-tail c).In-loop-k)
@@ -51,5 +51,5 @@ loop-k-preserved c =
 pub overflow_add-tail : goal.overflow_add-tail
 overflow_add-tail c = grind (arith, c.joins_queue-tail.ensures, tail-room (goal.at.overflow_add-tail c).In-loop-k)
 
-pub returns : goal.returns
-returns c B M = state-empty c.loop-k.invariant B M c.loop-k-test.false
+pub returns-clause-stripped : goal.returns-clause-stripped
+returns-clause-stripped c B M = state-empty c.loop-k.invariant B M c.loop-k-test.false
