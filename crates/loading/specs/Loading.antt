@@ -1,7 +1,9 @@
 -- The front of a call that takes a tableau: what its tests refuse, and what rounds begin with if they refuse nothing.
-use Rattle.std.specs.Prelude.{◌≡◌, ◌∷◌}
-use Rattle.prelude.specs.Words.{refl, sym, ◌∙◌, true, false, not, List, [], none, some, ℕ, eqb, ℤ, length}
+use Rattle.std.specs.Prelude.{◌≡◌, ◌∷◌, MatchResult}
+use Rattle.std.specs.declared.result.Result.{Result}
+use Rattle.prelude.specs.Words.{refl, sym, ◌∙◌, Bool, true, false, not, List, [], none, some, ℕ, eqb, ℤ, length}
 use Rattle.prelude.specs.Words.{take}
+use Rattle.transport.specs.declared.Refusal.{Refusal}
 use Rattle.transport.specs.Problem.{sources, sinks}
 use Rattle.transport.specs.Sheet.{Sheet, sheet_of, cafes, sheet_tests, refusal}
 use Rattle.transport.specs.Extended.{surplus, wanted, extended}
@@ -22,41 +24,42 @@ use Rattle.transport.specs.declared.Tableau.{Tableau}
 use Rattle.parties.specs.declared.Parties.{Parties}
 use Rattle.tableaux.specs.Belonging.{belongs-amounts}
 use Rattle.parties.specs.Parties.{PartiesOf, supplies-lent, demands-lent, parties-amounts}
-use Rattle.board.specs.Arrays.{Loaded}
+use Rattle.board.specs.declared.Board.{Board}
+use Rattle.board.specs.BoardArrays.{LoadedOn}
 use Rattle.cost_grid.specs.Costs.{Spread, spread_costed}
-use Rattle.rounds.specs.Begun.{Begun}
+use Rattle.rounds.specs.Begun.{BegunOn}
 
 -- ---- what the tests refuse
 
 module _ (S : Sheet) (t : Tableau) where
   -- The sheet, ..
-  pub sheet-refused : (k : ℕ) → refusal (sheet_tests S) ≡ some k → refusal (tableau_tests S t) ≡ some k
+  pub sheet-refused : (k : Refusal) → refusal (sheet_tests S) ≡ some k → refusal (tableau_tests S t) ≡ some k
   unfolding tableau_tests
-  sheet-refused k e = refusal-stands (sheet_tests S) ((not (belongs_to (extended S) t), 6) ∷ []) k e
+  sheet-refused k e = refusal-stands (sheet_tests S) ((not (belongs_to (extended S) t), Refusal.NotBelonging) ∷ []) k e
 
   -- .. the tableau of an accepted one, ..
-  pub tableau-refused : Accepted S → belongs_to (extended S) t ≡ false → refusal (tableau_tests S t) ≡ some 6
+  pub tableau-refused : Accepted S → belongs_to (extended S) t ≡ false → refusal (tableau_tests S t) ≡ some Refusal.NotBelonging
   unfolding tableau_tests
   tableau-refused ok b =
-      refusal-pass (sheet_tests S) ((not (belongs_to (extended S) t), 6) ∷ []) (passes ok)
-      ∙ refusal_yes (not (belongs_to (extended S) t), 6) [] (rw b)
+      refusal-pass (sheet_tests S) ((not (belongs_to (extended S) t), Refusal.NotBelonging) ∷ []) (passes ok)
+      ∙ refusal_yes (not (belongs_to (extended S) t), Refusal.NotBelonging) [] (rw b)
 
   -- .. or neither.
   pub none-refused : Accepted S → belongs_to (extended S) t ≡ true → refusal (tableau_tests S t) ≡ none
   unfolding tableau_tests
-  none-refused ok b = (refusal-last (sheet_tests S) (not (belongs_to (extended S) t), 6)).1 (passes ok, rw b)
+  none-refused ok b = (refusal-last (sheet_tests S) (not (belongs_to (extended S) t), Refusal.NotBelonging)).1 (passes ok, rw b)
 
   -- If the tableau is to be finished as well, what refuses sheet or tableau comes first ..
-  pub early_refused : (k : ℕ) → refusal (tableau_tests S t) ≡ some k → refusal (finished_tests S t) ≡ some k
+  pub early_refused : (k : Refusal) → refusal (tableau_tests S t) ≡ some k → refusal (finished_tests S t) ≡ some k
   unfolding finished_tests
   early_refused k e = refusal-stands (tableau_tests S t) _ k e
 
   module _ (e : refusal (tableau_tests S t) ≡ none) where
-    -- .. then 7 ..
-    pub unfinished-refused : is_finished_of (problem_of S) (inside S t) ≡ false → refusal (finished_tests S t) ≡ some 7
+    -- .. then that it is not finished ..
+    pub unfinished-refused : is_finished_of (problem_of S) (inside S t) ≡ false → refusal (finished_tests S t) ≡ some Refusal.Unfinished
     unfolding finished_tests
     unfinished-refused f =
-        refusal-pass (tableau_tests S t) _ e ∙ refusal_yes (not (is_finished_of (problem_of S) (inside S t)), 7) [] (rw f)
+        refusal-pass (tableau_tests S t) _ e ∙ refusal_yes (not (is_finished_of (problem_of S) (inside S t)), Refusal.Unfinished) [] (rw f)
 
     -- .. or nothing is refused.
     pub finished-passes : is_finished_of (problem_of S) (inside S t) ≡ true → refusal (finished_tests S t) ≡ none
@@ -65,24 +68,25 @@ module _ (S : Sheet) (t : Tableau) where
 
 -- ---- what is loaded
 
--- What rounds begin with: the own numbers of the parties left stand in the lists, and a tableau T
--- of these is laid out with the costs of their lanes.
-pub record Admitted (S : Sheet) (T : List Cell) (p : Parties) (rows cols : List ℕ) (q e cost : List ℤ)
-    (leaf other tree : List ℕ) : Type 0 where
+-- What rounds begin with: the parties left are numbered, and a tableau T of these is laid out on the
+-- board with the costs of their lanes.
+pub record Admitted (S : Sheet) (T : List Cell) (p : Parties) (b : Board) (cost : List ℤ) : Type 0 where
   pub accepted : Accepted S
-  pub supplies : List ℕ
-  pub demands : List ℕ
-  pub parties : PartiesOf S p supplies demands rows cols
-  pub spread : Spread S.cost (cafes S) (take p.rows rows) (take p.cafes cols) cost
-  pub begun : Begun (problem_of S) T q e cost leaf other tree p.rows p.columns
+  pub parties : PartiesOf S p
+  pub spread : Spread S.cost (cafes S) (take p.rows p.row_numbers) (take p.cafes p.column_numbers) cost
+  pub begun : BegunOn (problem_of S) T b cost p.rows p.columns
 
-module _ {S : Sheet} (ok : Accepted S) {p : Parties} {supplies demands rows cols : List ℕ} (h : PartiesOf S p supplies demands rows cols) where
+-- Either the tests refuse, or rounds can begin with T.
+abbrev pub LoadedBy : Sheet → List (Bool × Refusal) → List Cell → Board → List ℤ → Result Parties Refusal → Type 0
+LoadedBy S tests T b cost r = MatchResult r (λ p. (refusal tests ≡ none) × Admitted S T p b cost) (λ k. refusal tests ≡ some k)
+
+module _ {S : Sheet} (ok : Accepted S) {p : Parties} (h : PartiesOf S p) where
   -- The tableau t, which is `inner` among those left, belongs, and the costs of their lanes are spread.
-  pub begun-loaded : (t inner : Tableau) {q e cost : List ℤ} {leaf other tree : List ℕ}
-      → Spread S.cost (cafes S) (take p.rows rows) (take p.cafes cols) cost
+  pub begun-loaded : (t inner : Tableau) {b : Board} {cost : List ℤ}
+      → Spread S.cost (cafes S) (take p.rows p.row_numbers) (take p.cafes p.column_numbers) cost
       → belongs (problem_of S) inner ≡ true → cells_of inner ≡ inside S t
-      → Loaded (length (take p.rows supplies)) (length (take p.columns demands)) (cells_of inner) q e leaf other tree
-      → Begun (problem_of S) (inside S t) q e cost leaf other tree p.rows p.columns
+      → LoadedOn (length (take p.rows p.supplies)) (length (take p.columns p.demands)) (cells_of inner) b
+      → BegunOn (problem_of S) (inside S t) b cost p.rows p.columns
   unfolding belongs problem_of
   begun-loaded t inner spread own same l =
       let count = eqb inner.count (basis_size (sources (problem_of S)) (sinks (problem_of S))) in
@@ -92,16 +96,16 @@ module _ {S : Sheet} (ok : Accepted S) {p : Parties} {supplies demands rows cols
         columns = h.column_count_of ∙ sym (struck-sinks (extended S));
         belongs = rw (← same) (and_right count (cells_belong (problem_of S) (cells_of inner)) own);
         costs = spread_costed ok (rw (h.row_numbers, h.cafe_numbers) at spread);
-        loaded = rw (supplies-lent h, demands-lent h, ← same) l;
+        loaded = rw (← supplies-lent h, ← demands-lent h, ← same) l;
       }
 
 -- With other costs rounds begin with the same tableau, once these costs are spread: belonging looks
 -- at amounts alone.
 pub admitted_respread : {supply demand : List ℕ} {old new : List ℤ} → Accepted (sheet_of supply demand new)
-    → {T : List Cell} {p : Parties} {rows cols : List ℕ} {q e cost cost' : List ℤ} {leaf other tree : List ℕ}
-    → Admitted (sheet_of supply demand old) T p rows cols q e cost leaf other tree
-    → Spread new (length demand) (take p.rows rows) (take p.cafes cols) cost'
-    → Admitted (sheet_of supply demand new) T p rows cols q e cost' leaf other tree
+    → {T : List Cell} {p : Parties} {b : Board} {cost cost' : List ℤ}
+    → Admitted (sheet_of supply demand old) T p b cost
+    → Spread new (length demand) (take p.rows p.row_numbers) (take p.cafes p.column_numbers) cost'
+    → Admitted (sheet_of supply demand new) T p b cost'
 unfolding cafes problem_of struck extended wanted surplus rows_left_of columns_left sources sinks
 admitted_respread {supply} {demand} {old} {new} ok {T} w spread =
     let S : Sheet = sheet_of supply demand old in
@@ -110,8 +114,6 @@ admitted_respread {supply} {demand} {old} {new} ok {T} w spread =
     let parties = parties-amounts w.parties in
     record {
       accepted = ok;
-      supplies = w.supplies;
-      demands = w.demands;
       parties = parties;
       spread = spread;
       begun = record {

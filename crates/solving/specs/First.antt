@@ -33,24 +33,19 @@ pub first-sound : {P : Problem} → Sound P → {supplies demands : List ℕ} �
 first-sound {P} ok s d = rw (s, d) (sound-costless P ok)
 
 -- The parties of an accepted sheet are numbered, and t is the first tableau of those left.
-pub record Dealt (S : Sheet) (p : Parties) (rows cols : List ℕ) (t : Tableau) : Type 0 where
-  pub supplies : List ℕ
-  pub demands : List ℕ
-  pub parties : PartiesOf S p supplies demands rows cols
+pub record Dealt (S : Sheet) (p : Parties) (t : Tableau) : Type 0 where
+  pub parties : PartiesOf S p
   pub first : t ≡ tableau_of (start (problem_of S))
 
-pub first_dealt : {S : Sheet} {p : Parties} {supplies demands rows cols : List ℕ} {t : Tableau}
-    → PartiesOf S p supplies demands rows cols
-    → t ≡ tableau_of (start (costless (take p.rows supplies) (take p.columns demands))) → Dealt S p rows cols t
-first_dealt {S} {supplies = supplies} {demands} h first = record {
-  supplies = supplies;
-  demands = demands;
+pub first_dealt : {S : Sheet} {p : Parties} {supplies demands : List ℕ} {t : Tableau} → PartiesOf S p
+    → supplies ≡ take p.rows p.supplies → demands ≡ take p.columns p.demands
+    → t ≡ tableau_of (start (costless supplies demands)) → Dealt S p t
+first_dealt {S} h s d first = record {
   parties = h;
-  first = first ∙ rw (h.supplies, h.demands) (ap tableau_of (start-costless (problem_of S)));
+  first = first ∙ rw (s, d, h.supplies, h.demands) (ap tableau_of (start-costless (problem_of S)));
 }
 
-module _ {S : Sheet} (accepted : Accepted S) {p : Parties} {rows cols : List ℕ} {t : Tableau}
-    (w : Dealt S p rows cols t) where
+module _ {S : Sheet} (accepted : Accepted S) {p : Parties} {t : Tableau} (w : Dealt S p t) where
   abbrev P : Problem
   P = problem_of S
 
@@ -80,25 +75,24 @@ module _ {S : Sheet} (accepted : Accepted S) {p : Parties} {rows cols : List ℕ
 
   -- .. which then hold the start, with the costs once these are spread. Its lanes span, so that all
   -- of them are struck off.
-  pub first_admitted : {q e cost : List ℤ} {leaf other lanes : List ℕ} {r : ℕ}
-      → Spread S.cost (cafes S) (take p.rows rows) (take p.cafes cols) cost
-      → Amounts p.rows p.columns (cells_of t) q e → length lanes ≡ node_room
-      → Stripped p.rows p.columns (basis_for (cells_of t)) (strikes_of leaf other lanes r) r
-      → Admitted S (start P) p rows cols q e cost leaf other lanes
+  pub first_admitted : {b : Board} {cost : List ℤ} {r : ℕ}
+      → Spread S.cost (cafes S) (take p.rows p.row_numbers) (take p.cafes p.column_numbers) cost
+      → AmountsOf p.rows p.columns (cells_of t) b.amounts.q b.amounts.e → length b.basis.lane ≡ node_room
+      → Stripped p.rows p.columns (basis_for (cells_of t)) (struck_off b.basis r) r
+      → Admitted S (start P) p b cost
   unfolding basis_size
-  first_admitted {q} {e} {cost} {leaf} {other} {lanes} {r} spread a long x =
-      let b = start-belongs P ok in
+  first_admitted {b} {cost} {r} spread a long x =
+      let own = start-belongs P ok in
       let h = w.parties in
-      let x : Stripped (sources P) (sinks P) (basis_for (start P)) (strikes_of leaf other lanes r) r =
+      let x : Stripped (sources P) (sinks P) (basis_for (start P)) (struck_off b.basis r) r =
       rw (w.first, cells_for (start P), row_count, column-count) at x in
-      let (all, struck) = x.complete (spans_of ok b) in
-      let StruckBy : ℕ → Type 0 = λ k. Struck (sources P) (sinks P) (basis_for (start P))
-      (strikes_of leaf other lanes k) in
-      let begun : Begun P (start P) q e cost leaf other lanes (sources P) (sinks P) = record {
+      let (all, struck) = x.complete (spans_of ok own) in
+      let StruckBy : ℕ → Type 0 = λ k. Struck (sources P) (sinks P) (basis_for (start P)) (struck_off b.basis k) in
+      let begun : BegunOn P (start P) b cost (sources P) (sinks P) = record {
         sound = ok;
         rows = refl;
         columns = refl;
-        belongs = (belongs_iff P (start P) ok.sources_low ok.sinks_low).1 b;
+        belongs = (belongs_iff P (start P) ok.sources_low ok.sinks_low).1 own;
         costs = spread_costed accepted (rw (h.row_numbers, h.cafe_numbers) at spread);
         loaded = record {
           amounts = rw (w.first, cells_for (start P), row_count, column-count) at a;
@@ -106,11 +100,4 @@ module _ {S : Sheet} (accepted : Accepted S) {p : Parties} {rows cols : List ℕ
           struck = subst StruckBy all struck;
         };
       } in
-      record {
-        accepted = accepted;
-        supplies = w.supplies;
-        demands = w.demands;
-        parties = h;
-        spread = spread;
-        begun = rw (row_count, column-count) begun;
-      }
+      record { accepted = accepted; parties = h; spread = spread; begun = rw (row_count, column-count) begun }
