@@ -8,7 +8,8 @@ use Rattle.transport.specs.Text.{bytes, digits, whole_digits, head_line, number_
 use Rattle.transport.specs.Calls.{Solution, solution}
 use Rattle.transport.specs.PlanText.{whole_line, used, lane_line, plan_text}
 use Rattle.transport.specs.Laws.CallLaws.{Fills}
-use Rattle.sections.specs.Lines.{ended, section_text, lines_from, section_of, head-line, number_lines, whole_lines}
+use Rattle.std.proofs.lemmas.Grind.{common_steps}
+use Rattle.sections.specs.Lines.{ended, section_text, length_section, lines_from, section_of, head-line, number_lines, whole_lines}
 use Rattle.plan_lines.specs.Lanes.{used_text, used_count_of, used-whole}
 
 unfoldable pub figures_text : Figures → List ℕ
@@ -36,6 +37,9 @@ pub sections_length : (f : Figures) (u v : List ℤ) (plan : List ℕ) → lengt
     + length (used_text (length v) plan (length plan))
 unfolding plan_sections_of figures_text prices_text lanes_text
 sections_length f u v plan = simp length-append (omega arith)
+
+-- What a proof of its length goes by.
+pub ruleset lengths = (common_steps, length_section, sections_length)
 
 -- ---- of a solution
 

@@ -5,7 +5,7 @@ ghost use Rattle.decimals.specs.Front.{front};
 ghost use Rattle.plan_lines.specs.Sections.{figures_text, prices_text, lanes_text, plan_sections_of};
 
 use crate::lanes;
-use sections::{section, wholes};
+use sections::section;
 
 // What the plan text shows in one number each: the cost, the rounds, and the count of the lanes that carry a bag.
 #[derive(Clone, Copy)]
@@ -16,27 +16,30 @@ pub struct Figures {
 }
 
 // The cost and the rounds.
+#[tactic(auto, using(decimals::specs::Front::pieces), unfolding(crate::specs::Sections::figures_text, transport::specs::Text::bytes))]
 fn write_figures(figures: Figures, out: &mut [u8]) -> usize
     requires { length (figures_text figures) ≤ length out.old }
     ensures { (result ≡ length (figures_text figures)) × (out.new ≡ front (figures_text figures) out.old) }
 {
     let total = [figures.total];
     let rounds = [figures.rounds];
-    let at = wholes::write_whole_section(b"total ", 1, 1, &total, out);
-    at + section::write_section(b"rounds ", 1, &rounds, &mut out[at..])
+    let at = section::write_section(b"total ", 1, 1, &total, out);
+    at + section::write_section(b"rounds ", 1, 1, &rounds, &mut out[at..])
 }
 
 // The prices: those of the roasteries, and those of the cafés.
+#[tactic(auto, using(decimals::specs::Front::pieces), unfolding(crate::specs::Sections::prices_text, transport::specs::Text::bytes))]
 fn write_price_sections(u: &[i64], v: &[i64], out: &mut [u8]) -> usize
     requires { length (prices_text u.now v.now) ≤ length out.old }
     ensures { let text = prices_text u.now v.now in
         (result ≡ length text) × (out.new ≡ front text out.old) }
 {
-    let at = wholes::write_whole_section(b"roasteries ", u.len(), 1, u, out);
-    at + wholes::write_whole_section(b"cafes ", v.len(), 1, v, &mut out[at..])
+    let at = section::write_section(b"roasteries ", u.len(), 1, u, out);
+    at + section::write_section(b"cafes ", v.len(), 1, v, &mut out[at..])
 }
 
 // The lanes: the count of those that carry a bag, and their lines.
+#[tactic(auto, using(decimals::specs::Front::pieces), unfolding(crate::specs::Sections::lanes_text, transport::specs::Text::bytes))]
 fn write_lane_section(count: usize, plan: &[u64], n: usize, out: &mut [u8]) -> usize
     requires { (length plan.now ≤ max_side * max_side) × (1 ≤ n) × (length (lanes_text count n plan.now) ≤ length out.old) }
     ensures { let text = lanes_text count n plan.now in
@@ -47,6 +50,7 @@ fn write_lane_section(count: usize, plan: &[u64], n: usize, out: &mut [u8]) -> u
 }
 
 // The sections after the figures: the prices, and the lanes.
+#[tactic(auto, using(decimals::specs::Front::pieces))]
 fn write_after_figures(count: usize, u: &[i64], v: &[i64], plan: &[u64], out: &mut [u8]) -> usize
     requires { (length plan.now ≤ max_side * max_side) × (1 ≤ length v.now)
         × (length (prices_text u.now v.now ++ lanes_text count (length v.now) plan.now) ≤ length out.old) }
@@ -59,6 +63,7 @@ fn write_after_figures(count: usize, u: &[i64], v: &[i64], plan: &[u64], out: &m
 }
 
 // The whole text. Each café has a price, and a column in the plan.
+#[tactic(auto, using(decimals::specs::Front::pieces), unfolding(crate::specs::Sections::plan_sections_of))]
 pub fn write_plan_sections(
     figures: Figures,
     u: &[i64],
@@ -77,6 +82,7 @@ pub fn write_plan_sections(
 }
 
 // Its length.
+#[tactic(auto, using(crate::specs::Sections::lengths), unfolding(transport::specs::Limits::max_side, transport::specs::Text::bytes))]
 pub fn plan_sections_len(figures: Figures, u: &[i64], v: &[i64], plan: &[u64]) -> usize
     requires { (length u.now ≤ max_side) × (length v.now ≤ max_side) × (length plan.now ≤ max_side * max_side) × (1 ≤ length v.now) }
     ensures { result ≡ length (plan_sections_of figures u.now v.now plan.now) }
@@ -84,10 +90,10 @@ pub fn plan_sections_len(figures: Figures, u: &[i64], v: &[i64], plan: &[u64]) -
     let total = [figures.total];
     let rounds = [figures.rounds];
     let count = figures.used;
-    wholes::whole_section_len(b"total ", 1, &total)
+    section::section_len(b"total ", 1, &total)
         + section::section_len(b"rounds ", 1, &rounds)
-        + wholes::whole_section_len(b"roasteries ", u.len(), u)
-        + wholes::whole_section_len(b"cafes ", v.len(), v)
+        + section::section_len(b"roasteries ", u.len(), u)
+        + section::section_len(b"cafes ", v.len(), v)
         + section::head_len(b"lanes ", count)
         + lanes::lanes_len(plan, v.len())
 }
