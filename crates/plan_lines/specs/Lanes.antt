@@ -6,6 +6,7 @@ use Rattle.std.specs.List.{count_by}
 use Rattle.std.proofs.lemmas.List.Sums.{sum_by_push}
 use Rattle.transport.specs.Lists.{at, keep, table}
 use Rattle.transport.specs.Laws.ListLaws.{table_cong, table-get_or, flat_map-append, keep_append, keep_yes, keep_no}
+use Rattle.transport.specs.Limits.{max_side}
 use Rattle.transport.specs.Problem.{Lane, lanes, place}
 use Rattle.transport.specs.Laws.ProblemLaws.{lane, length-lanes, get_or-lanes}
 use Rattle.transport.specs.PlanText.{carried, used, lane_line}
@@ -61,8 +62,12 @@ text-room n plan k p =
     let next = text-grows n plan (k + 1) (length plan) (omega arith) in
     omega (arith, ap length (text-next n plan k), length-append (used_text n plan k) (lane_text n k (at plan k)))
 
+pub side-is : max_side ≡ 32
+unfolding max_side
+side-is = refl
+
 -- What a proof of lines, place by place, goes by.
-pub ruleset next_texts = (pieces, text-zero, text-next, text-room, front-nil)
+pub ruleset next_texts = (pieces, text-zero, text-next, text-room, front-nil, side-is)
 
 pub count-zero : (plan : List ℕ) → used_count_of plan 0 ≡ 0
 unfolding used_count_of

@@ -43,7 +43,7 @@ fn lane_len(place: usize, n: usize, bags: u64) -> usize
 }
 
 // The lines of all lanes that carry a bag.
-#[tactic(auto, using(crate::specs::Lanes::next_texts), unfolding(transport::specs::Limits::max_side, transport::specs::Lists::at))]
+#[tactic(auto, using(crate::specs::Lanes::next_texts), unfolding(transport::specs::Lists::at))]
 pub fn write_lanes(plan: &[u64], n: usize, out: &mut [u8]) -> usize
     requires { (length plan.now ≤ max_side * max_side) × (1 ≤ n) × (length (used_text n plan.now (length plan.now)) ≤ length out.old) }
     ensures { let text = used_text n plan.now (length plan.now) in
@@ -57,7 +57,7 @@ pub fn write_lanes(plan: &[u64], n: usize, out: &mut [u8]) -> usize
 }
 
 // Their length.
-#[tactic(auto, using(crate::specs::Lanes::next_texts), unfolding(transport::specs::Limits::max_side, transport::specs::Lists::at))]
+#[tactic(auto, using(crate::specs::Lanes::next_texts), unfolding(transport::specs::Lists::at))]
 pub fn lanes_len(plan: &[u64], n: usize) -> usize
     requires { (length plan.now ≤ max_side * max_side) × (1 ≤ n) }
     ensures { let plan = plan.entry.now in

@@ -15,7 +15,7 @@ use sheet::SheetCheck;
 use transport::WriteAnswer;
 
 // The length of the text of an accepted sheet.
-#[tactic(auto, using(crate::specs::SheetSections::lengths), unfolding(transport::specs::Text::bytes, transport::specs::Sheet::roasteries, transport::specs::Sheet::cafes, transport::specs::Limits::max_sources, transport::specs::Limits::max_sinks))]
+#[tactic(auto, using(crate::specs::SheetSections::parts), unfolding(transport::specs::Text::bytes))]
 fn text_len(supply: &[u64], demand: &[u64], cost: &[i64]) -> usize
     requires { Accepted (sheet_of supply.now demand.now cost.now) }
     ensures { result ≡ length (sheet_text (sheet_of supply.now demand.now cost.now)) }
@@ -41,7 +41,7 @@ fn write_after_supply(m: usize, demand: &[u64], cost: &[i64], out: &mut [u8]) ->
 }
 
 // The text of an accepted sheet: the supplies, and the other sections in what is left of the output.
-#[tactic(auto, using(decimals::specs::Front::pieces, crate::specs::SheetSections::lengths), unfolding(transport::specs::Text::bytes))]
+#[tactic(auto, using(crate::specs::SheetSections::parts), unfolding(transport::specs::Text::bytes))]
 fn write_text(supply: &[u64], demand: &[u64], cost: &[i64], out: &mut [u8]) -> usize
     requires { (Accepted (sheet_of supply.now demand.now cost.now))
         × (length (sheet_text (sheet_of supply.now demand.now cost.now)) ≤ length out.old) }

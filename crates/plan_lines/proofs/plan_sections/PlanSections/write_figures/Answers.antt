@@ -2,12 +2,11 @@
 use Rattle.std.proofs.Common.{to_z-of_z, SFits, w64, rules}
 use Rattle.transport.specs.Text.{bytes}
 use Rattle.decimals.specs.Front.{begun, both}
-use Rattle.plan_lines.specs.Sections.{figures_text}
-use Rattle.plan_lines.proofs.plan_sections.write_figures.Goals as goal
+use Rattle.plan_lines.proofs.plan_sections.PlanSections.write_figures.Goals as goal
 
 pub returns : goal.returns
-unfolding figures_text bytes
+unfolding bytes
 returns c =
-    let fits : SFits w64 c.args.figures.total = search rules in
+    let fits : SFits w64 c.args.self.figures.total = search rules in
     let first = rw (to_z-of_z fits) at c.write_section-at.ensures in
     both (begun _ _ c.requires first) _ _ c.write_section.ensures
