@@ -4,6 +4,7 @@ use Rattle.prelude.specs.Words.{refl, sym, ap, ◌∙◌, List, [], append-nil, 
 use Rattle.prelude.specs.Words.{take, drop, set, get_or, length-append, length-drop, drop_of_length-le, length-take-le, take_all, take_at, drop_at, drop-drop}
 use Rattle.prelude.specs.Words.{drop-cons, set_at}
 use Rattle.std.proofs.Common.{take-add}
+use Rattle.std.proofs.lemmas.Grind.{common_steps}
 use borrow.Rule.Slice.PartMut.{mid_of, put_mid}
 
 module _ {A : Type 0} where
@@ -74,6 +75,11 @@ pub record FirstWritten (first second out held : List ℕ) (n : ℕ) : Type 0 wh
   pub ends : n ≡ length first
   pub holds : held ≡ front first out
 
+-- So it is after a call that writes the first.
+pub begun : (first second : List ℕ) {out held : List ℕ} {n : ℕ} → length (first ++ second) ≤ length out
+    → (n ≡ length first) × (held ≡ front first out) → FirstWritten first second out held n
+begun first second p e = record { room = p; ends = e.0; holds = e.1 }
+
 module _ {first second out held : List ℕ} {n : ℕ} (b : FirstWritten first second out held n) where
   pub second-start : n ≤ length held
   second-start = let r = first-room first second out b.room in omega (arith, b.ends, ap length b.holds ∙ length_front first out r)
@@ -87,6 +93,11 @@ module _ {first second out held : List ℕ} {n : ℕ} (b : FirstWritten first se
   pub both-written : (after : List ℕ) → after ≡ front second (mid_of n (length held - n) held) → put_mid n (length held - n) held after
       ≡ front (first ++ second) out
   both-written after e = rw e (front-then first out held n b.ends b.holds second)
+
+  -- So both stand there after a call that writes the second.
+  pub both : (k : ℕ) (after : List ℕ) → let rest = mid_of n (length held - n) held in (k ≡ length second) × (after ≡ front second rest)
+      → (n + k ≡ length (first ++ second)) × (put_mid n (length held - n) held after ≡ front (first ++ second) out)
+  both k after e = (both-length k e.0, both-written after e.1)
 
 -- ---- a text written piece by piece: what is written is its first `at` bytes
 
@@ -105,3 +116,6 @@ module _ (T : List ℕ) (at : ℕ) (piece rest : List ℕ) (p : at ≤ length T)
   piece_next out held q h =
       let n : length (take at T) ≡ at = length-take-le at T p in
       record { room = omega (arith, length-append (take at T) piece, piece_room); ends = sym n; holds = h }
+
+-- What a proof of pieces, one after the other, goes by.
+pub ruleset pieces = (common_steps, length_front)

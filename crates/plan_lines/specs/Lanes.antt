@@ -1,13 +1,17 @@
 -- The lanes that carry a bag: what the code writes and counts, place by place, is what the lanes' section of the plan text shows.
 use Rattle.std.specs.Prelude.{◌≡◌, ◌∷◌, ◌++◌, ◌+◌, ◌*◌, ◌/◌, ◌%◌, ◌≤◌, ◌<◌}
 use Rattle.prelude.specs.Words.{refl, sym, ap, ◌∙◌, by_cases, Bool, not, cond, List, [], flat_map, append-nil, ℕ, zero, suc}
-use Rattle.prelude.specs.Words.{arith, add-one, dec_le, div-add-mod', mod-lt, div-lt_iff_lt-mul, eqb, length, get_or, length-append, ne_eqb}
+use Rattle.prelude.specs.Words.{arith, add-one, dec_le, div-add-mod', mod-lt, div-lt_iff_lt-mul, eqb, ltb, lt-ltb, length, take, take-suc, take_all, get_or, length-append, ne_eqb}
+use Rattle.std.specs.List.{count_by}
+use Rattle.std.proofs.lemmas.List.Sums.{sum_by_push}
 use Rattle.transport.specs.Lists.{at, keep, table}
 use Rattle.transport.specs.Laws.ListLaws.{table_cong, table-get_or, flat_map-append, keep_append, keep_yes, keep_no}
+use Rattle.transport.specs.Limits.{max_side}
 use Rattle.transport.specs.Problem.{Lane, lanes, place}
 use Rattle.transport.specs.Laws.ProblemLaws.{lane, length-lanes, get_or-lanes}
 use Rattle.transport.specs.PlanText.{carried, used, lane_line}
 use Rattle.transport.specs.Text.{digits}
+use Rattle.decimals.specs.Front.{front-nil, pieces}
 use Rattle.sections.specs.Lines.{lines_from, lines_nil, lines_row}
 
 -- The numbers in the line of the lane at a place, among n columns: its row and its column, both from 1, and its bags.
@@ -51,6 +55,20 @@ text-grows n plan k (suc m) p = by_cases (dec_le k m)
     (λ q. omega (arith, length-append (used_text n plan m) (lane_text n m (at plan m)), text-grows n plan k m q))
     (λ q. let e : k ≡ suc m = omega arith in rw e (omega arith))
 
+-- There is room for the next line where there is room for all of them.
+pub text-room : (n : ℕ) (plan : List ℕ) (k : ℕ) → k < length plan
+    → length (used_text n plan k) + length (lane_text n k (at plan k)) ≤ length (used_text n plan (length plan))
+text-room n plan k p =
+    let next = text-grows n plan (k + 1) (length plan) (omega arith) in
+    omega (arith, ap length (text-next n plan k), length-append (used_text n plan k) (lane_text n k (at plan k)))
+
+pub side-is : max_side ≡ 32
+unfolding max_side
+side-is = refl
+
+-- What a proof of lines, place by place, goes by.
+pub ruleset next_texts = (pieces, text-zero, text-next, text-room, front-nil, side-is)
+
 pub count-zero : (plan : List ℕ) → used_count_of plan 0 ≡ 0
 unfolding used_count_of
 count-zero plan = refl
@@ -62,6 +80,25 @@ count_none plan k e = rw (add-one, e) (omega arith)
 pub count-one : (plan : List ℕ) (k : ℕ) → (at plan k ≡ 0 → ⊥) → used_count_of plan (k + 1) ≡ used_count_of plan k + 1
 unfolding used_count_of
 count-one plan k p = rw (add-one, ne_eqb (at plan k) 0 p)
+
+counted : (bags : ℕ) → ◌≡◌ {A = ℕ} (cond (eqb bags 0) 0 1) (cond (ltb 0 bags) 1 0)
+counted zero = refl
+counted (suc b) = rw (lt-ltb 0 (suc b) (omega arith), ne_eqb (suc b) 0 (λ e. omega arith))
+
+-- The count of the first k places counts the bags that are there.
+count_take : (plan : List ℕ) (k : ℕ) → k ≤ length plan → used_count_of plan k ≡ count_by (λ bags. ltb 0 bags) (take k plan)
+unfolding used_count_of at
+count_take plan zero p = refl
+count_take plan (suc k) p =
+    rw (
+      take-suc plan k 0 (omega arith),
+      sum_by_push (λ bags. cond (ltb 0 bags) 1 0),
+      count_take plan k (omega arith),
+      counted (get_or plan k 0),
+    )
+
+pub count_all : (plan : List ℕ) → used_count_of plan (length plan) ≡ count_by (λ bags. ltb 0 bags) plan
+count_all plan = count_take plan (length plan) (omega arith) ∙ (rw (take_all (length plan) plan (omega arith)))
 
 -- ---- sheet order, by places
 

@@ -8,21 +8,22 @@ use Rattle.transport.specs.Text.{bytes, digits, whole_digits, head_line, number_
 use Rattle.transport.specs.Calls.{Solution, solution}
 use Rattle.transport.specs.PlanText.{whole_line, used, lane_line, plan_text}
 use Rattle.transport.specs.Laws.CallLaws.{Fills}
-use Rattle.sections.specs.Lines.{ended, section_text, lines_from, section_of, head-line, number_lines, whole_lines}
-use Rattle.plan_lines.specs.Lanes.{used_text, used_count_of, used-whole}
+use Rattle.std.proofs.lemmas.Grind.{common_steps}
+use Rattle.sections.specs.Lines.{ended, section_text, length_section, lines_from, section_of, head-line, number_lines, whole_lines}
+use Rattle.plan_lines.specs.Lanes.{used_text, used_count_of, used-whole, side-is}
 
-unfoldable pub figures_text : Figures → List ℕ
+abbrev pub figures_text : Figures → List ℕ
 figures_text f = section_text whole_digits (bytes "total ") 1 1 (f.total ∷ []) ++ section_text digits (bytes "rounds ") 1 1 (f.rounds ∷ [])
 
 -- Prices, one in a line, after their count.
 abbrev pub price_section : List ℕ → List ℤ → List ℕ
 price_section name zs = section_text whole_digits name (length zs) 1 zs
 
-unfoldable pub prices_text : List ℤ → List ℤ → List ℕ
+abbrev pub prices_text : List ℤ → List ℤ → List ℕ
 prices_text u v = price_section (bytes "roasteries ") u ++ price_section (bytes "cafes ") v
 
 -- The lanes of a plan of n columns that carry a bag, after their count.
-unfoldable pub lanes_text : ℕ → ℕ → List ℕ → List ℕ
+abbrev pub lanes_text : ℕ → ℕ → List ℕ → List ℕ
 lanes_text count n plan = bytes "lanes " ++ ended digits count 10 ++ used_text n plan (length plan)
 
 -- Each café has a price, and a column in the plan.
@@ -36,6 +37,9 @@ pub sections_length : (f : Figures) (u v : List ℤ) (plan : List ℕ) → lengt
     + length (used_text (length v) plan (length plan))
 unfolding plan_sections_of figures_text prices_text lanes_text
 sections_length f u v plan = simp length-append (omega arith)
+
+-- What a proof of its length goes by.
+pub ruleset lengths = (common_steps, length_section, sections_length, side-is)
 
 -- ---- of a solution
 

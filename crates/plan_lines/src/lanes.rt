@@ -1,5 +1,6 @@
-// The lanes of a plan that carry a bag, in sheet order: a line for each, with its source and its sink, both counted from 1, and its bags. They are written and
-// counted from the plan, without a list of their own.
+// The lanes of a plan that carry a bag, in sheet order: a line for each, with its source and its
+// sink, both counted from 1, and its bags. They are written and counted from the plan, without a
+// list of their own.
 ghost use Rattle.std.specs.Prelude.{◌≡◌, ◌*◌, ◌≤◌, ◌<◌, length};
 ghost use Rattle.transport.specs.Limits.{max_side};
 ghost use Rattle.decimals.specs.Front.{front};
@@ -8,6 +9,7 @@ ghost use Rattle.plan_lines.specs.Lanes.{lane_numbers_of, lane_text, used_text, 
 use sections::section;
 
 // The numbers in the line of the lane at a place, among n columns.
+#[tactic(auto, unfolding(transport::specs::Limits::max_side))]
 fn lane_numbers(place: usize, n: usize, bags: u64) -> [u64; 3]
     requires { (place < max_side * max_side) × (1 ≤ n) }
     ensures { result ≡ lane_numbers_of n place bags }
@@ -16,6 +18,7 @@ fn lane_numbers(place: usize, n: usize, bags: u64) -> [u64; 3]
 }
 
 // The line of the lane at a place; none if it carries no bag.
+#[tactic(auto, unfolding(crate::specs::Lanes::lane_text, decimals::specs::Front::front))]
 fn write_lane(place: usize, n: usize, bags: u64, out: &mut [u8]) -> usize
     requires { (place < max_side * max_side) × (1 ≤ n) × (length (lane_text n place bags) ≤ length out.old) }
     ensures { let text = lane_text n place bags in
@@ -24,11 +27,11 @@ fn write_lane(place: usize, n: usize, bags: u64, out: &mut [u8]) -> usize
     if bags == 0 {
         return 0;
     }
-    let numbers = lane_numbers(place, n, bags);
-    section::write_lines(&numbers, 3, out)
+    section::write_lines(&lane_numbers(place, n, bags), 3, out)
 }
 
 // Its length.
+#[tactic(auto, using(sections::specs::Lines::length_lines), unfolding(crate::specs::Lanes::lane_text))]
 fn lane_len(place: usize, n: usize, bags: u64) -> usize
     requires { (place < max_side * max_side) × (1 ≤ n) }
     ensures { (result ≡ length (lane_text n place bags)) × (result ≤ 63) }
@@ -36,36 +39,33 @@ fn lane_len(place: usize, n: usize, bags: u64) -> usize
     if bags == 0 {
         return 0;
     }
-    let numbers = lane_numbers(place, n, bags);
-    section::numbers_len(&numbers)
+    section::numbers_len(&lane_numbers(place, n, bags))
 }
 
 // The lines of all lanes that carry a bag.
+#[tactic(auto, using(crate::specs::Lanes::next_texts), unfolding(transport::specs::Lists::at))]
 pub fn write_lanes(plan: &[u64], n: usize, out: &mut [u8]) -> usize
     requires { (length plan.now ≤ max_side * max_side) × (1 ≤ n) × (length (used_text n plan.now (length plan.now)) ≤ length out.old) }
     ensures { let text = used_text n plan.now (length plan.now) in
         (result ≡ length text) × (out.new ≡ front text out.old) }
 {
-    let mut at: usize = 0;
-    let mut l: usize = 0;
-    while l < plan.len() {
-        at += write_lane(l, n, plan[l], &mut out[at..]);
-        l += 1;
+    let mut at = 0;
+    for (place, bags) in plan.iter().enumerate() {
+        at += write_lane(place, n, *bags, &mut out[at..]);
     }
     at
 }
 
 // Their length.
+#[tactic(auto, using(crate::specs::Lanes::next_texts), unfolding(transport::specs::Lists::at))]
 pub fn lanes_len(plan: &[u64], n: usize) -> usize
     requires { (length plan.now ≤ max_side * max_side) × (1 ≤ n) }
     ensures { let plan = plan.entry.now in
         (result ≡ length (used_text n plan (length plan))) × (result ≤ length plan * 63) }
 {
-    let mut len: usize = 0;
-    let mut l: usize = 0;
-    while l < plan.len() {
-        len += lane_len(l, n, plan[l]);
-        l += 1;
+    let mut len = 0;
+    for (place, bags) in plan.iter().enumerate() {
+        len += lane_len(place, n, *bags);
     }
     len
 }
@@ -74,13 +74,5 @@ pub fn lanes_len(plan: &[u64], n: usize) -> usize
 pub fn used_count(plan: &[u64]) -> usize
     ensures { result ≡ used_count_of plan.now (length plan.now) }
 {
-    let mut count: usize = 0;
-    let mut l: usize = 0;
-    while l < plan.len() {
-        if 0 < plan[l] {
-            count += 1;
-        }
-        l += 1;
-    }
-    count
+    plan.iter().filter(|bags| 0 < **bags).count()
 }

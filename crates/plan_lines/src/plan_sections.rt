@@ -1,13 +1,14 @@
-// The plan text from its figures: five sections, each written in what the sections before it left of the output.
+// The plan text: five sections, each written in what the sections before it left of the output.
 ghost use Rattle.std.specs.Prelude.{◌≡◌, ◌++◌, ◌*◌, ◌≤◌, length};
 ghost use Rattle.transport.specs.Limits.{max_side};
 ghost use Rattle.decimals.specs.Front.{front};
 ghost use Rattle.plan_lines.specs.Sections.{figures_text, prices_text, lanes_text, plan_sections_of};
 
 use crate::lanes;
-use sections::{section, wholes};
+use sections::section;
 
-// What the plan text shows in one number each: the cost, the rounds, and the count of the lanes that carry a bag.
+// What the plan text shows in one number each: the cost, the rounds, and the count of the lanes
+// that carry a bag.
 #[derive(Clone, Copy)]
 pub struct Figures {
     pub total: i64,
@@ -15,79 +16,95 @@ pub struct Figures {
     pub used: usize,
 }
 
-// The cost and the rounds.
-fn write_figures(figures: Figures, out: &mut [u8]) -> usize
-    requires { length (figures_text figures) ≤ length out.old }
-    ensures { (result ≡ length (figures_text figures)) × (out.new ≡ front (figures_text figures) out.old) }
-{
-    let total = [figures.total];
-    let rounds = [figures.rounds];
-    let at = wholes::write_whole_section(b"total ", 1, 1, &total, out);
-    at + section::write_section(b"rounds ", 1, &rounds, &mut out[at..])
+// All that the plan text shows: its figures, the prices of the roasteries and of the cafés, and the
+// plan. Each café has a price, and a column in the plan.
+#[derive(Clone, Copy)]
+pub struct PlanSections<'a> {
+    pub figures: Figures,
+    pub u: &'a [i64],
+    pub v: &'a [i64],
+    pub plan: &'a [u64],
 }
 
-// The prices: those of the roasteries, and those of the cafés.
-fn write_price_sections(u: &[i64], v: &[i64], out: &mut [u8]) -> usize
-    requires { length (prices_text u.now v.now) ≤ length out.old }
-    ensures { let text = prices_text u.now v.now in
-        (result ≡ length text) × (out.new ≡ front text out.old) }
-{
-    let at = wholes::write_whole_section(b"roasteries ", u.len(), 1, u, out);
-    at + wholes::write_whole_section(b"cafes ", v.len(), 1, v, &mut out[at..])
-}
+impl PlanSections<'_> {
+    // The cost and the rounds.
+    #[tactic(auto, using(decimals::specs::Front::pieces), unfolding(transport::specs::Text::bytes))]
+    fn write_figures(self, out: &mut [u8]) -> usize
+        requires { length (figures_text self.figures) ≤ length out.old }
+        ensures { let shown = self.entry in
+            let text = figures_text shown.figures in
+            (result ≡ length text) × (out.new ≡ front text out.old) }
+    {
+        let at = section::write_section(b"total ", 1, 1, &[self.figures.total], out);
+        at + section::write_section(b"rounds ", 1, 1, &[self.figures.rounds], &mut out[at..])
+    }
 
-// The lanes: the count of those that carry a bag, and their lines.
-fn write_lane_section(count: usize, plan: &[u64], n: usize, out: &mut [u8]) -> usize
-    requires { (length plan.now ≤ max_side * max_side) × (1 ≤ n) × (length (lanes_text count n plan.now) ≤ length out.old) }
-    ensures { let text = lanes_text count n plan.now in
-        (result ≡ length text) × (out.new ≡ front text out.old) }
-{
-    let at = section::write_head(b"lanes ", count, out);
-    at + lanes::write_lanes(plan, n, &mut out[at..])
-}
+    // The prices: those of the roasteries, and those of the cafés.
+    #[tactic(auto, using(decimals::specs::Front::pieces), unfolding(transport::specs::Text::bytes))]
+    fn write_prices(self, out: &mut [u8]) -> usize
+        requires { length (prices_text self.u.now self.v.now) ≤ length out.old }
+        ensures { let shown = self.entry in
+            let text = prices_text shown.u.now shown.v.now in
+            (result ≡ length text) × (out.new ≡ front text out.old) }
+    {
+        let at = section::write_section(b"roasteries ", self.u.len(), 1, self.u, out);
+        at + section::write_section(b"cafes ", self.v.len(), 1, self.v, &mut out[at..])
+    }
 
-// The sections after the figures: the prices, and the lanes.
-fn write_after_figures(count: usize, u: &[i64], v: &[i64], plan: &[u64], out: &mut [u8]) -> usize
-    requires { (length plan.now ≤ max_side * max_side) × (1 ≤ length v.now)
-        × (length (prices_text u.now v.now ++ lanes_text count (length v.now) plan.now) ≤ length out.old) }
-    ensures { let v = v.entry.now in
-        let text = prices_text u.now v ++ lanes_text count (length v) plan.now in
-        (result ≡ length text) × (out.new ≡ front text out.old) }
-{
-    let at = write_price_sections(u, v, out);
-    at + write_lane_section(count, plan, v.len(), &mut out[at..])
-}
+    // The lanes: the count of those that carry a bag, and their lines.
+    #[tactic(auto, using(decimals::specs::Front::pieces), unfolding(transport::specs::Text::bytes))]
+    fn write_lanes(self, out: &mut [u8]) -> usize
+        requires { (length self.plan.now ≤ max_side * max_side) × (1 ≤ length self.v.now)
+            × (length (lanes_text self.figures.used (length self.v.now) self.plan.now) ≤ length out.old) }
+        ensures { let shown = self.entry in
+            let text = lanes_text shown.figures.used (length shown.v.now) shown.plan.now in
+            (result ≡ length text) × (out.new ≡ front text out.old) }
+    {
+        let at = section::write_head(b"lanes ", self.figures.used, out);
+        at + lanes::write_lanes(self.plan, self.v.len(), &mut out[at..])
+    }
 
-// The whole text. Each café has a price, and a column in the plan.
-pub fn write_plan_sections(
-    figures: Figures,
-    u: &[i64],
-    v: &[i64],
-    plan: &[u64],
-    out: &mut [u8],
-) -> usize
-    requires { (length plan.now ≤ max_side * max_side) × (1 ≤ length v.now)
-        × (length (plan_sections_of figures u.now v.now plan.now) ≤ length out.old) }
-    ensures { let text = plan_sections_of figures u.now v.now plan.now in
-        (result ≡ length text) × (out.new ≡ front text out.old) }
-{
-    let at = write_figures(figures, out);
-    let count = figures.used;
-    at + write_after_figures(count, u, v, plan, &mut out[at..])
-}
+    // The sections after the figures: the prices, and the lanes.
+    #[tactic(auto, using(decimals::specs::Front::pieces))]
+    fn write_after_figures(self, out: &mut [u8]) -> usize
+        requires { (length self.plan.now ≤ max_side * max_side) × (1 ≤ length self.v.now)
+            × (length (prices_text self.u.now self.v.now ++ lanes_text self.figures.used (length self.v.now) self.plan.now)
+            ≤ length out.old) }
+        ensures { let shown = self.entry in
+            let text = prices_text shown.u.now shown.v.now
+            ++ lanes_text shown.figures.used (length shown.v.now) shown.plan.now in
+            (result ≡ length text) × (out.new ≡ front text out.old) }
+    {
+        let at = self.write_prices(out);
+        at + self.write_lanes(&mut out[at..])
+    }
 
-// Its length.
-pub fn plan_sections_len(figures: Figures, u: &[i64], v: &[i64], plan: &[u64]) -> usize
-    requires { (length u.now ≤ max_side) × (length v.now ≤ max_side) × (length plan.now ≤ max_side * max_side) × (1 ≤ length v.now) }
-    ensures { result ≡ length (plan_sections_of figures u.now v.now plan.now) }
-{
-    let total = [figures.total];
-    let rounds = [figures.rounds];
-    let count = figures.used;
-    wholes::whole_section_len(b"total ", 1, &total)
-        + section::section_len(b"rounds ", 1, &rounds)
-        + wholes::whole_section_len(b"roasteries ", u.len(), u)
-        + wholes::whole_section_len(b"cafes ", v.len(), v)
-        + section::head_len(b"lanes ", count)
-        + lanes::lanes_len(plan, v.len())
+    // The whole text.
+    #[tactic(auto, using(decimals::specs::Front::pieces), unfolding(crate::specs::Sections::plan_sections_of))]
+    pub fn write_text(self, out: &mut [u8]) -> usize
+        requires { (length self.plan.now ≤ max_side * max_side) × (1 ≤ length self.v.now)
+            × (length (plan_sections_of self.figures self.u.now self.v.now self.plan.now) ≤ length out.old) }
+        ensures { let shown = self.entry in
+            let text = plan_sections_of shown.figures shown.u.now shown.v.now shown.plan.now in
+            (result ≡ length text) × (out.new ≡ front text out.old) }
+    {
+        let at = self.write_figures(out);
+        at + self.write_after_figures(&mut out[at..])
+    }
+
+    // Its length.
+    #[tactic(auto, using(crate::specs::Sections::lengths), unfolding(transport::specs::Text::bytes))]
+    pub fn text_len(self) -> usize
+        requires { (length self.u.now ≤ max_side) × (length self.v.now ≤ max_side)
+            × (length self.plan.now ≤ max_side * max_side) × (1 ≤ length self.v.now) }
+        ensures { let shown = self.entry in
+            result ≡ length (plan_sections_of shown.figures shown.u.now shown.v.now shown.plan.now) }
+    {
+        section::section_len(b"total ", 1, &[self.figures.total])
+            + section::section_len(b"rounds ", 1, &[self.figures.rounds])
+            + section::section_len(b"roasteries ", self.u.len(), self.u)
+            + section::section_len(b"cafes ", self.v.len(), self.v)
+            + section::head_len(b"lanes ", self.figures.used)
+            + lanes::lanes_len(self.plan, self.v.len())
+    }
 }

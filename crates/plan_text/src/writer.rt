@@ -6,12 +6,13 @@ ghost use Rattle.transport.specs.PlanText.{write_plan_call};
 ghost use Rattle.transport.specs.Answers.{write_answer};
 
 use plan_lines::lanes::used_count;
-use plan_lines::plan_sections::{Figures, plan_sections_len, write_plan_sections};
+use plan_lines::plan_sections::{Figures, PlanSections};
 use solve_call::solve;
 use transport::{MAX_LANES, MAX_SIDE, SolveAnswer, WriteAnswer};
 
-// Write plan: the plan text of the solved sheet in the output, its length in the answer; or a refusal, as by write sheet, and the output is as it was. The
-// length is known before the first byte is written.
+// Write plan: the plan text of the solved sheet in the output, its length in the answer; or a
+// refusal, as by write sheet, and the output is as it was. The length is known before the first
+// byte is written.
 pub fn write_plan(supply: &[u64], demand: &[u64], cost: &[i64], out: &mut [u8]) -> WriteAnswer
     ensures { let S = sheet_of supply.now demand.now cost.now in
         let a = write_plan_call S (length out.old) in
@@ -30,15 +31,21 @@ pub fn write_plan(supply: &[u64], demand: &[u64], cost: &[i64], out: &mut [u8]) 
             let m = supply.len();
             let n = demand.len();
             let lanes = m * n;
-            let figures = Figures {
-                total,
-                rounds,
-                used: used_count(&plan[..lanes]),
+            let plan = &plan[..lanes];
+            let sections = PlanSections {
+                figures: Figures {
+                    total,
+                    rounds,
+                    used: used_count(plan),
+                },
+                u: &u[..m],
+                v: &v[..n],
+                plan,
             };
-            if out.len() < plan_sections_len(figures, &u[..m], &v[..n], &plan[..lanes]) {
+            if out.len() < sections.text_len() {
                 return WriteAnswer::Refused(8);
             }
-            let len = write_plan_sections(figures, &u[..m], &v[..n], &plan[..lanes], out);
+            let len = sections.write_text(out);
             WriteAnswer::Written(len)
         }
     }

@@ -3,4 +3,3 @@
 
 pub mod lines;
 pub mod section;
-pub mod wholes;

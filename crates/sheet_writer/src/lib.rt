@@ -10,11 +10,12 @@ ghost use Rattle.transport.specs.Statements.{Accepted};
 ghost use Rattle.decimals.specs.Front.{front};
 ghost use Rattle.sheet_writer.specs.SheetSections.{demand_section, cost_section};
 
-use sections::{section, wholes};
+use sections::section;
 use sheet::SheetCheck;
 use transport::WriteAnswer;
 
 // The length of the text of an accepted sheet.
+#[tactic(auto, using(crate::specs::SheetSections::parts), unfolding(transport::specs::Text::bytes))]
 fn text_len(supply: &[u64], demand: &[u64], cost: &[i64]) -> usize
     requires { Accepted (sheet_of supply.now demand.now cost.now) }
     ensures { result ≡ length (sheet_text (sheet_of supply.now demand.now cost.now)) }
@@ -23,10 +24,11 @@ fn text_len(supply: &[u64], demand: &[u64], cost: &[i64]) -> usize
     let n = demand.len();
     section::section_len(b"supply ", m, supply)
         + section::section_len(b"demand ", n, demand)
-        + wholes::whole_section_len(b"cost ", m, cost)
+        + section::section_len(b"cost ", m, cost)
 }
 
 // The sections after the first one, for a sheet of m sources: the demands, and the costs in what is left of the output.
+#[tactic(auto, using(decimals::specs::Front::pieces), unfolding(transport::specs::Text::bytes))]
 fn write_after_supply(m: usize, demand: &[u64], cost: &[i64], out: &mut [u8]) -> usize
     requires { (1 ≤ length demand.now)
         × (length (demand_section demand.now ++ cost_section m (length demand.now) cost.now) ≤ length out.old) }
@@ -34,11 +36,12 @@ fn write_after_supply(m: usize, demand: &[u64], cost: &[i64], out: &mut [u8]) ->
         (result ≡ length text) × (out.new ≡ front text out.old) }
 {
     let n = demand.len();
-    let at = section::write_section(b"demand ", n, demand, out);
-    at + wholes::write_whole_section(b"cost ", m, n, cost, &mut out[at..])
+    let at = section::write_section(b"demand ", n, 1, demand, out);
+    at + section::write_section(b"cost ", m, n, cost, &mut out[at..])
 }
 
 // The text of an accepted sheet: the supplies, and the other sections in what is left of the output.
+#[tactic(auto, using(crate::specs::SheetSections::parts), unfolding(transport::specs::Text::bytes))]
 fn write_text(supply: &[u64], demand: &[u64], cost: &[i64], out: &mut [u8]) -> usize
     requires { (Accepted (sheet_of supply.now demand.now cost.now))
         × (length (sheet_text (sheet_of supply.now demand.now cost.now)) ≤ length out.old) }
@@ -46,7 +49,7 @@ fn write_text(supply: &[u64], demand: &[u64], cost: &[i64], out: &mut [u8]) -> u
         (result ≡ length text) × (out.new ≡ front text out.old) }
 {
     let m = supply.len();
-    let at = section::write_section(b"supply ", m, supply, out);
+    let at = section::write_section(b"supply ", m, 1, supply, out);
     at + write_after_supply(m, demand, cost, &mut out[at..])
 }
 
