@@ -3,8 +3,6 @@ use Rattle.std.specs.Prelude.{◌≡◌, ◌∷◌, ◌++◌, ◌*◌, ◌-◌, 
 use Rattle.prelude.specs.Words.{refl, sym, ap, ◌∙◌, by_cases, Bool, none, some, List, [], ℕ, suc, min, arith, dec_le, length}
 use Rattle.prelude.specs.Words.{take, take_all, eq-eqb, by_test, by_option, some≢none, drop, length-drop}
 use Rattle.transport.specs.declared.WriteAnswer.TheVariants.{Written, Refused}
-use Rattle.transport.specs.declared.ReadAnswer.{ReadAnswer}
-use Rattle.transport.specs.declared.ReadAnswer.TheVariants.{NotSheetText}
 use Rattle.transport.specs.Limits.{max_sources, max_sinks, max_text}
 use Rattle.transport.specs.Sheet.{Sheet, sheet_tests, number_tests, bad_sides, bad_length, bad_amount, bad_cost, lacking, crowded, idle, refusal}
 use Rattle.transport.specs.Laws.SheetLaws.{true-within, refusal_yes, refusal_no}
@@ -17,7 +15,6 @@ use Rattle.transport.specs.Answers.{write_answer}
 use Rattle.sheet.specs.Refusals.{sheet-numbers}
 use Rattle.grammar.specs.Every.{Every}
 use Rattle.grammar.specs.SheetCalls.{read_got, read_stuck}
-use Rattle.sheet_reader.specs.SheetAnswer.{answer_of, ReadFits}
 use Rattle.decimals.specs.Front.{front}
 use Rattle.decimals.specs.Fitting.{fitting-short, fitting-fits}
 use Rattle.sections.specs.Lines.{ended}
@@ -153,11 +150,11 @@ module _ (input : List ℕ) where
   unfolding printed
   printed-place rest e = rw (read_stuck number_tests text_read rest e, printed) (place-line (length text_read - length rest))
 
-  pub printed-stuck : {text : List ℕ} {found : ReadAnswer} {place : ℕ} (f : ℕ → ℕ → Sheet) → text ≡ text_read → sheet_reader text ≡ answer_of text f found
-      → ReadFits text found → found ≡ NotSheetText place → printed input ≡ bytes "refused 9 " ++ ended digits place 10
-  printed-stuck {text} {place = place} f t reads fits e =
-      let stands : sheet_reader text_read ≡ stuck (drop place text_read) = rw (t, e) at reads in
-      let inside : place ≤ length text_read = rw (t, e) at fits in
+  pub printed-stuck : (text : List ℕ) (place : ℕ) → text ≡ text_read → sheet_reader text ≡ stuck (drop place text)
+      → place ≤ length text → printed input ≡ bytes "refused 9 " ++ ended digits place 10
+  printed-stuck text place t reads fits =
+      let stands : sheet_reader text_read ≡ stuck (drop place text_read) = rw t at reads in
+      let inside : place ≤ length text_read = rw t at fits in
       let same : length text_read - length (drop place text_read) ≡ place = omega (arith, length-drop place text_read) in
       printed-place (drop place text_read) stands ∙ (rw same)
 

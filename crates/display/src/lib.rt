@@ -12,8 +12,9 @@ ghost use Rattle.display.specs.Shown.{sheet_shown};
 
 use plan_text::write_plan;
 use sections::section;
-use sheet_reader::whole_text::read_sections;
-use transport::{MAX_LANES, MAX_SIDE, MAX_TEXT, ReadAnswer, WriteAnswer};
+use sheet_reader::whole_text::{Counts, read_sections};
+use tokens::Stuck;
+use transport::{MAX_LANES, MAX_SIDE, MAX_TEXT, WriteAnswer};
 
 // How many bytes of an input are read: at most one more than the longest sheet text has.
 pub const MAX_READ: usize = MAX_TEXT + 1;
@@ -57,6 +58,7 @@ fn show_plan(supply: &[u64], demand: &[u64], cost: &[i64], out: &mut [u8]) -> us
 
 // Shows, for what stands on the input, the plan text, `refused N`, or `refused 9 P` with the place P, and LF, and gives its length. If the output is too
 // short for it, the length is 0 and the output is as it was; MAX_PLAN_TEXT bytes are always enough.
+#[tactic(auto, unfolding(transport::specs::Limits::max_sources, transport::specs::Limits::max_sinks))]
 pub fn show(input: &[u8], out: &mut [u8]) -> usize
     ensures { let text = shown input.now (length out.old) in
         (result ≡ length text) × (out.new ≡ text ++ drop (length text) out.old) }
@@ -65,17 +67,11 @@ pub fn show(input: &[u8], out: &mut [u8]) -> usize
     let mut demand = [0u64; MAX_SIDE];
     let mut cost = [0i64; MAX_LANES];
     let end = bytes_read(input.len());
-    let answer = read_sections(&input[..end], &mut supply, &mut demand, &mut cost);
-    match answer {
-        ReadAnswer::Sheet {
-            sources: m,
-            sinks: n,
-        } => {
-            let lanes = m * n;
-            show_plan(&supply[..m], &demand[..n], &cost[..lanes], out)
+    match read_sections(&input[..end], &mut supply, &mut demand, &mut cost) {
+        Ok(Counts { sources, sinks }) => {
+            let lanes = sources * sinks;
+            show_plan(&supply[..sources], &demand[..sinks], &cost[..lanes], out)
         }
-        ReadAnswer::NotSheetText(place) => show_refusal(b"refused 9 ", place, out),
-        // The sections of a text are never refused by another number.
-        ReadAnswer::Refused(_) => 0,
+        Err(Stuck(place)) => show_refusal(b"refused 9 ", place, out),
     }
 }

@@ -1,7 +1,7 @@
 -- Numbers read in lines of `width`, one after the other, as Lines has them: what the columns and rows of the specification read. Their reader is any.
 use Rattle.std.specs.Prelude.{◌≡◌, ◌∷◌, ◌++◌, ◌+◌, ◌*◌, ◌-◌, ◌≤◌, ◌<◌}
 use Rattle.prelude.specs.Words.{refl, sym, ap, ◌∙◌, Bool, true, false, List, [], flatten, append_assoc, append-nil, ℕ, zero, suc}
-use Rattle.prelude.specs.Words.{arith, suc-mul, suc-add, zero-add, zero-mul, add-one, length, take, drop, set, take-suc-set}
+use Rattle.prelude.specs.Words.{arith, suc-mul, suc-add, zero-add, zero-mul, add-one, length, take, drop, set, take-suc-set, take-append_seam}
 use Rattle.transport.specs.Text.{bytes}
 use Rattle.transport.specs.SheetText.{Reading, stuck, got, Reader, ◌>>=◌, ◌>>◌, pure, times, word, line, row}
 use Rattle.sections.specs.Lines.{ending, left_after_of, ending-last, ending-more, left-last, left-more, left_pos}
@@ -140,6 +140,10 @@ module _ {A : Type 0} {r : Reader A} {text : List ℕ} {at width count : ℕ} {l
             is-left,
           ));
     }
+
+-- Numbers in the front of a longer list.
+pub front_is : {A : Type 0} (k : ℕ) (xs ys : List A) → k ≡ length xs → take k (xs ++ ys) ≡ xs
+front_is k xs ys e = rw e (take-append_seam xs ys)
 
 -- ---- rows
 

@@ -1,29 +1,14 @@
 -- The sheet reader by its sections: two lists, the costs and the end.
 use Rattle.std.specs.Prelude.{◌≡◌, ◌∷◌, ◌++◌, ◌*◌, ◌-◌, ◌≤◌}
-use Rattle.prelude.specs.Words.{refl, sym, ap, ◌∙◌, List, [], flatten, ℕ, zero, suc, arith, ℤ, length, take, drop, subst}
+use Rattle.prelude.specs.Words.{refl, sym, ap, ◌∙◌, List, [], flatten, ℕ, zero, suc, arith, ℤ, length, length-take-le, take}
 use Rattle.transport.specs.Limits.{max_sources, max_sinks}
 use Rattle.transport.specs.Text.{bytes, digits, head_line}
 use Rattle.transport.specs.Sheet.{Sheet}
 use Rattle.transport.specs.SheetText.{Reading, stuck, got, Reader, ◌>>=◌, ◌>>◌, pure, times, word, end, number, whole, side, line, row, sheet_reader}
 use Rattle.decimals.specs.Front.{front, front-take}
-use Rattle.sections.specs.Lines.{ended, head-line}
-use Rattle.tokens.specs.declared.Taken.{Taken}
-use Rattle.tokens.specs.declared.Taken.TheVariants.{Got, Stuck}
-use Rattle.tokens.specs.Reading.{reading_of, place_of, bind-got, bind-stuck, bind-inside, bind-same, bind_assoc, then-got, then-stuck, then_same, then_assoc}
+use Rattle.sections.specs.Lines.{ended, ending, ending-last, head-line}
+use Rattle.tokens.specs.Reading.{end_reading, end-stuck, line-end, bind-got, bind-stuck, bind-inside, bind-same, bind_assoc, then-got, then-stuck, then_same, then_assoc}
 use Rattle.line_reader.specs.LinesRead.{read_lines_of, column_lines, rows_lines, flat}
-
--- ---- what is found
-
-module _ {B : Type 0} (text : List ℕ) {first : Reading B} {found : Taken} (g : ℕ → B) (e : first ≡ reading_of text g found) (p : place_of found ≤ length text)
-  where
-    pub found-got : {v next : ℕ} → found ≡ Got v next → (first ≡ got (g v) (drop next text)) × (next ≤ length text)
-    found-got s = (e ∙ ap (reading_of text g) s, rw s at p)
-
-    -- Where the reader that comes first is stuck, so is the whole.
-    pub found-stuck : {A : Type 0} {whole : Reading A} {place : ℕ} (f : ℕ → A) (Value : Taken → Type 0) → Value (Stuck place)
-        → ((u : List ℕ) → first ≡ stuck u → whole ≡ stuck u) → found ≡ Stuck place
-        → (whole ≡ reading_of text f found) × (place_of found ≤ length text) × Value found
-    found-stuck f Value v stop s = (rw s (stop _ (e ∙ ap (reading_of text g) s)), p, subst Value (sym s) v)
 
 -- ---- a list after its head line
 
@@ -40,11 +25,25 @@ module _ (name : List ℕ) (most : ℕ) (t : List ℕ) where
     unfolding list_reader
     list_named = then-got (word name) t u _ tt w
 
-    pub list_uncounted : (v : List ℕ) → line (side most) u ≡ stuck v → list_reader name most t ≡ stuck v
-    list_uncounted v e = list_named ∙ bind-stuck (line (side most)) u v _ e
+    list_then_stuck : (v : List ℕ) → line (side most) u ≡ stuck v → list_reader name most t ≡ stuck v
+    list_then_stuck v e = list_named ∙ bind-stuck (line (side most)) u v _ e
 
-    pub list_counted : (m : ℕ) (v : List ℕ) → line (side most) u ≡ got m v → list_reader name most t ≡ read_lines_of number 1 1 m v
-    list_counted m v e = list_named ∙ bind-got (line (side most)) u v _ m e ∙ column_lines number m v
+    -- The count is no side, or it does not end as a line does.
+    pub list_uncounted : (v : List ℕ) → side most u ≡ stuck v → list_reader name most t ≡ stuck v
+    list_uncounted v e = list_then_stuck v (line-end (side most) u ∙ ap (end_reading 10) e ∙ end-stuck 10 v)
+
+    module _ (k : ℕ) (v rest : List ℕ) (e : side most u ≡ got k v) where
+      pub list_unended : end_reading (ending 1) (got k v) ≡ stuck rest → list_reader name most t ≡ stuck rest
+      list_unended h = list_then_stuck rest (line-end (side most) u ∙ ap (end_reading 10) e ∙ (rw ending-last at h))
+
+      -- The lines go into the front of a list that has room for them.
+      pub list_counted : (m : ℕ) (list : List ℕ) → end_reading (ending 1) (got k v) ≡ got m rest → m ≤ length list
+          → list_reader name most t ≡ read_lines_of number 1 1 (length (take m list)) rest
+      list_counted m list h room =
+          let counted : line (side most) u ≡ got m rest =
+          line-end (side most) u ∙ ap (end_reading 10) e ∙ (rw ending-last at h) in
+          let size = length-take-le m list room in
+          list_named ∙ bind-got (line (side most)) u rest _ m counted ∙ (rw size (column_lines number m rest))
 
 -- ---- the costs after their head line
 
@@ -181,3 +180,37 @@ sheet-then t = list_then (bytes "supply ") max_sources _ _ (λ supply u. demands
 
 pub sheet-stuck : (t u : List ℕ) → list_reader (bytes "supply ") max_sources t ≡ stuck u → sheet_reader t ≡ stuck u
 sheet-stuck t u e = sheet-then t ∙ bind-stuck (list_reader (bytes "supply ") max_sources) t u _ e
+
+-- The supplies were read: m of them, from a list that has room.
+module _ (t u : List ℕ) (m : ℕ) (xs : List ℕ) (some : m ≤ length xs)
+    (supplied : list_reader (bytes "supply ") max_sources t ≡ got (take m xs) u) where
+  sheet-supplied : sheet_reader t ≡ (after_supply m >>= sheet_with (take m xs)) u
+  sheet-supplied =
+      let size = length-take-le m xs some in
+      sheet-then t ∙ bind-got (list_reader (bytes "supply ") max_sources) t u _ (take m xs) supplied ∙ (rw size)
+
+  pub sheet-undemanded : (rest : List ℕ) → list_reader (bytes "demand ") max_sinks u ≡ stuck rest
+      → sheet_reader t ≡ stuck rest
+  sheet-undemanded rest e = sheet-supplied ∙ bind-stuck (after_supply m) u rest _ (demands-stuck m u rest e)
+
+  -- The demands were read too.
+  module _ (v : List ℕ) (n : ℕ) (ys : List ℕ) (room : n ≤ length ys)
+      (demanded : list_reader (bytes "demand ") max_sinks u ≡ got (take n ys) v) where
+    after-demanded : after_supply m u ≡ (after_demand m n >>= λ cost. pure (take n ys, cost)) v
+    unfolding after_supply
+    after-demanded =
+        let size = length-take-le n ys room in
+        bind-got (list_reader (bytes "demand ") max_sinks) u v _ (take n ys) demanded ∙ (rw size)
+
+    pub sheet-unended : (rest : List ℕ) → after_demand m n v ≡ stuck rest → sheet_reader t ≡ stuck rest
+    sheet-unended rest e =
+        sheet-supplied
+        ∙ bind-stuck (after_supply m) u rest _ (after-demanded ∙ bind-stuck (after_demand m n) v rest _ e)
+
+    pub sheet-ended : (cost : List ℤ) (rest : List ℕ) → after_demand m n v ≡ got cost rest
+        → sheet_reader t ≡ got (record { supply = take m xs; demand = take n ys; cost = cost }) rest
+    unfolding pure
+    sheet-ended cost rest e =
+        sheet-supplied
+        ∙ bind-got (after_supply m) u rest _ (take n ys, cost)
+        (after-demanded ∙ bind-got (after_demand m n) v rest _ cost e)

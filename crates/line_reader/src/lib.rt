@@ -3,101 +3,108 @@
 
 ghost use Rattle.std.specs.Prelude.{◌≡◌, ◌*◌, ◌≤◌, length, take, drop};
 ghost use Rattle.transport.specs.Limits.{max_sources, max_sinks};
-ghost use Rattle.transport.specs.SheetText.{number, whole};
-ghost use Rattle.tokens.specs.Reading.{reading_of, place_of, ValueIs, ValueSide};
+ghost use Rattle.transport.specs.SheetText.{Reader, number, whole};
+ghost use Rattle.sections.specs.Lines.{ending};
+ghost use Rattle.tokens.specs.Reading.{reading_of, place_of, read_to, place_after, end_reading, ValueSide};
 ghost use Rattle.line_reader.specs.LinesRead.{read_lines_of};
 ghost use Rattle.line_reader.specs.SheetRead.{list_reader, cost_reader};
 
 use number_reader::{read_end, read_number, read_side};
 use sections::{lines, section};
 use tokens::bytes::read_word;
-use tokens::{Taken, TakenWhole};
+use tokens::{Stuck, Token};
 use whole_reader::read_whole;
 
-// So many numbers, in lines of `width`, into the front of the list.
-fn read_lines(text: &[u8], at: usize, width: usize, count: usize, list: &mut [u64]) -> Taken
-    requires { (at ≤ length text.now) × (1 ≤ width) × (count ≤ length list.old) }
-    ensures { (read_lines_of number width width count (drop at text.now) ≡ reading_of text.now (λ v. take v list.new) result)
-        × (place_of result ≤ length text.now)
-        × (ValueIs count result) }
-{
-    let mut next = at;
-    let mut left = width;
-    let mut i: usize = 0;
-    while i < count {
-        let number = read_end(text, read_number(text, next, 0), left);
-        let Taken::Got { value, next: after } = number else {
-            return number;
-        };
-        list[i] = value;
-        next = after;
-        left = lines::left_after(width, left);
-        i += 1;
-    }
-    Taken::Got {
-        value: count as u64,
-        next,
+// What the lines of a sheet text list: a type of numbers, with its reader in the specification.
+trait Listed: Copy {
+    ghost reader: { Reader Self };
+
+    // A number and the byte that ends it.
+    fn read(text: &[u8], at: usize, left: usize) -> Result<Token<Self>, Stuck>
+        requires { at ≤ length text.now }
+        ensures reads { end_reading (ending left) (reader (drop at text.now))
+            ≡ reading_of text.now (λ x. x) result }
+        ensures inside { place_of result ≤ length text.now };
+}
+
+impl Listed for u64 {
+    ghost reader = { number };
+
+    fn read(text: &[u8], at: usize, left: usize) -> Result<Token<u64>, Stuck> {
+        read_end(text, read_number(text, at, 0)?, left)
     }
 }
 
-// The same with whole numbers.
-fn read_whole_lines(text: &[u8], at: usize, width: usize, count: usize, list: &mut [i64]) -> Taken
-    requires { (at ≤ length text.now) × (1 ≤ width) × (count ≤ length list.old) }
-    ensures { (read_lines_of whole width width count (drop at text.now) ≡ reading_of text.now (λ v. take v list.new) result)
-        × (place_of result ≤ length text.now)
-        × (ValueIs count result) }
-{
-    let mut next = at;
-    let mut left = width;
-    let mut i: usize = 0;
-    while i < count {
-        let number = read_whole(text, next, left);
-        match number {
-            TakenWhole::Got { value, next: after } => {
-                list[i] = value;
-                next = after;
-            }
-            TakenWhole::Stuck(place) => return Taken::Stuck(place),
-        }
-        left = lines::left_after(width, left);
-        i += 1;
-    }
-    Taken::Got {
-        value: count as u64,
-        next,
+impl Listed for i64 {
+    ghost reader = { whole };
+
+    fn read(text: &[u8], at: usize, left: usize) -> Result<Token<i64>, Stuck> {
+        read_whole(text, at, left)
     }
 }
 
-// A section of one list: its name, with the space after it, its count, at most `most`, and so many lines of one number. The value is the count.
-pub fn read_list(text: &[u8], at: usize, name: &[u8], most: u64, list: &mut [u64]) -> Taken
+// As many numbers as the list has, in lines of `width`; the answer is the place after them.
+fn read_lines<T: Listed>(
+    text: &[u8],
+    at: usize,
+    width: usize,
+    list: &mut [T],
+) -> Result<usize, Stuck>
+    requires { (at ≤ length text.now) × (1 ≤ width) }
+    ensures reads { read_lines_of T.reader width width (length list.old) (drop at text.now)
+        ≡ read_to text.now list.new result }
+    ensures inside { place_after result ≤ length text.now }
+{
+    let mut next = at;
+    let mut left = width;
+    for slot in list {
+        let number = T::read(text, next, left)?;
+        *slot = number.value;
+        next = number.next;
+        left = lines::left_after(width, left);
+    }
+    Ok(next)
+}
+
+// A section of one list: its name, with the space after it, its count, at most `most`, and so many
+// lines of one number. The value is the count.
+pub fn read_list(
+    text: &[u8],
+    at: usize,
+    name: &[u8],
+    most: u64,
+    list: &mut [u64],
+) -> Result<Token<u64>, Stuck>
     requires { (at ≤ length text.now) × (9 ≤ most) × (most ≤ length list.old) }
-    ensures { (list_reader name.now most (drop at text.now) ≡ reading_of text.now (λ v. take v list.new) result)
-        × (place_of result ≤ length text.now)
-        × (ValueSide most result) }
+    ensures reads { list_reader name.now most (drop at text.now)
+        ≡ reading_of text.now (λ v. take v list.new) result }
+    ensures inside { place_of result ≤ length text.now }
+    ensures fits { ValueSide most result }
 {
-    let head = read_word(text, at, name);
-    let Taken::Got { value: _, next } = head else {
-        return head;
-    };
-    let count = read_end(text, read_side(text, next, most), 1);
-    let Taken::Got { value, next: after } = count else {
-        return count;
-    };
-    read_lines(text, after, 1, value as usize, list)
+    let next = read_word(text, at, name)?;
+    let count = read_end(text, read_side(text, next, most)?, 1)?;
+    let next = read_lines(text, count.next, 1, &mut list[..count.value as usize])?;
+    Ok(Token {
+        value: count.value,
+        next,
+    })
 }
 
-// The section of the costs: its head line with the count of sources, and as many lines of as many numbers as there are sinks.
-pub fn read_costs(text: &[u8], at: usize, m: usize, n: usize, list: &mut [i64]) -> Taken
+// The section of the costs: its head line with the count of sources, and as many lines of as many
+// numbers as there are sinks. The answer is the place after it.
+pub fn read_costs(
+    text: &[u8],
+    at: usize,
+    m: usize,
+    n: usize,
+    list: &mut [i64],
+) -> Result<usize, Stuck>
     requires { (at ≤ length text.now) × (m ≤ max_sources) × (1 ≤ n) × (n ≤ max_sinks) × (m * n ≤ length list.old) }
-    ensures { (cost_reader m n (drop at text.now) ≡ reading_of text.now (λ v. take v list.new) result)
-        × (place_of result ≤ length text.now)
-        × (ValueIs (m * n) result) }
+    ensures reads { cost_reader m n (drop at text.now) ≡ read_to text.now (take (m * n) list.new) result }
+    ensures inside { place_after result ≤ length text.now }
 {
     let mut line = [0u8; 8];
     let len = section::write_head(b"cost ", m, &mut line);
-    let head = read_word(text, at, &line[..len]);
-    let Taken::Got { value: _, next } = head else {
-        return head;
-    };
-    read_whole_lines(text, next, n, m * n, list)
+    let next = read_word(text, at, &line[..len])?;
+    read_lines(text, next, n, &mut list[..m * n])
 }

@@ -1,96 +1,108 @@
 // Numbers, and the bytes that end them.
 #![tactic(auto)]
 
-ghost use Rattle.std.specs.Prelude.{◌≡◌, ◌-◌, ◌≤◌, ◌<◌, length, drop};
-ghost use Rattle.transport.specs.SheetText.{more_digits_of, number_from, side};
+ghost use Rattle.std.specs.Prelude.{◌≡◌, ◌-◌, ◌≤◌, ◌<◌, ◌^◌, length, drop, false, MatchResult, IfOk};
+ghost use Rattle.transport.specs.Limits.{max_digits};
+ghost use Rattle.transport.specs.SheetText.{more_digits_of, number_from, side, got};
 ghost use Rattle.sections.specs.Lines.{ending};
-ghost use Rattle.tokens.specs.Reading.{reading_of, place_of, always, end_reading};
+ghost use Rattle.tokens.specs.Reading.{reading_of, place_of, always, digit_next, end_reading, NextDigit, ValueSide};
 
-use tokens::Taken;
 use tokens::bytes::{digit_at, end_at};
+use tokens::{Stuck, Token};
 
 // The most digits that a number of a sheet text has.
 const MAX_DIGITS: usize = 7;
 
+// The digit that comes next.
+fn read_digit(text: &[u8], at: usize) -> Result<u64, Stuck>
+    ensures { MatchResult result
+        (λ digit. NextDigit text.now at digit)
+        (λ stop. (digit_next (drop at text.now) ≡ false) × (stop.0 ≡ at)) }
+{
+    if digit_at(text, at) {
+        Ok((text[at] - b'0') as u64)
+    } else {
+        Err(Stuck(at))
+    }
+}
+
 // The other digits of a number that begins with the digit `first` and has at most `most` digits.
-fn more_digits(text: &[u8], at: usize, first: u64, most: usize) -> Taken
+fn more_digits(text: &[u8], at: usize, first: u64, most: usize) -> Token<u64>
     requires { (at ≤ length text.now) × (first < 10) × (1 ≤ most) × (most ≤ 19) }
-    ensures { (more_digits_of always (most - 1) first (drop at text.now) ≡ reading_of text.now (λ v. v) result)
-        × (place_of result ≤ length text.now) }
+    ensures reads { more_digits_of always (most - 1) first (drop at text.now)
+        ≡ got result.value (drop result.next text.now) }
+    ensures inside { result.next ≤ length text.now }
+    ensures small { result.value < 10 ^ most }
 {
     let mut value = first;
     let mut next = at;
-    let mut count: usize = 1;
-    while count < most {
-        if !digit_at(text, next) {
-            return Taken::Got { value, next };
-        }
-        value = value * 10 + (text[next] - b'0') as u64;
+    for _count in 1..most {
+        let Ok(digit) = read_digit(text, next) else {
+            break;
+        };
+        value = value * 10 + digit;
         next += 1;
-        count += 1;
     }
-    Taken::Got { value, next }
+    Token { value, next }
 }
 
 // A number of one to seven digits, the first at least `low`, with no leading 0 except 0 itself.
-pub fn read_number(text: &[u8], at: usize, low: u64) -> Taken
+pub fn read_number(text: &[u8], at: usize, low: u64) -> Result<Token<u64>, Stuck>
     requires { at ≤ length text.now }
-    ensures { (number_from low (drop at text.now) ≡ reading_of text.now (λ v. v) result)
-        × (place_of result ≤ length text.now) }
+    ensures reads { number_from low (drop at text.now) ≡ reading_of text.now (λ v. v) result }
+    ensures inside { place_of result ≤ length text.now }
+    ensures small { IfOk result (λ number. number.value < 10 ^ max_digits) }
 {
-    if !digit_at(text, at) {
-        return Taken::Stuck(at);
-    }
-    let leading = (text[at] - b'0') as u64;
+    let leading = read_digit(text, at)?;
     if leading < low {
-        return Taken::Stuck(at);
+        return Err(Stuck(at));
     }
     let next = at + 1;
     if leading == 0 {
-        return Taken::Got { value: 0, next };
+        return Ok(Token { value: 0, next });
     }
-    more_digits(text, next, leading, MAX_DIGITS)
+    Ok(more_digits(text, next, leading, MAX_DIGITS))
 }
 
 // A count of sources or sinks: 1 to `most`, which has two digits or is 9.
-pub fn read_side(text: &[u8], at: usize, most: u64) -> Taken
+pub fn read_side(text: &[u8], at: usize, most: u64) -> Result<Token<u64>, Stuck>
     requires { (at ≤ length text.now) × (9 ≤ most) }
-    ensures { (side most (drop at text.now) ≡ reading_of text.now (λ v. v) result)
-        × (place_of result ≤ length text.now) }
+    ensures reads { side most (drop at text.now) ≡ reading_of text.now (λ v. v) result }
+    ensures inside { place_of result ≤ length text.now }
+    ensures fits { ValueSide most result }
 {
-    if !digit_at(text, at) {
-        return Taken::Stuck(at);
-    }
-    let first = (text[at] - b'0') as u64;
+    let first = read_digit(text, at)?;
     if first == 0 {
-        return Taken::Stuck(at);
+        return Err(Stuck(at));
     }
     let next = at + 1;
-    if !digit_at(text, next) {
-        return Taken::Got { value: first, next };
-    }
-    let both = first * 10 + (text[next] - b'0') as u64;
+    let Ok(second) = read_digit(text, next) else {
+        return Ok(Token { value: first, next });
+    };
+    let both = first * 10 + second;
     if both > most {
-        return Taken::Got { value: first, next };
+        return Ok(Token { value: first, next });
     }
-    Taken::Got {
+    Ok(Token {
         value: both,
         next: next + 1,
-    }
+    })
 }
 
-// The end of a number that was read.
-pub fn read_end(text: &[u8], number: Taken, left: usize) -> Taken
-    requires { place_of number ≤ length text.now }
-    ensures { (end_reading (ending left) (reading_of text.now (λ v. v) number) ≡ reading_of text.now (λ v. v) result)
-        × (place_of result ≤ length text.now) }
+// The end of a number that was read: the number, with the place after the byte that ends it.
+pub fn read_end<T: Copy>(text: &[u8], number: Token<T>, left: usize) -> Result<Token<T>, Stuck>
+    requires { number.next ≤ length text.now }
+    ensures reads { end_reading (ending left) (got number.value (drop number.next text.now))
+        ≡ reading_of text.now (λ v. v) result }
+    ensures inside { place_of result ≤ length text.now }
+    ensures same { IfOk result (λ ended. ended.value ≡ number.value) }
 {
-    let Taken::Got { value, next } = number else {
-        return number;
-    };
-    if !end_at(text, next, left) {
-        return Taken::Stuck(next);
+    if !end_at(text, number.next, left) {
+        return Err(Stuck(number.next));
     }
-    let after = next + 1;
-    Taken::Got { value, next: after }
+    let after = number.next + 1;
+    Ok(Token {
+        value: number.value,
+        next: after,
+    })
 }

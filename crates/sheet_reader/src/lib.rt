@@ -8,12 +8,15 @@ ghost use Rattle.transport.specs.SheetText.{read_sheet_call};
 ghost use Rattle.transport.specs.Calls.{lent_after};
 ghost use Rattle.transport.specs.Answers.{read_answer};
 
-use crate::whole_text::read_sections;
+use crate::whole_text::{Counts, read_sections};
 use sheet_store::store_sheet;
+use tokens::Stuck;
 use transport::{MAX_LANES, MAX_SINKS, MAX_SOURCES, ReadAnswer};
 
-// Read sheet: the counts of sources and sinks, which then stand in the lent lists with the costs; or the refusal, and the lists are as they were.
-// The text is read into lists of the largest sheet first, so that nothing is stored before all of it is known to be good.
+// Read sheet: the counts of sources and sinks, which then stand in the lent lists with the costs; or
+// the refusal, and the lists are as they were. The text is read into lists of the largest sheet
+// first, so that nothing is stored before all of it is known to be good.
+#[tactic(auto, unfolding(transport::specs::Limits::max_sources, transport::specs::Limits::max_sinks))]
 pub fn read_sheet(
     text: &[u8],
     supply: &mut [u64],
@@ -29,23 +32,19 @@ pub fn read_sheet(
     let mut supplies = [0u64; MAX_SOURCES];
     let mut demands = [0u64; MAX_SINKS];
     let mut costs = [0i64; MAX_LANES];
-    let answer = read_sections(text, &mut supplies, &mut demands, &mut costs);
-    let ReadAnswer::Sheet {
-        sources: m,
-        sinks: n,
-    } = answer
-    else {
-        return answer;
-    };
-    let lanes = m * n;
-    // What was read and what was stored have names, so that a program that tells the one for the other is an operand away.
-    let stored = store_sheet(
-        &supplies[..m],
-        &demands[..n],
-        &costs[..lanes],
-        supply,
-        demand,
-        cost,
-    );
-    stored
+    match read_sections(text, &mut supplies, &mut demands, &mut costs) {
+        Ok(Counts { sources, sinks }) => {
+            // What was stored has a name: a program that tells what was read for it is an operand away.
+            let stored = store_sheet(
+                &supplies[..sources],
+                &demands[..sinks],
+                &costs[..sources * sinks],
+                supply,
+                demand,
+                cost,
+            );
+            stored
+        }
+        Err(Stuck(place)) => ReadAnswer::NotSheetText(place),
+    }
 }

@@ -1,48 +1,60 @@
 -- What a reader of the code found, as a reading of the specification; and the readers' laws, by what comes next in the text.
-use Rattle.std.specs.Prelude.{◌≡◌, ◌&&◌, ◌∷◌, ◌+◌, ◌*◌, ◌-◌, ◌≤◌, ◌<◌, ◌^◌}
+use Rattle.std.specs.Prelude.{◌≡◌, ◌&&◌, ◌∷◌, ◌+◌, ◌*◌, ◌-◌, ◌≤◌, ◌<◌, ◌^◌, Result, Ok, Err}
 use Rattle.prelude.specs.Words.{refl, sym, ◌∙◌, by_cases, Bool, true, false, not, cond, true≢false, List, [], ℕ, zero, suc}
 use Rattle.prelude.specs.Words.{arith, ℕ_discrete, dec_lt, pow-suc, add-one, eqb, leb, length, drop, get_or, drop_of_length-le, drop-cons, drop-drop}
 use Rattle.prelude.specs.Words.{ne_eqb, le-leb, lt-leb, by_test, clash}
 use Rattle.std.proofs.Math.Nat.{pow-le-pow_right}
 use Rattle.std.proofs.Common.{lt_of_lt_of_le}
+use Rattle.std.specs.Result.{IsErrAnd}
+use Rattle.std.proofs.lemmas.Result.{err_from_is_err_and}
 use Rattle.transport.specs.Lists.{within}
-use Rattle.transport.specs.Laws.ListLaws.{and_right}
 use Rattle.transport.specs.Limits.{max_digits}
 use Rattle.transport.specs.Text.{bytes, kind_of}
 use Rattle.transport.specs.SheetText.{Reading, stuck, got, Reader, ◌>>=◌, ◌>>◌, pure, byte_that, word, is_digit, digit_value_of, more_digits_of}
 use Rattle.transport.specs.SheetText.{number_from, side, line}
-use Rattle.transport.specs.Laws.SheetLaws.{within-true, true-within, within_low, within-high}
+use Rattle.transport.specs.Laws.SheetLaws.{within-true, true-within, within_low}
 use Rattle.transport.specs.declared.ByteKind.{ByteKind}
 use Rattle.transport.specs.declared.ByteKind.TheVariants.{Digit, Space, LineEnd, Letter, Other}
 use Rattle.grammar.specs.Closing.{closed_by}
 use Rattle.grammar.specs.Exact.{by_reading}
 use Rattle.grammar.specs.Digits.{digit-within}
 use Rattle.sections.specs.Lines.{ending}
-pub use Rattle.tokens.specs.declared.Taken.{Taken}
-pub use Rattle.tokens.specs.declared.Taken.TheVariants.{Got, Stuck}
+pub use Rattle.tokens.specs.declared.Token.{Token}
+pub use Rattle.tokens.specs.declared.Stuck.{Stuck}
 
--- The rest of the text from a place on stands for the place. `f` gives the value that was read for the number in the answer.
-abbrev pub reading_of : {A : Type 0} → List ℕ → (ℕ → A) → Taken → Reading A
-reading_of text f (Got value next) = got (f value) (drop next text)
-reading_of text f (Stuck place) = stuck (drop place text)
+-- The rest of the text from a place on stands for the place. `f` gives the value that was read for
+-- the one in the answer.
+abbrev pub reading_of : {A B : Type 0} → List ℕ → (A → B) → Result (Token A) Stuck → Reading B
+reading_of text f (Ok token) = got (f token.value) (drop token.next text)
+reading_of text f (Err stop) = stuck (drop stop.0 text)
 
-abbrev pub place_of : Taken → ℕ
-place_of (Got value next) = next
-place_of (Stuck place) = place
+abbrev pub place_of : {A : Type 0} → Result (Token A) Stuck → ℕ
+place_of (Ok token) = token.next
+place_of (Err stop) = stop.0
 
--- A value that was read is k.
-abbrev pub ValueIs : ℕ → Taken → Type 0
-ValueIs k (Got value next) = value ≡ k
-ValueIs k (Stuck place) = Unit {0}
+-- The same of an answer that is only the place after what was read: the value that was read is x.
+abbrev pub read_to : {B : Type 0} → List ℕ → B → Result ℕ Stuck → Reading B
+read_to text x (Ok next) = got x (drop next text)
+read_to text x (Err stop) = stuck (drop stop.0 text)
+
+abbrev pub place_after : Result ℕ Stuck → ℕ
+place_after (Ok next) = next
+place_after (Err stop) = stop.0
+
+-- What `?` hands on: where a reader within is stuck, so is the whole, at the same place.
+module _ {B : Type 0} {whole : Reading B} (text : List ℕ) (stop : Stuck) where
+  pub handed_on : {A : Type 0} (f : A → B) (r : Result (Token A) Stuck) → IsErrAnd r (λ s. s ≡ stop)
+      → whole ≡ stuck (drop stop.0 text) → whole ≡ reading_of text f r
+  handed_on f r e w = let p = err_from_is_err_and r e in rw (p.1, p.2) w
+
+  pub handed_to : (x : B) (r : Result ℕ Stuck) → IsErrAnd r (λ s. s ≡ stop)
+      → whole ≡ stuck (drop stop.0 text) → whole ≡ read_to text x r
+  handed_to x r e w = let p = err_from_is_err_and r e in rw (p.1, p.2) w
 
 -- A value that was read is a side.
-abbrev pub ValueSide : ℕ → Taken → Type 0
-ValueSide most (Got value next) = (1 ≤ value) × (value ≤ most)
-ValueSide most (Stuck place) = Unit {0}
-
-pub side-value : (most k : ℕ) (r : Taken) → 1 ≤ k → k ≤ most → ValueIs k r → ValueSide most r
-side-value most k (Got value next) p q e = omega arith
-side-value most k (Stuck place) p q e = tt
+abbrev pub ValueSide : ℕ → Result (Token ℕ) Stuck → Type 0
+ValueSide most (Ok token) = (1 ≤ token.value) × (token.value ≤ most)
+ValueSide most (Err stop) = Unit {0}
 
 -- ---- what comes next
 
@@ -102,24 +114,18 @@ kind_by d s e l = cond d Digit (cond s Space (cond e LineEnd (cond l Letter Othe
 abbrev of_digit : ByteKind → Bool
 of_digit k = elim k [ Digit ↦ true | Space ↦ false | LineEnd ↦ false | Letter ↦ false | Other ↦ false ]
 
-module _ (b : ℕ) where
-  pub kind_digit : 48 ≤ b → b ≤ 57 → kind_of b ≡ Digit
-  unfolding kind_of
-  kind_digit p q = rw (kind_of, true-within 48 57 b p q)
-
-  pub kind_letter : 97 ≤ b → b ≤ 122 → kind_of b ≡ Letter
-  unfolding kind_of
-  kind_letter p q = rw (kind_of, within-high 48 57 b (omega arith), ne_eqb b 32 (λ e. omega arith), ne_eqb b 10 (λ e. omega arith), true-within 97 122 b p q)
-
-  pub kind_other : within 48 57 b ≡ false → (b ≡ 32 → ⊥) → (b ≡ 10 → ⊥) → within 97 122 b ≡ false → kind_of b ≡ Other
-  unfolding kind_of
-  kind_other d s e l = rw (kind_of, d, ne_eqb b 32 s, ne_eqb b 10 e, l)
-
 -- The kind tells a digit.
 pub digit-told : (t : List ℕ) (k : ByteKind) → kind_next t ≡ k → digit_next t ≡ of_digit k
 unfolding kind_next digit_next is_digit
 digit-told [] k e = rw (← e)
 digit-told (b ∷ t) k e = rw (← e)
+
+pub not_digit : (k : ByteKind) → (k ≡ Digit → ⊥) → of_digit k ≡ false
+not_digit Digit n = absurd (n refl)
+not_digit Space n = refl
+not_digit LineEnd n = refl
+not_digit Letter n = refl
+not_digit Other n = refl
 
 -- The kind tells the end of a number, which is the last of its line or not.
 abbrev of_end : Bool → ByteKind → Bool
@@ -128,6 +134,13 @@ of_end last Space = not last
 of_end last LineEnd = last
 of_end last Letter = false
 of_end last Other = false
+
+pub not_end : (last : Bool) (k : ByteKind) → (k ≡ Space → ⊥) → (k ≡ LineEnd → ⊥) → of_end last k ≡ false
+not_end last Digit s e = refl
+not_end last Space s e = absurd (s refl)
+not_end last LineEnd s e = absurd (e refl)
+not_end last Letter s e = refl
+not_end last Other s e = refl
 
 pub end-told : (left : ℕ) (t : List ℕ) (k : ByteKind) → kind_next t ≡ k → byte_next (ending left) t ≡ of_end (eqb left 1) k
 unfolding kind_next byte_next ending kind_of within
@@ -164,6 +177,11 @@ digit_at text at e = by_cases (dec_lt at (length text))
     (λ p. let d : is_digit (get_or text at 0) ≡ true = sym (digit-here text at p) ∙ e in
     let w = within-true 48 57 (get_or text at 0) (sym (digit-within (get_or text at 0)) ∙ d) in record { inside = p; digit = d; low = w.0; high = w.1 })
     (λ p. clash e (digit-end text at (omega arith)))
+
+-- The digit d comes next.
+pub record NextDigit (text : List ℕ) (at d : ℕ) : Type 0 where
+  pub here : DigitAt text at
+  pub value : d ≡ get_or text at 0 - 48
 
 -- ---- one reader after another
 
@@ -261,15 +279,17 @@ module _ (test : ℕ → Bool) (x : ℕ) where
   more_stop (suc k) [] e = refl
   more_stop (suc k) (b ∷ t) e = rw (more_digits_of, e)
 
-  module _ (k : ℕ) {text : List ℕ} {at : ℕ} (d : DigitAt text at) where
-    pub more-step : test (x * 10 + (get_or text at 0 - 48)) ≡ true → more_digits_of test (suc k) x (drop at text)
-        ≡ more_digits_of test k (x * 10 + (get_or text at 0 - 48)) (drop (at + 1) text)
+  module _ (k : ℕ) {text : List ℕ} {at digit : ℕ} (d : NextDigit text at digit) where
+    pub more-step : test (x * 10 + digit) ≡ true
+        → more_digits_of test (suc k) x (drop at text) ≡ more_digits_of test k (x * 10 + digit) (drop (at + 1) text)
     unfolding more_digits_of digit_value_of
-    more-step e = rw (drop-cons text at 0 d.inside, more_digits_of, d.digit, e, add-one)
+    more-step e =
+        let h = rw d.value at e in
+        rw (d.value, drop-cons text at 0 d.here.inside, more_digits_of, d.here.digit, h, add-one)
 
-    pub more_over : test (x * 10 + (get_or text at 0 - 48)) ≡ false → more_digits_of test (suc k) x (drop at text) ≡ got x (drop at text)
+    pub more_over : test (x * 10 + digit) ≡ false → more_digits_of test (suc k) x (drop at text) ≡ got x (drop at text)
     unfolding more_digits_of digit_value_of
-    more_over e = rw (drop-cons text at 0 d.inside, more_digits_of, d.digit, e)
+    more_over e = let h = rw d.value at e in rw (drop-cons text at 0 d.here.inside, more_digits_of, d.here.digit, h)
 
 -- ---- a number by its first digit
 
@@ -290,13 +310,6 @@ module _ (test : ℕ → Bool) where
     starts_yes : test (get_or text at 0 - 48) ≡ true → byte_that (starts_by test) (drop at text) ≡ got (get_or text at 0) (drop (at + 1) text)
     starts_yes e = rw (drop-cons text at 0 d.inside, add-one) (byte_yes (starts_by test) (get_or text at 0) (drop (suc at) text) (rw (d.digit, e)))
 
-  -- A first digit that was read passed the test.
-  starts_got : (t : List ℕ) (b : ℕ) (rest : List ℕ) → byte_that (starts_by test) t ≡ got b rest → starts_by test b ≡ true
-  starts_got [] b rest e = let s = byte-none (starts_by test) in let z : ◌≡◌ {A = ℕ} 0 1 = cc in absurd (omega arith)
-  starts_got (c ∷ t) b rest e = by_test (starts_by test c)
-      (λ h. let s = byte_yes (starts_by test) c t h in let z : c ≡ b = cc in rw z at h)
-      (λ h. let s = byte_no (starts_by test) c t h in let z : ◌≡◌ {A = ℕ} 0 1 = cc in absurd (omega arith))
-
 -- The first digit decides how many may follow.
 abbrev after_first : ℕ → Reader ℕ
 after_first b = more_digits_of always (cond (eqb (b - 48) 0) 0 (max_digits - 1)) (b - 48)
@@ -309,31 +322,33 @@ module _ (low : ℕ) where
   pub number-stuck : (t : List ℕ) → digit_next t ≡ false → number_from low t ≡ stuck t
   number-stuck t e = number_is t ∙ bind-stuck (byte_that (starts_by (leb low))) t t after_first (starts_none (leb low) t e)
 
-  module _ {text : List ℕ} {at : ℕ} (d : DigitAt text at) where
-    pub number-low : get_or text at 0 - 48 < low → number_from low (drop at text) ≡ stuck (drop at text)
+  module _ {text : List ℕ} {at digit : ℕ} (d : NextDigit text at digit) where
+    pub number-low : digit < low → number_from low (drop at text) ≡ stuck (drop at text)
     number-low p =
-        number_is _ ∙ bind-stuck (byte_that (starts_by (leb low))) (drop at text) (drop at text) after_first (starts_no (leb low) d (lt-leb low _ p))
+        number_is _ ∙ bind-stuck (byte_that (starts_by (leb low))) (drop at text) (drop at text) after_first
+        (starts_no (leb low) d.here (lt-leb low _ (rw d.value at p)))
 
-    first-digit : low ≤ get_or text at 0 - 48 → number_from low (drop at text) ≡ after_first (get_or text at 0) (drop (at + 1) text)
-    first-digit p = number_is _
+    first-digit : low ≤ digit → number_from low (drop at text)
+        ≡ more_digits_of always (cond (eqb digit 0) 0 (max_digits - 1)) digit (drop (at + 1) text)
+    first-digit p = rw d.value (number_is _
         ∙ bind-got (byte_that (starts_by (leb low))) (drop at text) (drop (at + 1) text) after_first (get_or text at 0)
-        (starts_yes (leb low) d (le-leb low _ p))
+        (starts_yes (leb low) d.here (le-leb low _ (rw d.value at p))))
 
-    pub number-zero : low ≤ get_or text at 0 - 48 → get_or text at 0 - 48 ≡ 0 → number_from low (drop at text) ≡ got 0 (drop (at + 1) text)
+    pub number-zero : low ≤ digit → digit ≡ 0 → number_from low (drop at text) ≡ got 0 (drop (at + 1) text)
     number-zero p e = first-digit p ∙ (rw e (more-none always 0 (drop (at + 1) text)))
 
-    pub number_more : low ≤ get_or text at 0 - 48 → (get_or text at 0 - 48 ≡ 0 → ⊥)
-        → number_from low (drop at text) ≡ more_digits_of always (max_digits - 1) (get_or text at 0 - 48) (drop (at + 1) text)
-    number_more p n = first-digit p ∙ (rw (ne_eqb (get_or text at 0 - 48) 0 n))
+    pub number_more : low ≤ digit → (digit ≡ 0 → ⊥)
+        → number_from low (drop at text) ≡ more_digits_of always (max_digits - 1) digit (drop (at + 1) text)
+    number_more p n = first-digit p ∙ (rw (ne_eqb digit 0 n))
 
 -- ---- the value of digits
 
 pub value-next : (x d k : ℕ) → x < 10 ^ k → d ≤ 9 → x * 10 + d < 10 ^ (k + 1)
 value-next x d k p q = rw (add-one) (omega (arith, pow-suc 10 k))
 
--- 10 ^ 19 is below 2 ^ 64.
-pub value-fits : (x k : ℕ) → x < 10 ^ k → k ≤ 19 → x < 10 ^ 19
-value-fits x k p q = lt_of_lt_of_le p (pow-le-pow_right (omega arith) q)
+-- A value of k digits is one of at most n.
+pub value-fits : (x k n : ℕ) → x < 10 ^ k → k ≤ n → x < 10 ^ n
+value-fits x k n p q = lt_of_lt_of_le p (pow-le-pow_right (omega arith) q)
 
 -- ---- a number, and the byte that ends it
 
@@ -382,18 +397,6 @@ module _ {A : Type 0} where
 
 -- ---- sides, which are no greater than `most`
 
--- What more digits make of a number passes the test that it passed.
-more-passes : (test : ℕ → Bool) (k x : ℕ) (t : List ℕ) (m : ℕ) (rest : List ℕ) → test x ≡ true → more_digits_of test k x t ≡ got m rest → test m ≡ true
-unfolding more_digits_of
-more-passes test zero x t m rest p e = let z : x ≡ m = cc in rw z at p
-more-passes test (suc k) x [] m rest p e = let z : x ≡ m = cc in rw z at p
-more-passes test (suc k) x (b ∷ t) m rest p e = by_test (is_digit b && test (x * 10 + digit_value_of b))
-    (λ h.
-    let s : more_digits_of test (suc k) x (b ∷ t) ≡ more_digits_of test k (x * 10 + digit_value_of b) t = rw (more_digits_of, h) in
-    more-passes test k (x * 10 + digit_value_of b) t m rest (and_right (is_digit b) (test (x * 10 + digit_value_of b)) h) (sym s ∙ e))
-    (λ h.
-    let s : more_digits_of test (suc k) x (b ∷ t) ≡ got x (b ∷ t) = rw (more_digits_of, h) in let z : x ≡ m = cc in rw z at p)
-
 module _ (most : ℕ) where
   abbrev after_side : ℕ → Reader ℕ
   after_side b = more_digits_of (within 1 most) 1 (b - 48)
@@ -405,33 +408,19 @@ module _ (most : ℕ) where
   pub side-stuck : (t : List ℕ) → digit_next t ≡ false → side most t ≡ stuck t
   side-stuck t e = side-is t ∙ bind-stuck (byte_that (starts_by (within 1 most))) t t after_side (starts_none (within 1 most) t e)
 
-  module _ {text : List ℕ} {at : ℕ} (d : DigitAt text at) where
-    pub side-zero : get_or text at 0 - 48 ≡ 0 → side most (drop at text) ≡ stuck (drop at text)
-    side-zero e = side-is _ ∙ bind-stuck (byte_that (starts_by (within 1 most))) (drop at text) (drop at text) after_side
-        (starts_no (within 1 most) d (within_low 1 most (get_or text at 0 - 48) (omega arith)))
+  module _ {text : List ℕ} {at digit : ℕ} (d : NextDigit text at digit) where
+    pub side-zero : digit ≡ 0 → side most (drop at text) ≡ stuck (drop at text)
+    side-zero e = side-is _
+        ∙ bind-stuck (byte_that (starts_by (within 1 most))) (drop at text) (drop at text) after_side
+        (starts_no (within 1 most) d.here (within_low 1 most (get_or text at 0 - 48) (omega (arith, d.value))))
 
     -- A first digit other than 0 is a side, since limits are no less than 9.
-    pub side-more : 9 ≤ most → (get_or text at 0 - 48 ≡ 0 → ⊥)
-        → side most (drop at text) ≡ more_digits_of (within 1 most) 1 (get_or text at 0 - 48) (drop (at + 1) text)
+    pub side-more : 9 ≤ most → (digit ≡ 0 → ⊥)
+        → side most (drop at text) ≡ more_digits_of (within 1 most) 1 digit (drop (at + 1) text)
     side-more low n =
-        let first : within 1 most (get_or text at 0 - 48) ≡ true = true-within 1 most (get_or text at 0 - 48) (omega arith) (omega (arith, d.high)) in
-        side-is _
+        let value : digit ≡ get_or text at 0 - 48 = d.value in
+        let first : within 1 most (get_or text at 0 - 48) ≡ true =
+        true-within 1 most (get_or text at 0 - 48) (omega arith) (omega (arith, d.here.high)) in
+        rw value (side-is _
         ∙ bind-got (byte_that (starts_by (within 1 most))) (drop at text) (drop (at + 1) text) after_side (get_or text at 0)
-        (starts_yes (within 1 most) d first)
-
-  -- A side that was read is within its limit.
-  side-within : (m : ℕ) (rest t : List ℕ) → side most t ≡ got m rest → within 1 most m ≡ true
-  side-within m rest t e = let a = bind-inside (byte_that (starts_by (within 1 most))) t after_side m rest (sym (side-is t) ∙ e) in
-      let first = and_right (is_digit a.0) (within 1 most (a.0 - 48)) (starts_got (within 1 most) t a.0 a.1 a.2) in
-      more-passes (within 1 most) 1 (a.0 - 48) a.1 m rest first a.3
-
--- The value is the number's, whatever ends it.
-end-value : (m : ℕ) (rest : List ℕ) (end : ℕ) (r : Reading ℕ) → end_reading end r ≡ got m rest → (u : List ℕ) × (r ≡ got m u)
-unfolding end_reading
-end-value m rest end (stuck u) e = let z : ◌≡◌ {A = ℕ} 0 1 = cc in absurd (omega arith)
-end-value m rest end (got x u) e = by_test (byte_next end u)
-    (λ h. let s : end_reading end (got x u) ≡ got x (drop 1 u) = end_yes end x u h in let z : x ≡ m = cc in (u, rw z))
-    (λ h. let s : end_reading end (got x u) ≡ stuck u = end_no end x u h in let z : ◌≡◌ {A = ℕ} 0 1 = cc in absurd (omega arith))
-
-pub line-side-within : (most m : ℕ) (rest t : List ℕ) → line (side most) t ≡ got m rest → within 1 most m ≡ true
-line-side-within most m rest t e = let v = end-value m rest 10 (side most t) (sym (line-end (side most) t) ∙ e) in side-within most m v.0 t v.1
+        (starts_yes (within 1 most) d.here first))

@@ -3,12 +3,13 @@ ghost use Rattle.std.specs.Prelude.{◌≡◌, ◌≤◌, length, drop};
 ghost use Rattle.transport.specs.Text.{kind_of};
 ghost use Rattle.transport.specs.SheetText.{word};
 ghost use Rattle.sections.specs.Lines.{ending};
-ghost use Rattle.tokens.specs.Reading.{kind_next, byte_next, digit_next, reading_of, place_of};
+ghost use Rattle.tokens.specs.Reading.{kind_next, byte_next, digit_next, read_to, place_after};
 
-use crate::Taken;
+use crate::Stuck;
 use transport::ByteKind;
 
 // The kind of a byte.
+#[tactic(auto, unfolding(transport::specs::Text::kind_of, transport::specs::Lists::within))]
 fn kind_of(b: u8) -> ByteKind
     ensures { result ≡ kind_of b }
 {
@@ -25,37 +26,27 @@ fn kind_of(b: u8) -> ByteKind
 fn kind_at(text: &[u8], at: usize) -> ByteKind
     ensures { result ≡ kind_next (drop at text.now) }
 {
-    if text.len() <= at {
-        return ByteKind::Other;
+    match text.get(at) {
+        Some(&byte) => kind_of(byte),
+        None => ByteKind::Other,
     }
-    kind_of(text[at])
 }
 
 // Whether a digit comes next.
 pub fn digit_at(text: &[u8], at: usize) -> bool
     ensures { result ≡ digit_next (drop at text.now) }
 {
-    let kind = kind_at(text, at);
-    match kind {
-        ByteKind::Digit => true,
-        ByteKind::Space => false,
-        ByteKind::LineEnd => false,
-        ByteKind::Letter => false,
-        ByteKind::Other => false,
-    }
+    matches!(kind_at(text, at), ByteKind::Digit)
 }
 
 // Whether the end of a number comes next: a line end after the last one of its line, else a space. `left` counts as in `sections::lines`.
 pub fn end_at(text: &[u8], at: usize, left: usize) -> bool
     ensures { result ≡ byte_next (ending left) (drop at text.now) }
 {
-    let kind = kind_at(text, at);
-    match kind {
-        ByteKind::Digit => false,
+    match kind_at(text, at) {
         ByteKind::Space => left != 1,
         ByteKind::LineEnd => left == 1,
-        ByteKind::Letter => false,
-        ByteKind::Other => false,
+        _ => false,
     }
 }
 
@@ -63,26 +54,21 @@ pub fn end_at(text: &[u8], at: usize, left: usize) -> bool
 pub fn byte_at(text: &[u8], at: usize, byte: u8) -> bool
     ensures { result ≡ byte_next byte (drop at text.now) }
 {
-    if text.len() <= at {
-        return false;
-    }
-    byte == text[at]
+    text.get(at) == Some(&byte)
 }
 
-// These bytes.
-pub fn read_word(text: &[u8], at: usize, expected: &[u8]) -> Taken
+// These bytes; the answer is the place after them.
+pub fn read_word(text: &[u8], at: usize, expected: &[u8]) -> Result<usize, Stuck>
     requires { at ≤ length text.now }
-    ensures { (word expected.now (drop at text.now) ≡ reading_of text.now (λ v. tt) result)
-        × (place_of result ≤ length text.now) }
+    ensures reads { word expected.now (drop at text.now) ≡ read_to text.now tt result }
+    ensures inside { place_after result ≤ length text.now }
 {
     let mut next = at;
-    let mut i: usize = 0;
-    while i < expected.len() {
-        if !byte_at(text, next, expected[i]) {
-            return Taken::Stuck(next);
+    for byte in expected {
+        if !byte_at(text, next, *byte) {
+            return Err(Stuck(next));
         }
         next += 1;
-        i += 1;
     }
-    Taken::Got { value: 0, next }
+    Ok(next)
 }

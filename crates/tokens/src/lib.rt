@@ -3,16 +3,13 @@
 
 pub mod bytes;
 
-// What a reader finds from its place on: a value, with the place after it; or the place before the first byte that cannot come there.
+// A value that was read, with the place after it.
 #[derive(Clone, Copy)]
-pub enum Taken {
-    Got { value: u64, next: usize },
-    Stuck(usize),
+pub struct Token<T> {
+    pub value: T,
+    pub next: usize,
 }
 
-// The same for a whole number.
+// The place before the first byte that cannot come there: what a reader answers that finds nothing.
 #[derive(Clone, Copy)]
-pub enum TakenWhole {
-    Got { value: i64, next: usize },
-    Stuck(usize),
-}
+pub struct Stuck(pub usize);

@@ -1,9 +1,0 @@
--- At the end no byte comes next, and before it the byte at the place does.
-use Rattle.prelude.specs.Words.{sym, rules}
-use Rattle.tokens.specs.Reading.{byte-end, byte-here}
-use Rattle.tokens.proofs.bytes.byte_at.Statement.{statement}
-use Rattle.tokens.proofs.bytes.byte_at.Tie as tie
-
-pub byte_at_spec : {M : Type 1} → statement M
-byte_at_spec = tie.close (tie.spec (λ c. sym (byte-end _ _ _ c.if-text-at.true)) (λ c. search rules)
-    (λ c. sym (byte-here _ _ _ c.before.if-text-at.false)))
