@@ -44,10 +44,14 @@ pub record Masked (m n : ℕ) (q : List ℤ) (holds owns : List ℕ) : Type 0 wh
   pub hold : (i j : ℕ) → i < m → j < n → has (entry holds j) i ≡ carries q i j
   pub own : (i j : ℕ) → i < m → j < n → has (entry owns i) j ≡ carries q i j
 
+-- The same of a struct: its bags, and its masks.
+abbrev pub bags_on : Bags → ℕ → ℕ → Z
+bags_on b = lane_bags b.q.now
+
 abbrev pub MaskedBags : ℕ → ℕ → Bags → Type 0
 MaskedBags m n b = Masked m n b.q.now b.holds b.owns
 
--- The bags after a change: in the same array, and where the masks were right before, they are right after.
+-- After a change: in the same array, and where the masks were right before, they are right after.
 pub record Follow (b b' : Bags) : Type 0 where
   pub same_array : b'.q.ghost_name ≡ b.q.ghost_name
   pub masked : {m n : ℕ} → MaskedBags m n b → MaskedBags m n b'

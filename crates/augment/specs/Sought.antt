@@ -14,7 +14,8 @@ use Rattle.tree.specs.MaskLaws.{minus}
 use Rattle.tree.specs.Bits.{Least, Touched}
 use Rattle.tree.specs.Layout.{stride}
 use Rattle.augment.specs.Sets.{in_bit, in_none, in_some, in_or, in_and, in_minus, in_put, in_unset, in_rest}
-use Rattle.augment.specs.Bags.{entry, InMask}
+use Rattle.augment.specs.Bags.{entry, InMask, bags_on}
+use Rattle.augment.specs.declared.bags.Bags.{Bags}
 use Rattle.augment.specs.declared.search.Target.{Target}
 use Rattle.augment.specs.declared.way.Way.{Way}
 
@@ -36,6 +37,10 @@ pub record Sought (m n : ℕ) (t : Target) (x : ℕ → ℕ → Z) (tight holds 
   pub own : (i j : ℕ) → i < m → j < n → (has (entry owns i) j ≡ true) ↔ (nat 0 ≺ x i j)
   pub goals : (j : ℕ) → j < n → (has t.goal j ≡ true) ↔ ((t.col < j) × ¬ (x t.row j ≈ nat 0))
   pub closed : NoWayOut m n (InMask tight) x t.row (has t.dead)
+
+-- With the bags that there are.
+abbrev pub SoughtIn : ℕ → ℕ → Target → List ℕ → Bags → Type 0
+SoughtIn m n t tight b = Sought m n t (bags_on b) tight b.holds b.owns
 
 -- ---- rows gathered
 
@@ -249,14 +254,17 @@ pub record Hits (m n : ℕ) (t : Target) (x : ℕ → ℕ → Z) (tight : List �
   pub goal : (l < n) × (t.col < l) × InMask tight (entry way.row s) l × (nat 0 ≺ x t.row l) × ¬ (has t.dead l ≡ true)
 
 -- Whatever the bags are, the search has come so far.
-pub record Sweeping (m n : ℕ) (t : Target) (tight holds owns : List ℕ) (cols rows left count : ℕ) (way : Way) (from : List ℕ) : Type 0 where
-  pub each : (x : ℕ → ℕ → Z) → Sought m n t x tight holds owns → Seeking m n t x tight holds cols rows left count way.row way.col way.up from
+pub record Sweeping (m n : ℕ) (t : Target) (tight holds owns : List ℕ) (cols rows left count : ℕ) (way : Way)
+    (from : List ℕ) : Type 0 where
+  pub each : (x : ℕ → ℕ → Z) → Sought m n t x tight holds owns
+      → Seeking m n t x tight holds cols rows left count way.row way.col way.up from
 
 -- The way with one position more, or with another one at `count`.
 abbrev pub standing : Way → (count i j k : ℕ) → Way
 standing way count i j k = record { row = set way.row count i; col = set way.col count j; up = set way.up count k }
 
-pub sweep_start : {m n : ℕ} {t : Target} {tight holds owns : List ℕ} (way : Way) (from : List ℕ) → 0 < length way.row → stride ≤ length from
+pub sweep_start : {m n : ℕ} {t : Target} {tight holds owns : List ℕ} (way : Way) (from : List ℕ)
+    → 0 < length way.row → stride ≤ length from
     → Sweeping m n t tight holds owns (put 0 t.col) (bit_and (entry holds t.col) t.later) t.later 1
     (record { row = set way.row 0 t.row; col = way.col; up = way.up }) (set from t.col 0)
 sweep_start way from r f = record { each = λ x g. seeking_start way.row from g r (omega (arith, g.col, g.cols)) }
@@ -325,7 +333,8 @@ module _ {m n : ℕ} {t : Target} {tight holds owns : List ℕ} {cols rows left 
                 (λ k u. by_cases (ℕ_discrete k 0) (λ z. rw (z, tree.root) g.row) (λ z. tree.rows k (omega arith) u)) tree.once,
           );
           alive = λ k v v'. by_cases (ℕ_discrete k count)
-              (λ z. rw (z, get_or-set_same way.col count j 0 col_in) (e.live j ((in_and (entry owns i) cols j).0 col-has).1).1)
+              (λ z. let here = (in_and (entry owns i) cols j).0 col-has in
+              rw (z, get_or-set_same way.col count j 0 col_in) (e.live j here.1).1)
               (λ z. rw (get_or-set_other way.col count k j 0 z) (e.search.alive k v (omega arith)));
           goal = seeking_hit g e i j rows-has col-has row_in col_in up_in l
               ((in_bit (bit_and (minus (entry tight i) (bit_or cols t.dead)) t.goal) l).1 h.on);

@@ -86,7 +86,8 @@ module _ {m n s j : ℕ} {way : Way} (v : Walkable m n s j way) (q : List ℤ) w
     abbrev next : ℕ
     next = entry way.row at * stride + entry way.col at
 
-    pub lowering-inside : (at < suc s) × (entry way.row at < stride) × (entry way.col at < stride) × (entry way.up at < at)
+    pub lowering-inside : (at < suc s) × (entry way.row at < stride) × (entry way.col at < stride)
+        × (entry way.up at < at)
     lowering-inside = let few : at < suc s = omega (arith, w.climbed.fall) in
         let r : entry way.row at < m = v.rows at few in let c : entry way.col at < n = v.cols at some few in
         (few, omega (arith, v.rows_high), omega (arith, v.cols_high), v.below at some few)
@@ -97,7 +98,8 @@ module _ {m n s j : ℕ} {way : Way} (v : Walkable m n s j way) (q : List ℤ) w
     here : next ≡ row_of way s (suc w.steps) * stride + col_of way s j (suc w.steps)
     here = rw (← w.climbed.stands)
 
-    pub lowering-less : lt_z (get_or q next (pos 0)) (get_or q l (pos 0)) ≡ true → LeastTo s j way q next (entry way.up at)
+    pub lowering-less : lt_z (get_or q next (pos 0)) (get_or q l (pos 0)) ≡ true
+        → LeastTo s j way q next (entry way.up at)
     lowering-less e = record {
       steps = suc w.steps;
       climbed = on;
@@ -112,7 +114,8 @@ module _ {m n s j : ℕ} {way : Way} (v : Walkable m n s j way) (q : List ℤ) w
       };
     }
 
-    pub lowering-keep : lt_z (get_or q next (pos 0)) (get_or q l (pos 0)) ≡ false → LeastTo s j way q l (entry way.up at)
+    pub lowering-keep : lt_z (get_or q next (pos 0)) (get_or q l (pos 0)) ≡ false
+        → LeastTo s j way q l (entry way.up at)
     lowering-keep e = record {
       steps = suc w.steps;
       climbed = on;
@@ -168,7 +171,8 @@ module _ {m n s j : ℕ} {way : Way} {b : Bags} (v : Carries m n s j way b)
       × (nat_abs (get_or b.q.now (entry way.row s * stride + j) (pos 0)) + nat_abs x < 2 ^ 62)
   bring_first = let w = v.walkable in
       let r : entry way.row 0 < m = w.rows 0 (omega arith) in let r' : entry way.row s < m = w.rows s (omega arith) in
-      omega (arith, w.rows_high, w.cols_high, w.goal, few-small (entry way.row 0) j r w.goal, small, few-small (entry way.row s) j r' w.goal)
+      let few = few-small (entry way.row 0) j r w.goal in let few' = few-small (entry way.row s) j r' w.goal in
+      omega (arith, w.rows_high, w.cols_high, w.goal, few, small, few')
 
   pub bringing_start : {b' : Bags} → BagsShifted (entry way.row 0) (entry way.row s) j x b.q.now b'.q.now → Follow b b'
       → Bringing s j way x b s b'
@@ -241,7 +245,8 @@ module _ {m n s j : ℕ} {way : Way} {b : Bags} (v : Carries m n s j way b)
 way-inside : {m n s j : ℕ} {way : Way} → Walkable m n s j way → {d : ℕ} → Rooted (entry way.up) s d
     → (k : ℕ) → k < suc d → (row_of way s k < m) × (col_of way s j k < n)
 way-inside v r zero l = (v.rows 0 (omega arith), v.goal)
-way-inside {s = s} {way = way} v {d} r (suc k) l = (v.rows (above (entry way.up) s k) (low k l), v.cols (above (entry way.up) s k) (r.below k (omega arith)) (low k l))
+way-inside {s = s} {way = way} v {d} r (suc k) l =
+    let at = above (entry way.up) s k in (v.rows at (low k l), v.cols at (r.below k (omega arith)) (low k l))
   where
     low : (k : ℕ) → suc k < suc d → above (entry way.up) s k < suc s
     low zero l = omega arith

@@ -9,7 +9,8 @@ use transport::MAX_SIDE;
 use tree::mask::{clear_bit, first_bit, rest, set_bit};
 use tree::{LANES, NODES};
 
-// The bags of each lane, and the masks: for each column the rows with bags on it (`holds`), and for each row the columns (`owns`).
+// The bags of each lane, and the masks: for each column the rows with bags on it (`holds`), and for
+// each row the columns (`owns`).
 #[derive(Drop)]
 pub struct Bags<'a> {
     pub q: &'a mut [i64; LANES],
@@ -40,7 +41,8 @@ impl<'a> Bags<'a> {
         requires q_long { length self.old.q.now ≡ lane_room }
         requires i_lt_stride { (i < stride) × (j < stride) }
         requires x_bound { nat_abs (get_or self.old.q.now (i * stride + j) (pos 0)) + nat_abs x < 2 ^ 63 }
-        ensures q_after { self.new.q.now ≡ set self.old.q.now (i * stride + j) (get_or self.old.q.now (i * stride + j) (pos 0) +ℤ x) }
+        ensures q_after { let q = self.old.q.now in let l = i * stride + j in
+            self.new.q.now ≡ set q l (get_or q l (pos 0) +ℤ x) }
         ensures follow { Follow self.old self.new }
     {
         let l = i * MAX_SIDE + j;

@@ -31,7 +31,8 @@ pub struct Target {
     pub dead: u64,
 }
 
-// The positions that are reached, and for each column that is reached the position from[l] that it hangs on.
+// The positions that are reached, and for each column l that is reached the position from[l] that
+// it hangs on.
 #[derive(Drop)]
 pub struct Search {
     pub way: Way,
@@ -56,7 +57,8 @@ fn reach(from: &mut [usize; MAX_SIDE], holds: &[u64; MAX_SIDE], cols: u64, at: u
 }
 
 impl Search {
-    // A goal that is reached, or else the columns from which none is. `left` are the rows not yet reached, `rows` those of them with bags on a column that is.
+    // A goal that is reached, or else the columns from which none is. `left` are the rows not yet
+    // reached, `rows` those of them with bags on a column that is.
     pub fn find_goal(&mut self, bags: &Bags, tight: TightLanes, target: Target) -> Result<Goal, u64>
         requires { (x : ℕ → ℕ → Z) × Sought tight.m tight.n target x tight.rows.now bags.now.holds bags.now.owns }
         ensures { (x : ℕ → ℕ → Z)

@@ -10,7 +10,8 @@ use crate::bags::Bags;
 use transport::MAX_SIDE;
 use tree::{LANES, NODES};
 
-// Position 0 is the target's row. Position k is the later row row[k], which has bags on column col[k]; that column is tight for the row at position up[k].
+// Position 0 is the target's row. Position k is the later row row[k], which has bags on column
+// col[k]; that column is tight for the row at position up[k].
 #[derive(Drop)]
 pub struct Way {
     pub row: [usize; NODES],

@@ -5,7 +5,7 @@ ghost use Rattle.integers.specs.Integer.{Z};
 ghost use Rattle.network.specs.Settling.{DecidedTo};
 ghost use Rattle.tree.specs.Layout.{stride};
 ghost use Rattle.augment.specs.Bags.{lane_bags, InMask};
-ghost use Rattle.augment.specs.Sought.{Sought};
+ghost use Rattle.augment.specs.Sought.{SoughtIn};
 ghost use Rattle.settle.specs.Stage.{Stage, Reaches, Dead};
 ghost use Rattle.settle.specs.Rows.{OnlyBasics, Settleable};
 
@@ -33,7 +33,7 @@ fn only_basics(tight: &[u64; MAX_SIDE], basic: &[u64; NODES], m: usize) -> bool
 fn decide(bags: &mut Bags, tight: TightLanes, target: Target, search: &mut Search) -> u64
     requires stage { (a : ℕ → Z) × (b : ℕ → Z)
         × Stage tight.m tight.n a b (target.row * tight.n + target.col) tight.rows.now bags.old }
-    requires sought { Sought tight.m tight.n target (lane_bags bags.old.q.now) tight.rows.now bags.old.holds bags.old.owns }
+    requires sought { SoughtIn tight.m tight.n target tight.rows.now bags.old }
     ensures dead { let t = tight.entry in Dead t.m t.n target.row (suc target.col) t.rows.now bags.new.q.now result }
     ensures reaches { let t = tight.entry in let lane = target.row * t.n + target.col in
         Reaches t.m t.n lane (suc lane) t.rows.now bags.old bags.new }

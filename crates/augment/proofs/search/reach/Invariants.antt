@@ -6,7 +6,8 @@ use Rattle.augment.specs.Sought.{Gathered}
 use Rattle.augment.proofs.search.reach.Given as goal
 
 abbrev pub invariant-loop-left : goal.invariant-loop-left
-invariant-loop-left l = Touching (λ (y : ℕ). l.at) 0 l.fn.from l.cols l.left l.from × Gathered l.holds (minus l.cols l.left) l.rows
+invariant-loop-left l =
+    Touching (λ (y : ℕ). l.at) 0 l.fn.from l.cols l.left l.from × Gathered l.holds (minus l.cols l.left) l.rows
 
 abbrev pub decreases-loop-left : goal.decreases-loop-left
 decreases-loop-left l = l.left

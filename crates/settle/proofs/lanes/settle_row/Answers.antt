@@ -1,6 +1,7 @@
 use Rattle.prelude.specs.Words.{arith}
 use Rattle.augment.specs.Sets.{least_of}
-use Rattle.settle.specs.Rows.{along-start, along-ends, along-here, along_goalless, along-dead, along_sought, along-decided}
+use Rattle.settle.specs.Rows.{along-start, along-ends, along-here, along_goalless, along-dead, along_sought}
+use Rattle.settle.specs.Rows.{along-decided}
 use Rattle.settle.proofs.lanes.settle_row.Goals as goal
 
 pub loop-todo-init : goal.loop-todo-init
@@ -8,7 +9,8 @@ loop-todo-init c = along-start
 
 -- No goal is left.
 pub returns-then-goal-eq0 : goal.returns-then-goal-eq0
-returns-then-goal-eq0 c = along_goalless c.requires.p_lt_m c.requires.stage.2 c.loop-todo.invariant c.first_bit-b.result c.rest-todo.result
+returns-then-goal-eq0 c =
+    along_goalless c.requires.p_lt_m c.requires.stage.2 c.loop-todo.invariant c.first_bit-b.result c.rest-todo.result
     (least_of c.first_bit-b.ensures) c.rest-todo.ensures c.if-goal-eq0.true
 
 -- The column is not dead: it is decided.

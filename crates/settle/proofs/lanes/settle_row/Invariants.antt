@@ -1,4 +1,5 @@
--- The lanes of the row before some column are decided, and `todo` are its tight columns from there on.
+-- The lanes of the row before some column are decided, and `todo` are its tight columns from there
+-- on.
 use Rattle.settle.specs.Rows.{Along}
 use Rattle.settle.proofs.lanes.settle_row.Given as goal
 

@@ -14,7 +14,8 @@ returns-clause-follow c =
     let z = get_or q l (pos 0) +ℤ c.args.x in
     let sum = sum_back w64 (get_or q l (pos 0)) c.args.x c.requires.x_bound in
     let here : get_or (set q l z) l (pos 0) ≡ z = get_or-set_same q l z (pos 0) (omega arith) in
-    let same : to_z w64 (of_z w64 z) ≡ z = back w64 z (omega (arith, mag_abs z, abs_add (get_or q l (pos 0)) c.args.x)) in
+    let few = abs_add (get_or q l (pos 0)) c.args.x in
+    let same : to_z w64 (of_z w64 z) ≡ z = back w64 z (omega (arith, mag_abs z)) in
     rw sum (record {
       same_array = refl;
       masked = λ w. masked-set q c.args.i c.args.j z c.requires.i_lt_stride.0 c.requires.i_lt_stride.1 w.q_long

@@ -15,8 +15,8 @@ returns-clause-bags_shifted c =
     let (from, to, j) = c.requires.from_lt_stride in
     let same : to_z w64 (of_z w64 c.args.x) ≡ c.args.x = search rules in
     let taken = rw (minus_is c.args.x (omega arith)) at c.add.ensures.q_after in
-    rw (rw (same, taken) at c.add-2.ensures.q_after) (shifted_by c.args.from c.args.to c.args.j c.args.x c.args.self.now.q.now from to j
-    c.requires.q_long)
+    rw (rw (same, taken) at c.add-2.ensures.q_after)
+    (shifted_by c.args.from c.args.to c.args.j c.args.x c.args.self.now.q.now from to j c.requires.q_long)
 
 pub returns-clause-follow : goal.returns-clause-follow
 returns-clause-follow c = follow-both c.add.ensures.follow c.add-2.ensures.follow

@@ -14,7 +14,8 @@ shift-requires-clause-x_bound c =
 pub loop-at-init : goal.loop-at-init
 loop-at-init c =
     let same : to_z w64 (of_z w64 c.args.x) ≡ c.args.x = search rules in
-    bringing_start c.requires.by_index.2 _ (rw same c.requires.x_bound) c.shift.ensures.bags_shifted c.shift.ensures.follow
+    bringing_start c.requires.by_index.2 _ (rw same c.requires.x_bound)
+    c.shift.ensures.bags_shifted c.shift.ensures.follow
 
 pub shift-requires-in-loop-at-clause-x_bound : goal.shift-requires-in-loop-at-clause-x_bound
 shift-requires-in-loop-at-clause-x_bound c =

@@ -17,6 +17,8 @@ loop-at-preserved c =
     let same : to_z w64 (of_z w64 here) ≡ here = search rules in
     let same' : to_z w64 (of_z w64 (get_or q l.least (pos 0))) ≡ get_or q l.least (pos 0) = search rules in
     elim c.if-q-lane.branch [
-      | then-q-lane w ↦ rw w.least-is (lowering-less c.requires.2 q l.invariant (omega arith) (rw (same, same') at w.if-q-lane.true))
-      | else-q-lane w ↦ rw w.least-is (lowering-keep c.requires.2 q l.invariant (omega arith) (rw (same, same') at w.if-q-lane.false))
+      | then-q-lane w ↦
+          rw w.least-is (lowering-less c.requires.2 q l.invariant (omega arith) (rw (same, same') at w.if-q-lane.true))
+      | else-q-lane w ↦
+          rw w.least-is (lowering-keep c.requires.2 q l.invariant (omega arith) (rw (same, same') at w.if-q-lane.false))
     ]
