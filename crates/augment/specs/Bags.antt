@@ -14,6 +14,7 @@ use Rattle.transport.specs.Laws.ListLaws.{and_right}
 use Rattle.tree.specs.Layout.{stride, lane_room, get_or-all}
 use Rattle.tree.specs.Mask.{has, put, has-put, unset, has-unset, has-zero}
 use Rattle.tree.specs.Bits.{Least, has_rest, has-least, Touched}
+use Rattle.augment.specs.declared.bags.Bags.{Bags}
 
 -- The bags on lane (i, j).
 abbrev pub lane_bags : List ℤ → ℕ → ℕ → Z
@@ -43,13 +44,20 @@ pub record Masked (m n : ℕ) (q : List ℤ) (holds owns : List ℕ) : Type 0 wh
   pub hold : (i j : ℕ) → i < m → j < n → has (entry holds j) i ≡ carries q i j
   pub own : (i j : ℕ) → i < m → j < n → has (entry owns i) j ≡ carries q i j
 
--- Where the masks were right before, they are right after.
-pub record Follow (q : List ℤ) (holds owns : List ℕ) (q' : List ℤ) (holds' owns' : List ℕ) : Type 0 where
-  pub masked : {m n : ℕ} → Masked m n q holds owns → Masked m n q' holds' owns'
+-- The same of a struct: its bags, and its masks.
+abbrev pub bags_on : Bags → ℕ → ℕ → Z
+bags_on b = lane_bags b.q.now
 
-pub follow-both : {q q' q'' : List ℤ} {holds owns holds' owns' holds'' owns'' : List ℕ}
-    → Follow q holds owns q' holds' owns' → Follow q' holds' owns' q'' holds'' owns'' → Follow q holds owns q'' holds'' owns''
-follow-both f g = record { masked = λ w. g.masked (f.masked w) }
+abbrev pub MaskedBags : ℕ → ℕ → Bags → Type 0
+MaskedBags m n b = Masked m n b.q.now b.holds b.owns
+
+-- After a change: in the same array, and where the masks were right before, they are right after.
+pub record Follow (b b' : Bags) : Type 0 where
+  pub same_array : b'.q.ghost_name ≡ b.q.ghost_name
+  pub masked : {m n : ℕ} → MaskedBags m n b → MaskedBags m n b'
+
+pub follow-both : {b b' b'' : Bags} → Follow b b' → Follow b' b'' → Follow b b''
+follow-both f g = record { same_array = g.same_array ∙ f.same_array; masked = λ w. g.masked (f.masked w) }
 
 -- ---- a bit put into a mask, or taken out of it
 

@@ -17,6 +17,10 @@ in_none k e h = false≢true (sym (has-zero k) ∙ rw e at h)
 pub in_some : (x k : ℕ) → has x k ≡ true → 0 < x
 in_some x k h = by_cases (ℕ_discrete x 0) (λ e. absurd (in_none k e h)) (λ e. omega arith)
 
+-- The bit that `first_bit` gives is the least.
+pub least_of : {x r : ℕ} → (r < 64) × (bit x r ≡ 1) × ((k : ℕ) → k < r → bit x k ≡ 0) → Least x r
+least_of h = record { on = h.1; off = h.2 }
+
 -- What the tests of bits say of their parts.
 either : (a b : Bool) → (a || b ≡ true) ↔ ((a ≡ true) ⊎ (b ≡ true))
 either a b = (or_cases a b, ⊎_elim (λ e. rw e) (λ e. rw e (or-true a)))

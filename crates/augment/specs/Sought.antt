@@ -1,7 +1,7 @@
 -- The search by masks and arrays, turn by turn.
 use Rattle.std.specs.Prelude.{◌≡◌, ◌↔◌, ◌≢◌, ◌⊎◌, ◌-◌, ◌≤◌, ◌<◌}
 use Rattle.prelude.specs.Words.{refl, sym, ap, ◌∙◌, inl, inr, ⊎_elim, by_cases, true, Bool-discrete, List, ℕ, suc, arith}
-use Rattle.prelude.specs.Words.{ℕ_discrete, length, set, length-set, get_or-set_same, get_or-set_other}
+use Rattle.prelude.specs.Words.{ℕ_discrete, length, set, get_or-set_same, get_or-set_other}
 use Rattle.std.specs.Int.Bits.{bit_and, bit_or}
 use Rattle.integers.specs.Integer.{Z, ◌≈◌, ◌≺◌, ≈_dec, nat}
 use Rattle.network.specs.Flow.{Nonneg}
@@ -12,25 +12,12 @@ use Rattle.transport.specs.Laws.ListLaws.{is_false}
 use Rattle.tree.specs.Mask.{has, put, unset}
 use Rattle.tree.specs.MaskLaws.{minus}
 use Rattle.tree.specs.Bits.{Least, Touched}
-use Rattle.tree.specs.Layout.{stride, node_room}
+use Rattle.tree.specs.Layout.{stride}
 use Rattle.augment.specs.Sets.{in_bit, in_none, in_some, in_or, in_and, in_minus, in_put, in_unset, in_rest}
-use Rattle.augment.specs.Bags.{entry, InMask}
+use Rattle.augment.specs.Bags.{entry, InMask, bags_on}
+use Rattle.augment.specs.declared.bags.Bags.{Bags}
 use Rattle.augment.specs.declared.search.Target.{Target}
-
--- The room of a search.
-pub record Rooms (row col up from : List ℕ) : Type 0 where
-  pub row_long : length row ≡ node_room
-  pub col_long : length col ≡ node_room
-  pub up_long : length up ≡ node_room
-  pub from_long : length from ≡ stride
-
-pub rooms-set : {row col up from : List ℕ} (i j k count : ℕ) → Rooms row col up from → Rooms (set row count i) (set col count j) (set up count k) from
-rooms-set i j k count r = record {
-  row_long = simp length-set r.row_long;
-  col_long = simp length-set r.col_long;
-  up_long = simp length-set r.up_long;
-  from_long = r.from_long;
-}
+use Rattle.augment.specs.declared.way.Way.{Way}
 
 -- What a search goes by, with bags x: the target is a tight lane whose column is not dead; `holds` are the rows with bags on each column, `owns` the
 -- columns of each row, `later` the rows
@@ -50,6 +37,10 @@ pub record Sought (m n : ℕ) (t : Target) (x : ℕ → ℕ → Z) (tight holds 
   pub own : (i j : ℕ) → i < m → j < n → (has (entry owns i) j ≡ true) ↔ (nat 0 ≺ x i j)
   pub goals : (j : ℕ) → j < n → (has t.goal j ≡ true) ↔ ((t.col < j) × ¬ (x t.row j ≈ nat 0))
   pub closed : NoWayOut m n (InMask tight) x t.row (has t.dead)
+
+-- With the bags that there are.
+abbrev pub SoughtIn : ℕ → ℕ → Target → List ℕ → Bags → Type 0
+SoughtIn m n t tight b = Sought m n t (bags_on b) tight b.holds b.owns
 
 -- ---- rows gathered
 
@@ -255,27 +246,31 @@ module _ {m n : ℕ} {t : Target} {x : ℕ → ℕ → Z} {tight holds owns : Li
 -- ---- the loop
 
 -- Position s of the tree has a lane to column l, a goal.
-pub record Hits (m n : ℕ) (t : Target) (x : ℕ → ℕ → Z) (tight : List ℕ) (s l : ℕ) (row col up : List ℕ) : Type 0 where
-  pub tree : Grown m n (InMask tight) x t.row t.col (suc s) (entry row) (entry col) (entry up)
+pub record Hits (m n : ℕ) (t : Target) (x : ℕ → ℕ → Z) (tight : List ℕ) (s l : ℕ) (way : Way) : Type 0 where
+  pub tree : Grown m n (InMask tight) x t.row t.col (suc s) (entry way.row) (entry way.col) (entry way.up)
   pub some : 0 < s
   pub few : s < stride
-  pub alive : (k : ℕ) → 0 < k → k < suc s → ¬ (has t.dead (entry col k) ≡ true)
-  pub goal : (l < n) × (t.col < l) × InMask tight (entry row s) l × (nat 0 ≺ x t.row l) × ¬ (has t.dead l ≡ true)
+  pub alive : (k : ℕ) → 0 < k → k < suc s → ¬ (has t.dead (entry way.col k) ≡ true)
+  pub goal : (l < n) × (t.col < l) × InMask tight (entry way.row s) l × (nat 0 ≺ x t.row l) × ¬ (has t.dead l ≡ true)
 
 -- Whatever the bags are, the search has come so far.
-pub record Sweeping (m n : ℕ) (t : Target) (tight holds owns : List ℕ) (cols rows left count : ℕ) (row col up from : List ℕ) : Type 0 where
-  pub rooms : Rooms row col up from
-  pub each : (x : ℕ → ℕ → Z) → Sought m n t x tight holds owns → Seeking m n t x tight holds cols rows left count row col up from
+pub record Sweeping (m n : ℕ) (t : Target) (tight holds owns : List ℕ) (cols rows left count : ℕ) (way : Way)
+    (from : List ℕ) : Type 0 where
+  pub each : (x : ℕ → ℕ → Z) → Sought m n t x tight holds owns
+      → Seeking m n t x tight holds cols rows left count way.row way.col way.up from
 
-pub sweep_start : {m n : ℕ} {t : Target} {tight holds owns : List ℕ} {row col up from : List ℕ} → Rooms row col up from
-    → Sweeping m n t tight holds owns (put 0 t.col) (bit_and (entry holds t.col) t.later) t.later 1 (set row 0 t.row) col up (set from t.col 0)
-sweep_start {row = row} {from = from} r = record {
-  rooms = record { row_long = simp length-set r.row_long; col_long = r.col_long; up_long = r.up_long; from_long = simp length-set r.from_long };
-  each = λ x g. seeking_start row from g (omega (arith, r.row_long)) (omega (arith, g.col, g.cols, r.from_long));
-}
+-- The way with one position more, or with another one at `count`.
+abbrev pub standing : Way → (count i j k : ℕ) → Way
+standing way count i j k = record { row = set way.row count i; col = set way.col count j; up = set way.up count k }
 
-module _ {m n : ℕ} {t : Target} {tight holds owns : List ℕ} {cols rows left count : ℕ} {row col up from : List ℕ}
-    (s : Sweeping m n t tight holds owns cols rows left count row col up from) where
+pub sweep_start : {m n : ℕ} {t : Target} {tight holds owns : List ℕ} (way : Way) (from : List ℕ)
+    → 0 < length way.row → stride ≤ length from
+    → Sweeping m n t tight holds owns (put 0 t.col) (bit_and (entry holds t.col) t.later) t.later 1
+    (record { row = set way.row 0 t.row; col = way.col; up = way.up }) (set from t.col 0)
+sweep_start way from r f = record { each = λ x g. seeking_start way.row from g r (omega (arith, g.col, g.cols)) }
+
+module _ {m n : ℕ} {t : Target} {tight holds owns : List ℕ} {cols rows left count : ℕ} {way : Way} {from : List ℕ}
+    (s : Sweeping m n t tight holds owns cols rows left count way from) where
   module _ {x : ℕ → ℕ → Z} (g : Sought m n t x tight holds owns) where
     pub sweep_few : count ≤ stride
     sweep_few = omega (arith, seeking_few g (s.each x g), g.rows)
@@ -306,7 +301,8 @@ module _ {m n : ℕ} {t : Target} {tight holds owns : List ℕ} {cols rows left 
       sweep_fresh l f = omega (arith, g.inside i l low ((in_minus (entry tight i) (bit_or cols t.dead) l).0 f).0, g.cols)
 
   -- .. reached by column j, ..
-  module _ (i j : ℕ) (hi : Least rows i) (hj : Least (bit_and (entry owns i) cols) j) where
+  module _ (i j : ℕ) (hi : Least rows i) (hj : Least (bit_and (entry owns i) cols) j)
+      (row_in : count < length way.row) (col_in : count < length way.col) (up_in : count < length way.up) where
     rows-has : has rows i ≡ true
     rows-has = (in_bit rows i).1 hi.on
 
@@ -317,33 +313,29 @@ module _ {m n : ℕ} {t : Target} {tight holds owns : List ℕ} {cols rows left 
     pub sweep_on : {from' : List ℕ} {more : ℕ} → let fresh = minus (entry tight i) (bit_or cols t.dead) in
         bit_and fresh t.goal ≡ 0 → Touched (λ (y : ℕ). count) 0 from fresh from' → Gathered holds fresh more
         → Sweeping m n t tight holds owns (bit_or cols fresh) (bit_and (bit_or rows more) (unset left i)) (unset left i) (suc count)
-        (set row count i) (set col count j) (set up count (entry from j)) from'
+        (standing way count i j (entry from j)) from'
     sweep_on none hung rest = record {
-      rooms = let r = rooms-set i j (entry from j) count s.rooms in
-          record { row_long = r.row_long; col_long = r.col_long; up_long = r.up_long; from_long = hung.long ∙ s.rooms.from_long };
-      each = λ x g. let few : count ≤ stride = sweep_few g in seeking_on g (s.each x g) i j rows-has col-has
-          (omega (arith, s.rooms.row_long)) (omega (arith, s.rooms.col_long)) (omega (arith, s.rooms.up_long)) none hung rest;
+      each = λ x g. seeking_on g (s.each x g) i j rows-has col-has row_in col_in up_in none hung rest;
     }
 
     -- .. or one.
     pub sweep_hit : (x : ℕ → ℕ → Z) → Sought m n t x tight holds owns → (l : ℕ) → Least (bit_and (minus (entry tight i) (bit_or cols t.dead)) t.goal) l
-        → Hits m n t x tight count l (set row count i) (set col count j) (set up count (entry from j))
-    sweep_hit x g l h = let e = s.each x g in let few = sweep_few g in let row_in : count < length row = omega (arith, s.rooms.row_long) in
-        let col_in_of : count < length col = omega (arith, s.rooms.col_long) in
-        let upIn : count < length up = omega (arith, s.rooms.up_long) in
-        let tree = reached-tree g e i j rows-has col-has row_in col_in_of upIn in
+        → Hits m n t x tight count l (standing way count i j (entry from j))
+    sweep_hit x g l h = let e = s.each x g in let few = sweep_few g in
+        let tree = reached-tree g e i j rows-has col-has row_in col_in up_in in
         record {
           tree = tree;
           some = e.search.some;
           few = omega (
             arith,
             g.rows,
-            once-few m (suc count) (entry (set row count i))
+            once-few m (suc count) (entry (set way.row count i))
                 (λ k u. by_cases (ℕ_discrete k 0) (λ z. rw (z, tree.root) g.row) (λ z. tree.rows k (omega arith) u)) tree.once,
           );
           alive = λ k v v'. by_cases (ℕ_discrete k count)
-              (λ z. rw (z, get_or-set_same col count j 0 col_in_of) (e.live j ((in_and (entry owns i) cols j).0 col-has).1).1)
-              (λ z. rw (get_or-set_other col count k j 0 z) (e.search.alive k v (omega arith)));
-          goal = seeking_hit g e i j rows-has col-has row_in col_in_of upIn l
+              (λ z. let here = (in_and (entry owns i) cols j).0 col-has in
+              rw (z, get_or-set_same way.col count j 0 col_in) (e.live j here.1).1)
+              (λ z. rw (get_or-set_other way.col count k j 0 z) (e.search.alive k v (omega arith)));
+          goal = seeking_hit g e i j rows-has col-has row_in col_in up_in l
               ((in_bit (bit_and (minus (entry tight i) (bit_or cols t.dead)) t.goal) l).1 h.on);
         }

@@ -1,15 +1,24 @@
 // The search for bags to bring onto a lane from later lanes of its row: over tight lanes, through later rows that have bags to give in exchange.
-ghost use Rattle.std.specs.Prelude.{◌≡◌, true, ℕ, ◌<◌, length};
+ghost use Rattle.std.specs.Prelude.{◌≡◌, true, ℕ, ◌<◌};
 ghost use Rattle.integers.specs.Integer.{Z};
 ghost use Rattle.tree.specs.Layout.{stride};
 ghost use Rattle.tree.specs.Mask.{has};
 ghost use Rattle.tree.specs.Bits.{Touched};
-ghost use Rattle.augment.specs.Sought.{Sought, Rooms, Gathered};
+ghost use Rattle.augment.specs.Sought.{Sought, Gathered};
 ghost use Rattle.augment.specs.Answer.{Answers};
 
+use crate::bags::Bags;
+use crate::way::{Goal, Way};
 use transport::MAX_SIDE;
-use tree::NODES;
 use tree::mask::{clear_bit, first_bit, rest, set_bit, without};
+
+// The tight lanes among m rows and n columns: of each row, the mask of its columns.
+#[derive(Clone, Copy)]
+pub struct TightLanes<'a> {
+    pub rows: &'a [u64; MAX_SIDE],
+    pub m: usize,
+    pub n: usize,
+}
 
 // What is sought: bags for lane (row, col). `later` are the rows after it, `goal` the later columns where the row has bags, and `dead` columns from which
 // earlier searches for the row came to no goal.
@@ -22,17 +31,17 @@ pub struct Target {
     pub dead: u64,
 }
 
-// A position and a goal to which its row has a tight lane; or the columns from which no goal is reached.
-#[derive(Clone, Copy)]
-pub enum Reached {
-    Goal(usize, usize),
-    Nothing(u64),
+// The positions that are reached, and for each column l that is reached the position from[l] that
+// it hangs on.
+#[derive(Drop)]
+pub struct Search {
+    pub way: Way,
+    pub from: [usize; MAX_SIDE],
 }
 
 // from[l] = at for each column l of the mask. Gives the rows with bags on one of them.
 fn reach(from: &mut [usize; MAX_SIDE], holds: &[u64; MAX_SIDE], cols: u64, at: usize) -> u64
-    requires from_len { length from.old ≡ stride }
-    requires by_index { (l : ℕ) → has cols l ≡ true → l < stride }
+    requires { (l : ℕ) → has cols l ≡ true → l < stride }
     ensures touched { Touched (λ (y : ℕ). at) 0 from.old cols from.new }
     ensures gathered { Gathered holds.now cols result }
 {
@@ -41,54 +50,47 @@ fn reach(from: &mut [usize; MAX_SIDE], holds: &[u64; MAX_SIDE], cols: u64, at: u
     while left > 0 {
         let l = first_bit(left);
         from[l] = at;
-        rows = rows | holds[l];
+        rows |= holds[l];
         left = rest(left);
     }
     rows
 }
 
-// Position 0 is the target's row. Position k is the later row row[k], which has bags on column col[k]; that column is tight for the row at position up[k].
-// A column that is reached hangs on position from[l]. `left` are the rows not yet reached, `rows` those of them with bags on a column that is.
-pub fn search(
-    holds: &[u64; MAX_SIDE],
-    owns: &[u64; MAX_SIDE],
-    tight: &[u64; MAX_SIDE],
-    target: Target,
-    row: &mut [usize; NODES],
-    col: &mut [usize; NODES],
-    up: &mut [usize; NODES],
-    from: &mut [usize; MAX_SIDE],
-    m: usize,
-    n: usize,
-) -> Reached
-    requires by_index { (x : ℕ → ℕ → Z) × Sought m n target x tight.now holds.now owns.now }
-    requires rooms { Rooms row.old col.old up.old from.old }
-    ensures rooms_2 { Rooms row.new col.new up.new from.new }
-    ensures by_index_2 { (x : ℕ → ℕ → Z) → Sought m n target x tight.now holds.now owns.now
-        → Answers m n target x tight.now result row.new col.new up.new }
-{
-    let b = target.col;
-    row[0] = target.row;
-    from[b] = 0;
-    let mut cols = set_bit(0, b);
-    let mut left = target.later;
-    let mut rows = holds[b] & left;
-    let mut count = 1;
-    while rows > 0 {
-        let i = first_bit(rows);
-        let j = first_bit(owns[i] & cols);
-        row[count] = i;
-        col[count] = j;
-        up[count] = from[j];
-        let fresh = without(tight[i], cols | target.dead);
-        let hit = fresh & target.goal;
-        if hit > 0 {
-            return Reached::Goal(count, first_bit(hit));
+impl Search {
+    // A goal that is reached, or else the columns from which none is. `left` are the rows not yet
+    // reached, `rows` those of them with bags on a column that is.
+    pub fn find_goal(&mut self, bags: &Bags, tight: TightLanes, target: Target) -> Result<Goal, u64>
+        requires { (x : ℕ → ℕ → Z) × Sought tight.m tight.n target x tight.rows.now bags.now.holds bags.now.owns }
+        ensures { (x : ℕ → ℕ → Z)
+            → Sought tight.entry.m tight.entry.n target x tight.entry.rows.now bags.now.holds bags.now.owns
+            → Answers tight.entry.m tight.entry.n target x tight.entry.rows.now result self.new.way }
+    {
+        let b = target.col;
+        self.way.row[0] = target.row;
+        self.from[b] = 0;
+        let mut cols = set_bit(0, b);
+        let mut left = target.later;
+        let mut rows = bags.holds[b] & left;
+        let mut count = 1;
+        while rows > 0 {
+            let i = first_bit(rows);
+            let j = first_bit(bags.owns[i] & cols);
+            self.way.row[count] = i;
+            self.way.col[count] = j;
+            self.way.up[count] = self.from[j];
+            let fresh = without(tight.rows[i], cols | target.dead);
+            let hit = fresh & target.goal;
+            if hit > 0 {
+                return Ok(Goal {
+                    position: count,
+                    column: first_bit(hit),
+                });
+            }
+            cols |= fresh;
+            left = clear_bit(left, i);
+            rows = (rows | reach(&mut self.from, &bags.holds, fresh, count)) & left;
+            count += 1;
         }
-        cols = cols | fresh;
-        left = clear_bit(left, i);
-        rows = (rows | reach(from, holds, fresh, count)) & left;
-        count += 1;
+        Err(cols | target.dead)
     }
-    Reached::Nothing(cols | target.dead)
 }

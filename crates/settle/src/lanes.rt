@@ -5,13 +5,13 @@ ghost use Rattle.integers.specs.Integer.{Z};
 ghost use Rattle.network.specs.Settling.{DecidedTo};
 ghost use Rattle.tree.specs.Layout.{stride};
 ghost use Rattle.augment.specs.Bags.{lane_bags, InMask};
-ghost use Rattle.augment.specs.Sought.{Sought, Rooms};
+ghost use Rattle.augment.specs.Sought.{SoughtIn};
 ghost use Rattle.settle.specs.Stage.{Stage, Reaches, Dead};
 ghost use Rattle.settle.specs.Rows.{OnlyBasics, Settleable};
 
-use augment::bags::mask_bags;
-use augment::search::{Reached, Target, search};
-use augment::way::bring_least;
+use augment::bags::Bags;
+use augment::search::{Search, Target, TightLanes};
+use augment::way::Way;
 use transport::MAX_SIDE;
 use tree::mask::{first_bit, first_bits, has_bit, rest, without};
 use tree::{LANES, NODES};
@@ -21,56 +21,30 @@ fn only_basics(tight: &[u64; MAX_SIDE], basic: &[u64; NODES], m: usize) -> bool
     requires { m ≤ stride }
     ensures { (result ≡ true) ↔ OnlyBasics tight.now basic.now m }
 {
-    let mut i = 0;
-    while i < m {
+    for i in 0..m {
         if without(tight[i], basic[i]) > 0 {
             return false;
         }
-        i += 1;
     }
     true
 }
 
-// Decides the target's lane, and gives the columns that are dead for the lanes after it. `row`, `col`, `up` and `from` are the room of the search.
-fn decide(
-    q: &mut [i64; LANES],
-    holds: &mut [u64; MAX_SIDE],
-    owns: &mut [u64; MAX_SIDE],
-    tight: &[u64; MAX_SIDE],
-    target: Target,
-    row: &mut [usize; NODES],
-    col: &mut [usize; NODES],
-    up: &mut [usize; NODES],
-    from: &mut [usize; MAX_SIDE],
-    m: usize,
-    n: usize,
-) -> u64
-    requires by_index { (a : ℕ → Z) × (b : ℕ → Z) × Stage m n a b (target.row * n + target.col) tight.now q.old holds.old owns.old }
-    requires sought { Sought m n target (lane_bags q.old) tight.now holds.old owns.old }
-    requires rooms { Rooms row.old col.old up.old from.old }
-    ensures rooms_2 { Rooms row.new col.new up.new from.new }
-    ensures dead { Dead m n target.row (suc target.col) tight.now q.new result }
-    ensures reaches { Reaches m n (target.row * n + target.col) (suc (target.row * n + target.col)) tight.now
-        q.old holds.old owns.old q.new holds.new owns.new }
+// Decides the target's lane, and gives the columns that are dead for the lanes after it.
+fn decide(bags: &mut Bags, tight: TightLanes, target: Target, search: &mut Search) -> u64
+    requires stage { (a : ℕ → Z) × (b : ℕ → Z)
+        × Stage tight.m tight.n a b (target.row * tight.n + target.col) tight.rows.now bags.old }
+    requires sought { SoughtIn tight.m tight.n target tight.rows.now bags.old }
+    ensures dead { let t = tight.entry in Dead t.m t.n target.row (suc target.col) t.rows.now bags.new.q.now result }
+    ensures reaches { let t = tight.entry in let lane = target.row * t.n + target.col in
+        Reaches t.m t.n lane (suc lane) t.rows.now bags.old bags.new }
 {
-    let p = target.row;
     let mut goal = target.goal;
     while goal > 0 {
-        let now = Target {
-            row: p,
-            col: target.col,
-            later: target.later,
-            goal,
-            dead: target.dead,
-        };
-        let reached = search(holds, owns, tight, now, row, col, up, from, m, n);
-        match reached {
-            Reached::Nothing(cols) => {
-                return cols;
-            }
-            Reached::Goal(s, j) => {
-                bring_least(q, holds, owns, row, col, up, s, j);
-                goal = goal & owns[p];
+        match search.find_goal(bags, tight, Target { goal, ..target }) {
+            Err(dead) => return dead,
+            Ok(found) => {
+                search.way.bring_least(bags, found);
+                goal &= bags.owns[target.row];
             }
         }
     }
@@ -79,33 +53,18 @@ fn decide(
 
 // Decides the lanes of row p. A lane that is not tight carries nothing, and nothing can be brought onto a lane if its column is dead, or if the row has no bags
 // after it; then the row is done.
-fn settle_row(
-    q: &mut [i64; LANES],
-    holds: &mut [u64; MAX_SIDE],
-    owns: &mut [u64; MAX_SIDE],
-    tight: &[u64; MAX_SIDE],
-    row: &mut [usize; NODES],
-    col: &mut [usize; NODES],
-    up: &mut [usize; NODES],
-    from: &mut [usize; MAX_SIDE],
-    m: usize,
-    n: usize,
-    p: usize,
-)
-    requires by_index { (a : ℕ → Z) × (b : ℕ → Z) × Stage m n a b (p * n) tight.now q.old holds.old owns.old }
-    requires p_lt_m { p < m }
-    requires rooms { Rooms row.old col.old up.old from.old }
-    ensures rooms_2 { Rooms row.new col.new up.new from.new }
-    ensures reaches { Reaches m n (p * n) (p * n + n) tight.now
-        q.old holds.old owns.old q.new holds.new owns.new }
+fn settle_row(bags: &mut Bags, tight: TightLanes, search: &mut Search, p: usize)
+    requires stage { (a : ℕ → Z) × (b : ℕ → Z) × Stage tight.m tight.n a b (p * tight.n) tight.rows.now bags.old }
+    requires p_lt_m { p < tight.m }
+    ensures { let t = tight.entry in Reaches t.m t.n (p * t.n) (p * t.n + t.n) t.rows.now bags.old bags.new }
 {
-    let later = without(first_bits(m), first_bits(p + 1));
-    let mut dead: u64 = 0;
-    let mut todo = tight[p];
+    let later = without(first_bits(tight.m), first_bits(p + 1));
+    let mut dead = 0;
+    let mut todo = tight.rows[p];
     while todo > 0 {
         let b = first_bit(todo);
         todo = rest(todo);
-        let goal = owns[p] & todo;
+        let goal = bags.owns[p] & todo;
         if goal == 0 {
             return;
         }
@@ -117,7 +76,7 @@ fn settle_row(
                 goal,
                 dead,
             };
-            dead = decide(q, holds, owns, tight, target, row, col, up, from, m, n);
+            dead = decide(bags, tight, target, search);
         }
     }
 }
@@ -137,29 +96,17 @@ pub fn settle_lanes(
     if only_basics(tight, basic, m) {
         return;
     }
-    let mut holds = [0u64; MAX_SIDE];
-    let mut owns = [0u64; MAX_SIDE];
-    mask_bags(q, basic, &mut holds, &mut owns, m);
-    let mut row = [0usize; NODES];
-    let mut col = [0usize; NODES];
-    let mut up = [0usize; NODES];
-    let mut from = [0usize; MAX_SIDE];
-    // The rows that are left are counted, so that a program that decides them backwards is an operand away.
-    let mut left = m;
-    while left > 0 {
-        settle_row(
-            q,
-            &mut holds,
-            &mut owns,
-            tight,
-            &mut row,
-            &mut col,
-            &mut up,
-            &mut from,
-            m,
-            n,
-            m - left,
-        );
-        left -= 1;
+    let mut bags = Bags::on_basics(q, basic, m);
+    let tight = TightLanes { rows: tight, m, n };
+    let mut search = Search {
+        way: Way {
+            row: [0; NODES],
+            col: [0; NODES],
+            up: [0; NODES],
+        },
+        from: [0; MAX_SIDE],
+    };
+    for p in 0..m {
+        settle_row(&mut bags, tight, &mut search, p);
     }
 }

@@ -1,0 +1,22 @@
+use Rattle.std.specs.Prelude.{◌≡◌, ◌<◌, ◌^◌, ◌-ℤ◌}
+use Rattle.prelude.specs.Words.{◌∙◌, arith, rules, ℤ, pos, nat_abs, neg_ℤ, +ℤ_idl}
+use mir.Syntax.{w64}
+use mir.Val.{to_z, of_z}
+use Rattle.transport.specs.Laws.RangeLaws.{diff_back}
+use Rattle.augment.specs.Bags.{follow-both, shifted_by}
+use Rattle.augment.proofs.bags.Bags.shift.Goals as goal
+
+-- What `-x` is.
+minus_is : (x : ℤ) → nat_abs x < 2 ^ 62 → to_z w64 (of_z w64 (pos 0 -ℤ to_z w64 (of_z w64 x))) ≡ neg_ℤ x
+minus_is x p = diff_back w64 (pos 0) x (omega arith) ∙ +ℤ_idl (neg_ℤ x)
+
+pub returns-clause-bags_shifted : goal.returns-clause-bags_shifted
+returns-clause-bags_shifted c =
+    let (from, to, j) = c.requires.from_lt_stride in
+    let same : to_z w64 (of_z w64 c.args.x) ≡ c.args.x = search rules in
+    let taken = rw (minus_is c.args.x (omega arith)) at c.add.ensures.q_after in
+    rw (rw (same, taken) at c.add-2.ensures.q_after)
+    (shifted_by c.args.from c.args.to c.args.j c.args.x c.args.self.now.q.now from to j c.requires.q_long)
+
+pub returns-clause-follow : goal.returns-clause-follow
+returns-clause-follow c = follow-both c.add.ensures.follow c.add-2.ensures.follow
