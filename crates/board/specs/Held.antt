@@ -85,18 +85,6 @@ module _ {m n : ℕ} {T : List Cell} {adj : List ℕ} {q e : List ℤ} (h : Held
 pub inside-basic : {m n : ℕ} {T : List Cell} → Inside m n T → {i j : ℕ} → Basic T i j → (i < m) × (j < n)
 inside-basic p b = rw (b.row, b.column) at (p b.index b.below)
 
--- With fewer columns in view.
-pub held-fewer : {m n k : ℕ} {T : List Cell} {adj : List ℕ} {q e : List ℤ} → k ≤ n → Held m n T adj q e → Held m k T adj q e
-held-fewer p h = record {
-  adj_long = h.adj_long;
-  q_long = h.q_long;
-  e_long = h.e_long;
-  rows = h.rows;
-  columns = λ i j l. h.columns i j (omega arith);
-  bags = λ i j l r. h.bags i j l (omega arith);
-  marks = λ i j l r. h.marks i j l (omega arith);
-}
-
 -- ---- a lane becomes basic
 
 -- The lane (i, j) is put into the masks of its row and of its column.

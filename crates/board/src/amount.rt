@@ -22,8 +22,6 @@ pub fn put_pair(q: &mut [i64; LANES], e: &mut [i64; LANES], lane: usize, x: Pair
     requires { lane < lane_room }
     ensures { (q.new ≡ set q.old lane x.q) × (e.new ≡ set e.old lane x.e) }
 {
-    let bags = x.q;
-    let marks = x.e;
-    q[lane] = bags;
-    e[lane] = marks;
+    q[lane] = x.q;
+    e[lane] = x.e;
 }

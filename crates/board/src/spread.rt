@@ -30,10 +30,8 @@ fn put_cell(c: Cell, m: usize, adj: &mut [u64; NODES], q: &mut [i64; LANES], e: 
         × (q.new ≡ set q.old (c.row * stride + c.col) c.amount.q)
         × (e.new ≡ set e.old (c.row * stride + c.col) c.amount.e) }
 {
-    let row = c.row;
-    let col = c.col;
-    link(adj, m, row, col);
-    put_pair(q, e, row * MAX_SIDE + col, c.amount);
+    link(adj, m, c.row, c.col);
+    put_pair(q, e, c.row * MAX_SIDE + c.col, c.amount);
 }
 
 // All cells of the tableau, from the last to the first, over arrays of zeros.
@@ -45,11 +43,8 @@ fn spread(t: Tableau, m: usize, adj: &mut [u64; NODES], q: &mut [i64; LANES], e:
         × Empty q.old e.old }
     ensures { (n : ℕ) → n ≤ stride → Held m n (cells_of t) adj.new q.new e.new }
 {
-    let mut k = t.count;
-    while k > 0 {
-        k -= 1;
-        let c = t.cells[k];
-        put_cell(c, m, adj, q, e);
+    for k in (0..t.count).rev() {
+        put_cell(t.cells[k], m, adj, q, e);
     }
 }
 
