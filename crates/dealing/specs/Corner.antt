@@ -3,6 +3,9 @@ use Rattle.std.specs.Prelude.{◌+◌, ◌*◌, ◌-◌, ◌≤◌, ◌<◌, ◌
 use Rattle.prelude.specs.Words.{ℕ, zero, suc, arith, add-suc, suc-add, refl, sym, ap, ◌∙◌, Bool, true, false, cond, List}
 use Rattle.prelude.specs.Words.{eqb, pos, neg_ℤ, nat_abs, length, drop, get_or, replicate, length-replicate, drop-cons, by_test}
 pub use Rattle.dealing.specs.declared.corner.Corner.{Corner}
+use Rattle.std.specs.Int.{w64}
+use Rattle.std.proofs.Common.{to_z}
+use mir.Facts.{to_z_pos}
 use Rattle.transport.specs.Lists.{at_z}
 use Rattle.transport.specs.Limits.{max_side, max_amount, max_cells, max_bags, cost_below, cost_above}
 use Rattle.transport.specs.Problem.{Problem, sources, sinks}
@@ -83,6 +86,11 @@ module _ (P : Problem) where
   start-costless = corner-costless _ 0 0 _ _
 
 -- ---- the rule
+
+-- A number of bags is read from its bits as it is.
+pub bags-whole : {n : ℕ} → n ≤ max_bags → to_z w64 n ≡ pos n
+unfolding max_bags max_side max_amount
+bags-whole {n} l = to_z_pos w64 {n = n} (omega arith)
 
 abbrev pub first_corner_of : Problem → Corner
 first_corner_of P = record { row = 0; col = 0; supply = paired_supply_of P 0; demand = paired_demand_of P 0 }

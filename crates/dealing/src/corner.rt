@@ -54,13 +54,11 @@ fn first_corner(supply: &[u64], demand: &[u64]) -> Corner
     requires { Sound (costless supply.now demand.now) }
     ensures { result ≡ first_corner_of (costless supply.now demand.now) }
 {
-    let s = paired_supply(supply, 0);
-    let d = paired_demand(demand, 0, supply.len());
     Corner {
         row: 0,
         col: 0,
-        supply: s,
-        demand: d,
+        supply: paired_supply(supply, 0),
+        demand: paired_demand(demand, 0, supply.len()),
     }
 }
 
@@ -69,11 +67,10 @@ impl Corner {
     fn put(self) -> Cell
         ensures { result ≡ cell_of self }
     {
-        let x = smaller(self.supply, self.demand);
         Cell {
             row: self.row,
             col: self.col,
-            amount: x,
+            amount: smaller(self.supply, self.demand),
         }
     }
 
@@ -84,27 +81,22 @@ impl Corner {
         requires col_in_bounds { self.row + self.col + 2 < length supply.now + length demand.now }
         ensures { result ≡ next_corner (costless supply.now demand.now) self }
     {
-        let i = self.row;
-        let j = self.col;
-        let s = self.supply;
-        let d = self.demand;
-        if d.less(s) {
-            let rest = s.subtract(d);
-            let fresh = paired_demand(demand, j + 1, supply.len());
-            return Corner {
-                row: i,
-                col: j + 1,
-                supply: rest,
-                demand: fresh,
-            };
-        }
-        let rest = d.subtract(s);
-        let fresh = paired_supply(supply, i + 1);
-        Corner {
-            row: i + 1,
-            col: j,
-            supply: fresh,
-            demand: rest,
+        if self.demand.less(self.supply) {
+            let col = self.col + 1;
+            Corner {
+                row: self.row,
+                col,
+                supply: self.supply.subtract(self.demand),
+                demand: paired_demand(demand, col, supply.len()),
+            }
+        } else {
+            let row = self.row + 1;
+            Corner {
+                row,
+                col: self.col,
+                supply: paired_supply(supply, row),
+                demand: self.demand.subtract(self.supply),
+            }
         }
     }
 }
@@ -117,14 +109,12 @@ pub fn first_tableau(supply: &[u64], demand: &[u64]) -> Tableau
     let count = supply.len() + demand.len() - 1;
     let mut t = tableau::empty_tableau();
     let mut at = first_corner(supply, demand);
-    let mut k: usize = 0;
-    while k + 1 < count {
+    for k in 0..count - 1 {
         t.cells[k] = at.put();
         at = at.next(supply, demand);
-        k += 1;
     }
     // The last cell empties its row and its column, and no step follows.
-    t.cells[k] = at.put();
+    t.cells[count - 1] = at.put();
     t.count = count;
     t
 }

@@ -25,6 +25,7 @@ use tree::{LANES, NODES, Price};
 
 // Puts the new cost of one lane among the costs that are spread by column. `rows` and `cols` have
 // the own numbers of the parties left; a struck party has no lane there.
+#[tactic(auto, unfolding(transport::specs::Limits::max_side))]
 fn respread_lane(
     row: usize,
     col: usize,
@@ -38,14 +39,12 @@ fn respread_lane(
         → Spread cost cafes rows.now cols.now spread.old
         → Spread (set cost (place cafes row col) c) cafes rows.now cols.now spread.new }
 {
-    let i = number_in(rows, row);
-    let j = number_in(cols, col);
-    if i == MAX_SIDE {
+    let Some(i) = number_in(rows, row) else {
         return;
-    }
-    if j == MAX_SIDE {
+    };
+    let Some(j) = number_in(cols, col) else {
         return;
-    }
+    };
     spread[j * MAX_SIDE + i] = c as Price;
 }
 

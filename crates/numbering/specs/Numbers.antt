@@ -1,15 +1,15 @@
 -- The numbers of those left among themselves, their own numbers, and cells under the one and under the other.
-use Rattle.std.specs.Prelude.{◌≡◌, ◌∷◌, ◌++◌, ◌+◌, ◌-◌, ◌≤◌, ◌<◌}
-use Rattle.prelude.specs.Words.{refl, sym, ap, ◌∙◌, by_cases, true, false, cond, List, [], map, append-nil, ℕ, zero, suc}
-use Rattle.prelude.specs.Words.{arith, dec_lt, ℕ_discrete, add-one, eqb, ltb, length, take, drop, get_or, set, replicate, length-set, length-map, length-append}
-use Rattle.prelude.specs.Words.{length-replicate, get_or-append, take-append-drop, drop_of_length-le, get_or-drop, get_or-set_same, get_or-set_other, take_at}
-use Rattle.prelude.specs.Words.{take_all, length-take-le, eq-eqb, ne_eqb, lt-ltb, le-ltb}
+use Rattle.std.specs.Prelude.{◌≡◌, ◌++◌, ◌+◌, ◌-◌, ◌≤◌, ◌<◌}
+use Rattle.prelude.specs.Words.{refl, sym, ap, ◌∙◌, by_cases, true, false, List, [], map, append-nil, ℕ, zero, suc}
+use Rattle.prelude.specs.Words.{arith, dec_le, ℕ_discrete, add-one, eqb, length, min, take, drop, length-take, get_or, set, replicate, length-set, length-map, length-append}
+use Rattle.prelude.specs.Words.{length-replicate, get_or-append, drop_of_length-le, get_or-set_same, get_or-set_other, take_at}
+use Rattle.prelude.specs.Words.{take_all, length-take-le, eq-eqb, ne_eqb}
 use Rattle.std.proofs.Math.Seq.{drop-append_seam}
+use Rattle.std.proofs.lemmas.List.{append_assoc, drop_more, map_more, set_at, take-map}
 use Rattle.transport.specs.Limits.{max_side, max_cells}
-use Rattle.transport.specs.Lists.{at, table, padded}
+use Rattle.transport.specs.Lists.{at, padded}
 use Rattle.transport.specs.Parties.{left}
 use Rattle.transport.specs.Tableau.{no_cell, cells_of, tableau_of}
-use Rattle.transport.specs.Laws.ListLaws.{table-zero, fill_one, length-table, get_or-append-at, map-table, table_cong, table-get_or}
 use Rattle.transport.specs.Laws.PartiesLaws.{left_at, length-left, left-grows}
 use Rattle.transport.specs.declared.Cell.{Cell}
 use Rattle.transport.specs.declared.Tableau.{Tableau}
@@ -140,37 +140,24 @@ pub record Within (rows cols : List ℕ) (T : List Cell) : Type 0 where
 -- The first n cells of a tableau are changed, and the rest is as it was.
 pub record ChangedTo (f : Cell → Cell) (t : Tableau) (n : ℕ) (u : Tableau) : Type 0 where
   pub many : u.count ≡ t.count
-  pub cells : u.cells ≡ table n (λ k. f (get_or t.cells k no_cell)) ++ drop n t.cells
+  pub cells : u.cells ≡ map f (take n t.cells) ++ drop n t.cells
 
 module _ {f : Cell → Cell} {t : Tableau} where
   pub changed-none : ChangedTo f t 0 t
-  changed-none = record { many = refl; cells = rw (table-zero (λ k. f (get_or t.cells k no_cell))) }
+  changed-none = record { many = refl; cells = refl }
 
-  -- The next cell is still what it was ..
-  changed-next : {n : ℕ} {u : Tableau} → ChangedTo f t n u → get_or u.cells n no_cell ≡ get_or t.cells n no_cell
-  changed-next {n} {u} w =
-      let front : List Cell = table n (λ k. f (get_or t.cells k no_cell)) in
-      let here : n + 0 ≡ n = omega arith in
-      ap (λ (cells : List Cell). get_or cells n no_cell) w.cells
-      ∙ ap (λ (k : ℕ). get_or (front ++ drop n t.cells) k no_cell) (sym here)
-      ∙ get_or-append-at front (drop n t.cells) n 0 no_cell (length-table (λ k. f (get_or t.cells k no_cell)) n)
-      ∙ get_or-drop n t.cells 0 no_cell
-      ∙ ap (λ (k : ℕ). get_or t.cells k no_cell) here
-
-  -- .. and is changed.
-  pub changed-one : {n : ℕ} {u : Tableau} → ChangedTo f t n u → n < length t.cells → (c : Cell) → c ≡ f (get_or u.cells n no_cell)
+  -- One more is changed.
+  pub changed-one : {n : ℕ} {u : Tableau} {c : Cell} → ChangedTo f t n u → n < length t.cells → c ≡ f (get_or t.cells n no_cell)
       → ChangedTo f t (n + 1) (record { cells = set u.cells n c; count = u.count })
-  changed-one {n} {u} w l c e =
-      let here : c ≡ f (get_or t.cells n no_cell) = e ∙ ap f (changed-next w) in
-      record { many = w.many; cells = rw (here, w.cells) (fill_one (λ k. f (get_or t.cells k no_cell)) t.cells n no_cell l) }
-
--- The first cells of a list are all changed.
-all-front : (f : Cell → Cell) (T rest : List Cell)
-    → table (length T) (λ k. f (get_or (T ++ rest) k no_cell)) ++ drop (length T) (T ++ rest) ≡ map f T ++ rest
-all-front f T rest = rw (drop-append_seam T rest) (ap (λ (front : List Cell). front ++ rest) (
-    table_cong (length T) (λ k. f (get_or (T ++ rest) k no_cell)) (λ k. f (get_or T k no_cell)) (λ k l. ap f (get_or-append T rest no_cell k l))
-    ∙ sym (map-table f (length T) (λ k. get_or T k no_cell))
-    ∙ ap (map f) (table-get_or T no_cell)))
+  changed-one {n} w l e =
+      let front : List Cell = map f (take n t.cells) in
+      let long : length front ≡ n = omega (arith, length-map (take n t.cells) f, length-take n t.cells) in
+      record {
+        many = w.many;
+        cells =
+            rw (e, w.cells, drop_more t.cells n no_cell l, set_at front _ _ (f (get_or t.cells n no_cell)) n long, map_more f t.cells n no_cell l)
+            (sym (append_assoc front _ _));
+      }
 
 -- ---- a tableau under own numbers
 
@@ -188,54 +175,31 @@ module _ {rows cols : List ℕ} {T : List Cell} {t : Tableau} (is-t : t ≡ tabl
   unfolding tableau_of padded
   cell_at k l = rw is-t (get_or-append T (replicate (max_cells - length T) no_cell) no_cell k (rw is-t at l))
 
-  pub cell-within : {f : Cell → Cell} {k : ℕ} {u : Tableau} → ChangedTo f t k u → k < t.count
-      → ((get_or u.cells k no_cell).row < length rows) × ((get_or u.cells k no_cell).col < length cols)
+  pub cell-within : (k : ℕ) → k < t.count → ((get_or t.cells k no_cell).row < length rows) × ((get_or t.cells k no_cell).col < length cols)
   unfolding tableau_of
-  cell-within {f} {k} {u} h l = rw (changed-next h, cell_at k l) (w.row_in k (rw is-t at l), w.col_in_of k (rw is-t at l))
+  cell-within k l = rw (cell_at k l) (w.row_in k (rw is-t at l), w.col_in_of k (rw is-t at l))
 
 -- All cells changed, it is the tableau of the changed ones.
 pub changed-tableau : (f : Cell → Cell) (T : List Cell) {t u : Tableau} {n : ℕ} → ChangedTo f t n u → n ≡ t.count → t ≡ tableau_of T → u ≡ tableau_of (map f T)
 unfolding tableau_of padded
 changed-tableau f T {t} {u} {n} w all is-t =
+    let rest : List Cell = replicate (max_cells - length T) no_cell in
     let long : length (map f T) ≡ length T = length-map T f in
     let cells : u.cells ≡ map f T ++ replicate (max_cells - length (map f T)) no_cell =
-    w.cells ∙ rw (all, is-t, long) (all-front f T (replicate (max_cells - length T) no_cell)) in
+    w.cells ∙ rw (all, is-t, long, take_at T rest (length T) refl, drop-append_seam T rest) in
     let count : u.count ≡ length (map f T) = w.many ∙ ap (λ (s : Tableau). s.count) is-t ∙ sym long in
     λ i. record { cells = cells i; count = count i }
 
 -- ---- a tableau under the numbers of those left
 
--- No more cells are counted than the array has.
-pub counted-most : (count n : ℕ) → n ≡ cond (ltb count max_cells) count max_cells → n ≤ max_cells
-counted-most count n e = by_cases (dec_lt count max_cells)
-    (λ l. let same : n ≡ count = e ∙ rw (lt-ltb count max_cells l) in omega arith)
-    (λ l. let same : n ≡ max_cells = e ∙ rw (le-ltb count max_cells (omega arith)) in omega arith)
-
 -- The cells of the array that are counted, be the count any: once these are changed, so are the tableau's.
-pub changed-cells : (f : Cell → Cell) {t u : Tableau} {n : ℕ} → ChangedTo f t n u → length t.cells ≡ max_cells
-    → n ≡ cond (ltb t.count max_cells) t.count max_cells → cells_of u ≡ map f (cells_of t)
+pub changed-cells : {f : Cell → Cell} {t u : Tableau} {n : ℕ} → ChangedTo f t n u → n ≡ min t.count (length t.cells) → cells_of u ≡ map f (cells_of t)
 unfolding cells_of
-changed-cells f {t} {u} {n} w long all = by_cases (dec_lt t.count max_cells)
+changed-cells {f} {t} {u} {n} w all = rw (w.many, w.cells) (by_cases (dec_le t.count (length t.cells))
     (λ l.
-    let same : n ≡ t.count = all ∙ rw (lt-ltb t.count max_cells l) in
-    rw (w.many, ← same) (ap (take n) (changed (omega arith)) ∙ take_at (map f (take n t.cells)) (drop n t.cells) n (counted (omega arith))))
+    let same : n ≡ t.count = omega arith in
+    rw same (take_at (map f (take t.count t.cells)) _ t.count (length-map (take t.count t.cells) f ∙ length-take-le t.count t.cells l)))
     (λ l.
-    let whole : n ≡ max_cells = all ∙ rw (le-ltb t.count max_cells (omega arith)) in
     let front : take n t.cells ≡ t.cells = take_all n t.cells (omega arith) in
     let rest : drop n t.cells ≡ [] = drop_of_length-le t.cells {i = n} (omega arith) in
-    let array : u.cells ≡ map f t.cells = changed (omega arith) ∙ rw (front, rest) (append-nil (map f t.cells)) in
-    rw (w.many, array) (take-map t.count t.cells))
-  where
-    changed : n ≤ length t.cells → u.cells ≡ map f (take n t.cells) ++ drop n t.cells
-    changed l =
-        w.cells
-        ∙ ap (λ (T : List Cell). table n (λ k. f (get_or T k no_cell)) ++ drop n T) (sym (take-append-drop n t.cells))
-        ∙ (rw (length-take-le n t.cells l) at (all-front f (take n t.cells) (drop n t.cells)))
-
-    counted : n ≤ length t.cells → length (map f (take n t.cells)) ≡ n
-    counted l = length-map (take n t.cells) f ∙ length-take-le n t.cells l
-
-    take-map : (n : ℕ) (T : List Cell) → take n (map f T) ≡ map f (take n T)
-    take-map zero T = refl
-    take-map (suc n) [] = refl
-    take-map (suc n) (c ∷ T) = rw (take-map n T)
+    rw (front, rest, append-nil (map f t.cells)) (take-map f t.count t.cells)))

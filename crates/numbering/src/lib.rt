@@ -1,8 +1,8 @@
 // Tableaux between the numbers of the parties left among themselves and their own numbers.
 #![tactic(auto)]
 
-ghost use Rattle.std.specs.Prelude.{◌≡◌, cond, List, map, ℕ, ◌<◌, ltb, length};
-ghost use Rattle.transport.specs.Limits.{max_cells};
+ghost use Rattle.std.specs.Prelude.{◌≡◌, List, map, ℕ, ◌<◌, length, MatchOption};
+ghost use Rattle.transport.specs.Limits.{max_side};
 ghost use Rattle.transport.specs.Tableau.{cells_of, tableau_of};
 ghost use Rattle.transport.specs.declared.Cell.{Cell};
 ghost use Rattle.numbering.specs.Numbers.{Growing, number_in, Numbering, own_cell_of, cell_among_of, Within};
@@ -14,13 +14,10 @@ fn own_cell(c: Cell, rows: &[usize], cols: &[usize]) -> Cell
     requires { (c.row < length rows.now) × (c.col < length cols.now) }
     ensures { result ≡ own_cell_of rows.now cols.now c }
 {
-    let i = c.row;
-    let j = c.col;
-    let amount = c.amount;
     Cell {
-        row: rows[i],
-        col: cols[j],
-        amount,
+        row: rows[c.row],
+        col: cols[c.col],
+        ..c
     }
 }
 
@@ -30,25 +27,21 @@ pub fn own_tableau(t: Tableau, rows: &[usize], cols: &[usize]) -> Tableau
     ensures { (T : List Cell) → t ≡ tableau_of T → result ≡ tableau_of (map (own_cell_of rows.now cols.now) T) }
 {
     let mut own = t;
-    let mut k = 0;
-    while k < own.count {
-        let c = own.cells[k];
-        own.cells[k] = own_cell(c, rows, cols);
-        k += 1;
+    for k in 0..t.count {
+        own.cells[k] = own_cell(t.cells[k], rows, cols);
     }
     own
 }
 
-// For each own number the number among those left, and MAX_SIDE, which is nobody's, where there is none.
+// For each own number the number among those left, and MAX_SIDE, which is nobody's, where there is
+// none. A number and no Option, since a tableau's cell takes it.
 fn numbers(own: &[usize]) -> [usize; MAX_SIDE]
     requires { Growing own.now }
     ensures { Numbering own.now result }
 {
     let mut among = [MAX_SIDE; MAX_SIDE];
-    let mut k = 0;
-    while k < own.len() {
-        among[own[k]] = k;
-        k += 1;
+    for (k, &x) in own.iter().enumerate() {
+        among[x] = k;
     }
     among
 }
@@ -60,33 +53,25 @@ fn number_of(among: &[usize; MAX_SIDE], own: usize) -> usize
     if own < MAX_SIDE { among[own] } else { MAX_SIDE }
 }
 
-// The number of one party among those left, whose own numbers are given in their order; MAX_SIDE if
-// it is not among them.
-pub fn number_in(own: &[usize], party: usize) -> usize
+// The number of one party among those left, whose own numbers are given in their order, if it is
+// one of them.
+pub fn number_in(own: &[usize], party: usize) -> Option<usize>
     requires { Growing own.now }
-    ensures { result ≡ number_in own.now party }
+    ensures { MatchOption result (number_in own.now party ≡ max_side)
+        (λ k. (k < length own.now) × (k ≡ number_in own.now party)) }
 {
-    let among = numbers(own);
-    number_of(&among, party)
+    own.iter().position(|&x| x == party)
 }
 
 // A cell under the numbers of those left, which the two lists have.
 fn cell_among(c: Cell, row_number: &[usize; MAX_SIDE], col_number: &[usize; MAX_SIDE]) -> Cell
     ensures { (rows cols : List ℕ) → Numbering rows row_number.now → Numbering cols col_number.now → result ≡ cell_among_of rows cols c }
 {
-    let amount = c.amount;
     Cell {
         row: number_of(row_number, c.row),
         col: number_of(col_number, c.col),
-        amount,
+        ..c
     }
-}
-
-// How many cells of the array are counted, be the count any.
-fn counted(count: usize) -> usize
-    ensures { result ≡ cond (ltb count max_cells) count max_cells }
-{
-    if count < MAX_CELLS { count } else { MAX_CELLS }
 }
 
 // A tableau that a caller hands over, under the numbers of those left: a cell at a struck party, or off the sheet, gets a number that nobody has.
@@ -96,13 +81,10 @@ pub fn renumber(t: Tableau, rows: &[usize], cols: &[usize]) -> Tableau
 {
     let row_number = numbers(rows);
     let col_number = numbers(cols);
-    let count = counted(t.count);
     let mut inner = t;
-    let mut k = 0;
-    while k < count {
-        let c = inner.cells[k];
-        inner.cells[k] = cell_among(c, &row_number, &col_number);
-        k += 1;
+    // The count may be any: it may say more cells than there are.
+    for k in 0..t.count.min(MAX_CELLS) {
+        inner.cells[k] = cell_among(t.cells[k], &row_number, &col_number);
     }
     inner
 }

@@ -25,24 +25,19 @@ fn number_left(amounts: &[u64], left: &mut [u64; MAX_SIDE], own: &mut [usize; MA
     requires { length amounts.now ≤ max_side }
     ensures { Numbered amounts.now result left.new own.new }
 {
-    // Cleared first: the length of a lent array is known to the prover only once the whole array is stored.
-    *left = [0; MAX_SIDE];
-    *own = [0; MAX_SIDE];
     let mut count = 0;
-    let mut k = 0;
-    while k < amounts.len() {
-        let x = amounts[k];
+    for (k, &x) in amounts.iter().enumerate() {
         if x > 0 {
             left[count] = x;
             own[count] = k;
             count += 1;
         }
-        k += 1;
     }
     count
 }
 
 // The own number of the k-th of those left. Where all are left it is k: a loop that is told so need not look, and copies what lies side by side.
+#[tactic(auto, unfolding(transport::specs::Lists::at))]
 pub fn own_number(own: &[usize], all: bool, k: usize) -> usize
     requires { (k < length own.now) × (all ≡ true → at own.now k ≡ k) }
     ensures { result ≡ at own.now k }

@@ -24,6 +24,9 @@ pub price_back : (z : ℤ) → nat_abs z ≤ max_price → to_z w64 (of_z w64 z)
 unfolding max_cost cost_above
 price_back z l = back w64 z (omega (arith, mag_abs z))
 
+pub price-small : (z : ℤ) → nat_abs z ≤ max_price → nat_abs (to_z w64 (of_z w64 z)) ≤ max_price
+price-small z l = rw (price_back z l) l
+
 -- The costs of a sheet of so many roasteries and cafés.
 pub record Costs (m cafes : ℕ) (cost : List ℤ) : Type 0 where
   pub long : length cost ≡ m * cafes

@@ -2,7 +2,6 @@
 use Rattle.std.specs.Prelude.{◌≡◌, ◌∷◌, ◌++◌, ◌+◌, ◌-◌, ◌≤◌, ◌<◌, ◌-ℤ◌}
 use Rattle.prelude.specs.Words.{refl, sym, ap, ◌∙◌, by_cases, Bool, true, false, cond, List, [], map, ℕ, arith, dec_lt, ltb}
 use Rattle.prelude.specs.Words.{ℤ, pos, nat_abs, length, take, drop, get_or, replicate, length-replicate, length-append, take_at, get_or_at}
-use Rattle.prelude.specs.Words.{length-take-le}
 use Rattle.prelude.specs.Words.{lt-ltb, le-ltb, by_test}
 use Rattle.transport.specs.Limits.{max_side}
 use Rattle.transport.specs.Lists.{at, at_z, table, least_for}
@@ -250,16 +249,12 @@ module _ {S : Sheet} {T : List Cell} {rows cols : List ℕ} {price : List ℤ} (
       columns-long = r.long ∙ q.long ∙ length-replicate max_side (pos 0)
 
       -- Those of the cafés are given.
-      cafes-front : take (cafes S) columns ≡ cafe_prices S T
+      pub cafes-front : take (cafes S) columns ≡ cafe_prices S T
       unfolding cafe_prices at_z
       cafes-front =
           ap (take (cafes S))
           (filled_is (cafe_price_of E T) columns columns (cafes S) (pos 0) (omega (arith, columns-long, n_room)) refl cafe-here (λ k l. refl))
           ∙ take_at (table (cafes S) (cafe_price_of E T)) (drop (cafes S) columns) (cafes S) (length-table (cafe_price_of E T) (cafes S))
-
-      pub cafes-given : (v : List ℤ) {v' : List ℤ} → v' ≡ take (cafes S) columns ++ drop (length (take (cafes S) columns)) v
-          → v' ≡ cafe_prices S T ++ drop (cafes S) v
-      cafes-given v e = e ∙ rw (length-take-le (cafes S) columns (omega (arith, columns-long, n_room)), cafes-front)
 
       -- ---- struck roasteries, from the prices of all columns
 

@@ -1,10 +1,9 @@
 // Prices as calls give them: those of the parties left at their own numbers, and those of struck ones by their rule.
 #![tactic(auto)]
 
-ghost use Rattle.std.specs.Prelude.{◌≡◌, cond, List, ◌++◌, ℕ, ◌+◌, ◌-◌, ◌<◌, ◌≤◌, ltb, nat_abs, ◌-ℤ◌, length, drop};
-ghost use Rattle.std.specs.Int.Signed.{lt_z};
+ghost use Rattle.std.specs.Prelude.{◌≡◌, cond, List, ◌++◌, ℕ, ◌+◌, ◌-◌, ◌<◌, ◌≤◌, ltb, nat_abs, ℤ, ◌-ℤ◌, length, drop};
 ghost use Rattle.transport.specs.Limits.{max_side};
-ghost use Rattle.transport.specs.Lists.{at};
+ghost use Rattle.transport.specs.Lists.{at, table, least_for};
 ghost use Rattle.transport.specs.Sheet.{sheet_of};
 ghost use Rattle.transport.specs.OwnNumbers.{roastery_prices, cafe_prices};
 ghost use Rattle.transport.specs.declared.Cell.{Cell};
@@ -20,10 +19,8 @@ fn place_prices(price: &[Price; NODES], from: usize, own: &[usize], out: &mut [i
     requires { Placing price.now from own.now out.old }
     ensures { Placed price.now from own.now out.old out.new }
 {
-    let mut k = 0;
-    while k < own.len() {
-        out[own[k]] = price[from + k] as i64;
-        k += 1;
+    for (k, &x) in own.iter().enumerate() {
+        out[x] = price[from + k] as i64;
     }
 }
 
@@ -36,10 +33,18 @@ fn slack(cost: &[i64], cafes: usize, i: usize, j: usize, price: i64) -> i64
     lane - price
 }
 
-fn lesser(a: i64, b: i64) -> i64
-    ensures { result ≡ cond (lt_z a b) a b }
+// The least of so many numbers.
+fn least<F: Fn(usize) -> i64>(count: usize, number: F) -> i64
+    requires some { 1 ≤ count }
+    requires callable { (k : ℕ) → k < count → F.pre number k }
+    ensures { (f : ℕ → ℤ) → ((k : ℕ) (z : ℤ) → k < count → F.post number k z → z ≡ f k)
+        → result ≡ least_for (table count f) }
 {
-    if a < b { a } else { b }
+    let mut least = number(0);
+    for k in 1..count {
+        least = least.min(number(k));
+    }
+    least
 }
 
 // The price of a struck café: the least cost - u over the roasteries left.
@@ -47,38 +52,7 @@ fn cafe_price(cost: &[i64], cafes: usize, rows: &[usize], u: &[i64], j: usize) -
     requires { (m : ℕ) × Costs m cafes cost.now × RowPrices m rows.now u.now }
     ensures { result ≡ rows_least cost.now cafes rows.now u.now j }
 {
-    let first = rows[0];
-    let mut least = slack(cost, cafes, first, j, u[first]);
-    let mut k = 1;
-    while k < rows.len() {
-        let i = rows[k];
-        least = lesser(slack(cost, cafes, i, j, u[i]), least);
-        k += 1;
-    }
-    least
-}
-
-// The prices of the struck cafés, from those of the roasteries left.
-fn price_cafes(
-    demand: &[u64],
-    cost: &[i64],
-    rows: &[usize],
-    u: &[i64],
-    v: [i64; MAX_SIDE],
-) -> [i64; MAX_SIDE]
-    requires { ((m : ℕ) × Costs m (length demand.now) cost.now × RowPrices m rows.now u.now) × (length demand.now ≤ max_side) }
-    ensures { let d = demand.now in
-        StruckPriced d (rows_least cost.now (length d) rows.now u.now) 0 (length d) v result }
-{
-    let mut priced = v;
-    let mut j = 0;
-    while j < demand.len() {
-        if demand[j] == 0 {
-            priced[j] = cafe_price(cost, demand.len(), rows, u, j);
-        }
-        j += 1;
-    }
-    priced
+    least(rows.len(), |k| slack(cost, cafes, rows[k], j, u[rows[k]]))
 }
 
 // The price of a struck roastery: the least cost - v over all columns, which are `width`.
@@ -86,34 +60,20 @@ fn roastery_price(cost: &[i64], cafes: usize, v: &[i64; MAX_SIDE], width: usize,
     requires { ((m : ℕ) × Costs m cafes cost.now × (i < m)) × ColumnPrices v.now width }
     ensures { result ≡ columns_least cost.now cafes v.now width i }
 {
-    let mut least = slack(cost, cafes, i, 0, v[0]);
-    let mut j = 1;
-    while j < width {
-        least = lesser(slack(cost, cafes, i, j, v[j]), least);
-        j += 1;
-    }
-    least
+    least(width, |j| slack(cost, cafes, i, j, v[j]))
 }
 
-// The prices of the struck roasteries, from those of all columns.
-fn price_roasteries(
-    supply: &[u64],
-    cost: &[i64],
-    cafes: usize,
-    v: &[i64; MAX_SIDE],
-    width: usize,
-    u: &mut [i64],
-)
-    requires { Costs (length supply.now) cafes cost.now × ColumnPrices v.now width × (length supply.now ≤ length u.old) }
-    ensures { let s = supply.now in
-        StruckPriced s (columns_least cost.now cafes v.now width) 0 (length s) u.old u.new }
+// Writes a price by the rule for each that has an amount of 0.
+fn price_struck<F: Fn(usize) -> i64>(amounts: &[u64], price: &mut [i64], rule: F)
+    requires callable { (k : ℕ) → k < length amounts.now → F.pre rule k }
+    requires room { length amounts.now ≤ length price.old }
+    ensures { (f : ℕ → ℤ) → ((k : ℕ) (z : ℤ) → k < length amounts.now → F.post rule k z → z ≡ f k)
+        → StruckPriced amounts.now f 0 (length amounts.now) price.old price.new }
 {
-    let mut i = 0;
-    while i < supply.len() {
-        if supply[i] == 0 {
-            u[i] = roastery_price(cost, cafes, v, width, i);
+    for (k, &x) in amounts.iter().enumerate() {
+        if x == 0 {
+            price[k] = rule(k);
         }
-        i += 1;
     }
 }
 
@@ -123,19 +83,7 @@ fn column_count(cols: &[usize], cafes: usize) -> usize
     ensures { let last = at cols.now (length cols.now - 1) in result ≡ cond (ltb last cafes) cafes (last + 1) }
 {
     let last = cols[cols.len() - 1];
-    if last < cafes { cafes } else { last + 1 }
-}
-
-// Copies prices to the front of a longer list.
-fn copy_prices(from: &[i64], out: &mut [i64])
-    requires { length from.now ≤ length out.old }
-    ensures { out.new ≡ from.now ++ drop (length from.now) out.old }
-{
-    let mut k = 0;
-    while k < from.len() {
-        out[k] = from[k];
-        k += 1;
-    }
+    cafes.max(last + 1)
 }
 
 // Writes the prices of all roasteries and cafés, and leaves the rest of both lists as it is. `rows` and `cols` have the own numbers of the nodes, whose prices
@@ -164,8 +112,17 @@ pub fn write_prices(
     // All columns have a price, the extra café too, which is not given.
     let mut placed = [0i64; MAX_SIDE];
     place_prices(price, rows.len(), cols, &mut placed);
-    let columns = price_cafes(demand, cost, rows, u, placed);
+    let mut columns = placed;
+    price_struck(
+        demand,
+        &mut columns,
+        |j| cafe_price(cost, cafes, rows, u, j),
+    );
     let width = column_count(cols, cafes);
-    price_roasteries(supply, cost, cafes, &columns, width, u);
-    copy_prices(&columns[..cafes], v);
+    price_struck(
+        supply,
+        u,
+        |i| roastery_price(cost, cafes, &columns, width, i),
+    );
+    v[..cafes].copy_from_slice(&columns[..cafes]);
 }

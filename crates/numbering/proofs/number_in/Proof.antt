@@ -1,9 +1,0 @@
--- `numbering::number_in` meets its contract.
-use Rattle.numbering.proofs.number_in.Statement.{statement}
-use Rattle.numbering.proofs.number_in.Tie as tie
-
-returns : tie.Need-returns
-returns c = c.number_of.ensures _ c.before.before.numbers-among.ensures
-
-pub number_in_spec : {M : Type 1} → statement M
-number_in_spec = tie.close (tie.spec (λ c κs. c.before.requires) (λ c κs. tt) returns)
