@@ -12,21 +12,18 @@ fn cell_fits(c: Cell, m: usize, n: usize, least: usize) -> bool
     requires { (m ≤ stride) × (n ≤ stride) }
     ensures { result ≡ fits_at m n least c }
 {
-    let row = c.row;
-    let col = c.col;
-    if m <= row {
+    if m <= c.row {
         return false;
     }
-    if n <= col {
+    if n <= c.col {
         return false;
     }
     // A lent cell may have any row and column: only now is it known that its place fits.
-    if row * n + col < least {
+    if c.row * n + c.col < least {
         return false;
     }
     let nothing = Pair { q: 0, e: 0 };
-    let amount = c.amount;
-    nothing.less(amount)
+    nothing.less(c.amount)
 }
 
 // Whether every cell of the tableau is one of `m` rows and `n` columns, they stand in sheet order, and every pair is above (0, 0).
@@ -35,14 +32,11 @@ pub fn cells_fit(t: Tableau, m: usize, n: usize) -> bool
     ensures { result ≡ cells_fit_of m n (cells_of t) }
 {
     let mut least = 0;
-    let mut k = 0;
-    while k < t.count {
-        let c = t.cells[k];
+    for &c in &t.cells[..t.count] {
         if !cell_fits(c, m, n, least) {
             return false;
         }
         least = c.row * n + c.col + 1;
-        k += 1;
     }
     true
 }

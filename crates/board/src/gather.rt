@@ -16,13 +16,13 @@ use tree::{Basis, NODES, mask};
 
 // Behind the first `count` lanes come those of one more row, which begins at the lane `first`; the count then.
 fn row_lanes(mask: u64, first: usize, lanes: &mut [usize; NODES], count: usize) -> usize
-    requires { (length lanes.old ≡ node_room) × (count + length (row_lanes_of first mask) ≤ node_room) × (first ≤ lane_room) }
-    ensures { (length lanes.new ≡ node_room)
-        × (result ≡ count + length (row_lanes_of first mask))
+    requires { (count + length (row_lanes_of first mask) ≤ node_room) × (first ≤ lane_room) }
+    ensures { (result ≡ count + length (row_lanes_of first mask))
         × (take result lanes.new ≡ take count lanes.old ++ row_lanes_of first mask) }
 {
     let mut bits = mask;
     let mut k = count;
+    // A while: it goes over the bits of a mask, and stores each where the one before ended.
     while bits != 0 {
         let j = mask::first_bit(bits);
         bits = mask::clear_bit(bits, j);
@@ -34,14 +34,12 @@ fn row_lanes(mask: u64, first: usize, lanes: &mut [usize; NODES], count: usize) 
 
 // The basic lanes of the first `m` rows, in sheet order; how many they are.
 fn basic_lanes(adj: &[u64; NODES], m: usize, lanes: &mut [usize; NODES]) -> usize
-    requires { RowMasks adj.now m × (length lanes.old ≡ node_room) }
+    requires { RowMasks adj.now m }
     ensures { Lanes adj.now m lanes.new result }
 {
     let mut count = 0;
-    let mut i = 0;
-    while i < m {
+    for i in 0..m {
         count = row_lanes(adj[i], i * MAX_SIDE, lanes, count);
-        i += 1;
     }
     count
 }
@@ -80,8 +78,7 @@ pub fn draw(basis: &Basis, m: usize, count: usize, adj: &mut [u64; NODES])
     ensures { Redrawn m basis.now.lane count adj.new }
 {
     *adj = [0; NODES];
-    for k in 0..count {
-        let l = basis.lane[k];
+    for &l in &basis.lane[..count] {
         link(adj, m, l / MAX_SIDE, l % MAX_SIDE);
     }
 }

@@ -38,6 +38,7 @@ use Rattle.tree.specs.Layout.{stride, node_room, lane_room, lane_at, lane_index,
 use Rattle.cuts.specs.Cuts.{sign_by, sign-by, slots_apart, Exchanged, Shifted, shifted-root, shifted-tight}
 use Rattle.cuts.specs.Cycle.{on_loop, row_far, LoopSlots}
 use Rattle.cuts.specs.Exchange.{Regrafted, loop_slot, loop-across, tree-exchanged}
+use Rattle.board.specs.declared.Board as declared
 use Rattle.board.specs.Arrays.{sound-sides, Amounts, Board}
 use Rattle.board.specs.Drawing.{board-belongs}
 use Rattle.board.specs.Slots.{pair_at, Slotted, LeastSlot, Added}
@@ -60,6 +61,10 @@ pub record Pivoted (P : Problem) (T : List Cell) (m n row col : ℕ) (q e : List
   pub board : Board P (pivot m n T (lane row col)) q e sub path lanes m n
   pub inside : (k : ℕ) → m + n ≤ k → has far k ≡ false
   pub prices : (π : ℕ → ℤ) → Shifts P T m row col far π → (k : ℕ) → k < m + n → π k ≡ potential P (pivot m n T (lane row col)) k
+
+abbrev pub PivotedOn : Problem → List Cell → ℕ → ℕ → ℕ → ℕ → declared.Board → ℕ → Type 0
+PivotedOn P T m n row col b far =
+    Pivoted P T m n row col b.amounts.q b.amounts.e b.basis.sub b.basis.path b.basis.lane far
 
 -- ---- amounts
 

@@ -5,27 +5,24 @@ ghost use Rattle.tree.specs.Mask.{has};
 ghost use Rattle.tree.specs.Layout.{lane_room};
 ghost use Rattle.board.specs.Slots.{pair_at, Slotted, LeastSlot, Added};
 
-use board::amount::{pair_at, put_pair};
+use board::Board;
+use board::amount::Amounts;
 use transport::Pair;
-use tree::{LANES, NODES, mask};
+use tree::{Basis, mask};
 
 // Of the slots, the one whose lane has the smallest pair; the first among equals.
-pub(crate) fn least_slot(
-    q: &[i64; LANES],
-    e: &[i64; LANES],
-    lane: &[usize; NODES],
-    slots: u64,
-) -> usize
+pub(crate) fn least_slot(board: &Board, slots: u64) -> usize
     requires slots_nonzero { 0 < slots }
-    requires by_index { (t : ℕ) → has slots t ≡ true → get_or lane.now t 0 < lane_room }
-    ensures { LeastSlot q.now e.now lane.now slots 0 result }
+    requires by_index { (t : ℕ) → has slots t ≡ true → get_or board.now.basis.lane t 0 < lane_room }
+    ensures { LeastSlot board.now.amounts.q board.now.amounts.e board.now.basis.lane slots 0 result }
 {
+    let lane = &board.basis.lane;
     let mut at = mask::first_bit(slots);
-    let mut least = pair_at(q, e, lane[at]);
+    let mut least = board.amounts.pair_at(lane[at]);
     let mut bits = mask::rest(slots);
     while bits != 0 {
         let t = mask::first_bit(bits);
-        let x = pair_at(q, e, lane[t]);
+        let x = board.amounts.pair_at(lane[t]);
         if x.less(least) {
             at = t;
             least = x;
@@ -36,23 +33,20 @@ pub(crate) fn least_slot(
 }
 
 // Adds x to the pair on the lane of each slot.
-pub(crate) fn carry(
-    q: &mut [i64; LANES],
-    e: &mut [i64; LANES],
-    lane: &[usize; NODES],
-    slots: u64,
-    x: Pair,
-)
-    requires q_len { (length q.old ≡ lane_room) × (length e.old ≡ lane_room) × Slotted lane.now slots }
-    requires by_index { (t : ℕ) → has slots t ≡ true → Fit (pair_at q.old e.old (get_or lane.now t 0)) x }
-    ensures { Added x.q lane.now slots 0 q.old q.new
-        × Added x.e lane.now slots 0 e.old e.new }
+pub(crate) fn carry(amounts: &mut Amounts, basis: &Basis, slots: u64, x: Pair)
+    requires q_len { (length amounts.old.q ≡ lane_room)
+        × (length amounts.old.e ≡ lane_room)
+        × Slotted basis.now.lane slots }
+    requires by_index { (t : ℕ) → has slots t ≡ true
+        → Fit (pair_at amounts.old.q amounts.old.e (get_or basis.now.lane t 0)) x }
+    ensures { Added x.q basis.now.lane slots 0 amounts.old.q amounts.new.q
+        × Added x.e basis.now.lane slots 0 amounts.old.e amounts.new.e }
 {
     let mut bits = slots;
     while bits != 0 {
-        let l = lane[mask::first_bit(bits)];
-        let sum = pair_at(q, e, l).add(x);
-        put_pair(q, e, l, sum);
+        let l = basis.lane[mask::first_bit(bits)];
+        let sum = amounts.pair_at(l).add(x);
+        amounts.put_pair(l, sum);
         bits = mask::rest(bits);
     }
 }

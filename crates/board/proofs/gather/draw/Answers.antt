@@ -1,12 +1,24 @@
-use Rattle.prelude.specs.Words.{arith, refl}
+use Rattle.std.specs.Prelude.{◌<◌, ◌≡◌}
+use Rattle.prelude.specs.Words.{refl, arith, get_or-take, length-take-le}
 use Rattle.tree.specs.Layout.{node_room, get_or-all}
 use Rattle.board.specs.Drawing.{redraw_start, redraw_step}
 use Rattle.board.proofs.gather.draw.Goals as goal
 
-pub loop-k-init : goal.loop-k-init
-loop-k-init c = redraw_start _ _ _ refl (λ j. get_or-all node_room j 0)
+pub loop-l-init : goal.loop-l-init
+loop-l-init c = redraw_start _ _ _ refl (λ j. get_or-all node_room j 0)
 
-pub loop-k-preserved : goal.loop-k-preserved
-loop-k-preserved c =
-    let r = c.requires in
-    rw c.link.ensures (redraw_step c.loop-k.invariant r.0 (r.2 c.loop-k.k (omega arith)))
+pub link-requires : goal.link-requires
+link-requires c =
+    let few : c.loop-l.l-index < c.args.count = omega (arith, length-take-le c.args.count c.args.basis.now.lane) in
+    let here = get_or-take c.args.count c.args.basis.now.lane c.loop-l.l-index 0 few in
+    (rw here (c.requires.2 c.loop-l.l-index few), c.requires.0, omega arith)
+
+pub loop-l-preserved : goal.loop-l-preserved
+loop-l-preserved c =
+    let few : c.loop-l.l-index < c.args.count = omega (arith, length-take-le c.args.count c.args.basis.now.lane) in
+    rw (c.link.ensures, get_or-take c.args.count c.args.basis.now.lane c.loop-l.l-index 0 few)
+    (redraw_step c.loop-l.invariant c.requires.0 (c.requires.2 c.loop-l.l-index few))
+
+pub returns : goal.returns
+returns c =
+    let all : c.loop-l.l-index ≡ c.args.count = omega (arith, length-take-le c.args.count c.args.basis.now.lane) in rw all at c.loop-l.invariant
