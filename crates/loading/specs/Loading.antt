@@ -25,9 +25,9 @@ use Rattle.parties.specs.declared.Parties.{Parties}
 use Rattle.tableaux.specs.Belonging.{belongs-amounts}
 use Rattle.parties.specs.Parties.{PartiesOf, supplies-lent, demands-lent, parties-amounts}
 use Rattle.board.specs.declared.Board.{Board}
-use Rattle.board.specs.BoardArrays.{LoadedOn}
+use Rattle.board.specs.OnBoard.{LoadedOn}
 use Rattle.cost_grid.specs.Costs.{Spread, spread_costed}
-use Rattle.rounds.specs.Begun.{BegunOn}
+use Rattle.rounds.specs.OnBoard.{BegunOn}
 
 -- ---- what the tests refuse
 
