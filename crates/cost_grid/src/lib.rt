@@ -21,15 +21,11 @@ pub fn spread_costs(
 {
     *out = [0; LANES];
     let all = cols.len() == cafes;
-    let mut i = 0;
-    while i < rows.len() {
-        let first = rows[i] * cafes;
-        let mut j = 0;
-        while j < cols.len() {
+    for (i, row) in rows.iter().enumerate() {
+        let first = row * cafes;
+        for j in 0..cols.len() {
             let col = own_number(cols, all, j);
             out[j * MAX_SIDE + i] = cost[first + col] as Price;
-            j += 1;
         }
-        i += 1;
     }
 }

@@ -1,9 +1,10 @@
 -- The bags in the arrays as a plan in sheet order.
-use Rattle.std.specs.Prelude.{◌≡◌, ◌+◌, ◌*◌, ◌/◌, ◌%◌, ◌<◌, ◌≤◌}
-use Rattle.prelude.specs.Words.{refl, ◌∙◌, by_cases, List, ℕ, arith, mod-lt, div-add-mod', dec_lt, ℕ_discrete, ℤ}
+use Rattle.std.specs.Prelude.{◌≡◌, ◌+◌, ◌*◌, ◌/◌, ◌%◌, ◌<◌, ◌≤◌, ◌++◌}
+use Rattle.prelude.specs.Words.{refl, ◌∙◌, by_cases, List, ℕ, arith, mod-lt, div-add-mod', dec_lt, ℤ}
 use Rattle.prelude.specs.Words.{pos, negsuc}
-use Rattle.prelude.specs.Words.{nat_abs, length, get_or, set, drop, length-set, get_or-set_same, get_or-set_other, drop-set-lt, ext_get_or}
-use Rattle.prelude.specs.Words.{get_or-drop, length-drop}
+use Rattle.prelude.specs.Words.{nat_abs, length, get_or, drop, ext_get_or}
+use Rattle.prelude.specs.Words.{get_or-drop, length-drop, take, replicate, length-replicate, get_or-replicate, length-append, length-take-le, get_or-append}
+use Rattle.std.proofs.lemmas.Slice.{drop-append-drop}
 use Rattle.integers.specs.Integer.{◌≈◌, ◌≼◌, nat}
 use Rattle.integers.specs.Bridge.{to_z}
 use Rattle.network.specs.Flow.{Nonneg}
@@ -69,18 +70,18 @@ pub record Emptied (size l : ℕ) (old new : List ℕ) : Type 0 where
   pub rest : drop size new ≡ drop size old
   pub clear : (k : ℕ) → k < l → at new k ≡ 0
 
-pub emptied_none : (size : ℕ) (old : List ℕ) → Emptied size 0 old old
-emptied_none size old = record { long = refl; rest = refl; clear = λ k h. absurd (omega arith) }
-
-pub emptied_one : {size l : ℕ} {old new : List ℕ} → Emptied size l old new → l < size → size ≤ length old → Emptied size (l + 1) old (set new l 0)
+-- The places before it are filled with nothing.
+pub emptied_front : {size : ℕ} {old front : List ℕ} → size ≤ length old → front ≡ replicate (length (take size old)) 0
+    → Emptied size size old (front ++ drop size old)
 unfolding at
-emptied_one {size} {l} {old} {new} c h room = record {
-  long = simp length-set c.long;
-  rest = drop-set-lt size new l 0 h ∙ c.rest;
-  clear = λ k b. by_cases (ℕ_discrete k l)
-      (λ e. rw e (get_or-set_same new l 0 0 (omega (arith, c.long))))
-      (λ d. get_or-set_other new l k 0 0 d ∙ c.clear k (omega arith));
-}
+emptied_front {size} {old} {front} room e =
+    let taken : length (take size old) ≡ size = length-take-le size old room in
+    let long : length front ≡ size = rw (e, taken) (length-replicate size 0) in
+    record {
+      long = simp (length-append, length-drop) (omega arith);
+      rest = drop-append-drop size old front size (omega arith) long;
+      clear = λ k h. get_or-append front (drop size old) 0 k (omega arith) ∙ rw (e, taken) (get_or-replicate size k 0 0 h);
+    }
 
 -- Numbers that grow are all different.
 growing_once : (xs : List ℕ) → ((h k : ℕ) → h < k → k < length xs → at xs h < at xs k) → (h k : ℕ) → h < length xs → k < length xs → at xs h ≡ at xs k → h ≡ k

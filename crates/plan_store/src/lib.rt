@@ -20,21 +20,13 @@ pub fn store_plan(
     requires { Storable q.now rows.now cols.now m n plan.old }
     ensures { Stored q.now rows.now cols.now m n plan.old plan.new }
 {
-    let mut l = 0;
-    while l < m * n {
-        plan[l] = 0;
-        l += 1;
-    }
+    plan[..m * n].fill(0);
     let all = cols.len() == n;
-    let mut i = 0;
-    while i < rows.len() {
-        let first = rows[i] * n;
-        let mut j = 0;
-        while j < cols.len() {
+    for (i, row) in rows.iter().enumerate() {
+        let first = row * n;
+        for j in 0..cols.len() {
             let col = own_number(cols, all, j);
             plan[first + col] = q[i * MAX_SIDE + j] as u64;
-            j += 1;
         }
-        i += 1;
     }
 }

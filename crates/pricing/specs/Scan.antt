@@ -1,14 +1,16 @@
 -- The scan: the lane of least reduced cost, and the first such in the order of rows and columns, from the least slack of each row.
 use Rattle.std.specs.Prelude.{◌≡◌, ◌+◌, ◌*◌, ◌<◌, ◌≤◌, ◌-ℤ◌}
-use Rattle.prelude.specs.Words.{sym, ap, true, false, true≢false, by_cases, List, ℕ, arith, dec_lt, ℤ, pos, nat_abs, neg_ℤ}
+use Rattle.prelude.specs.Words.{ap, true, false, by_cases, List, ℕ, arith, dec_lt, ℤ, pos, nat_abs, neg_ℤ}
 use Rattle.prelude.specs.Words.{get_or}
-use Rattle.prelude.specs.Words.{lt_z, clash}
+use Rattle.prelude.specs.Words.{lt_z}
+use Rattle.std.specs.Prelude.{Option, MatchOption}
 use Rattle.transport.specs.Limits.{cost_above}
 use Rattle.integers.specs.Integer.{◌≈◌, ◌≼◌, ◌≺◌, ◌⊖◌}
 use Rattle.integers.specs.Bridge.{to_z, eq-z, z-eq, z-add, z-neg, z-ev, !, ◌-'◌}
 use Rattle.integers.specs.Tests.{lt_yes, lt_no, yes_lt, no_lt, abs_z}
 use Rattle.tree.specs.Layout.{stride, max_potential, slack_at, reduced_at}
 use Rattle.pricing.specs.Lowest.{lowest, Low, lowest-low, FirstAt, FirstLow, first-inside, low_first}
+use Rattle.pricing.specs.declared.scan.PricedLane.{PricedLane}
 use Rattle.pricing.specs.Slacks.{far, InRange, Slacks, slacks-low, slacks_abs}
 
 -- The least reduced cost of row i, from its least slack.
@@ -23,10 +25,14 @@ pub record Found (cost price : List ℤ) (m n row col : ℕ) (reduced : ℤ) : T
   pub least : (i j : ℕ) → i < m → j < n → lt_z (reduced_at cost price m i j) reduced ≡ false
   pub first : (i j : ℕ) → i < m → j < n → i * stride + j < row * stride + col → lt_z reduced (reduced_at cost price m i j) ≡ true
 
--- The answer of the scan: a reduced cost that is not negative says that none is.
-pub record Scanned (cost price : List ℤ) (m n row col : ℕ) (reduced : ℤ) : Type 0 where
-  pub finished : lt_z reduced (pos 0) ≡ false → (i j : ℕ) → i < m → j < n → lt_z (reduced_at cost price m i j) (pos 0) ≡ false
-  pub found : lt_z reduced (pos 0) ≡ true → Found cost price m n row col reduced
+-- No reduced cost is negative.
+abbrev pub NoneNegative : List ℤ → List ℤ → ℕ → ℕ → Type 0
+NoneNegative cost price m n = (i j : ℕ) → i < m → j < n → lt_z (reduced_at cost price m i j) (pos 0) ≡ false
+
+-- The answer of the scan: the lane with the least reduced cost, which is negative, or none.
+abbrev pub Scanned : List ℤ → List ℤ → ℕ → ℕ → Option PricedLane → Type 0
+Scanned cost price m n x = MatchOption x (NoneNegative cost price m n)
+    (λ lane. (lt_z lane.reduced (pos 0) ≡ true) × Found cost price m n lane.row lane.col lane.reduced)
 
 -- The rows' least reduced costs are in range.
 pub record RowsFit (slack price : List ℤ) (m : ℕ) : Type 0 where
@@ -54,15 +60,18 @@ module _ {cost price slack : List ℤ} {m n : ℕ} (w : InRange cost price m n) 
       let r = get_or slack i (pos 0) in
       omega (arith, (slacks-low w s i (omega (arith, w.rows))).least j q, reduced-z c u v, z-add r (neg_ℤ u), z-neg u)
 
+  -- A column is found, in a row with a negative reduced cost.
+  pub scanned_column : {row col : ℕ} → row < m → to_z (row_reduced slack price row) ≺ to_z (pos 0)
+      → FirstAt (slack_at cost price m row) (get_or slack row (pos 0)) n col → col < n
+  scanned_column {row} l q a = first-inside (slacks-low w s row (omega (arith, w.rows)))
+      (near (get_or slack row (pos 0)) (get_or price row (pos 0)) (w.prices row (omega (arith, w.rows))) q) (omega arith) a
+
   module _ (best : ℤ) (e : best ≡ lowest (pos 0) (row_reduced slack price) m) where
     best-low : Low (pos 0) (row_reduced slack price) m best
     best-low = rw e (lowest-low (pos 0) (row_reduced slack price) m)
 
-    pub scanned_no : lt_z best (pos 0) ≡ false → Scanned cost price m n 0 0 (pos 0)
-    scanned_no h = record {
-      finished = λ r i j p q. no_lt (reduced_at cost price m i j) (pos 0) (omega (arith, lt_no best (pos 0) h, best-low.least i p, row-least i j p q));
-      found = λ r. absurd (true≢false (sym r));
-    }
+    pub scanned_no : lt_z best (pos 0) ≡ false → NoneNegative cost price m n
+    scanned_no h i j p q = no_lt (reduced_at cost price m i j) (pos 0) (omega (arith, lt_no best (pos 0) h, best-low.least i p, row-least i j p q))
 
     -- A row is found, also for a number above the least.
     pub scanned_row : lt_z best (pos 0) ≡ true → {z : ℤ} {row : ℕ} → to_z best ≼ to_z z → FirstAt (row_reduced slack price) z m row → row < m
@@ -72,8 +81,8 @@ module _ {cost price slack : List ℤ} {m n : ℕ} (w : InRange cost price m n) 
       rows : FirstLow (row_reduced slack price) best m row
       rows = low_first best-low (lt_yes best (pos 0) h) a
 
-      pub scanned_yes : (col : ℕ) → FirstAt (slack_at cost price m row) (get_or slack row (pos 0)) n col → Scanned cost price m n row col best
-      scanned_yes col b = record { finished = λ q. clash h q; found = λ q. found }
+      pub scanned_yes : (col : ℕ) → FirstAt (slack_at cost price m row) (get_or slack row (pos 0)) n col → Found cost price m n row col best
+      scanned_yes col b = found
         where
           u : ℤ
           u = get_or price row (pos 0)

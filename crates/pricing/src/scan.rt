@@ -4,7 +4,7 @@ ghost use Rattle.std.specs.Prelude.{◌≡◌, List, true, ℕ, ◌+◌, ◌<◌
 ghost use Rattle.transport.specs.Limits.{cost_above};
 ghost use Rattle.tree.specs.Layout.{stride, max_potential, slack_at};
 ghost use Rattle.tree.specs.Mask.{has};
-ghost use Rattle.pricing.specs.Lowest.{lesser, lowest, FirstAt};
+ghost use Rattle.pricing.specs.Lowest.{lowest, FirstOf};
 ghost use Rattle.pricing.specs.Slacks.{InRange, Slacks, Changed, lowering, raising, Relaxed, Stale};
 ghost use Rattle.pricing.specs.Scan.{row_reduced, RowsFit, Scanned};
 
@@ -13,12 +13,6 @@ use tree::{LANES, MAX_POTENTIAL, NODES, Price, mask};
 
 // Greater than every slack, also one that is raised by a reduced cost: where a minimum starts.
 const FAR: Price = 4 * MAX_POTENTIAL;
-
-fn lesser(a: Price, b: Price) -> Price
-    ensures { result ≡ lesser a b }
-{
-    if a < b { a } else { b }
-}
 
 // The minima of all rows with column j, whose sink has the potential v, taken in.
 fn take_column(
@@ -31,10 +25,8 @@ fn take_column(
     ensures { Changed (lowering cost.now j v) slack result }
 {
     let mut least = slack;
-    let mut i = 0;
-    while i < MAX_SIDE {
-        least[i] = lesser(cost[j * MAX_SIDE + i] - v, least[i]);
-        i += 1;
+    for i in 0..MAX_SIDE {
+        least[i] = least[i].min(cost[j * MAX_SIDE + i] - v);
     }
     least
 }
@@ -55,6 +47,7 @@ fn relax_slacks(
     while bits > 0 {
         let j = mask::first_bit(bits);
         bits = mask::rest(bits);
+        // By a name: the proof is not made where a call's result goes straight into an array.
         let lower = take_column(cost, j, price[m + j], least);
         least = lower;
     }
@@ -71,8 +64,7 @@ pub fn scan_slacks(
     requires { InRange cost.now price.now m n }
     ensures { Slacks cost.now price.now m n result }
 {
-    let none = [FAR; MAX_SIDE];
-    relax_slacks(cost, price, m, mask::first_bits(n), none)
+    relax_slacks(cost, price, m, mask::first_bits(n), [FAR; MAX_SIDE])
 }
 
 // All slacks raised by x.
@@ -81,10 +73,8 @@ fn raised(slack: [Price; MAX_SIDE], x: Price) -> [Price; MAX_SIDE]
     ensures { Changed (raising x) slack result }
 {
     let mut higher = slack;
-    let mut i = 0;
-    while i < MAX_SIDE {
-        higher[i] = higher[i] + x;
-        i += 1;
+    for i in 0..MAX_SIDE {
+        higher[i] += x;
     }
     higher
 }
@@ -111,7 +101,7 @@ pub fn refresh_slacks(
         return relax_slacks(cost, price, m, moved, slack);
     }
     let others = mask::first_bits(n) ^ moved;
-    relax_slacks(cost, price, m, others, raised(slack, 0 - reduced))
+    relax_slacks(cost, price, m, others, raised(slack, -reduced))
 }
 
 // The least reduced cost of all rows; 0 where none is negative. A row's is its least slack less the potential of its source.
@@ -119,28 +109,32 @@ fn least_reduced(price: &[Price; NODES], slack: &[Price; MAX_SIDE], m: usize) ->
     requires { RowsFit slack.now price.now m }
     ensures { result ≡ lowest (pos 0) (row_reduced slack.now price.now) m }
 {
-    let mut least = 0;
-    let mut i = 0;
-    while i < m {
-        least = lesser(slack[i] - price[i], least);
-        i += 1;
+    let mut least: Price = 0;
+    for i in 0..m {
+        least = least.min(slack[i] - price[i]);
     }
     least
 }
 
-// The first row whose least reduced cost is at most `reduced`; m if there is none.
-fn first_row(price: &[Price; NODES], slack: &[Price; MAX_SIDE], m: usize, reduced: Price) -> usize
+// The first row whose least reduced cost is at most `reduced`.
+fn first_row(
+    price: &[Price; NODES],
+    slack: &[Price; MAX_SIDE],
+    m: usize,
+    reduced: Price,
+) -> Option<usize>
     requires { RowsFit slack.now price.now m }
-    ensures { FirstAt (row_reduced slack.now price.now) reduced m result }
+    ensures { FirstOf (row_reduced slack.now price.now) reduced m result }
 {
-    let mut row = 0;
-    while row < m && reduced < slack[row] - price[row] {
-        row += 1;
+    for row in 0..m {
+        if slack[row] - price[row] <= reduced {
+            return Some(row);
+        }
     }
-    row
+    None
 }
 
-// The first column whose slack in the row is at most `slack`; n if there is none.
+// The first column whose slack in the row is at most `slack`.
 fn first_column(
     cost: &[Price; LANES],
     price: &[Price; NODES],
@@ -148,16 +142,17 @@ fn first_column(
     n: usize,
     row: usize,
     slack: Price,
-) -> usize
+) -> Option<usize>
     requires in_range { InRange cost.now price.now m n }
     requires row_lt_m { row < m }
-    ensures { FirstAt (slack_at cost.now price.now m row) slack n result }
+    ensures { FirstOf (slack_at cost.now price.now m row) slack n result }
 {
-    let mut col = 0;
-    while col < n && slack < cost[col * MAX_SIDE + row] - price[m + col] {
-        col += 1;
+    for col in 0..n {
+        if cost[col * MAX_SIDE + row] - price[m + col] <= slack {
+            return Some(col);
+        }
     }
-    col
+    None
 }
 
 // A lane with its reduced cost.
@@ -168,31 +163,23 @@ pub struct PricedLane {
     pub reduced: Price,
 }
 
-// The entering lane: it has the least reduced cost, and is the first among equals. Where no reduced cost is negative, the answer's is 0.
+// The entering lane: it has the least reduced cost, and is the first among equals; none where no reduced cost is negative.
 pub fn entering(
     cost: &[Price; LANES],
     price: &[Price; NODES],
     slack: &[Price; MAX_SIDE],
     m: usize,
     n: usize,
-) -> PricedLane
+) -> Option<PricedLane>
     requires in_range { InRange cost.now price.now m n }
     requires slacks { Slacks cost.now price.now m n slack.now }
-    ensures { Scanned cost.now price.now m n result.row result.col result.reduced }
+    ensures { Scanned cost.now price.now m n result }
 {
     let reduced = least_reduced(price, slack, m);
-    if reduced < 0 {
-        let row = first_row(price, slack, m, reduced);
-        let col = first_column(cost, price, m, n, row, slack[row]);
-        return PricedLane {
-            row: row,
-            col: col,
-            reduced: reduced,
-        };
+    if reduced >= 0 {
+        return None;
     }
-    PricedLane {
-        row: 0,
-        col: 0,
-        reduced: 0,
-    }
+    let row = first_row(price, slack, m, reduced)?;
+    let col = first_column(cost, price, m, n, row, slack[row])?;
+    Some(PricedLane { row, col, reduced })
 }

@@ -1,16 +1,14 @@
 -- What a run keeps from round to round: the board of a tableau with its prices and the least slacks of its rows. What the scan finds on it, and one round.
-use Rattle.std.specs.Prelude.{◌+◌, ◌*◌, ◌^◌, ◌<◌, ◌≤◌, ◌≡◌, ◌+ℤ◌, ◌-ℤ◌}
-use Rattle.prelude.specs.Words.{ℕ, arith, dec_lt, refl, sym, ap, ◌∙◌, by_cases, Bool, true, false, not, cond, true≢false, List, ℤ}
-use Rattle.prelude.specs.Words.{pos, negsuc, nat_abs, neg_ℤ, lt_z, le_z, non_neg, mag, ltb, length, get_or, lt-ltb, le-ltb, le-leb, by_test, clash}
-use Rattle.std.specs.Int.{w32}
-use mir.Val as bits
+use Rattle.std.specs.Prelude.{◌+◌, ◌*◌, ◌^◌, ◌<◌, ◌≤◌, ◌≡◌, ◌+ℤ◌, ◌-ℤ◌, Option, Some, None, is_some}
+use Rattle.prelude.specs.Words.{ℕ, arith, dec_lt, refl, sym, ◌∙◌, by_cases, Bool, true, false, not, cond, true≢false, List, ℤ}
+use Rattle.prelude.specs.Words.{pos, negsuc, nat_abs, neg_ℤ, lt_z, non_neg, ltb, length, get_or, lt-ltb, le-ltb, by_test, clash}
 use Rattle.integers.specs.Integer.{◌≈◌, ◌⊕◌, ◌⊖◌, neg, nat}
 use Rattle.integers.specs.Bridge.{to_z, z-add, z-neg}
 use Rattle.integers.specs.Tests.{lt_yes}
 use Rattle.transport.specs.Limits.{max_cost, cost_above}
 use Rattle.transport.specs.Laws.ListLaws.{by_key, first_least_unique}
 use Rattle.transport.specs.Laws.AmountLaws.{lt_z_weak}
-use Rattle.transport.specs.Laws.RangeLaws.{abs_diff, back}
+use Rattle.transport.specs.Laws.RangeLaws.{abs_diff}
 use Rattle.transport.specs.Problem.{Problem, sources, sinks, Lane, lanes, place}
 use Rattle.transport.specs.Laws.ProblemLaws.{lane, Placed, lane_placed, place-below, length-lanes, get_or-lanes, all_lanes, all-lanes-at}
 use Rattle.transport.specs.Tableau.{lane_of, no_cell}
@@ -32,7 +30,8 @@ use Rattle.board.specs.Drawing.{board-belongs}
 use Rattle.pivoting.specs.Pivoting.{Enters, Shifts, Pivoted}
 use Rattle.cost_grid.specs.Costs.{Costed}
 use Rattle.pricing.specs.Slacks.{InRange, Slacks, Stale}
-use Rattle.pricing.specs.Scan.{Found, Scanned}
+use Rattle.pricing.specs.declared.scan.PricedLane.{PricedLane}
+use Rattle.pricing.specs.Scan.{NoneNegative, Found, Scanned}
 
 -- The prices of T, 0 past the nodes.
 pub record Prices (P : Problem) (T : List Cell) (price : List ℤ) (m n : ℕ) : Type 0 where
@@ -70,14 +69,6 @@ not_negative (negsuc k) e = absurd (true≢false e)
 negative : (z : ℤ) → lt_z z (pos 0) ≡ true → non_neg z ≡ false
 negative (pos k) e = absurd (omega (arith, lt_yes (pos k) (pos 0) e))
 negative (negsuc k) e = refl
-
--- What a test of the sign says of a number that is read from a struct.
-pub sign-is : (z : ℤ) → mag z < 2 ^ 31 → le_z (pos 0) (bits.to_z w32 (bits.of_z w32 z)) ≡ not (lt_z z (pos 0))
-sign-is z p = rw (back w32 z p) (go z)
-  where
-    go : (z : ℤ) → le_z (pos 0) z ≡ not (lt_z z (pos 0))
-    go (pos k) = rw (le-leb 0 k (omega arith), le-ltb k 0 (omega arith))
-    go (negsuc k) = refl
 
 -- ---- ranges
 
@@ -119,53 +110,59 @@ module _ {P : Problem} {T : List Cell} {cost price : List ℤ} {m n : ℕ} (b : 
 
   -- ---- what the scan finds
 
-  module _ {row col : ℕ} {reduced : ℤ} (w : Scanned cost price m n row col reduced) where
-    -- What holds of the lane at each place.
-    at_place : (k : ℕ) → k < length (lanes (sources P) (sinks P)) → (Q : Lane → Type 0)
-        → ((i j : ℕ) → i < m → j < n → place (sinks P) i j ≡ k → Q (lane i j)) → Q (get_or (lanes (sources P) (sinks P)) k (lane_of no_cell))
-    at_place k l Q f = let t : Placed (sources P) (sinks P) k = lane_placed (sources P) (sinks P) k (omega (arith, length-lanes (sources P) (sinks P))) in
-        rw (← t.placed, get_or-lanes (sources P) (sinks P) t.row t.col (lane_of no_cell) t.row_below t.col_below)
-        (f t.row t.col (omega (arith, b.rows, t.row_below)) (omega (arith, b.columns, t.col_below)) t.placed)
+  -- What holds of the lane at each place.
+  at_place : (k : ℕ) → k < length (lanes (sources P) (sinks P)) → (Q : Lane → Type 0)
+      → ((i j : ℕ) → i < m → j < n → place (sinks P) i j ≡ k → Q (lane i j)) → Q (get_or (lanes (sources P) (sinks P)) k (lane_of no_cell))
+  at_place k l Q f = let t : Placed (sources P) (sinks P) k = lane_placed (sources P) (sinks P) k (omega (arith, length-lanes (sources P) (sinks P))) in
+      rw (← t.placed, get_or-lanes (sources P) (sinks P) t.row t.col (lane_of no_cell) t.row_below t.col_below)
+      (f t.row t.col (omega (arith, b.rows, t.row_below)) (omega (arith, b.columns, t.col_below)) t.placed)
 
-    module _ (t : lt_z reduced (pos 0) ≡ true) where
-      abbrev found : Found cost price m n row col reduced
-      found = w.found t
+  module _ {row col : ℕ} {reduced : ℤ} (w : Found cost price m n row col reduced) where
+    on-sheet : (row < sources P) × (col < sinks P)
+    on-sheet = omega (arith, b.rows, w.row_in, b.columns, w.col_in_of)
 
-      on-sheet : (row < sources P) × (col < sinks P)
-      on-sheet = omega (arith, b.rows, found.row_in, b.columns, found.col_in_of)
+    is-reduced : reduced_cost P T (lane row col) ≡ reduced
+    is-reduced = sym (reduced-are row col w.row_in w.col_in_of) ∙ w.is
 
-      is-reduced : reduced_cost P T (lane row col) ≡ reduced
-      is-reduced = sym (reduced-are row col found.row_in found.col_in_of) ∙ found.is
+    -- The lane that the scan finds is the specification's entering lane: the first in sheet order of those with the least reduced cost.
+    scanned_enters : entering P T ≡ lane row col
+    unfolding entering
+    scanned_enters = let M = sources P in let N = sinks P in let below = place-below M N row col on-sheet.0 on-sheet.1 in
+        first_least_unique (λ k l. lt_z (reduced_cost P T k) (reduced_cost P T l)) (by_key (reduced_cost P T) lt_z_weak) (lane_of no_cell) (lanes M N)
+        (lane row col)
+        (place N row col) (record {
+          inside = omega (arith, below, length-lanes M N);
+          stands = get_or-lanes M N row col (lane_of no_cell) on-sheet.0 on-sheet.1;
+          least = λ k l. at_place k l (λ t. lt_z (reduced_cost P T t) (reduced_cost P T (lane row col)) ≡ false)
+              (λ i j x y r. rw (is-reduced, ← reduced-are i j x y) (w.least i j x y));
+          first = λ k l. at_place k (omega (arith, below, length-lanes M N)) (λ t. lt_z (reduced_cost P T (lane row col)) (reduced_cost P T t) ≡ true)
+              (λ i j x y r. rw (is-reduced, ← reduced-are i j x y)
+              (w.first i j x y (place-order N i j row col (omega (arith, b.columns)) on-sheet.1
+              (omega (arith, b.columns, priced-sides.cols_high))
+              (omega arith))));
+        })
 
-      -- The lane that the scan finds is the specification's entering lane: the first in sheet order of those with the least reduced cost.
-      scanned_enters : entering P T ≡ lane row col
-      unfolding entering
-      scanned_enters = let M = sources P in let N = sinks P in let below = place-below M N row col on-sheet.0 on-sheet.1 in
-          first_least_unique (λ k l. lt_z (reduced_cost P T k) (reduced_cost P T l)) (by_key (reduced_cost P T) lt_z_weak) (lane_of no_cell) (lanes M N)
-          (lane row col)
-          (place N row col) (record {
-            inside = omega (arith, below, length-lanes M N);
-            stands = get_or-lanes M N row col (lane_of no_cell) on-sheet.0 on-sheet.1;
-            least = λ k l. at_place k l (λ t. lt_z (reduced_cost P T t) (reduced_cost P T (lane row col)) ≡ false)
-                (λ i j x y r. rw (is-reduced, ← reduced-are i j x y) (found.least i j x y));
-            first = λ k l. at_place k (omega (arith, below, length-lanes M N)) (λ t. lt_z (reduced_cost P T (lane row col)) (reduced_cost P T t) ≡ true)
-                (λ i j x y r. rw (is-reduced, ← reduced-are i j x y)
-                (found.first i j x y (place-order N i j row col (omega (arith, b.columns)) on-sheet.1
-                (omega (arith, b.columns, priced-sides.cols_high))
-                (omega arith))));
-          })
-
-    pub scanned_done : is_finished_of P T ≡ not (lt_z reduced (pos 0))
+    -- Where its reduced cost is negative, the tableau is not finished.
+    scanned_on : lt_z reduced (pos 0) ≡ true → is_finished_of P T ≡ false
     unfolding is_finished_of
-    scanned_done = by_test (lt_z reduced (pos 0))
-        (λ s. rw s (by_test (is_finished_of P T)
+    scanned_on s = by_test (is_finished_of P T)
         (λ r.
-        let one = all-lanes-at (λ l. non_neg (reduced_cost P T l)) (sources P) (sinks P) row col r (on-sheet s).0 (on-sheet s).1 in
-        clash one (negative (reduced_cost P T (lane row col)) (rw (is-reduced s) s)))
-        (λ r. r)))
-        (λ s. rw s (all_lanes (λ l. non_neg (reduced_cost P T l)) (sources P) (sinks P)
-        (λ i j x y. not_negative (reduced_cost P T (lane i j)) (rw (← reduced-are i j (omega (arith, b.rows)) (omega (arith, b.columns)))
-        (w.finished s i j (omega (arith, b.rows)) (omega (arith, b.columns)))))))
+        let one = all-lanes-at (λ l. non_neg (reduced_cost P T l)) (sources P) (sinks P) row col r on-sheet.0 on-sheet.1 in
+        clash one (negative (reduced_cost P T (lane row col)) (rw is-reduced s)))
+        (λ r. r)
+
+  pub scanned_none : NoneNegative cost price m n → is_finished_of P T ≡ true
+  unfolding is_finished_of
+  scanned_none h = all_lanes (λ l. non_neg (reduced_cost P T l)) (sources P) (sinks P)
+      (λ i j x y. not_negative (reduced_cost P T (lane i j)) (rw (← reduced-are i j (omega (arith, b.rows)) (omega (arith, b.columns)))
+      (h i j (omega (arith, b.rows)) (omega (arith, b.columns)))))
+
+  -- So the tableau is finished where the scan finds none.
+  pub scanned_done : (x : Option PricedLane) (finished : Bool) → Scanned cost price m n x → is_some x ≡ not finished → is_finished_of P T ≡ finished
+  scanned_done None true h e = scanned_none h
+  scanned_done None false h e = absurd (true≢false (sym e))
+  scanned_done (Some l) true w e = absurd (true≢false e)
+  scanned_done (Some l) false (t, w) e = scanned_on w t
 
 -- ---- what is kept
 
@@ -194,107 +191,103 @@ module _ {P : Problem} {T : List Cell} {bags marks cost price slack : List ℤ} 
   unfolding cost_above max_cost
   kept-prices k l = omega (arith, kept-range.prices k l)
 
-  module _ {row col : ℕ} {reduced : ℤ} (w : Scanned cost price m n row col reduced) where
-    done : is_finished_of P T ≡ not (lt_z reduced (pos 0))
-    done = scanned_done kept-priced w
+  -- ---- one round
 
-    -- ---- one round
+  pub advanced_stays : is_finished_of P T ≡ true → Advanced P T bags marks cost price slack sub path tree m n true
+  advanced_stays f = record { done = f; kept = h }
 
-    pub advanced_stays : lt_z reduced (pos 0) ≡ false → Advanced P T bags marks cost price slack sub path tree m n true
-    advanced_stays t = record { done = done ∙ ap not t; kept = h }
+  module _ {row col : ℕ} {reduced : ℤ} (t : lt_z reduced (pos 0) ≡ true) (w : Found cost price m n row col reduced) where
+    unfinished : is_finished_of P T ≡ false
+    unfinished = scanned_on kept-priced w t
 
-    module _ (t : lt_z reduced (pos 0) ≡ true) where
-      unfinished : is_finished_of P T ≡ false
-      unfinished = done ∙ ap not t
+    pub lane-enters : Enters P T row col
+    lane-enters = let inside = rw (scanned_enters kept-priced w) at (entering-inside b.sound T) in
+        let new = entering-new b.sound T unfinished (board-belongs b) in
+        record { in_row = inside.0; in_col = inside.1; new = rw (scanned_enters kept-priced w) at new }
 
-      pub lane-enters : Enters P T row col
-      lane-enters = let inside = rw (scanned_enters kept-priced w t) at (entering-inside b.sound T) in
-          let new = entering-new b.sound T unfinished (board-belongs b) in
-          record { in_row = inside.0; in_col = inside.1; new = rw (scanned_enters kept-priced w t) at new }
+    reduced-small : nat_abs reduced ≤ cost_above + 2 * max_potential
+    reduced-small = let c = get_or cost (col * stride + row) (pos 0) in
+        let u = get_or price row (pos 0) in let v = get_or price (m + col) (pos 0) in
+        rw (← w.is) (omega (
+          arith,
+          abs_diff (c -ℤ u) v,
+          abs_diff c u,
+          kept-range.costs (col * stride + row),
+          kept-range.prices row (omega (arith, w.row_in, kept-sides.rows_high)),
+          kept-range.prices (m + col) (omega (arith, w.col_in_of, kept-sides.rows_high, kept-sides.cols_high)),
+        ))
 
-      reduced-small : nat_abs reduced ≤ cost_above + 2 * max_potential
-      reduced-small = let c = get_or cost (col * stride + row) (pos 0) in
-          let u = get_or price row (pos 0) in let v = get_or price (m + col) (pos 0) in
-          rw (← (w.found t).is) (omega (
-            arith,
-            abs_diff (c -ℤ u) v,
-            abs_diff c u,
-            kept-range.costs (col * stride + row),
-            kept-range.prices row (omega (arith, (w.found t).row_in, kept-sides.rows_high)),
-            kept-range.prices (m + col) (omega (arith, (w.found t).col_in_of, kept-sides.rows_high, kept-sides.cols_high)),
-          ))
+    pub reduced-room : nat_abs reduced ≤ 2 ^ 29
+    unfolding cost_above max_cost
+    reduced-room = omega (arith, reduced-small)
 
-      pub reduced-room : nat_abs reduced ≤ 2 ^ 29
-      unfolding cost_above max_cost
-      reduced-room = omega (arith, reduced-small)
+    module _ {bags' marks' price' : List ℤ} {sub' path' tree' : List ℕ} {far : ℕ} (v : Pivoted P T m n row col bags' marks' sub' path' tree' far)
+        (r : Repriced m far (cond (has far row) reduced (neg_ℤ reduced)) price price') where
+      abbrev x : ℤ
+      x = cond (has far row) reduced (neg_ℤ reduced)
 
-      module _ {bags' marks' price' : List ℤ} {sub' path' tree' : List ℕ} {far : ℕ} (v : Pivoted P T m n row col bags' marks' sub' path' tree' far)
-          (r : Repriced m far (cond (has far row) reduced (neg_ℤ reduced)) price price') where
-        abbrev x : ℤ
-        x = cond (has far row) reduced (neg_ℤ reduced)
+      -- The prices move as the theory of cuts asks.
+      shifts : Shifts P T m row col far (λ k. get_or price' k (pos 0))
+      shifts = record {
+        x = to_z x;
+        by = toward (has far row);
+        rows = λ i l. up i l (has far i) (r.each i);
+        cols = λ j l. down j l (has far (m + j)) (r.each (m + j));
+      }
+        where
+          toward : (v : Bool) → to_z (cond v reduced (neg_ℤ reduced)) ≈ (let r = to_z (reduced_cost P T (lane row col)) in cond v r (neg r))
+          toward true = rw (is-reduced kept-priced w) (omega arith)
+          toward false = rw (is-reduced kept-priced w) (z-neg reduced)
 
-        -- The prices move as the theory of cuts asks.
-        shifts : Shifts P T m row col far (λ k. get_or price' k (pos 0))
-        shifts = record {
-          x = to_z x;
-          by = toward (has far row);
-          rows = λ i l. up i l (has far i) (r.each i);
-          cols = λ j l. down j l (has far (m + j)) (r.each (m + j));
-        }
-          where
-            toward : (v : Bool) → to_z (cond v reduced (neg_ℤ reduced)) ≈ (let r = to_z (reduced_cost P T (lane row col)) in cond v r (neg r))
-            toward true = rw (is-reduced kept-priced w t) (omega arith)
-            toward false = rw (is-reduced kept-priced w t) (z-neg reduced)
+          up : (i : ℕ) → i < m → (v : Bool) → get_or price' i (pos 0) ≡ cond v (get_or price i (pos 0) +ℤ cond (ltb i m) x (neg_ℤ x)) (get_or price i (pos 0))
+              → to_z (get_or price' i (pos 0)) ≈ to_z (potential P T i) ⊕ cond v (to_z x) (nat 0)
+          up i l true s = rw (← h.prices.are i (omega arith), s, lt-ltb i m l) (z-add (get_or price i (pos 0)) x)
+          up i l false s = rw (← h.prices.are i (omega arith), s) (omega arith)
 
-            up : (i : ℕ) → i < m → (v : Bool) → get_or price' i (pos 0) ≡ cond v (get_or price i (pos 0) +ℤ cond (ltb i m) x (neg_ℤ x)) (get_or price i (pos 0))
-                → to_z (get_or price' i (pos 0)) ≈ to_z (potential P T i) ⊕ cond v (to_z x) (nat 0)
-            up i l true s = rw (← h.prices.are i (omega arith), s, lt-ltb i m l) (z-add (get_or price i (pos 0)) x)
-            up i l false s = rw (← h.prices.are i (omega arith), s) (omega arith)
+          down : (j : ℕ) → j < sinks P → (v : Bool)
+              → get_or price' (m + j) (pos 0) ≡ cond v (get_or price (m + j) (pos 0) +ℤ cond (ltb (m + j) m) x (neg_ℤ x)) (get_or price (m + j) (pos 0))
+              → to_z (get_or price' (m + j) (pos 0)) ≈ to_z (potential P T (m + j)) ⊖ cond v (to_z x) (nat 0)
+          down j l true s = rw (← h.prices.are (m + j) (omega (arith, b.columns)), s, le-ltb (m + j) m (omega arith))
+              (omega (arith, z-add (get_or price (m + j) (pos 0)) (neg_ℤ x), z-neg x))
+          down j l false s = rw (← h.prices.are (m + j) (omega (arith, b.columns)), s) (omega arith)
 
-            down : (j : ℕ) → j < sinks P → (v : Bool)
-                → get_or price' (m + j) (pos 0) ≡ cond v (get_or price (m + j) (pos 0) +ℤ cond (ltb (m + j) m) x (neg_ℤ x)) (get_or price (m + j) (pos 0))
-                → to_z (get_or price' (m + j) (pos 0)) ≈ to_z (potential P T (m + j)) ⊖ cond v (to_z x) (nat 0)
-            down j l true s = rw (← h.prices.are (m + j) (omega (arith, b.columns)), s, le-ltb (m + j) m (omega arith))
-                (omega (arith, z-add (get_or price (m + j) (pos 0)) (neg_ℤ x), z-neg x))
-            down j l false s = rw (← h.prices.are (m + j) (omega (arith, b.columns)), s) (omega arith)
+      next-is : pivot m n T (lane row col) ≡ next P T
+      unfolding next
+      next-is = rw (b.rows, b.columns, scanned_enters kept-priced w)
 
-        next-is : pivot m n T (lane row col) ≡ next P T
-        unfolding next
-        next-is = rw (b.rows, b.columns, scanned_enters kept-priced w t)
+      board-next : Board P (next P T) bags' marks' sub' path' tree' m n
+      board-next = rw (← next-is) v.board
 
-        board-next : Board P (next P T) bags' marks' sub' path' tree' m n
-        board-next = rw (← next-is) v.board
+      prices-next : Prices P (next P T) price' m n
+      prices-next = record {
+        long = r.long ∙ h.prices.long;
+        are = λ k l. rw (← next-is) (v.prices (λ k. get_or price' k (pos 0)) shifts k l);
+        none = λ k l p. r.each k ∙ (rw (v.inside k l)) ∙ h.prices.none k l p;
+      }
 
-        prices-next : Prices P (next P T) price' m n
-        prices-next = record {
-          long = r.long ∙ h.prices.long;
-          are = λ k l. rw (← next-is) (v.prices (λ k. get_or price' k (pos 0)) shifts k l);
-          none = λ k l p. r.each k ∙ (rw (v.inside k l)) ∙ h.prices.none k l p;
-        }
+      pub range-next : InRange cost price' m n
+      range-next = in_range (record {
+        sound = board-next.sound;
+        rows = board-next.rows;
+        columns = board-next.columns;
+        belongs = board-next.belongs;
+        costs = h.costs;
+        prices = prices-next;
+      })
 
-        pub range-next : InRange cost price' m n
-        range-next = in_range (record {
-          sound = board-next.sound;
-          rows = board-next.rows;
-          columns = board-next.columns;
-          belongs = board-next.belongs;
-          costs = h.costs;
-          prices = prices-next;
-        })
+      pub slacks_stale : Stale cost price price' m n far row reduced slack
+      slacks_stale = record {
+        range = kept-range;
+        slacks = h.slacks;
+        negative = t;
+        small = reduced-small;
+        moved = r;
+        nodes = λ k s. by_cases (dec_lt k (m + n)) (λ l. l)
+            (λ l. clash s (v.inside k (omega arith)));
+      }
 
-        pub slacks_stale : Stale cost price price' m n far row reduced slack
-        slacks_stale = record {
-          range = kept-range;
-          slacks = h.slacks;
-          negative = t;
-          small = reduced-small;
-          moved = r;
-          nodes = λ k s. by_cases (dec_lt k (m + n)) (λ l. l)
-              (λ l. clash s (v.inside k (omega arith)));
-        }
-
-        pub advanced_moves : {slack' : List ℤ} → Slacks cost price' m n slack' → Advanced P T bags' marks' cost price' slack' sub' path' tree' m n false
-        advanced_moves s = record { done = unfinished; kept = record { board = board-next; costs = h.costs; prices = prices-next; slacks = s } }
+      pub advanced_moves : {slack' : List ℤ} → Slacks cost price' m n slack' → Advanced P T bags' marks' cost price' slack' sub' path' tree' m n false
+      advanced_moves s = record { done = unfinished; kept = record { board = board-next; costs = h.costs; prices = prices-next; slacks = s } }
 
 -- What is kept after a round, by its answer.
 module _ {P : Problem} {T : List Cell} {q e cost price slack : List ℤ} {sub path tree : List ℕ} {m n : ℕ} {finished : Bool}

@@ -8,7 +8,7 @@ ghost use Rattle.rounds.specs.Begun.{Begun, Judged, Rounded};
 
 use cuts::cut::plant;
 use pivoting::pivot::pivot;
-use pricing::scan::{entering, refresh_slacks, scan_slacks};
+use pricing::scan::{PricedLane, entering, refresh_slacks, scan_slacks};
 use transport::MAX_SIDE;
 use tree::potential::{potentials, reprice};
 use tree::{LANES, NODES, Price};
@@ -53,8 +53,7 @@ pub fn is_finished(
     let mut path = [0u64; NODES];
     let mut sub = [0u64; NODES];
     let slack = begin(cost, leaf, other, lane, m, n, &mut path, &mut sub, price);
-    let enter = entering(cost, price, &slack, m, n);
-    enter.reduced >= 0
+    entering(cost, price, &slack, m, n).is_none()
 }
 
 // The same, and nothing else: no tree is built and no prices are given.
@@ -75,8 +74,7 @@ pub fn test_finished(
     let mut price: [Price; NODES] = [0; NODES];
     potentials(cost, leaf, other, lane, m + n - 1, &mut price);
     let slack = scan_slacks(cost, &price, m, n);
-    let enter = entering(cost, &price, &slack, m, n);
-    enter.reduced >= 0
+    entering(cost, &price, &slack, m, n).is_none()
 }
 
 // A round: whether the tableau is finished; if not, the arrays then hold the next one.
@@ -99,17 +97,12 @@ pub fn advance(
         → Advanced P T q.new e.new cost.now price.new slack.new
         sub.new path.new lane.new m n result }
 {
-    let enter = entering(cost, price, slack, m, n);
-    if enter.reduced >= 0 {
+    let Some(PricedLane { row, col, reduced }) = entering(cost, price, slack, m, n) else {
         return true;
-    }
-    let row = enter.row;
-    let col = enter.col;
-    let reduced = enter.reduced;
+    };
     let far = pivot(q, e, path, sub, lane, m, row, col);
     reprice(price, m, far, row, reduced);
-    let least = refresh_slacks(cost, price, m, n, far, row, reduced, *slack);
-    *slack = least;
+    *slack = refresh_slacks(cost, price, m, n, far, row, reduced, *slack);
     false
 }
 

@@ -17,7 +17,7 @@ pub struct Made {
     pub made: u64,
 }
 
-// Rounds left count down, and rounds made count up. The arrays then hold the last tableau, and `price` its prices.
+// Rounds up to the allowance. The arrays then hold the last tableau, and `price` its prices.
 fn rounds(
     q: &mut [i64; LANES],
     e: &mut [i64; LANES],
@@ -38,9 +38,7 @@ fn rounds(
     let mut path = [0u64; NODES];
     let mut sub = [0u64; NODES];
     let mut slack = begin(cost, leaf, other, lane, m, n, &mut path, &mut sub, price);
-    let mut left = allowance;
-    let mut made = 0;
-    while left > 0 {
+    for made in 0..allowance {
         if advance(
             q, e, cost, price, &mut slack, &mut path, &mut sub, lane, m, n,
         ) {
@@ -49,14 +47,11 @@ fn rounds(
                 made,
             };
         }
-        left -= 1;
-        made += 1;
     }
-    // None is left: whether the last tableau is finished is still to be told.
-    let enter = entering(cost, price, &slack, m, n);
+    // All are made: whether the last tableau is finished is still to be told.
     Made {
-        finished: enter.reduced >= 0,
-        made,
+        finished: entering(cost, price, &slack, m, n).is_none(),
+        made: allowance,
     }
 }
 
@@ -102,6 +97,7 @@ pub fn finish(
     let mut sub = [0u64; NODES];
     let mut slack = begin(cost, leaf, other, lane, m, n, &mut path, &mut sub, price);
     let mut made = 0u64;
+    // A while: no count ends it, but a measure that falls with each round.
     while !advance(
         q, e, cost, price, &mut slack, &mut path, &mut sub, lane, m, n,
     ) {

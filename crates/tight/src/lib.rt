@@ -16,12 +16,10 @@ fn tight_in_row(cost: &[Price; LANES], price: &[Price; NODES], m: usize, n: usiz
 {
     let own = price[i];
     let mut tight: u64 = 0;
-    let mut j = 0;
-    while j < n {
+    for j in 0..n {
         if cost[j * MAX_SIDE + i] - price[m + j] == own {
             tight = set_bit(tight, j);
         }
-        j += 1;
     }
     tight
 }
@@ -38,9 +36,7 @@ pub fn tight_lanes(
     ensures { TightLanes cost.now price.now m n m tight.new }
 {
     *tight = [0; MAX_SIDE];
-    let mut i = 0;
-    while i < m {
+    for i in 0..m {
         tight[i] = tight_in_row(cost, price, m, n, i);
-        i += 1;
     }
 }
