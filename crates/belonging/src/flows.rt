@@ -22,18 +22,13 @@ pub(crate) fn flows_match(
     ensures { result ≡ carries_flow (weights_of weight.old) (strikes_of leaf.now other.now lane.now count)
         amount.now lane.now count }
 {
-    let mut k = 0;
-    while k < count {
-        let p = leaf[k];
-        let o = other[k];
-        let l = lane[k];
-        let need = weight[p];
-        if amount[l] != need {
+    for k in 0..count {
+        let need = weight[leaf[k]];
+        if amount[lane[k]] != need {
             return false;
         }
-        weight[p] = 0;
-        weight[o] = weight[o] - need;
-        k += 1;
+        weight[leaf[k]] = 0;
+        weight[other[k]] -= need;
     }
     true
 }

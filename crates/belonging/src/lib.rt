@@ -39,15 +39,11 @@ fn balances(
 {
     let m = supply.len();
     let n = demand.len();
-    let mut bags = [0; NODES];
-    let mut marks = [0; NODES];
-    weights::weigh_bags(supply, demand, &mut bags);
-    weights::weigh_marks(m, n, &mut marks);
+    let mut bags = weights::weigh_bags(supply, demand);
+    let mut marks = weights::weigh_marks(m, n);
     let count = m + n - 1;
-    if !flows::flows_match(&mut bags, q, leaf, other, lane, count) {
-        return false;
-    }
-    flows::flows_match(&mut marks, e, leaf, other, lane, count)
+    flows::flows_match(&mut bags, q, leaf, other, lane, count)
+        && flows::flows_match(&mut marks, e, leaf, other, lane, count)
 }
 
 // Whether the tableau belongs to the problem with these supplies and demands, whatever its costs. If it does, its amounts then lie on their lanes, and the
@@ -74,14 +70,15 @@ pub fn load(
 {
     let m = supply.len();
     let n = demand.len();
+    let size = m + n - 1;
     // The count first: it may say more cells than there are.
-    if t.count != m + n - 1 {
+    if t.count != size {
         return false;
     }
     if !fit::cells_fit(t, m, n) {
         return false;
     }
-    if spread::lay_out(t, m, n, q, e, leaf, other, lane) != m + n - 1 {
+    if spread::lay_out(t, m, n, q, e, leaf, other, lane) != size {
         return false;
     }
     balances(supply, demand, q, e, leaf, other, lane)
