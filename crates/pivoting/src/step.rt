@@ -1,5 +1,5 @@
 // The step round a loop: the slot whose lane holds it, and the amounts after it. The basic lanes stand in slots, and a loop is a mask of slots.
-ghost use Rattle.std.specs.Prelude.{◌≡◌, true, ℕ, ◌<◌, length, get_or};
+ghost use Rattle.std.specs.Prelude.{◌≡◌, true, ℕ, ◌<◌, get_or};
 ghost use Rattle.transport.specs.Amount.{Fit};
 ghost use Rattle.tree.specs.Mask.{has};
 ghost use Rattle.tree.specs.Layout.{lane_room};
@@ -43,7 +43,7 @@ pub(crate) fn carry(
     slots: u64,
     x: Pair,
 )
-    requires q_len { (length q.old ≡ lane_room) × (length e.old ≡ lane_room) × Slotted lane.now slots }
+    requires slotted { Slotted lane.now slots }
     requires by_index { (t : ℕ) → has slots t ≡ true → Fit (pair_at q.old e.old (get_or lane.now t 0)) x }
     ensures { Added x.q lane.now slots 0 q.old q.new
         × Added x.e lane.now slots 0 e.old e.new }
