@@ -1,12 +1,13 @@
 -- How the weights at the nodes are put into their array.
-use Rattle.std.specs.Prelude.{◌+◌, ◌-◌, ◌<◌, ◌≤◌, ◌≡◌}
+use Rattle.std.specs.Prelude.{◌+◌, ◌-◌, ◌<◌, ◌≤◌, ◌≡◌, ◌++◌}
 use Rattle.prelude.specs.Words.{ℕ, arith, zero-add, dec_lt, ℕ_discrete, refl, ◌∙◌, by_cases, List, ℤ, pos, nat_abs, length}
 use Rattle.prelude.specs.Words.{get_or, set}
-use Rattle.prelude.specs.Words.{length-set, get_or-set_same, get_or-set_other, eq-eqb, ne_eqb}
+use Rattle.prelude.specs.Words.{length-set, drop, replicate, length-append, length-replicate, get_or-append, get_or-replicate, get_or-set_same, get_or-set_other, eq-eqb, ne_eqb}
+use Rattle.std.proofs.lemmas.List.{get_or-append_right}
 use Rattle.transport.specs.Lists.{at}
-use Rattle.transport.specs.Laws.ListLaws.{sum_to_bound}
+use Rattle.transport.specs.Laws.ListLaws.{sum_to_bound, drop-replicate}
 use Rattle.transport.specs.Limits.{max_amount, max_bags, max_side}
-use Rattle.tree.specs.Layout.{stride, node_room}
+use Rattle.tree.specs.Layout.{stride, node_room, get_or-all}
 use Rattle.belonging.specs.FlowLaws.{size}
 use Rattle.belonging.specs.Carried.{Light}
 use Rattle.belonging.specs.Balance.{Weights, mark_of}
@@ -73,17 +74,12 @@ pub record Marked (weight : List ℤ) (k : ℕ) : Type 0 where
   pub ones : (i : ℕ) → i < k → get_or weight i (pos 0) ≡ pos 1
   pub none : (i : ℕ) → k ≤ i → get_or weight i (pos 0) ≡ pos 0
 
-pub marked-none : (weight : List ℤ) → length weight ≡ node_room → ((j : ℕ) → get_or weight j (pos 0) ≡ pos 0) → Marked weight 0
-marked-none weight l z = record { long = l; ones = λ i p. absurd (omega arith); none = λ i p. z i }
-
-pub marked_more : {weight : List ℤ} {k : ℕ} → k < node_room → Marked weight k → Marked (set weight k (pos 1)) (k + 1)
-marked_more {weight} {k} p h = record {
-  long = length-set weight _ _ ∙ h.long;
-  ones = λ i q. by_cases (ℕ_discrete i k)
-      (λ e. rw e (get_or-set_same weight k (pos 1) (pos 0) (omega (arith, h.long))))
-      (λ e. get_or-set_other weight k i (pos 1) (pos 0) e ∙ h.ones i (omega arith));
-  none = λ i q. get_or-set_other weight k i (pos 1) (pos 0) (omega arith) ∙ h.none i (omega arith);
-}
+pub marked-front : (k : ℕ) → k ≤ node_room → Marked (replicate k (pos 1) ++ drop k (replicate node_room (pos 0))) k
+marked-front k few = let long = length-replicate k (pos 1) in rw (drop-replicate (pos 0) k node_room) (record {
+  long = omega (arith, length-append (replicate k (pos 1)) (replicate (node_room - k) (pos 0)), long, length-replicate (node_room - k) (pos 0));
+  ones = λ i l. get_or-append (replicate k (pos 1)) (replicate (node_room - k) (pos 0)) (pos 0) i (omega arith) ∙ get_or-replicate k i (pos 1) (pos 0) l;
+  none = λ i l. get_or-append_right (replicate k (pos 1)) (replicate (node_room - k) (pos 0)) k i (pos 0) long l ∙ get_or-all (node_room - k) _ (pos 0);
+})
 
 -- All m marks go to the last column.
 pub marks-put : {weight : List ℤ} (m n : ℕ) → m ≤ stride → 1 ≤ n → n ≤ stride → Marked weight m

@@ -23,14 +23,12 @@ pub(crate) fn flows_match(
         result ≡ carries_flow (weights_of weight.old) (struck_off b count) amount.now b.lane count }
 {
     for k in 0..count {
-        let p = basis.leaf[k];
-        let o = basis.other[k];
-        let need = weight[p];
+        let need = weight[basis.leaf[k]];
         if amount[basis.lane[k]] != need {
             return false;
         }
-        weight[p] = 0;
-        weight[o] -= need;
+        weight[basis.leaf[k]] = 0;
+        weight[basis.other[k]] -= need;
     }
     true
 }

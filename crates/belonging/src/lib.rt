@@ -16,7 +16,6 @@ ghost use Rattle.belonging.specs.Spread.{BalancingOn};
 
 use board::{Board, fit, spread};
 use transport::Tableau;
-use tree::NODES;
 
 // Whether the amounts on the basic lanes, which the strikes strike off, add up to the paired supplies
 // and demands: they are then one flow of the bags and one of the marks.
@@ -28,15 +27,11 @@ fn balances(supply: &[u64], demand: &[u64], board: &Board) -> bool
 {
     let m = supply.len();
     let n = demand.len();
-    let mut bags = [0; NODES];
-    let mut marks = [0; NODES];
-    weights::weigh_bags(supply, demand, &mut bags);
-    weights::weigh_marks(m, n, &mut marks);
+    let mut bags = weights::weigh_bags(supply, demand);
+    let mut marks = weights::weigh_marks(m, n);
     let count = m + n - 1;
-    if !flows::flows_match(&mut bags, &board.amounts.q, &board.basis, count) {
-        return false;
-    }
-    flows::flows_match(&mut marks, &board.amounts.e, &board.basis, count)
+    flows::flows_match(&mut bags, &board.amounts.q, &board.basis, count)
+        && flows::flows_match(&mut marks, &board.amounts.e, &board.basis, count)
 }
 
 // Whether the tableau belongs to the problem with these supplies and demands, whatever its costs. If it
@@ -50,14 +45,15 @@ pub fn load(supply: &[u64], demand: &[u64], t: Tableau, board: &mut Board) -> bo
 {
     let m = supply.len();
     let n = demand.len();
+    let size = m + n - 1;
     // The count first: it may say more cells than there are.
-    if t.count != m + n - 1 {
+    if t.count != size {
         return false;
     }
     if !fit::cells_fit(t, m, n) {
         return false;
     }
-    if spread::lay_out(t, m, n, board) != m + n - 1 {
+    if spread::lay_out(t, m, n, board) != size {
         return false;
     }
     balances(supply, demand, board)

@@ -10,37 +10,33 @@ use tree::NODES;
 // Puts the amounts into the array, from place `from` on.
 fn put_from(amounts: &[u64], from: usize, weight: &mut [i64; NODES])
     requires modest { Modest amounts.now }
-    requires amounts_bound { (from + length amounts.now ≤ node_room) × (length weight.old ≡ node_room) }
+    requires amounts_bound { from + length amounts.now ≤ node_room }
     ensures { PutFrom amounts.now from weight.old weight.new (length amounts.now) }
 {
-    let mut k = 0;
-    while k < amounts.len() {
-        weight[from + k] = amounts[k] as i64;
-        k += 1;
+    for (k, &x) in amounts.iter().enumerate() {
+        weight[from + k] = x as i64;
     }
 }
 
 // Bags: each supply at its row's node, each demand at its column's.
-pub(crate) fn weigh_bags(supply: &[u64], demand: &[u64], weight: &mut [i64; NODES])
+pub(crate) fn weigh_bags(supply: &[u64], demand: &[u64]) -> [i64; NODES]
     requires { Modest supply.now × Modest demand.now }
     ensures { Weights (length supply.now) (length demand.now)
-        (at supply.now) (at demand.now) weight.new }
+        (at supply.now) (at demand.now) result }
 {
-    *weight = [0; NODES];
-    put_from(supply, 0, weight);
-    put_from(demand, supply.len(), weight);
+    let mut weight = [0; NODES];
+    put_from(supply, 0, &mut weight);
+    put_from(demand, supply.len(), &mut weight);
+    weight
 }
 
 // Marks: one at each row's node, and as many as there are rows at the last column's.
-pub(crate) fn weigh_marks(m: usize, n: usize, weight: &mut [i64; NODES])
+pub(crate) fn weigh_marks(m: usize, n: usize) -> [i64; NODES]
     requires { (m ≤ stride) × (1 ≤ n) × (n ≤ stride) }
-    ensures { Weights m n (λ i. 1) (mark_of m n) weight.new }
+    ensures { Weights m n (λ i. 1) (mark_of m n) result }
 {
-    *weight = [0; NODES];
-    let mut i = 0;
-    while i < m {
-        weight[i] = 1;
-        i += 1;
-    }
+    let mut weight = [0; NODES];
+    weight[..m].fill(1);
     weight[m + n - 1] = m as i64;
+    weight
 }

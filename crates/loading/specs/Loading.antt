@@ -25,9 +25,9 @@ use Rattle.parties.specs.declared.Parties.{Parties}
 use Rattle.tableaux.specs.Belonging.{belongs-amounts}
 use Rattle.parties.specs.Parties.{PartiesOf, supplies-lent, demands-lent, parties-amounts}
 use Rattle.board.specs.declared.Board.{Board}
-use Rattle.board.specs.BoardArrays.{LoadedOn}
+use Rattle.board.specs.OnBoard.{LoadedOn}
 use Rattle.cost_grid.specs.Costs.{Spread, spread_costed}
-use Rattle.rounds.specs.Begun.{BegunOn}
+use Rattle.rounds.specs.OnBoard.{BegunOn}
 
 -- ---- what the tests refuse
 
@@ -82,13 +82,13 @@ LoadedBy S tests T b cost r = MatchResult r (λ p. (refusal tests ≡ none) × A
 
 module _ {S : Sheet} (ok : Accepted S) {p : Parties} (h : PartiesOf S p) where
   -- The tableau t, which is `inner` among those left, belongs, and the costs of their lanes are spread.
-  pub begun-loaded : (t inner : Tableau) {b : Board} {cost : List ℤ}
+  pub begun-loaded : (t inner : Tableau) (b : Board) {cost : List ℤ}
       → Spread S.cost (cafes S) (take p.rows p.row_numbers) (take p.cafes p.column_numbers) cost
       → belongs (problem_of S) inner ≡ true → cells_of inner ≡ inside S t
       → LoadedOn (length (take p.rows p.supplies)) (length (take p.columns p.demands)) (cells_of inner) b
       → BegunOn (problem_of S) (inside S t) b cost p.rows p.columns
   unfolding belongs problem_of
-  begun-loaded t inner spread own same l =
+  begun-loaded t inner b spread own same l =
       let count = eqb inner.count (basis_size (sources (problem_of S)) (sinks (problem_of S))) in
       record {
         sound = sound ok;

@@ -78,7 +78,7 @@ pub fn load_finished(
         LoadedBy S (finished_tests S t) (inside S t) board.new spread.new result }
 {
     let parties = load_sheet(supply, demand, cost, t, board, spread)?;
-    if !test_finished(board, spread, parties.rows, parties.columns) {
+    if !test_finished(&board.basis, spread, parties.rows, parties.columns) {
         return Err(Refusal::Unfinished);
     }
     Ok(parties)

@@ -26,12 +26,7 @@ pub fn pivot(board: &mut Board, m: usize, row: usize, col: usize) -> u64
     let s = least_slot(board, losing);
     let step = board.amounts.pair_at(board.basis.lane[s]);
     let nothing = Pair { q: 0, e: 0 };
-    carry(
-        &mut board.amounts,
-        &board.basis,
-        losing,
-        nothing.subtract(step),
-    );
+    carry(&mut board.amounts, &board.basis, losing, nothing - step);
     carry(&mut board.amounts, &board.basis, gaining, step);
     board.amounts.put_pair(into, step);
     regraft(&mut board.basis, row, sink, s, into)

@@ -45,7 +45,7 @@ pub(crate) fn carry(amounts: &mut Amounts, basis: &Basis, slots: u64, x: Pair)
     let mut bits = slots;
     while bits != 0 {
         let l = basis.lane[mask::first_bit(bits)];
-        let sum = amounts.pair_at(l).add(x);
+        let sum = amounts.pair_at(l) + x;
         amounts.put_pair(l, sum);
         bits = mask::rest(bits);
     }

@@ -1,3 +1,4 @@
 pub mod Kept
 pub mod Begun
 pub mod PricesShown
+pub mod OnBoard

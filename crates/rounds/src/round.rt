@@ -1,142 +1,119 @@
-// A round on flat arrays. The tree, the prices and the least slacks of the rows are kept from round to round.
+// A round on a board. The tree, the prices and the least slacks of the rows are kept from round to round.
 ghost use Rattle.std.specs.Prelude.{◌≡◌, List, ℤ};
 ghost use Rattle.transport.specs.Problem.{Problem};
 ghost use Rattle.transport.specs.Potential.{is_finished_of};
 ghost use Rattle.transport.specs.declared.Cell.{Cell};
-ghost use Rattle.rounds.specs.Kept.{Kept, Advanced};
-ghost use Rattle.rounds.specs.Begun.{Begun, Judged, Rounded};
+ghost use Rattle.tree.specs.Basis.{SameStrikes, SameEnds};
+ghost use Rattle.rounds.specs.Kept.{Kept};
+ghost use Rattle.rounds.specs.Begun.{Begun, Judged};
+ghost use Rattle.rounds.specs.OnBoard.{BegunOn, KeptOn, AdvancedOn, RoundedOn};
 
+use board::Board;
 use cuts::cut::plant;
 use pivoting::pivot::pivot;
 use pricing::scan::{PricedLane, entering, refresh_slacks, scan_slacks};
 use transport::MAX_SIDE;
-use tree::potential::{potentials, reprice};
-use tree::{LANES, NODES, Price};
+use tree::potential::reprice;
+use tree::{Basis, LANES, NODES, Price};
 
-// The tree and the prices of a tableau whose basis the strikes strike off; gives the least slacks of its rows.
+// The tree and the prices of a tableau whose basis the strikes strike off; gives the least slacks of
+// its rows.
 pub fn begin(
+    basis: &mut Basis,
     cost: &[Price; LANES],
-    leaf: &[usize; NODES],
-    other: &[usize; NODES],
-    lane: &[usize; NODES],
     m: usize,
     n: usize,
-    path: &mut [u64; NODES],
-    sub: &mut [u64; NODES],
     price: &mut [Price; NODES],
 ) -> [Price; MAX_SIDE]
-    requires { (P : Problem) × (T : List Cell) × (q : List ℤ) × (e : List ℤ) × Begun P T q e cost.now leaf.now other.now lane.now m n }
-    ensures { (P : Problem) (T : List Cell) (q e : List ℤ)
-        → Begun P T q e cost.now leaf.now other.now lane.now m n
-        → Kept P T q e cost.now price.new result sub.new path.new lane.now m n }
+    requires { let b = basis.old in
+        (P : Problem) × (T : List Cell) × (q : List ℤ) × (e : List ℤ)
+        × Begun P T q e cost.now b.leaf b.other b.lane m n }
+    ensures kept { let a = basis.old in let b = basis.new in
+        (P : Problem) (T : List Cell) (q e : List ℤ) → Begun P T q e cost.now a.leaf a.other a.lane m n
+        → Kept P T q e cost.now price.new result b.sub b.path b.lane m n }
+    ensures same_strikes { SameStrikes basis.old basis.new }
 {
-    potentials(cost, leaf, other, lane, m + n - 1, price);
-    plant(leaf, other, lane, m, n, path, sub);
+    basis.potentials(cost, m + n - 1, price);
+    plant(basis, m, n);
     scan_slacks(cost, price, m, n)
 }
 
 // Whether the tableau is finished. `price` then has its prices.
 pub fn is_finished(
+    basis: &mut Basis,
     cost: &[Price; LANES],
-    leaf: &[usize; NODES],
-    other: &[usize; NODES],
-    lane: &[usize; NODES],
     m: usize,
     n: usize,
     price: &mut [Price; NODES],
 ) -> bool
-    requires { (P : Problem) × (T : List Cell) × (q : List ℤ) × (e : List ℤ) × Begun P T q e cost.now leaf.now other.now lane.now m n }
-    ensures { (P : Problem) (T : List Cell) (q e : List ℤ)
-        → Begun P T q e cost.now leaf.now other.now lane.now m n
-        → Judged P T q e price.new lane.now m n result }
+    requires { let b = basis.old in
+        (P : Problem) × (T : List Cell) × (q : List ℤ) × (e : List ℤ)
+        × Begun P T q e cost.now b.leaf b.other b.lane m n }
+    ensures judged { let b = basis.old in
+        (P : Problem) (T : List Cell) (q e : List ℤ) → Begun P T q e cost.now b.leaf b.other b.lane m n
+        → Judged P T q e price.new basis.new.lane m n result }
+    ensures same_strikes { SameStrikes basis.old basis.new }
 {
-    let mut path = [0u64; NODES];
-    let mut sub = [0u64; NODES];
-    let slack = begin(cost, leaf, other, lane, m, n, &mut path, &mut sub, price);
+    let slack = begin(basis, cost, m, n, price);
     entering(cost, price, &slack, m, n).is_none()
 }
 
 // The same, and nothing else: no tree is built and no prices are given.
-pub fn test_finished(
-    cost: &[Price; LANES],
-    leaf: &[usize; NODES],
-    other: &[usize; NODES],
-    lane: &[usize; NODES],
-    m: usize,
-    n: usize,
-) -> bool
-    requires { (P : Problem) × (T : List Cell) × (q : List ℤ) × (e : List ℤ)
-        × Begun P T q e cost.now leaf.now other.now lane.now m n }
-    ensures { (P : Problem) (T : List Cell) (q e : List ℤ)
-        → Begun P T q e cost.now leaf.now other.now lane.now m n
+pub fn test_finished(basis: &Basis, cost: &[Price; LANES], m: usize, n: usize) -> bool
+    requires { let b = basis.now in
+        (P : Problem) × (T : List Cell) × (q : List ℤ) × (e : List ℤ)
+        × Begun P T q e cost.now b.leaf b.other b.lane m n }
+    ensures { let b = basis.now in
+        (P : Problem) (T : List Cell) (q e : List ℤ) → Begun P T q e cost.now b.leaf b.other b.lane m n
         → is_finished_of P T ≡ result }
 {
     let mut price: [Price; NODES] = [0; NODES];
-    potentials(cost, leaf, other, lane, m + n - 1, &mut price);
+    basis.potentials(cost, m + n - 1, &mut price);
     let slack = scan_slacks(cost, &price, m, n);
     entering(cost, &price, &slack, m, n).is_none()
 }
 
-// A round: whether the tableau is finished; if not, the arrays then hold the next one.
+// A round: whether the tableau is finished; if not, the board then holds the next one.
 pub fn advance(
-    q: &mut [i64; LANES],
-    e: &mut [i64; LANES],
+    board: &mut Board,
     cost: &[Price; LANES],
     price: &mut [Price; NODES],
     slack: &mut [Price; MAX_SIDE],
-    path: &mut [u64; NODES],
-    sub: &mut [u64; NODES],
-    lane: &mut [usize; NODES],
     m: usize,
     n: usize,
 ) -> bool
-    requires { (P : Problem) × (T : List Cell) × Kept P T q.old e.old cost.now price.old slack.old sub.old path.old lane.old m n }
-    ensures { (P : Problem) (T : List Cell)
-        → Kept P T q.old e.old cost.now price.old slack.old
-        sub.old path.old lane.old m n
-        → Advanced P T q.new e.new cost.now price.new slack.new
-        sub.new path.new lane.new m n result }
+    requires { (P : Problem) × (T : List Cell) × KeptOn P T board.old cost.now price.old slack.old m n }
+    ensures advanced { (P : Problem) (T : List Cell) → KeptOn P T board.old cost.now price.old slack.old m n
+        → AdvancedOn P T board.new cost.now price.new slack.new m n result }
+    ensures same_ends { SameEnds board.old.basis board.new.basis }
 {
     let Some(PricedLane { row, col, reduced }) = entering(cost, price, slack, m, n) else {
         return true;
     };
-    let far = pivot(q, e, path, sub, lane, m, row, col);
+    let far = pivot(board, m, row, col);
     reprice(price, m, far, row, reduced);
     *slack = refresh_slacks(cost, price, m, n, far, row, reduced, *slack);
     false
 }
 
-// What a round gives: whether the tableau is finished, and the prices of the one that the arrays then hold.
+// What a round gives: whether the tableau is finished, and the prices of the one that the board then
+// holds.
 #[derive(Clone, Copy)]
 pub struct Turn {
     pub finished: bool,
     pub price: [Price; NODES],
 }
 
-// One round on a tableau of m sources and n sinks. The arrays then hold it, or the next one if it is not finished.
-pub fn make_round(
-    q: &mut [i64; LANES],
-    e: &mut [i64; LANES],
-    cost: &[Price; LANES],
-    leaf: &[usize; NODES],
-    other: &[usize; NODES],
-    lane: &mut [usize; NODES],
-    m: usize,
-    n: usize,
-) -> Turn
-    requires { (P : Problem) × (T : List Cell) × Begun P T q.old e.old cost.now leaf.now other.now lane.old m n }
-    ensures { (P : Problem) (T : List Cell)
-        → Begun P T q.old e.old cost.now leaf.now other.now lane.old m n
-        → Rounded P T q.new e.new result.price lane.new m n result.finished }
+// One round on a tableau of m sources and n sinks. The board then holds it, or the next one if it is
+// not finished.
+pub fn make_round(board: &mut Board, cost: &[Price; LANES], m: usize, n: usize) -> Turn
+    requires { (P : Problem) × (T : List Cell) × BegunOn P T board.old cost.now m n }
+    ensures rounded { (P : Problem) (T : List Cell) → BegunOn P T board.old cost.now m n
+        → RoundedOn P T board.new result.price m n result.finished }
+    ensures same_ends { SameEnds board.old.basis board.new.basis }
 {
     let mut price: [Price; NODES] = [0; NODES];
-    let mut path = [0u64; NODES];
-    let mut sub = [0u64; NODES];
-    let mut slack = begin(
-        cost, leaf, other, lane, m, n, &mut path, &mut sub, &mut price,
-    );
-    let finished = advance(
-        q, e, cost, &mut price, &mut slack, &mut path, &mut sub, lane, m, n,
-    );
+    let mut slack = begin(&mut board.basis, cost, m, n, &mut price);
+    let finished = advance(board, cost, &mut price, &mut slack, m, n);
     Turn { finished, price }
 }

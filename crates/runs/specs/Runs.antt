@@ -17,7 +17,8 @@ use Rattle.tableaux.specs.Pivoting.{measure}
 use Rattle.tableaux.specs.Running.{run-done, run_none, run_more}
 use Rattle.tableaux.specs.Ending.{most_value, all_value-high, raised, raised-nonneg, next-falls, run_ends}
 use Rattle.tree.specs.Layout.{stride}
-use Rattle.board.specs.Arrays.{Board}
+use Rattle.board.specs.Arrays as arrays
+use Rattle.board.specs.declared.Board.{Board}
 use Rattle.board.specs.Drawing.{board-belongs}
 use Rattle.rounds.specs.Kept.{Kept}
 use Rattle.rounds.specs.Begun.{Begun, begun-belongs}
@@ -72,18 +73,30 @@ pub record Going (P : Problem) (T : List Cell) (allowance : ℕ) (q e cost price
   pub tableau : (run P allowance T).tableau ≡ (run P left here).tableau
   pub rounds : (run P allowance T).rounds ≡ made + (run P left here).rounds
 
+abbrev pub GoingOn : Problem → List Cell → ℕ → Board → (cost price slack : List ℤ) → (m n left made : ℕ) → Type 0
+GoingOn P T allowance b cost price slack m n left made = Going P T allowance b.amounts.q b.amounts.e cost price slack
+    b.basis.sub b.basis.path b.basis.lane m n left made
+
 -- The run has ended after `made` rounds, and the arrays hold its last tableau ..
 pub record Ended (P : Problem) (T : List Cell) (allowance : ℕ) (q e : List ℤ) (tree : List ℕ) (m n : ℕ) (finished : Bool) (made : ℕ) : Type 0 where
   pub done : (run P allowance T).finished ≡ finished
   pub rounds : (run P allowance T).rounds ≡ made
   pub sub : List ℕ
   pub path : List ℕ
-  pub board : Board P (run P allowance T).tableau q e sub path tree m n
+  pub board : arrays.Board P (run P allowance T).tableau q e sub path tree m n
 
 -- .. with its prices.
 pub record Ran (P : Problem) (T : List Cell) (allowance : ℕ) (q e price : List ℤ) (tree : List ℕ) (m n : ℕ) (finished : Bool) (made : ℕ) : Type 0 where
   pub ended : Ended P T allowance q e tree m n finished made
   pub prices : (k : ℕ) → k < m + n → get_or price k (pos 0) ≡ potential P (run P allowance T).tableau k
+
+-- The same, of a board.
+abbrev pub EndedOn : Problem → List Cell → ℕ → Board → ℕ → ℕ → Bool → ℕ → Type 0
+EndedOn P T allowance b m n finished made = Ended P T allowance b.amounts.q b.amounts.e b.basis.lane m n finished made
+
+abbrev pub RanOn : Problem → List Cell → ℕ → Board → List ℤ → ℕ → ℕ → Bool → ℕ → Type 0
+RanOn P T allowance b price m n finished made =
+    Ran P T allowance b.amounts.q b.amounts.e price b.basis.lane m n finished made
 
 -- A run of the bound of rounds comes to a finished tableau.
 pub begun-ends : {P : Problem} {T : List Cell} {q e cost : List ℤ} {leaf other tree : List ℕ} {m n : ℕ} → Begun P T q e cost leaf other tree m n

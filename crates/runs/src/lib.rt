@@ -1,4 +1,4 @@
-// Runs of rounds on flat arrays.
+// Runs of rounds on a board.
 #![tactic(auto)]
 
 pub mod run;

@@ -3,9 +3,11 @@ ghost use Rattle.std.specs.Prelude.{true, List};
 ghost use Rattle.transport.specs.Problem.{Problem};
 ghost use Rattle.transport.specs.Round.{round_bound};
 ghost use Rattle.transport.specs.declared.Cell.{Cell};
-ghost use Rattle.rounds.specs.Begun.{Begun};
-ghost use Rattle.runs.specs.Runs.{Ended, Ran};
+ghost use Rattle.tree.specs.Basis.{SameEnds};
+ghost use Rattle.rounds.specs.OnBoard.{BegunOn};
+ghost use Rattle.runs.specs.Runs.{EndedOn, RanOn};
 
+use board::Board;
 use pricing::scan::entering;
 use rounds::round::{advance, begin};
 use tree::{LANES, NODES, Price};
@@ -17,31 +19,23 @@ pub struct Made {
     pub made: u64,
 }
 
-// Rounds up to the allowance. The arrays then hold the last tableau, and `price` its prices.
+// Rounds up to the allowance. The board then holds the last tableau, and `price` its prices.
 fn rounds(
-    q: &mut [i64; LANES],
-    e: &mut [i64; LANES],
+    board: &mut Board,
     cost: &[Price; LANES],
-    leaf: &[usize; NODES],
-    other: &[usize; NODES],
-    lane: &mut [usize; NODES],
     m: usize,
     n: usize,
     price: &mut [Price; NODES],
     allowance: u64,
 ) -> Made
-    requires { (P : Problem) × (T : List Cell) × Begun P T q.old e.old cost.now leaf.now other.now lane.old m n }
-    ensures { (P : Problem) (T : List Cell)
-        → Begun P T q.old e.old cost.now leaf.now other.now lane.old m n
-        → Ran P T allowance q.new e.new price.new lane.new m n result.finished result.made }
+    requires { (P : Problem) × (T : List Cell) × BegunOn P T board.old cost.now m n }
+    ensures ran { (P : Problem) (T : List Cell) → BegunOn P T board.old cost.now m n
+        → RanOn P T allowance board.new price.new m n result.finished result.made }
+    ensures same_ends { SameEnds board.old.basis board.new.basis }
 {
-    let mut path = [0u64; NODES];
-    let mut sub = [0u64; NODES];
-    let mut slack = begin(cost, leaf, other, lane, m, n, &mut path, &mut sub, price);
+    let mut slack = begin(&mut board.basis, cost, m, n, price);
     for made in 0..allowance {
-        if advance(
-            q, e, cost, price, &mut slack, &mut path, &mut sub, lane, m, n,
-        ) {
+        if advance(board, cost, price, &mut slack, m, n) {
             return Made {
                 finished: true,
                 made,
@@ -55,52 +49,41 @@ fn rounds(
     }
 }
 
-// The run on a tableau of m sources and n sinks: how it ended. The arrays then hold its last tableau.
+// The run on a tableau of m sources and n sinks: how it ended. The board then holds its last tableau.
 pub fn make_run(
-    q: &mut [i64; LANES],
-    e: &mut [i64; LANES],
+    board: &mut Board,
     cost: &[Price; LANES],
-    leaf: &[usize; NODES],
-    other: &[usize; NODES],
-    lane: &mut [usize; NODES],
     m: usize,
     n: usize,
     allowance: u64,
 ) -> Made
-    requires { (P : Problem) × (T : List Cell) × Begun P T q.old e.old cost.now leaf.now other.now lane.old m n }
-    ensures { (P : Problem) (T : List Cell)
-        → Begun P T q.old e.old cost.now leaf.now other.now lane.old m n
-        → Ended P T allowance q.new e.new lane.new m n result.finished result.made }
+    requires { (P : Problem) × (T : List Cell) × BegunOn P T board.old cost.now m n }
+    ensures ended { (P : Problem) (T : List Cell) → BegunOn P T board.old cost.now m n
+        → EndedOn P T allowance board.new m n result.finished result.made }
+    ensures same_ends { SameEnds board.old.basis board.new.basis }
 {
     let mut price: [Price; NODES] = [0; NODES];
-    rounds(q, e, cost, leaf, other, lane, m, n, &mut price, allowance)
+    rounds(board, cost, m, n, &mut price, allowance)
 }
 
-// Rounds until the tableau is finished, however many: how many they were. The arrays then hold the finished tableau, and `price` its prices.
+// Rounds until the tableau is finished, however many: how many they were. The board then holds the
+// finished tableau, and `price` its prices.
 pub fn finish(
-    q: &mut [i64; LANES],
-    e: &mut [i64; LANES],
+    board: &mut Board,
     cost: &[Price; LANES],
-    leaf: &[usize; NODES],
-    other: &[usize; NODES],
-    lane: &mut [usize; NODES],
     m: usize,
     n: usize,
     price: &mut [Price; NODES],
 ) -> u64
-    requires { (P : Problem) × (T : List Cell) × Begun P T q.old e.old cost.now leaf.now other.now lane.old m n }
-    ensures { (P : Problem) (T : List Cell)
-        → Begun P T q.old e.old cost.now leaf.now other.now lane.old m n
-        → Ran P T (round_bound P) q.new e.new price.new lane.new m n true result }
+    requires { (P : Problem) × (T : List Cell) × BegunOn P T board.old cost.now m n }
+    ensures ran { (P : Problem) (T : List Cell) → BegunOn P T board.old cost.now m n
+        → RanOn P T (round_bound P) board.new price.new m n true result }
+    ensures same_ends { SameEnds board.old.basis board.new.basis }
 {
-    let mut path = [0u64; NODES];
-    let mut sub = [0u64; NODES];
-    let mut slack = begin(cost, leaf, other, lane, m, n, &mut path, &mut sub, price);
-    let mut made = 0u64;
+    let mut slack = begin(&mut board.basis, cost, m, n, price);
+    let mut made = 0;
     // A while: no count ends it, but a measure that falls with each round.
-    while !advance(
-        q, e, cost, price, &mut slack, &mut path, &mut sub, lane, m, n,
-    ) {
+    while !advance(board, cost, price, &mut slack, m, n) {
         made += 1;
     }
     made

@@ -1,24 +1,16 @@
-use Rattle.std.specs.Prelude.{◌+◌, ◌-◌, ◌≡◌, ◌&&◌}
-use Rattle.prelude.specs.Words.{sym, ◌∙◌, List, ℤ, length}
-use Rattle.transport.specs.declared.Cell.{Cell}
-use Rattle.transport.specs.Belonging.{balanced}
-use Rattle.transport.specs.Laws.ProblemLaws.{problem}
-use Rattle.tree.specs.Basis.{struck_off}
+-- With the cells a tree, the two flows decide.
+use Rattle.prelude.specs.Words.{sym, ◌∙◌}
 use Rattle.tree.specs.Strikes.{strikes-room, strikes-distinct}
-use Rattle.belonging.specs.FlowLaws.{weights_of}
-use Rattle.belonging.specs.Carried.{carries_flow}
-use Rattle.belonging.specs.Spread.{list_sides, sound_modest, BalancingOn, balanced-is}
+use Rattle.belonging.specs.Spread.{list_sides, sound_modest, balanced-is}
 use Rattle.belonging.proofs.balances.Goals as goal
-use Rattle.belonging.proofs.balances.Goals.{After-weigh_marks}
 
-pub weigh_bags-requires : goal.weigh_bags-requires
-weigh_bags-requires c = sound_modest c.requires.sound.1
+pub weigh_bags-bags-requires : goal.weigh_bags-bags-requires
+weigh_bags-bags-requires c = sound_modest c.requires.sound.1
 
-pub weigh_marks-requires : goal.weigh_marks-requires
-weigh_marks-requires c =
-    let s = list_sides c.requires.sound.1 in
-    (s.rows_high, s.cols_low, s.cols_high)
+pub weigh_marks-marks-requires : goal.weigh_marks-marks-requires
+weigh_marks-marks-requires c = let s = list_sides c.requires.sound.1 in (s.rows_high, s.cols_low, s.cols_high)
 
+-- The strikes are within their room, and no lane comes twice.
 pub flows_match-requires-clause-strikes_in_room : goal.flows_match-requires-clause-strikes_in_room
 flows_match-requires-clause-strikes_in_room c =
     let s = list_sides c.requires.sound.1 in
@@ -26,41 +18,28 @@ flows_match-requires-clause-strikes_in_room c =
     strikes-room _ _ _ _ _ _ s.rows_high s.cols_high h.long h.spanning.struck
 
 pub flows_match-requires-clause-lanes_apart : goal.flows_match-requires-clause-lanes_apart
-flows_match-requires-clause-lanes_apart c =
-    let (T, h) = c.requires.balancing in
-    strikes-distinct _ _ _ _ _ _ h.spanning.struck.peels
+flows_match-requires-clause-lanes_apart c = strikes-distinct _ _ _ _ _ _ c.requires.balancing.1.spanning.struck.peels
 
--- What is to be found: whether both flows are carried.
-flows : (c : After-weigh_marks) (cost : List ℤ) (T : List Cell) →
-    let a = c.args in
-    let b = a.board.now in
-    let count = length a.supply.now + length a.demand.now - 1 in
-    let ss = struck_off b.basis count in
-    BalancingOn (length a.supply.now) (length a.demand.now) T b
-    → balanced (problem a.supply.now a.demand.now cost) T
-    ≡ carries_flow (weights_of c.weigh_bags.new.weight) ss b.amounts.q b.basis.lane count
-    && carries_flow (weights_of c.weigh_marks.new.weight) ss b.amounts.e b.basis.lane count
-flows c cost T h =
-    let totals = c.requires.sound.1.balance in
-    balanced-is _ _ cost h.amounts _ _ _ _ h.spanning totals c.weigh_bags.ensures c.weigh_marks.ensures
-
-pub returns-then-not-flows_match : goal.returns-then-not-flows_match
-returns-then-not-flows_match c cost T h =
-    let m = (goal.at.returns-then-not-flows_match c).After-weigh_marks in
-    sym (flows m cost T h ∙ rw (← c.if-not-flows_match.ensures))
-
-pub flows_match-requires-2-clause-strikes_in_room : goal.flows_match-requires-2-clause-strikes_in_room
-flows_match-requires-2-clause-strikes_in_room c =
+pub flows_match-requires-then-flows_match-clause-strikes_in_room :
+    goal.flows_match-requires-then-flows_match-clause-strikes_in_room
+flows_match-requires-then-flows_match-clause-strikes_in_room c =
     let s = list_sides c.requires.sound.1 in
     let (T, h) = c.requires.balancing in
     strikes-room _ _ _ _ _ _ s.rows_high s.cols_high h.long h.spanning.struck
 
-pub flows_match-requires-2-clause-lanes_apart : goal.flows_match-requires-2-clause-lanes_apart
-flows_match-requires-2-clause-lanes_apart c =
-    let (T, h) = c.requires.balancing in
-    strikes-distinct _ _ _ _ _ _ h.spanning.struck.peels
+pub flows_match-requires-then-flows_match-clause-lanes_apart :
+    goal.flows_match-requires-then-flows_match-clause-lanes_apart
+flows_match-requires-then-flows_match-clause-lanes_apart c =
+    strikes-distinct _ _ _ _ _ _ c.requires.balancing.1.spanning.struck.peels
 
-pub returns : goal.returns
-returns c cost T h =
-    let m = (goal.at.returns c).After-weigh_marks in
-    sym (flows m cost T h ∙ rw (← c.if-not-flows_match.ensures, ← c.flows_match-2.ensures))
+pub returns-then-flows_match : goal.returns-then-flows_match
+returns-then-flows_match c cost T h =
+    let is = balanced-is _ _ cost h.amounts _ _ _ _ h.spanning c.requires.sound.1.balance
+    c.weigh_bags-bags.ensures c.weigh_marks-marks.ensures in
+    c.flows_match-then-flows_match.ensures ∙ sym (is ∙ rw (← c.if-flows_match.ensures))
+
+pub returns-else-flows_match : goal.returns-else-flows_match
+returns-else-flows_match c cost T h =
+    let is = balanced-is _ _ cost h.amounts _ _ _ _ h.spanning c.requires.sound.1.balance
+    c.weigh_bags-bags.ensures c.weigh_marks-marks.ensures in
+    c.if-flows_match.false ∙ sym (is ∙ rw (← c.if-flows_match.ensures))

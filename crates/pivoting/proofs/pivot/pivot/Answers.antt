@@ -35,9 +35,9 @@ bounds-board-s c = slot_room c.requires.3 c.requires.4 c.loop_slots-cycle.ensure
 pub pair_at-step-requires : goal.pair_at-step-requires
 pair_at-step-requires c = held-inside c.requires.3 c.requires.4 c.loop_slots-cycle.ensures c.least_slot-s.ensures
 
-pub subtract-requires : goal.subtract-requires
+pub sub-requires : goal.sub-requires
 unfolding nothing
-subtract-requires c =
+sub-requires c =
     rw c.pair_at-step.ensures
     (back_fits c.requires.3 c.requires.4 c.loop_slots-cycle.ensures c.least_slot-s.ensures)
 
@@ -49,7 +49,7 @@ carry-requires-clause-q_len c =
 pub carry-requires-clause-by_index : goal.carry-requires-clause-by_index
 unfolding nothing
 carry-requires-clause-by_index c t i =
-    rw (c.subtract.ensures, c.pair_at-step.ensures)
+    rw (c.sub.ensures, c.pair_at-step.ensures)
     (minus-fits c.requires.3 c.requires.4 c.loop_slots-cycle.ensures c.least_slot-s.ensures t i)
 
 pub carry-requires-2-clause-q_len : goal.carry-requires-2-clause-q_len
@@ -66,7 +66,7 @@ unfolding nothing
 carry-requires-2-clause-by_index c =
     let lost = c.carry.ensures in
     plus_fits c.requires.3 c.requires.4 c.loop_slots-cycle.ensures c.least_slot-s.ensures
-    c.pair_at-step.ensures c.subtract.ensures lost.0 lost.1
+    c.pair_at-step.ensures c.sub.ensures lost.0 lost.1
 
 pub put_pair-requires : goal.put_pair-requires
 put_pair-requires c = omega (arith, pivot-room c.requires.3 c.requires.4)
@@ -82,5 +82,5 @@ returns-clause-pivoted c P T n b h =
     let lost = c.carry.ensures in
     let won = c.carry-2.ensures in
     rw (c.put_pair.ensures.0, c.put_pair.ensures.1)
-    (pivot-is b h c.loop_slots-cycle.ensures c.least_slot-s.ensures c.pair_at-step.ensures c.subtract.ensures
+    (pivot-is b h c.loop_slots-cycle.ensures c.least_slot-s.ensures c.pair_at-step.ensures c.sub.ensures
     lost.0 lost.1 won.0 won.1 c.regraft.ensures.regrafted)

@@ -14,12 +14,13 @@ pub plant-requires-clause-le_m : goal.plant-requires-clause-le_m
 plant-requires-clause-le_m c =
     let d = c.requires.4 in
     let s = begun-sides d in
-    (s.rows_low, s.rows_high, s.cols_high, d.loaded.long)
+    (s.rows_low, s.rows_high, s.cols_high)
 
 pub scan_slacks-requires : goal.scan_slacks-requires
 scan_slacks-requires c = let v = c.potentials.ensures in in_range (begun-priced c.requires.4 v.0 v.1)
 
-pub returns : goal.returns
-returns c P T q e d =
+pub returns-clause-kept : goal.returns-clause-kept
+returns-clause-kept c P T q e d =
     let v = c.potentials.ensures in
-    begun_kept d v.0 v.1 (c.plant.ensures _ d.loaded.struck) c.scan_slacks.ensures
+    let same = c.plant.ensures.same_strikes.2 in
+    rw same (begun_kept d v.0 v.1 (rw same at (c.plant.ensures.tree _ d.loaded.struck)) c.scan_slacks.ensures)
