@@ -46,7 +46,9 @@ fn more_digits(text: &[u8], at: usize, first: u64, most: usize) -> Token<u64>
     Token { value, next }
 }
 
-// A number of one to seven digits, the first at least `low`, with no leading 0 except 0 itself.
+// A number of one to seven digits, the first at least `low`, with no leading 0 except 0 itself. It
+// is not inlined, so that the program has it once (docs/PERFORMANCE.md, "Memory").
+#[inline(never)]
 pub fn read_number(text: &[u8], at: usize, low: u64) -> Result<Token<u64>, Stuck>
     requires { at ≤ length text.now }
     ensures reads { number_from low (drop at text.now) ≡ reading_of text.now (λ v. v) result }
