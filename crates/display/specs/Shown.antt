@@ -1,12 +1,12 @@
 -- What is shown of a sheet that was read, and of a text that is no sheet text.
 use Rattle.std.specs.Prelude.{◌≡◌, ◌∷◌, ◌++◌, ◌*◌, ◌-◌, ◌≤◌}
-use Rattle.prelude.specs.Words.{refl, sym, ap, ◌∙◌, by_cases, Bool, none, some, List, [], ℕ, suc, min, arith, dec_le, length}
+use Rattle.prelude.specs.Words.{refl, sym, ap, ◌∙◌, by_cases, Bool, none, some, List, [], ℕ, ℤ, suc, min, arith, mul-le-mul, dec_le, length}
 use Rattle.prelude.specs.Words.{take, take_all, eq-eqb, by_test, by_option, some≢none, drop, length-drop}
 use Rattle.transport.specs.declared.WriteAnswer.TheVariants.{Written, Refused}
 use Rattle.transport.specs.declared.ReadAnswer.{ReadAnswer}
 use Rattle.transport.specs.declared.ReadAnswer.TheVariants.{NotSheetText}
 use Rattle.transport.specs.Limits.{max_sources, max_sinks, max_text}
-use Rattle.transport.specs.Sheet.{Sheet, sheet_tests, number_tests, bad_sides, bad_length, bad_amount, bad_cost, lacking, crowded, idle, refusal}
+use Rattle.transport.specs.Sheet.{Sheet, sheet_tests, number_tests, bad_sides, bad_length, bad_amount, bad_cost, lacking, crowded, idle, refusal, sheet_of}
 use Rattle.transport.specs.Laws.SheetLaws.{true-within, refusal_yes, refusal_no}
 use Rattle.transport.specs.Calls.{Answer, given, refused_by, lent_after}
 use Rattle.transport.specs.Laws.CallLaws.{unless-given, unless-refused}
@@ -17,7 +17,7 @@ use Rattle.transport.specs.Answers.{write_answer}
 use Rattle.sheet.specs.Refusals.{sheet-numbers}
 use Rattle.grammar.specs.Every.{Every}
 use Rattle.grammar.specs.SheetCalls.{read_got, read_stuck}
-use Rattle.sheet_reader.specs.SheetAnswer.{answer_of, ReadFits}
+use Rattle.sheet_reader.specs.SheetAnswer.{answer_of, ReadFits, SheetIn, supply-length, demand-length, cost-length}
 use Rattle.decimals.specs.Front.{front}
 use Rattle.decimals.specs.Fitting.{fitting-short, fitting-fits}
 use Rattle.sections.specs.Lines.{ended}
@@ -173,3 +173,23 @@ module _ (input : List ℕ) where
 pub read_numbers : (S : Sheet) → (1 ≤ length S.supply) × (length S.supply ≤ max_sources) → (1 ≤ length S.demand) × (length S.demand ≤ max_sinks)
     → length S.cost ≡ length S.supply * length S.demand → refusal (sheet_tests S) ≡ refusal (number_tests S)
 read_numbers S m n l = sheet-numbers S (true-within 1 max_sources _ m.0 m.1) (true-within 1 max_sinks _ n.0 n.1) (eq-eqb _ _ l)
+
+-- A sheet that was read, in the front of some lists.
+module _ {text supply demand : List ℕ} {cost : List ℤ} {m n : ℕ} (s : SheetIn text supply demand cost m n) where
+  -- The needs of its slices hold of any front of these lists that is no longer than a sheet's.
+  pub sides : (m ≤ 32) × (n ≤ 32) × (m * n ≤ 32 * 32) × (m * m ≤ 32 * 32)
+  unfolding max_sources max_sinks
+  sides = (s.m-few, s.n-few, mul-le-mul s.m-few s.n-few, mul-le-mul s.m-few s.m-few)
+
+  pub printed-plan : (input : List ℕ) → text ≡ take (suc max_text) input → printed input
+      ≡ sheet_shown (sheet_of (take m supply) (take n demand) (take (m * n) cost))
+  printed-plan input t =
+      let rows = supply-length s in
+      let columns = demand-length s in
+      printed-sheet input _ _ (rw t at s.reads)
+      (read_numbers _ (omega (arith, rows, s.m-some), omega (arith, rows, s.m-few))
+      (omega (arith, columns, s.n-some), omega (arith, columns, s.n-few)) (rw (rows, columns) (cost-length s)))
+
+-- What is read of an input.
+pub text-read : (input : List ℕ) (k : ℕ) → k ≡ min (length input) (suc max_text) → take k input ≡ take (suc max_text) input
+text-read input k e = rw e (take_min input (suc max_text))
