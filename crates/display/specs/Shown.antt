@@ -1,12 +1,13 @@
 -- What is shown of a sheet that was read, and of a text that is no sheet text.
 use Rattle.std.specs.Prelude.{◌≡◌, ◌∷◌, ◌++◌, ◌*◌, ◌-◌, ◌≤◌}
-use Rattle.prelude.specs.Words.{refl, sym, ap, ◌∙◌, by_cases, Bool, none, some, List, [], ℕ, ℤ, suc, min, arith, mul-le-mul, dec_le, length}
-use Rattle.prelude.specs.Words.{take, take_all, eq-eqb, by_test, by_option, some≢none, drop, length-drop}
+use Rattle.prelude.specs.Words.{refl, sym, ap, ◌∙◌, by_cases, Bool, none, some, List, [], ℕ, suc, min, arith, dec_le, length}
+use Rattle.prelude.specs.Words.{ℤ, mul-le-mul, take, take_all, eq-eqb, by_test, by_option, some≢none, drop, length-drop}
 use Rattle.transport.specs.declared.WriteAnswer.TheVariants.{Written, Refused}
 use Rattle.transport.specs.declared.ReadAnswer.{ReadAnswer}
 use Rattle.transport.specs.declared.ReadAnswer.TheVariants.{NotSheetText}
 use Rattle.transport.specs.Limits.{max_sources, max_sinks, max_text}
-use Rattle.transport.specs.Sheet.{Sheet, sheet_tests, number_tests, bad_sides, bad_length, bad_amount, bad_cost, lacking, crowded, idle, refusal, sheet_of}
+use Rattle.transport.specs.Sheet.{Sheet, sheet_of, sheet_tests, number_tests, bad_sides, bad_length, bad_amount}
+use Rattle.transport.specs.Sheet.{bad_cost, lacking, crowded, idle, refusal}
 use Rattle.transport.specs.Laws.SheetLaws.{true-within, refusal_yes, refusal_no}
 use Rattle.transport.specs.Calls.{Answer, given, refused_by, lent_after}
 use Rattle.transport.specs.Laws.CallLaws.{unless-given, unless-refused}
@@ -191,5 +192,6 @@ module _ {text supply demand : List ℕ} {cost : List ℤ} {m n : ℕ} (s : Shee
       (omega (arith, columns, s.n-some), omega (arith, columns, s.n-few)) (rw (rows, columns) (cost-length s)))
 
 -- What is read of an input.
-pub text-read : (input : List ℕ) (k : ℕ) → k ≡ min (length input) (suc max_text) → take k input ≡ take (suc max_text) input
+pub text-read : (input : List ℕ) (k : ℕ) → k ≡ min (length input) (suc max_text)
+    → take k input ≡ take (suc max_text) input
 text-read input k e = rw e (take_min input (suc max_text))

@@ -24,7 +24,8 @@ returns-then-out-text_len c =
     wrote_short S (sheet_text S) c.args.out.now passed (omega arith)
 
 pub write_text-len-requires : goal.write_text-len-requires
-write_text-len-requires c = (accepted _ (accepted-none _ (sym c.check_sheet-check.ensures ∙ c.in_default.is)), omega arith)
+write_text-len-requires c =
+    (accepted _ (accepted-none _ (sym c.check_sheet-check.ensures ∙ c.in_default.is)), omega arith)
 
 pub returns : goal.returns
 unfolding write_sheet_call

@@ -32,8 +32,9 @@ overflow_add-result c =
 -- Only here does it matter which byte stands first.
 pub returns-then-self-lt0 : goal.returns-then-self-lt0
 returns-then-self-lt0 c =
-    let text = text-negative c.args.self _ c.ranges.self c.unsigned_abs-size.ensures.value c.if-self-lt0.true in
-    let begun = minus-written c.args.self _ c.ranges.self c.unsigned_abs-size.ensures.value c.if-self-lt0.true _ c.requires in
+    let size = c.unsigned_abs-size.ensures.value in
+    let text = text-negative c.args.self _ c.ranges.self size c.if-self-lt0.true in
+    let begun = minus-written c.args.self _ c.ranges.self size c.if-self-lt0.true _ c.requires in
     let put = c.write_text-count.ensures in
     rw text (add-one _ ∙ ap suc put.0, both-written begun _ put.1)
 
