@@ -11,8 +11,8 @@ pub overflow_mul-lanes : goal.overflow_mul-lanes
 unfolding max_side
 overflow_mul-lanes c = omega (arith, sides (solved _ _ _ c.in-Solved.is c.solve-answer.ensures))
 
--- The needs of the slices hold whatever two sides the count of lanes is made of, so that a program that leaves out
--- lanes is refused by the contract.
+-- The needs of the slices hold whatever two sides the count of lanes is made of, so that a program
+-- that leaves out lanes is refused by the contract.
 pub slice_bounds-plan-end : goal.slice_bounds-plan-end
 unfolding max_side
 slice_bounds-plan-end c = omega (arith, sides (solved _ _ _ c.in-Solved.is c.solve-answer.ensures))
@@ -28,7 +28,8 @@ slice_bounds-u-end c = omega (arith, sides (solved _ _ _ c.in-Solved.is c.solve-
 
 pub slice_bounds-sections-end : goal.slice_bounds-sections-end
 unfolding max_side
-slice_bounds-sections-end c = simp length-take (omega (arith, sides (solved _ _ _ c.in-Solved.is c.solve-answer.ensures)))
+slice_bounds-sections-end c =
+    simp length-take (omega (arith, sides (solved _ _ _ c.in-Solved.is c.solve-answer.ensures)))
 
 pub slice_bounds-v-end : goal.slice_bounds-v-end
 unfolding max_side
