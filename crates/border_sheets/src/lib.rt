@@ -1,4 +1,5 @@
-// The exported calls that solve nothing: start, read sheet and write sheet. Each gives a struct that crosses the border.
+// The exported calls that solve nothing: start, read sheet and write sheet. Each gives a struct that
+// crosses the border.
 #![tactic(auto)]
 
 ghost use Rattle.std.specs.Prelude.{◌≡◌, length};

@@ -1,8 +1,9 @@
 -- What is shown of a sheet that was read, and of a text that is no sheet text.
-use Rattle.std.specs.Prelude.{◌≡◌, ◌∷◌, ◌++◌, ◌*◌, ◌-◌, ◌≤◌, Some, None, Ok, Err}
+use Rattle.std.specs.Prelude.{◌≡◌, ◌∷◌, ◌++◌, ◌*◌, ◌-◌, ◌≤◌, None, Ok, Err}
 use Rattle.std.specs.declared.result.Result.{Result}
-use Rattle.prelude.specs.Words.{refl, sym, ap, ◌∙◌, by_cases, Bool, none, some, List, [], ℕ, suc, min, arith, dec_le, length}
-use Rattle.prelude.specs.Words.{ℤ, mul-le-mul, take, take_all, eq-eqb, by_test, by_option, some≢none, drop, length-drop}
+use Rattle.prelude.specs.Words.{refl, sym, ap, ◌∙◌, by_cases, Bool, none, some, List, [], ℕ, suc, min, arith}
+use Rattle.prelude.specs.Words.{dec_le, length}
+use Rattle.prelude.specs.Words.{ℤ, take, take_all, eq-eqb, by_test, by_option, some≢none, drop, length-drop}
 use Rattle.transport.specs.declared.Refusal.{Refusal}
 use Rattle.transport.specs.Refusals.{number, place_of}
 use Rattle.transport.specs.Limits.{max_sources, max_sinks, max_text}
@@ -53,7 +54,8 @@ unfolding sheet_shown
 shown-refusal S r e = rw (e, sheet_shown)
 
 -- A refusal is that of one of the tests.
-refusal-is : (Good : Refusal → Type 0) (ts : List (Bool × Refusal)) → Every (λ t. Good t.1) ts → (r : Refusal) → refusal ts ≡ some r → Good r
+refusal-is : (Good : Refusal → Type 0) (ts : List (Bool × Refusal)) → Every (λ t. Good t.1) ts → (r : Refusal)
+    → refusal ts ≡ some r → Good r
 unfolding refusal
 refusal-is Good [] e r h = absurd (some≢none (sym h))
 refusal-is Good (t ∷ ts) e r h = by_test t.0
@@ -104,11 +106,13 @@ module _ (S : Sheet) (out after : List ℕ) where
   unfolding write_plan_call
   which = by_option (refusal (sheet_tests S))
       (λ e. by_cases (dec_le (length (plan_text S)) (length out))
-      (λ p. written (rw (shown-plan S e) (fitting-fits (length out) (plan_text S) p)) (call-written S (plan_text S) out e p))
-      (λ p. short (rw (shown-plan S e) (fitting-short (length out) (plan_text S) (omega arith))) (call-short S (plan_text S) out e (omega arith))))
+      (λ p. written (rw (shown-plan S e) (fitting-fits (length out) (plan_text S) p))
+      (call-written S (plan_text S) out e p))
+      (λ p. short (rw (shown-plan S e) (fitting-short (length out) (plan_text S) (omega arith)))
+      (call-short S (plan_text S) out e (omega arith))))
       (λ r e. checked r e (call-checked S (plan_text S) out r e))
 
-  -- What a case answers.
+  -- One answer is the other.
   abbrev Answered : Result ℕ Refusal → Result ℕ Refusal → Type 0
   Answered r s = r ≡ s
 
@@ -166,37 +170,40 @@ module _ (input : List ℕ) where
   pub printed-place : (rest : List ℕ) → sheet_reader text_read ≡ stuck rest
       → printed input ≡ bytes "refused 9 " ++ ended digits (length text_read - length rest) 10
   unfolding printed
-  printed-place rest e = rw (read_stuck number_tests text_read rest e, printed) (place-line (length text_read - length rest))
+  printed-place rest e =
+      rw (read_stuck number_tests text_read rest e, printed) (place-line (length text_read - length rest))
 
   pub printed-stuck : (text : List ℕ) (place : ℕ) → text ≡ text_read → sheet_reader text ≡ stuck (drop place text)
       → place ≤ length text → printed input ≡ bytes "refused 9 " ++ ended digits place 10
   printed-stuck text place t reads fits =
       let stands : sheet_reader text_read ≡ stuck (drop place text_read) = rw t at reads in
       let inside : place ≤ length text_read = rw t at fits in
-      let same : length text_read - length (drop place text_read) ≡ place = omega (arith, length-drop place text_read) in
+      let same : length text_read - length (drop place text_read) ≡ place =
+      omega (arith, length-drop place text_read)
+      in
       printed-place (drop place text_read) stands ∙ (rw same)
 
-  pub printed-sheet : (S : Sheet) (rest : List ℕ) → sheet_reader text_read ≡ got S rest → refusal (sheet_tests S) ≡ refusal (number_tests S) → printed input
-      ≡ sheet_shown S
+  pub printed-sheet : (S : Sheet) (rest : List ℕ) → sheet_reader text_read ≡ got S rest
+      → refusal (sheet_tests S) ≡ refusal (number_tests S) → printed input ≡ sheet_shown S
   unfolding printed
   printed-sheet S rest e same = by_option (refusal (number_tests S))
-      (λ n. (rw (read_got number_tests text_read S rest e, unless-given (number_tests S) S n, printed)) ∙ sym (shown-plan S (same ∙ n)))
+      (λ n. (rw (read_got number_tests text_read S rest e, unless-given (number_tests S) S n, printed))
+      ∙ sym (shown-plan S (same ∙ n)))
       (λ r n. let h : refusal (sheet_tests S) ≡ some r = same ∙ n in
-      (rw (read_got number_tests text_read S rest e, unless-refused (number_tests S) S r n, printed) (refused-line r (check-number S r h).2))
+      (rw (read_got number_tests text_read S rest e, unless-refused (number_tests S) S r n, printed)
+      (refused-line r (check-number S r h).2))
       ∙ sym (shown-refusal S r h))
 
--- A sheet that was read has sides within their limits and a cost for each lane: only its numbers are still to be tested.
-pub read_numbers : (S : Sheet) → (1 ≤ length S.supply) × (length S.supply ≤ max_sources) → (1 ≤ length S.demand) × (length S.demand ≤ max_sinks)
+-- A sheet that was read has sides within their limits and a cost for each lane: only its numbers are
+-- still to be tested.
+pub read_numbers : (S : Sheet) → (1 ≤ length S.supply) × (length S.supply ≤ max_sources)
+    → (1 ≤ length S.demand) × (length S.demand ≤ max_sinks)
     → length S.cost ≡ length S.supply * length S.demand → refusal (sheet_tests S) ≡ refusal (number_tests S)
-read_numbers S m n l = sheet-numbers S (true-within 1 max_sources _ m.0 m.1) (true-within 1 max_sinks _ n.0 n.1) (eq-eqb _ _ l)
+read_numbers S m n l =
+    sheet-numbers S (true-within 1 max_sources _ m.0 m.1) (true-within 1 max_sinks _ n.0 n.1) (eq-eqb _ _ l)
 
 -- A sheet that was read, in the front of some lists.
 module _ {text supply demand : List ℕ} {cost : List ℤ} {m n : ℕ} (s : SheetIn text supply demand cost m n) where
-  -- The needs of its slices hold of any front of these lists that is no longer than a sheet's.
-  pub sides : (m ≤ 32) × (n ≤ 32) × (m * n ≤ 32 * 32) × (m * m ≤ 32 * 32)
-  unfolding max_sources max_sinks
-  sides = (s.m-few, s.n-few, mul-le-mul s.m-few s.n-few, mul-le-mul s.m-few s.m-few)
-
   pub printed-plan : (input : List ℕ) → text ≡ take (suc max_text) input → printed input
       ≡ sheet_shown (sheet_of (take m supply) (take n demand) (take (m * n) cost))
   printed-plan input t =

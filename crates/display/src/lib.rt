@@ -39,9 +39,11 @@ fn show_plan(supply: &[u64], demand: &[u64], cost: &[i64], out: &mut [u8]) -> us
 {
     match write_plan(supply, demand, cost, out) {
         Ok(len) => len,
-        // The plan text is longer than the output.
-        Err(Refusal::TooShort) => 0,
-        Err(refusal) => show_refusal(b"refused ", refusal.number() as usize, out),
+        Err(refusal) => match refusal {
+            // The plan text is longer than the output.
+            Refusal::TooShort => 0,
+            _ => show_refusal(b"refused ", refusal.number() as usize, out),
+        },
     }
 }
 

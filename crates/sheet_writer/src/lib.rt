@@ -52,7 +52,8 @@ fn write_text(supply: &[u64], demand: &[u64], cost: &[i64], out: &mut [u8]) -> u
     at + write_after_supply(m, demand, cost, &mut out[at..])
 }
 
-// Write sheet: the length of the text, which then stands at the front of the output; or the refusal, and the output is as it was.
+// Write sheet: the length of the text, which then stands at the front of the output; or the
+// refusal, and the output is as it was.
 pub fn write_sheet(
     supply: &[u64],
     demand: &[u64],

@@ -10,12 +10,16 @@ returns-in-Ok c =
     let e = c.in-Ok.ensures in
     shown-written S c.args.out.now _ _ e.0 e.1
 
-pub returns-in-Err-TooShort : goal.returns-in-Err-TooShort
-returns-in-Err-TooShort c =
+pub returns-in-TooShort : goal.returns-in-TooShort
+returns-in-TooShort c =
     let S = sheet_of c.args.supply.now c.args.demand.now c.args.cost.now in
-    let e = c.in-Err-TooShort.ensures in
+    let e = rw c.in-TooShort.is at c.in-Err.ensures in
     shown-short S c.args.out.now _ e.0 e.1
 
-pub returns-in-Err : goal.returns-in-Err
+pub returns-in_default : goal.returns-in_default
 unfolding bytes
-returns-in-Err c = ?
+returns-in_default c =
+    let S = sheet_of c.args.supply.now c.args.demand.now c.args.cost.now in
+    let e = c.in-Err.ensures in
+    let t = shown-refused S c.args.out.now _ _ c.in_default.not-TooShort e.0 e.1 in
+    rw (t.0, ← t.1) (rw c.number.ensures at c.show_refusal.ensures)

@@ -27,7 +27,8 @@ returns-then-out-text_len c =
     wrote_short S (sheet_text S) c.args.out.now passed (omega arith)
 
 pub write_text-requires : goal.write_text-requires
-write_text-requires c = (accepted _ (accepted-none _ (sym c.check_sheet.ensures ∙ c.in_ok-check_sheet.was)), omega arith)
+write_text-requires c =
+    (accepted _ (accepted-none _ (sym c.check_sheet.ensures ∙ c.in_ok-check_sheet.was)), omega arith)
 
 pub returns : goal.returns
 unfolding write_sheet_call
