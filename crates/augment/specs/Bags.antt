@@ -4,6 +4,7 @@ use Rattle.prelude.specs.Words.{refl, sym, ◌∙◌, by_cases, Dec-and, Bool, t
 use Rattle.prelude.specs.Words.{arith, ℕ_discrete, eq-eqb, ne_eqb, eqb, ℤ, pos, nat_abs, neg_ℤ, length, get_or, set, replicate}
 use Rattle.prelude.specs.Words.{length-set, get_or-set_same, get_or-set_other, lt_z, by_test}
 use Rattle.std.specs.Int.Bits.{bit_and}
+use Rattle.std.proofs.lemmas.List.{set-set}
 use Rattle.integers.specs.Integer.{Z, ◌≈◌, ◌≺◌, ◌⊕◌, ◌⊖◌, ◌⊗◌, neg, nat}
 use Rattle.integers.specs.IntegerLaws.{⊗_cong}
 use Rattle.integers.specs.Bridge.{to_z, z-add, z-neg}
@@ -105,7 +106,7 @@ module _ (q : List ℤ) (i j : ℕ) (z : ℤ) (hi : i < stride) (hj : j < stride
           (λ e. rw (ne_eqb k j e, lane-other i k (omega (arith, w.cols)) (λ s. e s.1)) (w.own i k hh hk))
 
 -- x more on lane (i, j).
-abbrev added : List ℤ → ℕ → ℕ → ℤ → List ℤ
+abbrev pub added : List ℤ → ℕ → ℕ → ℤ → List ℤ
 added q i j x = set q (i * stride + j) (get_or q (i * stride + j) (pos 0) +ℤ x)
 
 module _ (q : List ℤ) (i j : ℕ) (x : ℤ) (hi : i < stride) (hj : j < stride) (long : length q ≡ lane_room) where
@@ -119,6 +120,31 @@ module _ (q : List ℤ) (i j : ℕ) (x : ℤ) (hi : i < stride) (hj : j < stride
   added_abs l = by_cases (ℕ_discrete l (i * stride + j))
       (λ e. rw (e, lane-same q i j (get_or q (i * stride + j) (pos 0) +ℤ x) hi hj long) (abs_add (get_or q (i * stride + j) (pos 0)) x))
       (λ e. rw (get_or-set_other q (i * stride + j) l (get_or q (i * stride + j) (pos 0) +ℤ x) (pos 0) e) (omega arith))
+
+-- Whether there are any on the lane then.
+carries-added : (q : List ℤ) {q' : List ℤ} (i j : ℕ) (x : ℤ) → i < stride → j < stride → length q ≡ lane_room → q' ≡ added q i j x
+    → carries q' i j ≡ lt_z (pos 0) (get_or q (i * stride + j) (pos 0) +ℤ x)
+carries-added q i j x hi hj long e =
+    rw (e, lane-same q i j (get_or q (i * stride + j) (pos 0) +ℤ x) hi hj long)
+
+-- y more on lane (from, j), and then x more on lane (to, j): the masks follow.
+pub masked-added : {q q' q'' : List ℤ} (from to j : ℕ) (y x : ℤ) {m n : ℕ} {holds owns : List ℕ}
+    (part down along along' : ℕ) → from < stride → to < stride → j < stride
+    → q' ≡ added q from j y → q'' ≡ added q' to j x → Masked m n q holds owns
+    → ((k : ℕ) → has part k ≡ cond (eqb k from) (carries q' from j) (has (entry holds j) k))
+    → ((k : ℕ) → has down k ≡ cond (eqb k to) (carries q'' to j) (has part k))
+    → ((k : ℕ) → has along k ≡ cond (eqb k j) (carries q' from j) (has (entry owns from) k))
+    → ((k : ℕ) → has along' k ≡ cond (eqb k j) (carries q'' to j) (has (entry (set owns from along) to) k))
+    → Masked m n q'' (set holds j down) (set (set owns from along) to along')
+masked-added {q} {q'} {q''} from to j y x {m} {n} {holds} {owns} part down along along' hf ht hj e e' w p d a a' =
+    let some = carries-added q from j y hf hj w.q_long e in
+    let first : Masked m n q' (set holds j part) (set owns from along) =
+    rw e (masked-set q from j _ hf hj w.q_long part along w (λ k. rw some at (p k)) (λ k. rw some at (a k))) in
+    let some' = carries-added q' to j x ht hj first.q_long e' in
+    let same = get_or-set_same holds j part 0 (omega (arith, w.holds_long)) in
+    let second : Masked m n q'' (set (set holds j part) j down) (set (set owns from along) to along') =
+    rw e' (masked-set q' to j _ ht hj first.q_long down along' first (λ k. rw (same, ← some') (d k)) (λ k. rw some' at (a' k))) in
+    rw set-set at second
 
 -- x bags of column j have moved from one row to another.
 pub record BagsShifted (from to j : ℕ) (x : ℤ) (q q' : List ℤ) : Type 0 where
