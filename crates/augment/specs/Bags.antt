@@ -47,14 +47,14 @@ pub record Masked (m n : ℕ) (q : List ℤ) (holds owns : List ℕ) : Type 0 wh
 
 -- The same of a struct: its bags, and its masks.
 abbrev pub bags_on : Bags → ℕ → ℕ → Z
-bags_on b = lane_bags b.q.now
+bags_on b = lane_bags b.by_lane.now
 
 abbrev pub MaskedBags : ℕ → ℕ → Bags → Type 0
-MaskedBags m n b = Masked m n b.q.now b.holds b.owns
+MaskedBags m n b = Masked m n b.by_lane.now b.holds b.owns
 
 -- After a change: in the same array, and where the masks were right before, they are right after.
 pub record Follow (b b' : Bags) : Type 0 where
-  pub same_array : b'.q.ghost_name ≡ b.q.ghost_name
+  pub same_array : b'.by_lane.ghost_name ≡ b.by_lane.ghost_name
   pub masked : {m n : ℕ} → MaskedBags m n b → MaskedBags m n b'
 
 pub follow-both : {b b' b'' : Bags} → Follow b b' → Follow b' b'' → Follow b b''

@@ -12,14 +12,14 @@ minus_is x p = diff_back w64 (pos 0) x (omega arith) ∙ +ℤ_idl (neg_ℤ x)
 
 pub returns-clause-bags_shifted : goal.returns-clause-bags_shifted
 returns-clause-bags_shifted c =
-    let (from, to, j) = c.requires.from_lt_stride in
+    let (from, to, j) = c.requires.inside in
     let same : to_z w64 (of_z w64 c.args.x) ≡ c.args.x = search rules in
     let taken = rw (minus_is c.args.x (omega arith)) at c.add-less.ensures.sum in
     rw (rw (same, taken) at c.add-more.ensures.sum)
-    (shifted_by c.args.from c.args.to c.args.j c.args.x c.args.self.now.q.now from to j c.requires.q_long)
+    (shifted_by c.args.from c.args.to c.args.j c.args.x c.args.self.now.by_lane.now from to j c.requires.long)
 
 pub returns-clause-follow : goal.returns-clause-follow
-returns-clause-follow c = let (from, to, j) = c.requires.from_lt_stride in record {
+returns-clause-follow c = let (from, to, j) = c.requires.inside in record {
   same_array = refl;
   masked = λ w. masked-added c.args.from c.args.to c.args.j _ _ _ _ _ _ from to j c.add-less.ensures.sum c.add-more.ensures.sum w
       (rw c.add-less.ensures.some at c.with_bit.ensures) (rw c.add-more.ensures.some at c.with_bit-2.ensures)
