@@ -122,7 +122,8 @@ module _ (q : List ℤ) (i j : ℕ) (x : ℤ) (hi : i < stride) (hj : j < stride
       (λ e. rw (get_or-set_other q (i * stride + j) l (get_or q (i * stride + j) (pos 0) +ℤ x) (pos 0) e) (omega arith))
 
 -- Whether there are any on the lane then.
-carries-added : (q : List ℤ) {q' : List ℤ} (i j : ℕ) (x : ℤ) → i < stride → j < stride → length q ≡ lane_room → q' ≡ added q i j x
+carries-added : (q : List ℤ) {q' : List ℤ} (i j : ℕ) (x : ℤ) → i < stride → j < stride → length q ≡ lane_room
+    → q' ≡ added q i j x
     → carries q' i j ≡ lt_z (pos 0) (get_or q (i * stride + j) (pos 0) +ℤ x)
 carries-added q i j x hi hj long e =
     rw (e, lane-same q i j (get_or q (i * stride + j) (pos 0) +ℤ x) hi hj long)
@@ -143,7 +144,8 @@ masked-added {q} {q'} {q''} from to j y x {m} {n} {holds} {owns} part down along
     let some' = carries-added q' to j x ht hj first.q_long e' in
     let same = get_or-set_same holds j part 0 (omega (arith, w.holds_long)) in
     let second : Masked m n q'' (set (set holds j part) j down) (set (set owns from along) to along') =
-    rw e' (masked-set q' to j _ ht hj first.q_long down along' first (λ k. rw (same, ← some') (d k)) (λ k. rw some' at (a' k))) in
+    rw e' (masked-set q' to j _ ht hj first.q_long down along' first
+    (λ k. rw (same, ← some') (d k)) (λ k. rw some' at (a' k))) in
     rw set-set at second
 
 -- x bags of column j have moved from one row to another.

@@ -152,7 +152,8 @@ pub record Bringing (s j : ℕ) (way : Way) (x : ℤ) (b : Bags) (at : ℕ) (b' 
   pub steps : ℕ
   pub climbed : Climbed way.up s steps at
   pub brought : Brought steps s j way x b.by_lane.now b'.by_lane.now
-  pub most : (l : ℕ) → nat_abs (get_or b'.by_lane.now l (pos 0)) ≤ nat_abs (get_or b.by_lane.now l (pos 0)) + suc steps * 2 ^ 32
+  pub most : (l : ℕ)
+      → nat_abs (get_or b'.by_lane.now l (pos 0)) ≤ nat_abs (get_or b.by_lane.now l (pos 0)) + suc steps * 2 ^ 32
   pub follow : Follow b b'
 
 module _ {m n s j : ℕ} {way : Way} {b : Bags} (v : Carries m n s j way b)
@@ -174,8 +175,8 @@ module _ {m n s j : ℕ} {way : Way} {b : Bags} (v : Carries m n s j way b)
       let few = few-small (entry way.row 0) j r w.goal in let few' = few-small (entry way.row s) j r' w.goal in
       omega (arith, w.rows_high, w.cols_high, w.goal, few, small, few')
 
-  pub bringing_start : {b' : Bags} → BagsShifted (entry way.row 0) (entry way.row s) j x b.by_lane.now b'.by_lane.now → Follow b b'
-      → Bringing s j way x b s b'
+  pub bringing_start : {b' : Bags} → BagsShifted (entry way.row 0) (entry way.row s) j x b.by_lane.now b'.by_lane.now
+      → Follow b b' → Bringing s j way x b s b'
   bringing_start f g = record {
     steps = 0;
     climbed = climb_start way.up s;
@@ -270,5 +271,6 @@ module _ {m n s j d place : ℕ} {way : Way} {b : Bags} (v : Carries m n s j way
   least-few = rw w.is (v.few _ _ inside.0 inside.1)
 
 pub bringing_ends : {s j : ℕ} {way : Way} {x : ℤ} {b : Bags} {at : ℕ} {b' : Bags}
-    → Bringing s j way x b at b' → at ≡ 0 → {d : ℕ} → Rooted (entry way.up) s d → Brought d s j way x b.by_lane.now b'.by_lane.now
+    → Bringing s j way x b at b' → at ≡ 0 → {d : ℕ} → Rooted (entry way.up) s d
+    → Brought d s j way x b.by_lane.now b'.by_lane.now
 bringing_ends w e r = let s = climb_ends w.climbed e r in rw s at w.brought

@@ -19,9 +19,12 @@ returns-clause-bags_shifted c =
     (shifted_by c.args.from c.args.to c.args.j c.args.x c.args.self.now.by_lane.now from to j c.requires.long)
 
 pub returns-clause-follow : goal.returns-clause-follow
-returns-clause-follow c = let (from, to, j) = c.requires.inside in record {
-  same_array = refl;
-  masked = λ w. masked-added c.args.from c.args.to c.args.j _ _ _ _ _ _ from to j c.add-less.ensures.sum c.add-more.ensures.sum w
-      (rw c.add-less.ensures.some at c.with_bit.ensures) (rw c.add-more.ensures.some at c.with_bit-2.ensures)
-      (rw c.add-less.ensures.some at c.with_bit-3.ensures) (rw c.add-more.ensures.some at c.with_bit-4.ensures);
-}
+returns-clause-follow c =
+    let (from, to, j) = c.requires.inside in
+    let less = c.add-less.ensures in
+    let more = c.add-more.ensures in record {
+      same_array = refl;
+      masked = λ w. masked-added c.args.from c.args.to c.args.j _ _ _ _ _ _ from to j less.sum more.sum w
+          (rw less.some at c.with_bit.ensures) (rw more.some at c.with_bit-2.ensures)
+          (rw less.some at c.with_bit-3.ensures) (rw more.some at c.with_bit-4.ensures);
+    }
