@@ -1,6 +1,6 @@
 -- Bags by lane, and the masks that say where there are any.
 use Rattle.std.specs.Prelude.{◌≡◌, ◌↔◌, ◌≢◌, ◌&&◌, ◌+◌, ◌-◌, ◌*◌, ◌<◌, ◌≤◌, ◌+ℤ◌}
-use Rattle.prelude.specs.Words.{refl, sym, ◌∙◌, by_cases, Dec-and, Bool, true, false, not, cond, and-false, Bool-discrete, List, ℕ}
+use Rattle.prelude.specs.Words.{refl, sym, ◌∙◌, by_cases, Dec-and, Bool, true, false, not, cond, List, ℕ}
 use Rattle.prelude.specs.Words.{arith, ℕ_discrete, eq-eqb, ne_eqb, eqb, ℤ, pos, nat_abs, neg_ℤ, length, get_or, set, replicate}
 use Rattle.prelude.specs.Words.{length-set, get_or-set_same, get_or-set_other, lt_z, by_test}
 use Rattle.std.specs.Int.Bits.{bit_and}
@@ -181,9 +181,6 @@ pub record RowBags (q : List ℤ) (basic i left cols : ℕ) : Type 0 where
   pub part : (j : ℕ) → has left j ≡ true → has basic j ≡ true
   pub each : (j : ℕ) → has cols j ≡ not (has left j) && (has basic j && carries q i j)
 
-pub row-none : (q : List ℤ) (basic i : ℕ) → RowBags q basic i basic 0
-row-none q basic i = record { part = λ j h. h; each = λ j. has-zero j ∙ by_test (has basic j) (λ e. rw e) (λ e. rw e) }
-
 module _ {q : List ℤ} {basic i left cols : ℕ} (w : RowBags q basic i left cols) where
   pub row_more : {j : ℕ} (cols' : ℕ) → Least left j → ((k : ℕ) → has cols' k ≡ cond (eqb k j) (carries q i j) (has cols k))
       → RowBags q basic i (bit_and left (left - 1)) cols'
@@ -193,9 +190,6 @@ module _ {q : List ℤ} {basic i left cols : ℕ} (w : RowBags q basic i left co
         (λ d. rw (d, eq-eqb j j refl, w.part j (has-least l)))
         (λ d. rw (ne_eqb k j d) (w.each k)));
   }
-
-  pub row-all : left ≡ 0 → (j : ℕ) → has cols j ≡ has basic j && carries q i j
-  row-all e j = w.each j ∙ rw (e, has-zero j)
 
 -- The masks of the first k rows.
 pub record MaskedTo (k : ℕ) (basic : List ℕ) (q : List ℤ) (holds owns : List ℕ) : Type 0 where
@@ -234,18 +228,3 @@ module _ {k : ℕ} {basic : List ℕ} {q : List ℤ} {holds owns : List ℕ} (w 
       there : (i j : ℕ) → i ≢ k → (b : Bool) → has (cond b (put (entry holds j) k) (entry holds j)) i ≡ has (entry holds j) i
       there i j d true = has-put (entry holds j) k i ∙ rw (ne_eqb i k d)
       there i j d false = refl
-
--- All rows.
-pub masked-all : {m n : ℕ} {basic : List ℕ} {q : List ℤ} {holds owns : List ℕ} → MaskedTo m basic q holds owns → OnBasics m n basic q → Masked m n q holds owns
-masked-all {m} {n} {basic} {q} w b = record {
-  rows = b.rows;
-  cols = b.cols;
-  q_long = b.q_long;
-  holds_long = w.holds_long;
-  owns_long = w.owns_long;
-  hold = λ i j hi hj. w.hold i j hi ∙ basics i j hi hj;
-  own = λ i j hi hj. w.own i j hi ∙ basics i j hi hj;
-}
-  where
-    basics : (i j : ℕ) → i < m → j < n → has (entry basic i) j && carries q i j ≡ carries q i j
-    basics i j hi hj = by_cases (Bool-discrete (has (entry basic i) j) true) (λ e. rw e) (λ e. rw (b.off i j hi hj e) (and-false (has (entry basic i) j)))

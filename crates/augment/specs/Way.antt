@@ -8,7 +8,7 @@ use Rattle.integers.specs.Tests.{lt_yes, lt_no}
 use Rattle.network.specs.Circuit.{spot, moved, moved_more}
 use Rattle.network.specs.Search.{above, above-next, Rooted, rooted, way_row, way_col}
 use Rattle.transport.specs.Limits.{max_bags, max_side, max_amount}
-use Rattle.tree.specs.Layout.{stride, node_room, lane_room}
+use Rattle.tree.specs.Layout.{stride, lane_room}
 use Rattle.augment.specs.Bags.{lane_bags, entry, MaskedBags, Follow, follow-both, BagsShifted}
 use Rattle.augment.specs.declared.bags.Bags.{Bags}
 use Rattle.augment.specs.declared.way.Way.{Way}
@@ -74,14 +74,6 @@ pub record LeastTo (s j : ℕ) (way : Way) (q : List ℤ) (l at : ℕ) : Type 0 
   pub least : LeastOn steps s j way q l
 
 module _ {m n s j : ℕ} {way : Way} (v : Walkable m n s j way) (q : List ℤ) where
-  pub lowering-start : LeastTo s j way q (entry way.row 0 * stride + j) s
-  lowering-start = record {
-    steps = 0;
-    climbed = climb_start way.up s;
-    in_room_of = omega (arith, v.rows 0 (omega arith), v.rows_high, v.cols_high, v.goal);
-    least = record { lane = 0; inside = omega arith; is = refl; low = λ k l. let z : k ≡ 0 = omega arith in rw z (omega arith) };
-  }
-
   module _ {l at : ℕ} (w : LeastTo s j way q l at) (some : 0 < at) where
     abbrev next : ℕ
     next = entry way.row at * stride + entry way.col at
@@ -129,10 +121,6 @@ module _ {m n s j : ℕ} {way : Way} (v : Walkable m n s j way) (q : List ℤ) w
             (λ z. w.least.low k (omega arith));
       };
     }
-
-pub lowering-ends : {s j : ℕ} {way : Way} {q : List ℤ} {l at : ℕ} → LeastTo s j way q l at → at ≡ 0
-    → {d : ℕ} → Rooted (entry way.up) s d → LeastOn d s j way q l
-lowering-ends w e r = let s = climb_ends w.climbed e r in rw s at w.least
 
 -- ---- bags moved along it
 
@@ -191,9 +179,6 @@ module _ {m n s j : ℕ} {way : Way} {b : Bags} (v : Carries m n s j way b)
 
     falls : entry way.up at < at
     falls = v.walkable.below at some few-steps
-
-    pub bringing_inside : (at < node_room) × (entry way.up at < node_room)
-    bringing_inside = omega (arith, few-steps, v.walkable.small, falls)
 
     abbrev from : ℕ
     from = entry way.row at
@@ -263,9 +248,6 @@ module _ {m n s j d place : ℕ} {way : Way} {b : Bags} (v : Carries m n s j way
     (r : Rooted (entry way.up) s d) (w : LeastOn d s j way b.by_lane.now place) where
   inside : (row_of way s w.lane < m) × (col_of way s j w.lane < n)
   inside = way-inside v.walkable r w.lane w.inside
-
-  pub least-inside : place < lane_room
-  least-inside = rw w.is (omega (arith, inside, v.walkable.rows_high, v.walkable.cols_high))
 
   pub least-few : nat_abs (get_or b.by_lane.now place (pos 0)) ≤ max_bags
   least-few = rw w.is (v.few _ _ inside.0 inside.1)

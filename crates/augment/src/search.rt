@@ -72,6 +72,7 @@ impl Search {
         let mut left = target.later;
         let mut rows = bags.holds[b] & left;
         let mut count = 1;
+        // A while: it ends by the rows that are left; `count` numbers the positions.
         while rows > 0 {
             let i = first_bit(rows);
             let j = first_bit(bags.owns[i] & cols);
