@@ -47,5 +47,6 @@ bounds-cols-n c = extra-room c.requires.1 (omega arith) c.number_left-n.ensures
 pub returns : goal.returns
 unfolding max_side surplus
 returns c cost =
-    parties-extra _ _ (omega arith) (omega arith) (extra-room c.requires.1 (omega arith) c.number_left-n.ensures) c.number_left-m.ensures
+    parties-extra _ _ (omega arith) (omega arith)
+    (extra-room c.requires.1 (omega arith) c.number_left-n.ensures) c.number_left-m.ensures
     c.number_left-n.ensures

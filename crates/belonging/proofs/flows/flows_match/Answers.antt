@@ -24,7 +24,8 @@ overflow_sub-weight c =
     let p = get_or a.leaf.now l.k 0 in
     let need = get_or l.weight p (pos 0) in
     let has = get_or (set l.weight p (pos 0)) (get_or a.other.now l.k 0) (pos 0) in
-    let room : nat_abs has + nat_abs need < 2 ^ 63 = omega (arith, needed-room c.requires.strikes_in_room (omega arith) l.invariant.needed) in
+    let room : nat_abs has + nat_abs need < 2 ^ 63 =
+    omega (arith, needed-room c.requires.strikes_in_room (omega arith) l.invariant.needed) in
     search (rules, diff_in)
 
 pub loop-k-preserved : goal.loop-k-preserved
@@ -35,9 +36,12 @@ loop-k-preserved c =
     let o = get_or a.other.now l.k 0 in
     let need = get_or l.weight p (pos 0) in
     let has = get_or (set l.weight p (pos 0)) o (pos 0) in
-    let room : nat_abs has + nat_abs need < 2 ^ 63 = omega (arith, needed-room c.requires.strikes_in_room (omega arith) l.invariant.needed) in
+    let room : nat_abs has + nat_abs need < 2 ^ 63 =
+    omega (arith, needed-room c.requires.strikes_in_room (omega arith) l.invariant.needed) in
     let same : get_or a.amount.now (get_or a.lane.now l.k 0) (pos 0) ≡ need = search (rules, eq_test) in
-    rw (diff_back w64 has need room) (passed-more c.requires.strikes_in_room (omega arith) l.invariant c.requires.lanes_apart same)
+    rw (diff_back w64 has need room)
+    (passed-more c.requires.strikes_in_room (omega arith) l.invariant c.requires.lanes_apart same)
 
 pub returns : goal.returns
-returns c = sym (carries_flow-true _ _ _ _ _ (λ k l. c.loop-k.invariant.done k (omega (arith, c.loop-k.invariant.needed.within))))
+returns c = sym (carries_flow-true _ _ _ _ _
+    (λ k l. c.loop-k.invariant.done k (omega (arith, c.loop-k.invariant.needed.within))))

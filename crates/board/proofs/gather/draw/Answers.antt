@@ -21,4 +21,5 @@ loop-l-preserved c =
 
 pub returns : goal.returns
 returns c =
-    let all : c.loop-l.l-index ≡ c.args.count = omega (arith, length-take-le c.args.count c.args.lane.now) in rw all at c.loop-l.invariant
+    let all : c.loop-l.l-index ≡ c.args.count = omega (arith, length-take-le c.args.count c.args.lane.now) in
+    rw all at c.loop-l.invariant

@@ -9,7 +9,8 @@ pub overflow_add-m : goal.overflow_add-m
 overflow_add-m c = let b = c.requires.4 in let s = sound-sides b.sound b.rows b.columns in omega arith
 
 pub draw-requires : goal.draw-requires
-draw-requires c = let b = c.requires.4 in let s = sound-sides b.sound b.rows b.columns in (s.rows_high, omega arith, lane-rows b)
+draw-requires c = let b = c.requires.4 in let s = sound-sides b.sound b.rows b.columns in
+    (s.rows_high, omega arith, lane-rows b)
 
 pub gather_cells-requires : goal.gather_cells-requires
 gather_cells-requires c = board_masks c.requires.4 c.draw.ensures

@@ -17,7 +17,8 @@ pub loop-k-preserved : goal.loop-k-preserved
 loop-k-preserved c =
     let l = c.loop-k in
     let b = c.basic_lanes-count in
-    filled_to_one b.new.lanes c.args.q.now c.args.e.now b.result l.k l.t _ _ l.invariant (omega arith) (omega (arith, b.ensures.many, c.requires.few))
+    filled_to_one b.new.lanes c.args.q.now c.args.e.now b.result l.k l.t _ _ l.invariant (omega arith)
+    (omega (arith, b.ensures.many, c.requires.few))
     (ap (λ (p : Pair). p.q) c.pair_at.ensures) (ap (λ (p : Pair). p.e) c.pair_at.ensures)
 
 pub returns : goal.returns

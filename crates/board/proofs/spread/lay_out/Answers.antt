@@ -4,7 +4,8 @@ use Rattle.board.proofs.spread.lay_out.Goals as goal
 
 pub strike-requires-clause-links : goal.strike-requires-clause-links
 strike-requires-clause-links c =
-    let (few, sides, inside, distinct) = c.requires.count_le_cell_room in basis-links sides (c.spread.ensures _ sides.cols_high) inside
+    let (few, sides, inside, distinct) = c.requires.count_le_cell_room in
+    basis-links sides (c.spread.ensures _ sides.cols_high) inside
 
 pub returns : goal.returns
 returns c =

@@ -9,7 +9,8 @@ use Rattle.board.proofs.spread.spread.Goals as goal
 pub loop-k-init : goal.loop-k-init
 loop-k-init c n few =
     let (_, _, _, noBits, empty) = c.requires in
-    rw (drop_of_length-le (cells_of c.args.t) {i = c.args.t.count} (omega (arith, length-cells c.args.t (omega arith)))) (held_none noBits empty)
+    rw (drop_of_length-le (cells_of c.args.t) {i = c.args.t.count}
+    (omega (arith, length-cells c.args.t (omega arith)))) (held_none noBits empty)
 
 pub put_cell-requires : goal.put_cell-requires
 unfolding no_cell nothing
@@ -23,7 +24,13 @@ loop-k-preserved c n few =
     let t = c.args.t in
     let h = cell-inside t c.requires.2 (l.k - 1) (omega arith) (omega arith) in
     let next : suc (l.k - 1) ≡ l.k = omega arith in
-    rw (cells-from t (l.k - 1) (omega arith) (omega arith), next, c.put_cell.ensures.0, c.put_cell.ensures.1, c.put_cell.ensures.2)
+    rw (
+      cells-from t (l.k - 1) (omega arith) (omega arith),
+      next,
+      c.put_cell.ensures.0,
+      c.put_cell.ensures.1,
+      c.put_cell.ensures.2,
+    )
     (held_more (get_or t.cells (l.k - 1) no_cell) (l.invariant n few) c.requires.1 few h.0 h.1)
 
 pub returns : goal.returns

@@ -1,7 +1,9 @@
--- The loop's slots, the least of the minus slots and the amounts carried round the loop are those of the pivot.
+-- The loop's slots, the least of the minus slots and the amounts carried round the loop are those
+-- of the pivot.
 use Rattle.prelude.specs.Words.{arith}
 use Rattle.transport.specs.Amount.{nothing}
-use Rattle.pivoting.specs.Pivoting.{pivot-room, loop-rows, loses_some, minus-slots, plus_slots, slot_room, held-inside, back_fits, minus-fits, plus_fits}
+use Rattle.pivoting.specs.Pivoting.{pivot-room, loop-rows, loses_some, minus-slots, plus_slots, slot_room, held-inside}
+use Rattle.pivoting.specs.Pivoting.{back_fits, minus-fits, plus_fits}
 use Rattle.pivoting.specs.Pivoting.{pivot-is}
 use Rattle.pivoting.proofs.pivot.pivot.Goals as goal
 
@@ -30,14 +32,16 @@ pub bounds-lane-s : goal.bounds-lane-s
 bounds-lane-s c = slot_room c.requires.3 c.requires.4 c.loop_slots-cycle.ensures c.least_slot-s.ensures
 
 pub offset_bounds-lane-s : goal.offset_bounds-lane-s
-offset_bounds-lane-s c = omega (arith, slot_room c.requires.3 c.requires.4 c.loop_slots-cycle.ensures c.least_slot-s.ensures)
+offset_bounds-lane-s c =
+    omega (arith, slot_room c.requires.3 c.requires.4 c.loop_slots-cycle.ensures c.least_slot-s.ensures)
 
 pub pair_at-step-requires : goal.pair_at-step-requires
 pair_at-step-requires c = held-inside c.requires.3 c.requires.4 c.loop_slots-cycle.ensures c.least_slot-s.ensures
 
 pub subtract-requires : goal.subtract-requires
 unfolding nothing
-subtract-requires c = rw c.pair_at-step.ensures (back_fits c.requires.3 c.requires.4 c.loop_slots-cycle.ensures c.least_slot-s.ensures)
+subtract-requires c =
+    rw c.pair_at-step.ensures (back_fits c.requires.3 c.requires.4 c.loop_slots-cycle.ensures c.least_slot-s.ensures)
 
 pub carry-requires-clause-slotted : goal.carry-requires-clause-slotted
 carry-requires-clause-slotted c = minus-slots c.requires.3 c.requires.4 c.loop_slots-cycle.ensures
@@ -54,7 +58,8 @@ carry-requires-2-clause-slotted c = plus_slots c.requires.3 c.requires.4 c.loop_
 pub carry-requires-2-clause-by_index : goal.carry-requires-2-clause-by_index
 unfolding nothing
 carry-requires-2-clause-by_index c =
-    plus_fits c.requires.3 c.requires.4 c.loop_slots-cycle.ensures c.least_slot-s.ensures c.pair_at-step.ensures c.subtract.ensures c.carry.ensures.0
+    plus_fits c.requires.3 c.requires.4 c.loop_slots-cycle.ensures c.least_slot-s.ensures c.pair_at-step.ensures
+    c.subtract.ensures c.carry.ensures.0
     c.carry.ensures.1
 
 pub put_pair-requires : goal.put_pair-requires
@@ -71,4 +76,5 @@ returns c P T n b h =
     let lost = c.carry.ensures in
     let won = c.carry-2.ensures in
     rw (c.put_pair.ensures.0, c.put_pair.ensures.1)
-    (pivot-is b h c.loop_slots-cycle.ensures c.least_slot-s.ensures c.pair_at-step.ensures c.subtract.ensures lost.0 lost.1 won.0 won.1 c.regraft.ensures)
+    (pivot-is b h c.loop_slots-cycle.ensures c.least_slot-s.ensures c.pair_at-step.ensures c.subtract.ensures lost.0
+    lost.1 won.0 won.1 c.regraft.ensures)
