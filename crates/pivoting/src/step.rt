@@ -23,6 +23,7 @@ pub(crate) fn least_slot(
     let mut at = mask::first_bit(slots);
     let mut least = pair_at(q, e, lane[at]);
     let mut bits = mask::rest(slots);
+    // A while: it goes over the bits of a mask, and counts no index.
     while bits != 0 {
         let t = mask::first_bit(bits);
         let x = pair_at(q, e, lane[t]);
@@ -49,6 +50,7 @@ pub(crate) fn carry(
         × Added x.e lane.now slots 0 e.old e.new }
 {
     let mut bits = slots;
+    // A while: it goes over the bits of a mask, and counts no index.
     while bits != 0 {
         let l = lane[mask::first_bit(bits)];
         let sum = pair_at(q, e, l).add(x);

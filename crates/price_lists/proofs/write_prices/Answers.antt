@@ -35,8 +35,7 @@ pub column_count-width-requires : goal.column_count-width-requires
 column_count-width-requires c = (cols-some c.requires.0.1, last_in c.requires.0.1)
 
 -- There is room for the columns, and their prices are small, before struck cafés are priced and
--- after that: a program that hands over the prices before is
--- refused for its prices.
+-- after that: a program that hands over the prices before is refused for its prices.
 pub price_struck-requires-2-clause-callable : goal.price_struck-requires-2-clause-callable
 unfolding roasteries cafes max_side
 price_struck-requires-2-clause-callable c k below =
