@@ -106,7 +106,8 @@ module _ {cost : List ℤ} {cafes : ℕ} {rows cols : List ℕ} {row col : ℕ} 
       omega (arith, found, g.growing_cols.few))
 
   pub respread_found : {i j : ℕ} {x : ℤ} → (i < length rows) × (i ≡ number_in rows row)
-      → (j < length cols) × (j ≡ number_in cols col) → x ≡ c → Spread (set cost (place cafes row col) c) cafes rows cols (set out (j * stride + i) x)
+      → (j < length cols) × (j ≡ number_in cols col) → x ≡ c
+      → Spread (set cost (place cafes row col) c) cafes rows cols (set out (j * stride + i) x)
   respread_found {i} {j} (below_i, at_i) (below_j, at_j) is =
       let (_, is_row) = number_in-found rows row (λ e. omega (arith, at_i, e, g.growing_rows.few)) in
       let (_, is-col) = number_in-found cols col (λ e. omega (arith, at_j, e, g.growing_cols.few)) in
