@@ -13,8 +13,8 @@ use sheet_store::store_sheet;
 use tokens::Stuck;
 use transport::{MAX_LANES, MAX_SINKS, MAX_SOURCES, ReadAnswer};
 
-// Read sheet: the counts of sources and sinks, which then stand in the lent lists with the costs; or
-// the refusal, and the lists are as they were. The text is read into lists of the largest sheet
+// Read sheet: the counts of sources and sinks, which then stand in the lent lists with the costs;
+// or the refusal, and the lists are as they were. The text is read into lists of the largest sheet
 // first, so that nothing is stored before all of it is known to be good.
 #[tactic(auto, unfolding(transport::specs::Limits::max_sources, transport::specs::Limits::max_sinks))]
 pub fn read_sheet(
@@ -34,7 +34,7 @@ pub fn read_sheet(
     let mut costs = [0i64; MAX_LANES];
     match read_sections(text, &mut supplies, &mut demands, &mut costs) {
         Ok(Counts { sources, sinks }) => {
-            // What was stored has a name: a program that tells what was read for it is an operand away.
+            // The answer has a name, so that a program that says what was read is an operand away.
             let stored = store_sheet(
                 &supplies[..sources],
                 &demands[..sinks],

@@ -29,10 +29,10 @@ pub fn read_sections(
     ensures reads { sheet_reader text.now ≡ sheet_read text.now supply.new demand.new cost.new result }
     ensures fits { ReadFits text.now result }
 {
-    let supplies = read_list(text, 0, b"supply ", MAX_SOURCES as u64, supply)?;
-    let demands = read_list(text, supplies.next, b"demand ", MAX_SINKS as u64, demand)?;
-    let sources = supplies.value as usize;
-    let sinks = demands.value as usize;
+    let supplies = read_list(text, 0, b"supply ", MAX_SOURCES, supply)?;
+    let demands = read_list(text, supplies.next, b"demand ", MAX_SINKS, demand)?;
+    let sources = supplies.value;
+    let sinks = demands.value;
     let next = read_costs(text, demands.next, sources, sinks, cost)?;
     if next < text.len() {
         return Err(Stuck(next));
