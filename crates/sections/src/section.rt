@@ -88,7 +88,8 @@ pub fn head_len(name: &[u8], count: usize) -> usize
 pub fn section_len<T: Decimal>(name: &[u8], count: usize, numbers: &[T]) -> usize
     requires { (length name.now ≤ 16) × (length numbers.now ≤ 2 ^ 32) }
     ensures { let xs = numbers.now in
-        (result ≡ length (name.now ++ ended digits count 10) + numbers_length T.text xs) × (result ≤ length xs * 21 + 37) }
+        (result ≡ length (name.now ++ ended digits count 10) + numbers_length T.text xs)
+        × (result ≤ length xs * 21 + 37) }
 {
     head_len(name, count) + numbers_len(numbers)
 }

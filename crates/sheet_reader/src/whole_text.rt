@@ -6,14 +6,7 @@ ghost use Rattle.sheet_reader.specs.SheetAnswer.{sheet_read, ReadFits};
 
 use line_reader::{read_costs, read_list};
 use tokens::Stuck;
-use transport::{MAX_SINKS, MAX_SOURCES};
-
-// How many sources and sinks the sheet of a text has.
-#[derive(Clone, Copy)]
-pub struct Counts {
-    pub sources: usize,
-    pub sinks: usize,
-}
+use transport::{Counts, MAX_SINKS, MAX_SOURCES};
 
 // The whole text, into the fronts of three lists that are long enough for any sheet text.
 #[tactic(auto, unfolding(transport::specs::Limits::max_sources, transport::specs::Limits::max_sinks))]
