@@ -179,7 +179,8 @@ pub fn entering(
     if reduced >= 0 {
         return None;
     }
-    let row = first_row(price, slack, m, reduced)?;
-    let col = first_column(cost, price, m, n, row, slack[row])?;
+    // There is such a row, and such a column in it.
+    let row = first_row(price, slack, m, reduced).unwrap();
+    let col = first_column(cost, price, m, n, row, slack[row]).unwrap();
     Some(PricedLane { row, col, reduced })
 }

@@ -27,36 +27,32 @@ returns-then-reduced-ge0 c =
     (at-most (pos 0) best c.if-reduced-ge0.true)
 
 -- There is a row, also where it is sought by another number below 0.
-pub returns-in_err-row : goal.returns-in_err-row
-returns-in_err-row c =
+pub unwrap-row-requires : goal.unwrap-row-requires
+unwrap-row-requires c =
     let best = to_z w32 (of_z w32 c.least_reduced-reduced.result) in
     let low = more (pos 0) best c.if-reduced-ge0.false in
-    absurd (omega (
-      arith,
-      scanned_row c.requires.in_range c.requires.slacks best (least-is (goal.at.returns-in_err-row c).After-least_reduced-reduced) low
-          (omega (arith, lt_yes best (pos 0) low)) c.in_err-row.ensures,
-    ))
+    scanned_row c.requires.in_range c.requires.slacks best (least-is (goal.at.unwrap-row-requires c).After-least_reduced-reduced)
+    _ c.first_row.result low (omega (arith, lt_yes best (pos 0) low)) c.first_row.ensures
 
-pub returns-in_err-col : goal.returns-in_err-col
-returns-in_err-col c =
+pub unwrap-col-requires : goal.unwrap-col-requires
+unwrap-col-requires c =
     let best = to_z w32 (of_z w32 c.least_reduced-reduced.result) in
     let low = lt_yes best (pos 0) (more (pos 0) best c.if-reduced-ge0.false) in
-    let row = c.in_ok-row.ensures in
-    let slack = get_or c.args.slack.now c.in_ok-row.row (pos 0) in
+    let slack = get_or c.args.slack.now c.unwrap-row.result (pos 0) in
     let back : to_z w32 (of_z w32 slack) ≡ slack = search rules in
-    absurd (omega (
-      arith,
-      scanned_column c.requires.in_range c.requires.slacks row.0 (omega (arith, row.1.there row.0, low))
-          (rw back at c.in_err-col.ensures),
-    ))
+    let row = rw c.unwrap-row.ensures at c.first_row.ensures in
+    scanned_column c.requires.in_range c.requires.slacks c.first_column.result row.0 (omega (arith, row.1.there row.0, low))
+    (rw back at c.first_column.ensures)
 
 pub returns : goal.returns
 returns c =
     let best = to_z w32 (of_z w32 c.least_reduced-reduced.result) in
     let low = more (pos 0) best c.if-reduced-ge0.false in
-    let slack = get_or c.args.slack.now c.in_ok-row.row (pos 0) in
-    let back : to_z w32 (of_z w32 slack) ≡ slack = search rules in (
+    let slack = get_or c.args.slack.now c.unwrap-row.result (pos 0) in
+    let back : to_z w32 (of_z w32 slack) ≡ slack = search rules in
+    let row = rw c.unwrap-row.ensures at c.first_row.ensures in
+    let col = rw (c.unwrap-col.ensures, back) at c.first_column.ensures in (
       low,
       scanned_yes c.requires.in_range c.requires.slacks best (least-is (goal.at.returns c).After-least_reduced-reduced) low
-          c.in_ok-row.row c.in_ok-row.ensures.1 c.in_ok-col.col (rw back at c.in_ok-col.ensures.1),
+          c.unwrap-row.result row.1 c.unwrap-col.result col.1,
     )
