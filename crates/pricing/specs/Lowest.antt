@@ -4,7 +4,7 @@ use Rattle.prelude.specs.Words.{refl, sym, ap, ◌∙◌, inl, inr, ⊎_elim, by
 use Rattle.prelude.specs.Words.{add-one, ℕ_discrete, eq-or-lt_of_le, ne_eqb, ℤ, lt_z, le_z, clash, by_test}
 use Rattle.std.proofs.lemmas.Int.{ints}
 use Rattle.std.specs.Int.Bits.{bit_and}
-use Rattle.std.specs.Prelude.{Option, Some, None, MatchOption, IsSome}
+use Rattle.std.specs.Prelude.{Option, Some, None, MatchOption, unwrap_or}
 use Rattle.integers.specs.Integer.{◌≼◌, ◌≺◌}
 use Rattle.integers.specs.Bridge.{to_z, eq-z, z-eq, z-add}
 use Rattle.integers.specs.Tests.{lt_yes, lt_no}
@@ -128,6 +128,10 @@ pub record FirstAt (f : ℕ → ℤ) (z : ℤ) (n p : ℕ) : Type 0 where
 abbrev pub FirstOf : (ℕ → ℤ) → ℤ → ℕ → Option ℕ → Type 0
 FirstOf f z n x = MatchOption x (FirstAt f z n n) (λ p. (p < n) × FirstAt f z n p)
 
+pub first_at : (f : ℕ → ℤ) (z : ℤ) (n : ℕ) (x : Option ℕ) → FirstOf f z n x → FirstAt f z n (unwrap_or x n)
+first_at f z n None a = a
+first_at f z n (Some p) a = a.1
+
 -- The search for it, which has come from a place to p: no place between has such a number.
 pub record Above (f : ℕ → ℤ) (z : ℤ) (n from p : ℕ) : Type 0 where
   pub within : p ≤ n + from
@@ -172,11 +176,6 @@ pub first-inside : {b : ℤ} {f : ℕ → ℤ} {n p : ℕ} {z y : ℤ} → Low b
 first-inside {n = n} {p} w h le a = ⊎_elim
     (λ (s : p ≡ n). ⊎_elim (λ r. absurd (omega (arith, z-eq r))) (λ (k, l, r). absurd (omega (arith, a.above k (omega arith), z-eq r))) w.meets)
     (λ l. l) (eq-or-lt_of_le {n = p} {m = n} a.within)
-
-pub first_found : {b : ℤ} {f : ℕ → ℤ} {n : ℕ} {z : ℤ} (y : ℤ) (x : Option ℕ) → Low b f n z → to_z z ≺ to_z b → to_z z ≼ to_z y → FirstOf f y n x
-    → IsSome x
-first_found y None w h le a = absurd (omega (arith, first-inside w h le a))
-first_found y (Some p) w h le a = refl
 
 pub low_first : {b : ℤ} {f : ℕ → ℤ} {n p : ℕ} {z : ℤ} → Low b f n z → to_z z ≺ to_z b → FirstAt f z n p → FirstLow f z n p
 low_first {b} {f} {n} {p} {z} w h a = let inside = first-inside w h (omega arith) a in

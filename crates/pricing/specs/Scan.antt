@@ -3,13 +3,13 @@ use Rattle.std.specs.Prelude.{◌≡◌, ◌+◌, ◌*◌, ◌<◌, ◌≤◌, �
 use Rattle.prelude.specs.Words.{ap, true, false, by_cases, List, ℕ, arith, dec_lt, ℤ, pos, nat_abs, neg_ℤ}
 use Rattle.prelude.specs.Words.{get_or}
 use Rattle.prelude.specs.Words.{lt_z}
-use Rattle.std.specs.Prelude.{Option, MatchOption, IsSome}
+use Rattle.std.specs.Prelude.{Option, MatchOption}
 use Rattle.transport.specs.Limits.{cost_above}
 use Rattle.integers.specs.Integer.{◌≈◌, ◌≼◌, ◌≺◌, ◌⊖◌}
 use Rattle.integers.specs.Bridge.{to_z, eq-z, z-eq, z-add, z-neg, z-ev, !, ◌-'◌}
 use Rattle.integers.specs.Tests.{lt_yes, lt_no, yes_lt, no_lt, abs_z}
 use Rattle.tree.specs.Layout.{stride, max_potential, slack_at, reduced_at}
-use Rattle.pricing.specs.Lowest.{lowest, Low, lowest-low, FirstAt, FirstOf, FirstLow, first_found, low_first}
+use Rattle.pricing.specs.Lowest.{lowest, Low, lowest-low, FirstAt, FirstLow, first-inside, low_first}
 use Rattle.pricing.specs.declared.scan.PricedLane.{PricedLane}
 use Rattle.pricing.specs.Slacks.{far, InRange, Slacks, slacks-low, slacks_abs}
 
@@ -61,10 +61,10 @@ module _ {cost price slack : List ℤ} {m n : ℕ} (w : InRange cost price m n) 
       omega (arith, (slacks-low w s i (omega (arith, w.rows))).least j q, reduced-z c u v, z-add r (neg_ℤ u), z-neg u)
 
   -- A column is found, in a row with a negative reduced cost.
-  pub scanned_column : {row : ℕ} (x : Option ℕ) → row < m → to_z (row_reduced slack price row) ≺ to_z (pos 0)
-      → FirstOf (slack_at cost price m row) (get_or slack row (pos 0)) n x → IsSome x
-  scanned_column {row} x l q = first_found (get_or slack row (pos 0)) x (slacks-low w s row (omega (arith, w.rows)))
-      (near (get_or slack row (pos 0)) (get_or price row (pos 0)) (w.prices row (omega (arith, w.rows))) q) (omega arith)
+  pub scanned_column : {row col : ℕ} → row < m → to_z (row_reduced slack price row) ≺ to_z (pos 0)
+      → FirstAt (slack_at cost price m row) (get_or slack row (pos 0)) n col → col < n
+  scanned_column {row} l q a = first-inside (slacks-low w s row (omega (arith, w.rows)))
+      (near (get_or slack row (pos 0)) (get_or price row (pos 0)) (w.prices row (omega (arith, w.rows))) q) (omega arith) a
 
   module _ (best : ℤ) (e : best ≡ lowest (pos 0) (row_reduced slack price) m) where
     best-low : Low (pos 0) (row_reduced slack price) m best
@@ -74,9 +74,8 @@ module _ {cost price slack : List ℤ} {m n : ℕ} (w : InRange cost price m n) 
     scanned_no h i j p q = no_lt (reduced_at cost price m i j) (pos 0) (omega (arith, lt_no best (pos 0) h, best-low.least i p, row-least i j p q))
 
     -- A row is found, also for a number above the least.
-    pub scanned_row : (z : ℤ) (x : Option ℕ) → lt_z best (pos 0) ≡ true → to_z best ≼ to_z z
-        → FirstOf (row_reduced slack price) z m x → IsSome x
-    scanned_row z x h le = first_found z x best-low (lt_yes best (pos 0) h) le
+    pub scanned_row : lt_z best (pos 0) ≡ true → {z : ℤ} {row : ℕ} → to_z best ≼ to_z z → FirstAt (row_reduced slack price) z m row → row < m
+    scanned_row h le a = first-inside best-low (lt_yes best (pos 0) h) le a
 
     module _ (h : lt_z best (pos 0) ≡ true) (row : ℕ) (a : FirstAt (row_reduced slack price) best m row) where
       rows : FirstLow (row_reduced slack price) best m row

@@ -179,8 +179,9 @@ pub fn entering(
     if reduced >= 0 {
         return None;
     }
-    // There is such a row, and such a column in it.
-    let row = first_row(price, slack, m, reduced).unwrap();
-    let col = first_column(cost, price, m, n, row, slack[row]).unwrap();
+    // There is such a row, and such a column in it. By `unwrap_or`: with `unwrap` or `?` each turn
+    // of a search has one to three instructions more.
+    let row = first_row(price, slack, m, reduced).unwrap_or(m);
+    let col = first_column(cost, price, m, n, row, slack[row]).unwrap_or(n);
     Some(PricedLane { row, col, reduced })
 }
