@@ -147,10 +147,12 @@ at-most a b e = grind (arith, ints)
 pub more : (a b : ℤ) → le_z a b ≡ false → lt_z b a ≡ true
 more a b e = grind (arith, ints)
 
-pub above_step : {f : ℕ → ℤ} {z : ℤ} {n from p : ℕ} → Above f z n from p → p < n → le_z (f p) z ≡ false → Above f z n from (p + 1)
+pub above_step : {f : ℕ → ℤ} {z : ℤ} {n from p : ℕ} → Above f z n from p → p < n → le_z (f p) z ≡ false
+    → Above f z n from (p + 1)
 above_step {f} {z} {p = p} w low e = record {
   within = omega arith;
-  above = λ k l r. by_cases (ℕ_discrete k p) (λ s. rw s (lt_yes z (f p) (more (f p) z e))) (λ d. w.above k l (omega arith));
+  above = λ k l r. by_cases (ℕ_discrete k p) (λ s. rw s (lt_yes z (f p) (more (f p) z e))) (λ d. w.above k l
+      (omega arith));
 }
 
 -- A search from the first place on ends there.
@@ -159,10 +161,23 @@ module _ {f : ℕ → ℤ} {z : ℤ} {n p : ℕ} (w : Above f z n 0 p) where
   first_above k l = w.above k (omega arith) l
 
   pub above_stop : p < n → le_z (f p) z ≡ true → (p < n) × FirstAt f z n p
-  above_stop l e = (l, record { within = omega arith; above = first_above; there = λ q. lt_no z (f p) (at-most (f p) z e) })
+  above_stop l e = (
+    l,
+    record {
+      within = omega arith;
+      above = first_above;
+      there = λ q. lt_no z (f p) (at-most
+          (f p) z e);
+    },
+  )
 
   pub above-end : n ≤ p → FirstAt f z n n
-  above-end e = record { within = omega arith; above = λ k l. first_above k (omega arith); there = λ q. absurd (omega arith) }
+  above-end e = record {
+    within = omega arith;
+    above = λ k l. first_above k (omega arith);
+    there = λ q. absurd
+        (omega arith);
+  }
 
 -- p is the first of the places below n where f is least, and z is that number.
 pub record FirstLow (f : ℕ → ℤ) (z : ℤ) (n p : ℕ) : Type 0 where

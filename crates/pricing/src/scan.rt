@@ -163,7 +163,8 @@ pub struct PricedLane {
     pub reduced: Price,
 }
 
-// The entering lane: it has the least reduced cost, and is the first among equals; none where no reduced cost is negative.
+// The entering lane: it has the least reduced cost, and is the first among equals; none where no
+// reduced cost is negative.
 pub fn entering(
     cost: &[Price; LANES],
     price: &[Price; NODES],

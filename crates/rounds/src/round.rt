@@ -106,7 +106,8 @@ pub fn advance(
     false
 }
 
-// What a round gives: whether the tableau is finished, and the prices of the one that the arrays then hold.
+// What a round gives: whether the tableau is finished, and the prices of the one that the arrays
+// then hold. A struct and no option: the prices are given either way.
 #[derive(Clone, Copy)]
 pub struct Turn {
     pub finished: bool,

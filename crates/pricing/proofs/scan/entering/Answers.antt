@@ -23,7 +23,8 @@ least-is c = to_z-of_z {w = w32} (search rules) ∙ c.least_reduced-reduced.ensu
 pub returns-then-reduced-ge0 : goal.returns-then-reduced-ge0
 returns-then-reduced-ge0 c =
     let best = to_z w32 (of_z w32 c.least_reduced-reduced.result) in
-    scanned_no c.requires.in_range c.requires.slacks best (least-is (goal.at.returns-then-reduced-ge0 c).After-least_reduced-reduced)
+    scanned_no c.requires.in_range c.requires.slacks best (least-is
+    (goal.at.returns-then-reduced-ge0 c).After-least_reduced-reduced)
     (at-most (pos 0) best c.if-reduced-ge0.true)
 
 -- There is a row, also where it is sought by another number below 0.
@@ -51,6 +52,7 @@ returns c =
     let row = rw (← c.unwrap_or-row.ensures) at (first_at _ _ _ c.first_row.result c.first_row.ensures) in
     let col = rw (← c.unwrap_or-col.ensures, back) at (first_at _ _ _ c.first_column.result c.first_column.ensures) in (
       low,
-      scanned_yes c.requires.in_range c.requires.slacks best (least-is (goal.at.returns c).After-least_reduced-reduced) low
+      scanned_yes c.requires.in_range c.requires.slacks best (least-is
+          (goal.at.returns c).After-least_reduced-reduced) low
           c.unwrap_or-row.result row c.unwrap_or-col.result col,
     )

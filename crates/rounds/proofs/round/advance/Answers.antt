@@ -4,7 +4,8 @@ use Rattle.prelude.specs.Words.{arith}
 use mir.Syntax.{w32}
 use mir.Val.{to_z, of_z}
 use Rattle.transport.specs.Laws.RangeLaws.{back, mag_abs}
-use Rattle.rounds.specs.Kept.{kept-priced, kept-range, kept-sides, kept-prices, scanned_none, advanced_stays, lane-enters, reduced-room}
+use Rattle.rounds.specs.Kept.{kept-priced, kept-range, kept-sides, kept-prices, scanned_none, advanced_stays}
+use Rattle.rounds.specs.Kept.{lane-enters, reduced-room}
 use Rattle.rounds.specs.Kept.{range-next, slacks_stale, advanced_moves}
 use Rattle.rounds.proofs.round.advance.Goals as goal
 use Rattle.rounds.proofs.round.advance.Goals.{In-Some}
@@ -32,8 +33,12 @@ pub reprice-requires-clause-m_le_stride : goal.reprice-requires-clause-m_le_stri
 reprice-requires-clause-m_le_stride c =
     let k = c.requires.2 in
     let w = c.in-Some.ensures in
-    let s = kept-sides k in
-    (s.rows_high, omega (arith, s.rows_high, w.1.row_in), rw (same (goal.at.reprice-requires-clause-m_le_stride c).In-Some) (reduced-room k w.0 w.1))
+    let s = kept-sides k in (
+      s.rows_high,
+      omega (arith, s.rows_high, w.1.row_in),
+      rw (same
+          (goal.at.reprice-requires-clause-m_le_stride c).In-Some) (reduced-room k w.0 w.1),
+    )
 
 pub reprice-requires-clause-price_len : goal.reprice-requires-clause-price_len
 reprice-requires-clause-price_len c = let k = c.requires.2 in (k.prices.long, kept-prices k)
@@ -49,8 +54,11 @@ pub refresh_slacks-requires-clause-stale : goal.refresh_slacks-requires-clause-s
 refresh_slacks-requires-clause-stale c =
     let (P, T, k) = c.requires in
     let w = c.in-Some.ensures in
-    let same-here = same (goal.at.refresh_slacks-requires-clause-stale c).In-Some in
-    (c.args.price.now, rw same-here (slacks_stale k w.0 w.1 (c.pivot-far.ensures P T _ k.board (lane-enters k w.0 w.1)) (rw same-here at c.reprice.ensures)))
+    let same-here = same (goal.at.refresh_slacks-requires-clause-stale c).In-Some in (
+      c.args.price.now,
+      rw same-here (slacks_stale k w.0 w.1 (c.pivot-far.ensures P T _ k.board
+          (lane-enters k w.0 w.1)) (rw same-here at c.reprice.ensures)),
+    )
 
 pub returns : goal.returns
 returns c P T k =

@@ -25,7 +25,8 @@ loop-path-preserved c P T d =
     let g = c.loop-path.invariant P T d in
     let r = c.advance.ensures P g.here g.kept in
     let f = r.done ∙ c.loop-path-test.true in
-    going_next g (round_bound P - (c.loop-path.made + 1)) (omega (arith, going_left g (begun-ends d) f)) f (kept_next r c.loop-path-test.true)
+    going_next g (round_bound P - (c.loop-path.made + 1)) (omega (arith, going_left g (begun-ends d) f)) f
+    (kept_next r c.loop-path-test.true)
 
 pub returns : goal.returns
 returns c P T d =

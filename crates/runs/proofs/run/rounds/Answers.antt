@@ -15,7 +15,8 @@ loop-made-preserved c P T d =
     let l = c.loop-made in
     let g = l.invariant P T d in
     let r = c.advance.ensures P g.here g.kept in
-    going_next g (c.args.allowance - (l.made + 1)) (omega arith) (r.done ∙ c.if-advance.false) (kept_next r c.if-advance.false)
+    going_next g (c.args.allowance - (l.made + 1)) (omega arith) (r.done ∙ c.if-advance.false)
+    (kept_next r c.if-advance.false)
 
 pub entering-requires-clause-in_range : goal.entering-requires-clause-in_range
 entering-requires-clause-in_range c =
@@ -26,4 +27,5 @@ pub returns : goal.returns
 returns c P T d =
     let g = c.loop-made.invariant P T d in
     let all : c.loop-made.made ≡ c.args.allowance = omega arith in
-    rw all at (ran_out g g.kept (omega arith) (scanned_done (kept-priced g.kept) _ _ c.entering.ensures c.is_none.ensures))
+    rw all at (ran_out g g.kept (omega arith) (scanned_done (kept-priced g.kept) _ _ c.entering.ensures
+    c.is_none.ensures))

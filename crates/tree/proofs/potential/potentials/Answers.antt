@@ -18,7 +18,8 @@ loop-k-init c =
     )
 
 -- Each node has its potential by the strikes after strike k - 1.
-after : (c : In-loop-k) → let a = c.args in Priced a.cost.now a.leaf.now a.other.now a.lane.now a.count c.loop-k.price (suc (c.loop-k.k - 1))
+after : (c : In-loop-k) → let a = c.args in Priced a.cost.now a.leaf.now a.other.now a.lane.now a.count
+    c.loop-k.price (suc (c.loop-k.k - 1))
 after c = let e : c.loop-k.k ≡ suc (c.loop-k.k - 1) = omega arith in rw e at c.loop-k.invariant.1
 
 -- The difference is in range.
@@ -28,7 +29,11 @@ room : (c : In-loop-k) → let k = c.loop-k.k - 1 in
 unfolding cost_above max_cost
 room c =
     let r = c.requires in
-    omega (arith, priced-room _ _ _ _ _ c.loop-k.price (c.loop-k.k - 1) cost_above r.strikes_in_room r.by_index (omega arith) (after c))
+    omega (
+      arith,
+      priced-room _ _ _ _ _ c.loop-k.price (c.loop-k.k - 1) cost_above r.strikes_in_room r.by_index
+          (omega arith) (after c),
+    )
 
 pub overflow_sub-price : goal.overflow_sub-price
 overflow_sub-price c = search (rules, diff_in, room (goal.at.overflow_sub-price c).In-loop-k)
