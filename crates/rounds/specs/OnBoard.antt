@@ -4,7 +4,7 @@ use Rattle.transport.specs.Problem.{Problem}
 use Rattle.transport.specs.declared.Cell.{Cell}
 use Rattle.board.specs.declared.Board.{Board}
 use Rattle.rounds.specs.Kept.{Kept, Advanced}
-use Rattle.rounds.specs.Begun.{Begun, Rounded}
+use Rattle.rounds.specs.Begun.{Begun, Judged, Rounded}
 
 -- The tableau T of the problem P is laid out over the board, beside the costs of P by column.
 abbrev pub BegunOn : Problem → List Cell → Board → List ℤ → ℕ → ℕ → Type 0
@@ -22,3 +22,7 @@ AdvancedOn P T b cost price slack m n finished =
 
 abbrev pub RoundedOn : Problem → List Cell → Board → List ℤ → ℕ → ℕ → Bool → Type 0
 RoundedOn P T b price m n finished = Rounded P T b.amounts.q b.amounts.e price b.basis.lane m n finished
+
+-- The board holds T with its prices, and whether it is finished is told.
+abbrev pub JudgedOn : Problem → List Cell → Board → List ℤ → ℕ → ℕ → Bool → Type 0
+JudgedOn P T b price m n finished = Judged P T b.amounts.q b.amounts.e price b.basis.lane m n finished

@@ -18,13 +18,15 @@ use Rattle.tableaux.specs.Belonging.{belongs_iff, distinct_of, spans_of}
 use Rattle.demands.specs.Says.{cells_for}
 use Rattle.parties.specs.declared.Parties.{Parties}
 use Rattle.parties.specs.Parties.{PartiesOf}
-use Rattle.tree.specs.Layout.{stride-is, node_room, strikes_of}
+use Rattle.tree.specs.Layout.{stride-is, node_room}
+use Rattle.tree.specs.Basis.{struck_off}
 use Rattle.tree.specs.Strip.{Stripped}
 use Rattle.board.specs.Cells.{cell_room}
-use Rattle.board.specs.Arrays.{Sides, sound-sides, Amounts}
+use Rattle.board.specs.declared.Board.{Board}
+use Rattle.board.specs.Arrays.{Sides, sound-sides, Amounts as AmountsOf}
 use Rattle.dealing.specs.Corner.{costless, sound-costless, start-costless, length-start}
 use Rattle.cost_grid.specs.Costs.{Spread, spread_costed}
-use Rattle.rounds.specs.Begun.{Begun}
+use Rattle.rounds.specs.OnBoard.{BegunOn}
 use Rattle.loading.specs.Loading.{Admitted}
 
 -- The lists are those of a sound problem, so there is a first tableau of them.

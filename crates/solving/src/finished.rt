@@ -3,7 +3,7 @@ ghost use Rattle.std.specs.Prelude.{true, List, ℤ};
 ghost use Rattle.transport.specs.Problem.{Problem};
 ghost use Rattle.transport.specs.declared.Cell.{Cell};
 ghost use Rattle.cost_grid.specs.Costs.{Costed};
-ghost use Rattle.rounds.specs.Begun.{JudgedOn};
+ghost use Rattle.rounds.specs.OnBoard.{JudgedOn};
 ghost use Rattle.solving.specs.Finished.{SettledBags};
 
 use board::Board;
