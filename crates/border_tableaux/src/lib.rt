@@ -1,4 +1,5 @@
-// The exported calls on tableaux, of a tableau by value: round, run and settle. Each gives a struct that crosses the border.
+// The exported calls on tableaux, of a tableau by value: round, run and settle. Each gives a struct
+// that crosses the border, or the number of a refusal.
 #![tactic(auto)]
 
 ghost use Rattle.std.specs.Prelude.{◌≡◌, length};
@@ -7,38 +8,31 @@ ghost use Rattle.transport.specs.Calls.{lent_after, round_call, run_call, settle
 ghost use Rattle.border.specs.Border.{round_out, run_out, number_of};
 
 use border::{RoundOut, RunOut};
-use transport::{RoundOutcome, RunOutcome, SettleAnswer, Tableau};
+use dealing::tableau::empty_tableau;
+use transport::{MAX_SIDE, RoundAnswer, RunAnswer, RunOutcome, Tableau};
 
 pub fn round_from(supply: &[u64], demand: &[u64], cost: &[i64], t: Tableau) -> RoundOut
     ensures { let S = sheet_of supply.now demand.now cost.now in
         result ≡ round_out (round_call S t) }
 {
-    let answer = round_call::round(supply, demand, cost, t);
-    let tableau = answer.tableau;
-    let u = answer.u;
-    let v = answer.v;
-    let outcome = answer.outcome;
-    match outcome {
-        RoundOutcome::Moved => RoundOut {
-            refusal: 0,
-            finished: false,
-            tableau,
-            u,
-            v,
-        },
-        RoundOutcome::Finished => RoundOut {
-            refusal: 0,
+    let nothing = RoundOut {
+        refusal: 0,
+        finished: false,
+        tableau: empty_tableau(),
+        u: [0; MAX_SIDE],
+        v: [0; MAX_SIDE],
+    };
+    match round_call::round(supply, demand, cost, t) {
+        Ok(RoundAnswer::Moved(tableau)) => RoundOut { tableau, ..nothing },
+        Ok(RoundAnswer::Finished { u, v }) => RoundOut {
             finished: true,
-            tableau,
             u,
             v,
+            ..nothing
         },
-        RoundOutcome::Refused(number) => RoundOut {
-            refusal: number,
-            finished: false,
-            tableau,
-            u,
-            v,
+        Err(refusal) => RoundOut {
+            refusal: refusal.number(),
+            ..nothing
         },
     }
 }
@@ -47,27 +41,26 @@ pub fn run_from(supply: &[u64], demand: &[u64], cost: &[i64], t: Tableau, allowa
     ensures { let S = sheet_of supply.now demand.now cost.now in
         result ≡ run_out (run_call S t allowance) }
 {
-    let answer = run_call::run(supply, demand, cost, t, allowance);
-    let tableau = answer.tableau;
-    let outcome = answer.outcome;
-    match outcome {
-        RunOutcome::Finished(rounds) => RunOut {
-            refusal: 0,
-            finished: true,
-            rounds,
-            tableau,
+    match run_call::run(supply, demand, cost, t, allowance) {
+        Ok(RunAnswer { outcome, tableau }) => match outcome {
+            RunOutcome::Finished(rounds) => RunOut {
+                refusal: 0,
+                finished: true,
+                rounds,
+                tableau,
+            },
+            RunOutcome::Spent(rounds) => RunOut {
+                refusal: 0,
+                finished: false,
+                rounds,
+                tableau,
+            },
         },
-        RunOutcome::Spent(rounds) => RunOut {
-            refusal: 0,
-            finished: false,
-            rounds,
-            tableau,
-        },
-        RunOutcome::Refused(number) => RunOut {
-            refusal: number,
+        Err(refusal) => RunOut {
+            refusal: refusal.number(),
             finished: false,
             rounds: 0,
-            tableau,
+            tableau: empty_tableau(),
         },
     }
 }
@@ -78,9 +71,8 @@ pub fn settle_from(supply: &[u64], demand: &[u64], cost: &[i64], t: Tableau, pla
         let a = settle_call S t (length plan.old) in
         (result ≡ number_of a) × (plan.new ≡ lent_after (λ x. x) a plan.old) }
 {
-    let answer = settle_call::settle(supply, demand, cost, t, plan);
-    match answer {
-        SettleAnswer::Settled => 0,
-        SettleAnswer::Refused(number) => number,
+    match settle_call::settle(supply, demand, cost, t, plan) {
+        Ok(()) => 0,
+        Err(refusal) => refusal.number(),
     }
 }

@@ -1,5 +1,5 @@
 // A round on a board. The tree, the prices and the least slacks of the rows are kept from round to round.
-ghost use Rattle.std.specs.Prelude.{◌≡◌, List, ℤ};
+ghost use Rattle.std.specs.Prelude.{◌≡◌, true, false, List, ℤ, MatchOption};
 ghost use Rattle.transport.specs.Problem.{Problem};
 ghost use Rattle.transport.specs.Potential.{is_finished_of};
 ghost use Rattle.transport.specs.declared.Cell.{Cell};
@@ -96,24 +96,21 @@ pub fn advance(
     false
 }
 
-// What a round gives: whether the tableau is finished, and the prices of the one that the board then
-// holds.
-#[derive(Clone, Copy)]
-pub struct Turn {
-    pub finished: bool,
-    pub price: [Price; NODES],
-}
-
-// One round on a tableau of m sources and n sinks. The board then holds it, or the next one if it is
-// not finished.
-pub fn make_round(board: &mut Board, cost: &[Price; LANES], m: usize, n: usize) -> Turn
+// One round on a tableau of m sources and n sinks: its prices if it is finished, and the board then
+// holds it still. Else the board then holds the next one.
+pub fn make_round(
+    board: &mut Board,
+    cost: &[Price; LANES],
+    m: usize,
+    n: usize,
+) -> Option<[Price; NODES]>
     requires { (P : Problem) × (T : List Cell) × BegunOn P T board.old cost.now m n }
     ensures rounded { (P : Problem) (T : List Cell) → BegunOn P T board.old cost.now m n
-        → RoundedOn P T board.new result.price m n result.finished }
+        → MatchOption result ((price : List ℤ) × RoundedOn P T board.new price m n false)
+        (λ price. RoundedOn P T board.new price m n true) }
     ensures same_ends { SameEnds board.old.basis board.new.basis }
 {
-    let mut price: [Price; NODES] = [0; NODES];
+    let mut price = [0; NODES];
     let mut slack = begin(&mut board.basis, cost, m, n, &mut price);
-    let finished = advance(board, cost, &mut price, &mut slack, m, n);
-    Turn { finished, price }
+    advance(board, cost, &mut price, &mut slack, m, n).then_some(price)
 }

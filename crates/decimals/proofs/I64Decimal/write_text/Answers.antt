@@ -1,5 +1,6 @@
 -- A negative number is its minus, and then its magnitude in what is left of the output.
-use Rattle.std.proofs.Common.{◌≡◌, nat_abs, to_z-of_z, suc, ap, ◌∙◌, length, length-set, length-take, length-drop, add-one, arith}
+use Rattle.std.proofs.Common.{◌≡◌, ◌∙◌, suc, ap, nat_abs, length, to_z-of_z, add-one, arith}
+use Rattle.std.proofs.Common.{length-set, length-take, length-drop}
 use Rattle.decimals.specs.Front.{both-written}
 use Rattle.std.proofs.lemmas.Int.{ints}
 use Rattle.decimals.specs.Whole.{text-negative, text_positive, minus-written}

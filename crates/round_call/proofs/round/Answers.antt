@@ -1,0 +1,46 @@
+-- What load_sheet refuses is refused; else a round is made, on a tableau that is finished or not.
+use Rattle.std.proofs.lemmas.Result.{err_from_is_err_and}
+use Rattle.transport.specs.Sheet.{sheet_of}
+use Rattle.numbering.specs.Lent.{own-within, own-lent}
+use Rattle.board.specs.Drawing.{board-belongs}
+use Rattle.round_call.specs.Round.{round-refused, round-finished, round-moved, finished-priced}
+use Rattle.round_call.proofs.round.Goals as goal
+
+pub returns-in_err-parties : goal.returns-in_err-parties
+returns-in_err-parties c =
+    let p = err_from_is_err_and c.from_residual.result c.from_residual.ensures.1 in
+    let S = sheet_of c.args.supply.now c.args.demand.now c.args.cost.now in
+    rw (p.1, p.2) (round-refused S c.args.t _ c.in_err-parties.ensures)
+
+pub finished_round-requires : goal.finished_round-requires
+finished_round-requires c =
+    let w = c.in_ok-parties.ensures.1 in
+    let r = c.in-Some.ensures.rounded _ _ w.begun in
+    (_, finished-priced w.accepted w.parties r c.row_numbers-rows.ensures c.column_numbers-columns.ensures)
+
+pub returns-in-Some : goal.returns-in-Some
+returns-in-Some c =
+    let S = sheet_of c.args.supply.now c.args.demand.now c.args.cost.now in
+    let w = c.in_ok-parties.ensures.1 in
+    let r = c.in-Some.ensures.rounded _ _ w.begun in
+    let priced = finished-priced w.accepted w.parties r c.row_numbers-rows.ensures c.column_numbers-columns.ensures in
+    rw (c.finished_round.ensures _ priced) (round-finished S c.args.t c.in_ok-parties.ensures.0 r.done)
+
+pub own_tableau-own-requires : goal.own_tableau-own-requires
+own_tableau-own-requires c =
+    let w = c.in_ok-parties.ensures.1 in
+    let r = (c.in_default.ensures.rounded _ _ w.begun).1 in
+    let board = r.board in (
+      _,
+      c.gather-next.ensures _ _ (_, _, board),
+      rw (c.row_numbers-rows.ensures, c.column_numbers-columns.ensures) (own-within w.accepted w.parties (board-belongs board)),
+    )
+
+pub returns : goal.returns
+returns c =
+    let S = sheet_of c.args.supply.now c.args.demand.now c.args.cost.now in
+    let w = c.in_ok-parties.ensures.1 in
+    let r = (c.in_default.ensures.rounded _ _ w.begun).1 in
+    let own = c.own_tableau-own.ensures _ (c.gather-next.ensures _ _ (_, _, r.board)) in
+    rw (own, c.row_numbers-rows.ensures, c.column_numbers-columns.ensures, own-lent w.accepted w.parties)
+    (round-moved S c.args.t c.in_ok-parties.ensures.0 r.done)
