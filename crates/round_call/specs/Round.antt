@@ -1,6 +1,6 @@
 -- Round, case by case: the answers of the call.
 use Rattle.std.specs.Prelude.{◌≡◌, ◌++◌, Ok, Err}
-use Rattle.prelude.specs.Words.{arith, refl, true, false, none, some, List, ℕ, ℤ, pos, length-take, take, drop, replicate}
+use Rattle.prelude.specs.Words.{arith, Bool, true, false, cond, none, some, List, ℕ, ℤ, pos, length-take, take, drop, replicate}
 use Rattle.transport.specs.declared.Refusal.{Refusal}
 use Rattle.transport.specs.declared.RoundAnswer.{RoundAnswer}
 use Rattle.transport.specs.declared.Cell.{Cell}
@@ -22,7 +22,7 @@ use Rattle.parties.specs.Parties.{PartiesOf}
 use Rattle.dealing.specs.Filling.{padded_fill}
 use Rattle.price_lists.specs.Prices.{NodesPriced}
 use Rattle.rounds.specs.Begun.{Rounded}
-use Rattle.rounds.specs.PricesShown.{rounded-small, rounded-prices}
+use Rattle.rounds.specs.PricesShown.{rounded-small}
 
 module _ (S : Sheet) (t : Tableau) where
   -- What the tests refuse, the call refuses.
@@ -51,18 +51,19 @@ unfolding round_shown prices roastery_prices cafe_prices
 round-prices S T f g =
     rw (f, g, padded_fill (roastery_price_of (extended S) T), padded_fill (cafe_price_of (extended S) T))
 
--- A finished tableau is priced after its round, under the own numbers that a call lends.
-pub finished-priced : {S : Sheet} → Accepted S → {p : Parties} → PartiesOf S p → {T : List Cell} {q e price : List ℤ} {tree : List ℕ}
-    → Rounded (problem_of S) T q e price tree p.rows p.columns true
+-- After a round: what the prices are of, under the own numbers that a call lends. It is the same tableau if it is finished.
+pub round-priced : {S : Sheet} → Accepted S → {p : Parties} → PartiesOf S p
+    → {T : List Cell} {q e price : List ℤ} {tree : List ℕ} {done : Bool}
+    → Rounded (problem_of S) T q e price tree p.rows p.columns done
     → {rows columns : List ℕ} → rows ≡ take p.rows p.row_numbers → columns ≡ take p.columns p.column_numbers
-    → NodesPriced S T rows columns price
-finished-priced ok {p} h r rows_are columns_are =
+    → NodesPriced S (cond done T (next (problem_of S) T)) rows columns price
+round-priced ok {p} h r rows_are columns_are =
     let rows = length-take p.rows p.row_numbers in
     let columns = length-take p.columns p.column_numbers in
     rw (rows_are, columns_are) (record {
       accepted = ok;
       rows = h.row_numbers;
       cols = h.column_numbers;
-      prices = λ k l. rounded-prices r refl k (omega (arith, rows, columns));
+      prices = λ k l. r.prices k (omega (arith, rows, columns));
       small = λ k l. rounded-small r k (omega (arith, rows, columns));
     })
