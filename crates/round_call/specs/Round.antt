@@ -51,7 +51,8 @@ unfolding round_shown prices roastery_prices cafe_prices
 round-prices S T f g =
     rw (f, g, padded_fill (roastery_price_of (extended S) T), padded_fill (cafe_price_of (extended S) T))
 
--- After a round: what the prices are of, under the own numbers that a call lends. It is the same tableau if it is finished.
+-- After a round: what the prices are of, under the own numbers that a call lends; the same tableau
+-- if it is finished.
 pub round-priced : {S : Sheet} → Accepted S → {p : Parties} → PartiesOf S p
     → {T : List Cell} {q e price : List ℤ} {tree : List ℕ} {done : Bool}
     → Rounded (problem_of S) T q e price tree p.rows p.columns done
