@@ -1,9 +1,10 @@
 -- Bags by lane, and the masks that say where there are any.
 use Rattle.std.specs.Prelude.{◌≡◌, ◌↔◌, ◌≢◌, ◌&&◌, ◌+◌, ◌-◌, ◌*◌, ◌<◌, ◌≤◌, ◌+ℤ◌}
-use Rattle.prelude.specs.Words.{refl, sym, ◌∙◌, by_cases, Dec-and, Bool, true, false, not, cond, and-false, Bool-discrete, List, ℕ}
+use Rattle.prelude.specs.Words.{refl, sym, ◌∙◌, by_cases, Dec-and, Bool, true, false, not, cond, List, ℕ}
 use Rattle.prelude.specs.Words.{arith, ℕ_discrete, eq-eqb, ne_eqb, eqb, ℤ, pos, nat_abs, neg_ℤ, length, get_or, set, replicate}
 use Rattle.prelude.specs.Words.{length-set, get_or-set_same, get_or-set_other, lt_z, by_test}
 use Rattle.std.specs.Int.Bits.{bit_and}
+use Rattle.std.proofs.lemmas.List.{set-set}
 use Rattle.integers.specs.Integer.{Z, ◌≈◌, ◌≺◌, ◌⊕◌, ◌⊖◌, ◌⊗◌, neg, nat}
 use Rattle.integers.specs.IntegerLaws.{⊗_cong}
 use Rattle.integers.specs.Bridge.{to_z, z-add, z-neg}
@@ -46,14 +47,14 @@ pub record Masked (m n : ℕ) (q : List ℤ) (holds owns : List ℕ) : Type 0 wh
 
 -- The same of a struct: its bags, and its masks.
 abbrev pub bags_on : Bags → ℕ → ℕ → Z
-bags_on b = lane_bags b.q.now
+bags_on b = lane_bags b.by_lane.now
 
 abbrev pub MaskedBags : ℕ → ℕ → Bags → Type 0
-MaskedBags m n b = Masked m n b.q.now b.holds b.owns
+MaskedBags m n b = Masked m n b.by_lane.now b.holds b.owns
 
 -- After a change: in the same array, and where the masks were right before, they are right after.
 pub record Follow (b b' : Bags) : Type 0 where
-  pub same_array : b'.q.ghost_name ≡ b.q.ghost_name
+  pub same_array : b'.by_lane.ghost_name ≡ b.by_lane.ghost_name
   pub masked : {m n : ℕ} → MaskedBags m n b → MaskedBags m n b'
 
 pub follow-both : {b b' b'' : Bags} → Follow b b' → Follow b' b'' → Follow b b''
@@ -105,7 +106,7 @@ module _ (q : List ℤ) (i j : ℕ) (z : ℤ) (hi : i < stride) (hj : j < stride
           (λ e. rw (ne_eqb k j e, lane-other i k (omega (arith, w.cols)) (λ s. e s.1)) (w.own i k hh hk))
 
 -- x more on lane (i, j).
-abbrev added : List ℤ → ℕ → ℕ → ℤ → List ℤ
+abbrev pub added : List ℤ → ℕ → ℕ → ℤ → List ℤ
 added q i j x = set q (i * stride + j) (get_or q (i * stride + j) (pos 0) +ℤ x)
 
 module _ (q : List ℤ) (i j : ℕ) (x : ℤ) (hi : i < stride) (hj : j < stride) (long : length q ≡ lane_room) where
@@ -119,6 +120,33 @@ module _ (q : List ℤ) (i j : ℕ) (x : ℤ) (hi : i < stride) (hj : j < stride
   added_abs l = by_cases (ℕ_discrete l (i * stride + j))
       (λ e. rw (e, lane-same q i j (get_or q (i * stride + j) (pos 0) +ℤ x) hi hj long) (abs_add (get_or q (i * stride + j) (pos 0)) x))
       (λ e. rw (get_or-set_other q (i * stride + j) l (get_or q (i * stride + j) (pos 0) +ℤ x) (pos 0) e) (omega arith))
+
+-- Whether there are any on the lane then.
+carries-added : (q : List ℤ) {q' : List ℤ} (i j : ℕ) (x : ℤ) → i < stride → j < stride → length q ≡ lane_room
+    → q' ≡ added q i j x
+    → carries q' i j ≡ lt_z (pos 0) (get_or q (i * stride + j) (pos 0) +ℤ x)
+carries-added q i j x hi hj long e =
+    rw (e, lane-same q i j (get_or q (i * stride + j) (pos 0) +ℤ x) hi hj long)
+
+-- y more on lane (from, j), and then x more on lane (to, j): the masks follow.
+pub masked-added : {q q' q'' : List ℤ} (from to j : ℕ) (y x : ℤ) {m n : ℕ} {holds owns : List ℕ}
+    (part down along along' : ℕ) → from < stride → to < stride → j < stride
+    → q' ≡ added q from j y → q'' ≡ added q' to j x → Masked m n q holds owns
+    → ((k : ℕ) → has part k ≡ cond (eqb k from) (carries q' from j) (has (entry holds j) k))
+    → ((k : ℕ) → has down k ≡ cond (eqb k to) (carries q'' to j) (has part k))
+    → ((k : ℕ) → has along k ≡ cond (eqb k j) (carries q' from j) (has (entry owns from) k))
+    → ((k : ℕ) → has along' k ≡ cond (eqb k j) (carries q'' to j) (has (entry (set owns from along) to) k))
+    → Masked m n q'' (set holds j down) (set (set owns from along) to along')
+masked-added {q} {q'} {q''} from to j y x {m} {n} {holds} {owns} part down along along' hf ht hj e e' w p d a a' =
+    let some = carries-added q from j y hf hj w.q_long e in
+    let first : Masked m n q' (set holds j part) (set owns from along) =
+    rw e (masked-set q from j _ hf hj w.q_long part along w (λ k. rw some at (p k)) (λ k. rw some at (a k))) in
+    let some' = carries-added q' to j x ht hj first.q_long e' in
+    let same = get_or-set_same holds j part 0 (omega (arith, w.holds_long)) in
+    let second : Masked m n q'' (set (set holds j part) j down) (set (set owns from along) to along') =
+    rw e' (masked-set q' to j _ ht hj first.q_long down along' first
+    (λ k. rw (same, ← some') (d k)) (λ k. rw some' at (a' k))) in
+    rw set-set at second
 
 -- x bags of column j have moved from one row to another.
 pub record BagsShifted (from to j : ℕ) (x : ℤ) (q q' : List ℤ) : Type 0 where
@@ -153,9 +181,6 @@ pub record RowBags (q : List ℤ) (basic i left cols : ℕ) : Type 0 where
   pub part : (j : ℕ) → has left j ≡ true → has basic j ≡ true
   pub each : (j : ℕ) → has cols j ≡ not (has left j) && (has basic j && carries q i j)
 
-pub row-none : (q : List ℤ) (basic i : ℕ) → RowBags q basic i basic 0
-row-none q basic i = record { part = λ j h. h; each = λ j. has-zero j ∙ by_test (has basic j) (λ e. rw e) (λ e. rw e) }
-
 module _ {q : List ℤ} {basic i left cols : ℕ} (w : RowBags q basic i left cols) where
   pub row_more : {j : ℕ} (cols' : ℕ) → Least left j → ((k : ℕ) → has cols' k ≡ cond (eqb k j) (carries q i j) (has cols k))
       → RowBags q basic i (bit_and left (left - 1)) cols'
@@ -165,9 +190,6 @@ module _ {q : List ℤ} {basic i left cols : ℕ} (w : RowBags q basic i left co
         (λ d. rw (d, eq-eqb j j refl, w.part j (has-least l)))
         (λ d. rw (ne_eqb k j d) (w.each k)));
   }
-
-  pub row-all : left ≡ 0 → (j : ℕ) → has cols j ≡ has basic j && carries q i j
-  row-all e j = w.each j ∙ rw (e, has-zero j)
 
 -- The masks of the first k rows.
 pub record MaskedTo (k : ℕ) (basic : List ℕ) (q : List ℤ) (holds owns : List ℕ) : Type 0 where
@@ -206,18 +228,3 @@ module _ {k : ℕ} {basic : List ℕ} {q : List ℤ} {holds owns : List ℕ} (w 
       there : (i j : ℕ) → i ≢ k → (b : Bool) → has (cond b (put (entry holds j) k) (entry holds j)) i ≡ has (entry holds j) i
       there i j d true = has-put (entry holds j) k i ∙ rw (ne_eqb i k d)
       there i j d false = refl
-
--- All rows.
-pub masked-all : {m n : ℕ} {basic : List ℕ} {q : List ℤ} {holds owns : List ℕ} → MaskedTo m basic q holds owns → OnBasics m n basic q → Masked m n q holds owns
-masked-all {m} {n} {basic} {q} w b = record {
-  rows = b.rows;
-  cols = b.cols;
-  q_long = b.q_long;
-  holds_long = w.holds_long;
-  owns_long = w.owns_long;
-  hold = λ i j hi hj. w.hold i j hi ∙ basics i j hi hj;
-  own = λ i j hi hj. w.own i j hi ∙ basics i j hi hj;
-}
-  where
-    basics : (i j : ℕ) → i < m → j < n → has (entry basic i) j && carries q i j ≡ carries q i j
-    basics i j hi hj = by_cases (Bool-discrete (has (entry basic i) j) true) (λ e. rw e) (λ e. rw (b.off i j hi hj e) (and-false (has (entry basic i) j)))

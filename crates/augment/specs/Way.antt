@@ -8,7 +8,7 @@ use Rattle.integers.specs.Tests.{lt_yes, lt_no}
 use Rattle.network.specs.Circuit.{spot, moved, moved_more}
 use Rattle.network.specs.Search.{above, above-next, Rooted, rooted, way_row, way_col}
 use Rattle.transport.specs.Limits.{max_bags, max_side, max_amount}
-use Rattle.tree.specs.Layout.{stride, node_room, lane_room}
+use Rattle.tree.specs.Layout.{stride, lane_room}
 use Rattle.augment.specs.Bags.{lane_bags, entry, MaskedBags, Follow, follow-both, BagsShifted}
 use Rattle.augment.specs.declared.bags.Bags.{Bags}
 use Rattle.augment.specs.declared.way.Way.{Way}
@@ -74,14 +74,6 @@ pub record LeastTo (s j : ℕ) (way : Way) (q : List ℤ) (l at : ℕ) : Type 0 
   pub least : LeastOn steps s j way q l
 
 module _ {m n s j : ℕ} {way : Way} (v : Walkable m n s j way) (q : List ℤ) where
-  pub lowering-start : LeastTo s j way q (entry way.row 0 * stride + j) s
-  lowering-start = record {
-    steps = 0;
-    climbed = climb_start way.up s;
-    in_room_of = omega (arith, v.rows 0 (omega arith), v.rows_high, v.cols_high, v.goal);
-    least = record { lane = 0; inside = omega arith; is = refl; low = λ k l. let z : k ≡ 0 = omega arith in rw z (omega arith) };
-  }
-
   module _ {l at : ℕ} (w : LeastTo s j way q l at) (some : 0 < at) where
     abbrev next : ℕ
     next = entry way.row at * stride + entry way.col at
@@ -130,10 +122,6 @@ module _ {m n s j : ℕ} {way : Way} (v : Walkable m n s j way) (q : List ℤ) w
       };
     }
 
-pub lowering-ends : {s j : ℕ} {way : Way} {q : List ℤ} {l at : ℕ} → LeastTo s j way q l at → at ≡ 0
-    → {d : ℕ} → Rooted (entry way.up) s d → LeastOn d s j way q l
-lowering-ends w e r = let s = climb_ends w.climbed e r in rw s at w.least
-
 -- ---- bags moved along it
 
 -- x bags have moved along the first d + 1 lanes of the way.
@@ -145,14 +133,15 @@ pub record Brought (d s j : ℕ) (way : Way) (x : ℤ) (q q' : List ℤ) : Type 
 pub record Carries (m n s j : ℕ) (way : Way) (b : Bags) : Type 0 where
   pub walkable : Walkable m n s j way
   pub masked : MaskedBags m n b
-  pub few : (i k : ℕ) → i < m → k < n → nat_abs (get_or b.q.now (i * stride + k) (pos 0)) ≤ max_bags
+  pub few : (i k : ℕ) → i < m → k < n → nat_abs (get_or b.by_lane.now (i * stride + k) (pos 0)) ≤ max_bags
 
 -- So far, at position `at`.
 pub record Bringing (s j : ℕ) (way : Way) (x : ℤ) (b : Bags) (at : ℕ) (b' : Bags) : Type 0 where
   pub steps : ℕ
   pub climbed : Climbed way.up s steps at
-  pub brought : Brought steps s j way x b.q.now b'.q.now
-  pub most : (l : ℕ) → nat_abs (get_or b'.q.now l (pos 0)) ≤ nat_abs (get_or b.q.now l (pos 0)) + suc steps * 2 ^ 32
+  pub brought : Brought steps s j way x b.by_lane.now b'.by_lane.now
+  pub most : (l : ℕ)
+      → nat_abs (get_or b'.by_lane.now l (pos 0)) ≤ nat_abs (get_or b.by_lane.now l (pos 0)) + suc steps * 2 ^ 32
   pub follow : Follow b b'
 
 module _ {m n s j : ℕ} {way : Way} {b : Bags} (v : Carries m n s j way b)
@@ -161,21 +150,21 @@ module _ {m n s j : ℕ} {way : Way} {b : Bags} (v : Carries m n s j way b)
   unfolding max_bags max_side max_amount
   small = omega (arith, amount)
 
-  few-small : (i k : ℕ) → i < m → k < n → nat_abs (get_or b.q.now (i * stride + k) (pos 0)) < 2 ^ 31
+  few-small : (i k : ℕ) → i < m → k < n → nat_abs (get_or b.by_lane.now (i * stride + k) (pos 0)) < 2 ^ 31
   unfolding max_bags max_side max_amount
   few-small i k hi hk = omega (arith, v.few i k hi hk)
 
   -- The first move, from row `row 0` at the goal.
   pub bring_first : (entry way.row 0 < stride) × (entry way.row s < stride) × (j < stride)
-      × (nat_abs (get_or b.q.now (entry way.row 0 * stride + j) (pos 0)) + nat_abs x < 2 ^ 62)
-      × (nat_abs (get_or b.q.now (entry way.row s * stride + j) (pos 0)) + nat_abs x < 2 ^ 62)
+      × (nat_abs (get_or b.by_lane.now (entry way.row 0 * stride + j) (pos 0)) + nat_abs x < 2 ^ 62)
+      × (nat_abs (get_or b.by_lane.now (entry way.row s * stride + j) (pos 0)) + nat_abs x < 2 ^ 62)
   bring_first = let w = v.walkable in
       let r : entry way.row 0 < m = w.rows 0 (omega arith) in let r' : entry way.row s < m = w.rows s (omega arith) in
       let few = few-small (entry way.row 0) j r w.goal in let few' = few-small (entry way.row s) j r' w.goal in
       omega (arith, w.rows_high, w.cols_high, w.goal, few, small, few')
 
-  pub bringing_start : {b' : Bags} → BagsShifted (entry way.row 0) (entry way.row s) j x b.q.now b'.q.now → Follow b b'
-      → Bringing s j way x b s b'
+  pub bringing_start : {b' : Bags} → BagsShifted (entry way.row 0) (entry way.row s) j x b.by_lane.now b'.by_lane.now
+      → Follow b b' → Bringing s j way x b s b'
   bringing_start f g = record {
     steps = 0;
     climbed = climb_start way.up s;
@@ -191,9 +180,6 @@ module _ {m n s j : ℕ} {way : Way} {b : Bags} (v : Carries m n s j way b)
     falls : entry way.up at < at
     falls = v.walkable.below at some few-steps
 
-    pub bringing_inside : (at < node_room) × (entry way.up at < node_room)
-    bringing_inside = omega (arith, few-steps, v.walkable.small, falls)
-
     abbrev from : ℕ
     from = entry way.row at
 
@@ -204,8 +190,8 @@ module _ {m n s j : ℕ} {way : Way} {b : Bags} (v : Carries m n s j way b)
     across = entry way.col at
 
     pub bringing_next : (from < stride) × (to < stride) × (across < stride)
-        × (nat_abs (get_or b'.q.now (from * stride + across) (pos 0)) + nat_abs x < 2 ^ 62)
-        × (nat_abs (get_or b'.q.now (to * stride + across) (pos 0)) + nat_abs x < 2 ^ 62)
+        × (nat_abs (get_or b'.by_lane.now (from * stride + across) (pos 0)) + nat_abs x < 2 ^ 62)
+        × (nat_abs (get_or b'.by_lane.now (to * stride + across) (pos 0)) + nat_abs x < 2 ^ 62)
     bringing_next = let r : from < m = v.walkable.rows at few-steps in
         let r' : to < m = v.walkable.rows (entry way.up at) (omega (arith, falls, few-steps)) in
         let c : across < n = v.walkable.cols at some few-steps in
@@ -214,14 +200,14 @@ module _ {m n s j : ℕ} {way : Way} {b : Bags} (v : Carries m n s j way b)
         omega (arith, v.walkable.rows_high, v.walkable.cols_high, few-small from across r c, few-small to across r' c, small, w.most a, w.most b)
 
     -- One lane more: what the way has moved is a sum over its lanes.
-    pub bringing_on : {b'' : Bags} → BagsShifted from to across x b'.q.now b''.q.now → Follow b' b''
+    pub bringing_on : {b'' : Bags} → BagsShifted from to across x b'.by_lane.now b''.by_lane.now → Follow b' b''
         → Bringing s j way x b (entry way.up at) b''
     bringing_on f g = record {
       steps = suc w.steps;
       climbed = climb_on w.climbed some falls;
       brought = record {
         bags = λ h k hk. joined _ _ _ _ _ _ (f.bags h k hk) (w.brought.bags h k hk) (step h k)
-            (moved_more r c (suc w.steps) (to_z x) (lane_bags b.q.now) h k);
+            (moved_more r c (suc w.steps) (to_z x) (lane_bags b.by_lane.now) h k);
       };
       most = λ l. omega (arith, f.most l, w.most l, small);
       follow = follow-both w.follow g;
@@ -259,16 +245,14 @@ pub record BroughtLeast (d s j : ℕ) (way : Way) (q q' : List ℤ) : Type 0 whe
   pub brought : Brought d s j way (get_or q place (pos 0)) q q'
 
 module _ {m n s j d place : ℕ} {way : Way} {b : Bags} (v : Carries m n s j way b)
-    (r : Rooted (entry way.up) s d) (w : LeastOn d s j way b.q.now place) where
+    (r : Rooted (entry way.up) s d) (w : LeastOn d s j way b.by_lane.now place) where
   inside : (row_of way s w.lane < m) × (col_of way s j w.lane < n)
   inside = way-inside v.walkable r w.lane w.inside
 
-  pub least-inside : place < lane_room
-  least-inside = rw w.is (omega (arith, inside, v.walkable.rows_high, v.walkable.cols_high))
-
-  pub least-few : nat_abs (get_or b.q.now place (pos 0)) ≤ max_bags
+  pub least-few : nat_abs (get_or b.by_lane.now place (pos 0)) ≤ max_bags
   least-few = rw w.is (v.few _ _ inside.0 inside.1)
 
 pub bringing_ends : {s j : ℕ} {way : Way} {x : ℤ} {b : Bags} {at : ℕ} {b' : Bags}
-    → Bringing s j way x b at b' → at ≡ 0 → {d : ℕ} → Rooted (entry way.up) s d → Brought d s j way x b.q.now b'.q.now
+    → Bringing s j way x b at b' → at ≡ 0 → {d : ℕ} → Rooted (entry way.up) s d
+    → Brought d s j way x b.by_lane.now b'.by_lane.now
 bringing_ends w e r = let s = climb_ends w.climbed e r in rw s at w.brought

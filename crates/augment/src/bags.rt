@@ -1,9 +1,9 @@
 // Bags by lane, with masks that say where there are any.
-ghost use Rattle.std.specs.Prelude.{◌≡◌, true, cond, ◌&&◌, ℕ, ◌+◌, ◌*◌, ◌<◌, ◌^◌, eqb, pos, nat_abs, ◌+ℤ◌, length, get_or, set};
+ghost use Rattle.std.specs.Prelude.{◌≡◌, true, cond, ◌&&◌, ℕ, ◌+◌, ◌*◌, ◌<◌, ◌^◌, eqb, pos, nat_abs, length, get_or};
 ghost use Rattle.tree.specs.Layout.{stride, lane_room};
 ghost use Rattle.tree.specs.Mask.{has, put};
 ghost use Rattle.tree.specs.Bits.{Touched};
-ghost use Rattle.augment.specs.Bags.{carries, MaskedBags, Follow, BagsShifted, OnBasics};
+ghost use Rattle.augment.specs.Bags.{carries, MaskedBags, Follow, BagsShifted, OnBasics, added};
 
 use transport::MAX_SIDE;
 use tree::mask::{clear_bit, first_bit, rest, set_bit};
@@ -13,7 +13,7 @@ use tree::{LANES, NODES};
 // each row the columns (`owns`).
 #[derive(Drop)]
 pub struct Bags<'a> {
-    pub q: &'a mut [i64; LANES],
+    pub by_lane: &'a mut [i64; LANES],
     pub holds: [u64; MAX_SIDE],
     pub owns: [u64; MAX_SIDE],
 }
@@ -22,8 +22,8 @@ impl<'a> Bags<'a> {
     // Bags that lie on basic lanes alone, by the masks of basic lanes.
     pub fn on_basics(q: &'a mut [i64; LANES], basic: &[u64; NODES], m: usize) -> Bags<'a>
         requires { (n : ℕ) × OnBasics m n basic.now q.old }
-        ensures same_array { result.q.ghost_name ≡ q.entry.ghost_name }
-        ensures same_bags { result.q.now ≡ q.old }
+        ensures same_array { result.by_lane.ghost_name ≡ q.entry.ghost_name }
+        ensures same_bags { result.by_lane.now ≡ q.old }
         ensures masked { (n : ℕ) → OnBasics m n basic.now q.old → MaskedBags m n result }
     {
         let mut holds = [0; MAX_SIDE];
@@ -33,37 +33,40 @@ impl<'a> Bags<'a> {
             owns[i] = cols;
             hold(&mut holds, cols, i);
         }
-        Bags { q, holds, owns }
-    }
-
-    // Adds x to the bags on lane (i, j); the masks follow.
-    fn add(&mut self, i: usize, j: usize, x: i64)
-        requires q_long { length self.old.q.now ≡ lane_room }
-        requires i_lt_stride { (i < stride) × (j < stride) }
-        requires x_bound { nat_abs (get_or self.old.q.now (i * stride + j) (pos 0)) + nat_abs x < 2 ^ 63 }
-        ensures q_after { let q = self.old.q.now in let l = i * stride + j in
-            self.new.q.now ≡ set q l (get_or q l (pos 0) +ℤ x) }
-        ensures follow { Follow self.old self.new }
-    {
-        let l = i * MAX_SIDE + j;
-        self.q[l] += x;
-        let some = self.q[l] > 0;
-        self.holds[j] = with_bit(self.holds[j], i, some);
-        self.owns[i] = with_bit(self.owns[i], j, some);
+        Bags {
+            by_lane: q,
+            holds,
+            owns,
+        }
     }
 
     // Moves x bags of column j from one row to another.
     pub(crate) fn shift(&mut self, from: usize, to: usize, j: usize, x: i64)
-        requires q_long { length self.old.q.now ≡ lane_room }
-        requires from_lt_stride { (from < stride) × (to < stride) × (j < stride) }
-        requires x_bound { (nat_abs (get_or self.old.q.now (from * stride + j) (pos 0)) + nat_abs x < 2 ^ 62)
-            × (nat_abs (get_or self.old.q.now (to * stride + j) (pos 0)) + nat_abs x < 2 ^ 62) }
-        ensures bags_shifted { BagsShifted from to j x self.old.q.now self.new.q.now }
+        requires inside { (from < stride) × (to < stride) × (j < stride) }
+        requires long { length self.old.by_lane.now ≡ lane_room }
+        requires few { (nat_abs (get_or self.old.by_lane.now (from * stride + j) (pos 0)) + nat_abs x < 2 ^ 62)
+            × (nat_abs (get_or self.old.by_lane.now (to * stride + j) (pos 0)) + nat_abs x < 2 ^ 62) }
+        ensures bags_shifted { BagsShifted from to j x self.old.by_lane.now self.new.by_lane.now }
         ensures follow { Follow self.old self.new }
     {
-        self.add(from, j, -x);
-        self.add(to, j, x);
+        let less = add(self.by_lane, from, j, -x);
+        let more = add(self.by_lane, to, j, x);
+        self.holds[j] = with_bit(with_bit(self.holds[j], from, less), to, more);
+        self.owns[from] = with_bit(self.owns[from], j, less);
+        self.owns[to] = with_bit(self.owns[to], j, more);
     }
+}
+
+// Adds x to the bags on lane (i, j), and says whether there are any then.
+fn add(q: &mut [i64; LANES], i: usize, j: usize, x: i64) -> bool
+    requires inside { (i < stride) × (j < stride) }
+    requires few { nat_abs (get_or q.old (i * stride + j) (pos 0)) + nat_abs x < 2 ^ 63 }
+    ensures sum { q.new ≡ added q.old i j x }
+    ensures some { result ≡ carries q.new i j }
+{
+    let lane = i * MAX_SIDE + j;
+    q[lane] += x;
+    q[lane] > 0
 }
 
 // The mask with bit k in it if `on`, and without it if not.
@@ -95,8 +98,8 @@ fn row_bags(q: &[i64; LANES], basic: u64, i: usize) -> u64
 
 // Puts row i into the masks of the columns `cols`.
 fn hold(holds: &mut [u64; MAX_SIDE], cols: u64, i: usize)
-    requires i_lt_stride { i < stride }
-    requires by_index { (j : ℕ) → has cols j ≡ true → j < stride }
+    requires row_inside { i < stride }
+    requires cols_inside { (j : ℕ) → has cols j ≡ true → j < stride }
     ensures { Touched (λ (y : ℕ). put y i) 0 holds.old cols holds.new }
 {
     let mut left = cols;

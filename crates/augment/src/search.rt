@@ -61,9 +61,9 @@ impl Search {
     // reached, `rows` those of them with bags on a column that is.
     pub fn find_goal(&mut self, bags: &Bags, tight: TightLanes, target: Target) -> Result<Goal, u64>
         requires { (x : ℕ → ℕ → Z) × Sought tight.m tight.n target x tight.rows.now bags.now.holds bags.now.owns }
-        ensures { (x : ℕ → ℕ → Z)
-            → Sought tight.entry.m tight.entry.n target x tight.entry.rows.now bags.now.holds bags.now.owns
-            → Answers tight.entry.m tight.entry.n target x tight.entry.rows.now result self.new.way }
+        ensures { let t = tight.entry in (x : ℕ → ℕ → Z)
+            → Sought t.m t.n target x t.rows.now bags.now.holds bags.now.owns
+            → Answers t.m t.n target x t.rows.now result self.new.way }
     {
         let b = target.col;
         self.way.row[0] = target.row;
@@ -72,6 +72,7 @@ impl Search {
         let mut left = target.later;
         let mut rows = bags.holds[b] & left;
         let mut count = 1;
+        // A while: it ends by the rows that are left; `count` numbers the positions.
         while rows > 0 {
             let i = first_bit(rows);
             let j = first_bit(bags.owns[i] & cols);

@@ -48,10 +48,10 @@ impl Way {
 
     // Moves x bags along the way: at each position from its row to the row above.
     fn bring(&self, bags: &mut Bags, goal: Goal, x: i64)
-        requires by_index { (m : ℕ) × (n : ℕ) × Carries m n goal.position goal.column self.now bags.old }
-        requires x_bound { nat_abs x ≤ max_bags }
-        ensures by_index_2 { (d : ℕ) → Rooted (entry self.now.up) goal.position d
-            → Brought d goal.position goal.column self.now x bags.old.q.now bags.new.q.now }
+        requires way { (m : ℕ) × (n : ℕ) × Carries m n goal.position goal.column self.now bags.old }
+        requires few { nat_abs x ≤ max_bags }
+        ensures brought { (d : ℕ) → Rooted (entry self.now.up) goal.position d
+            → Brought d goal.position goal.column self.now x bags.old.by_lane.now bags.new.by_lane.now }
         ensures follow { Follow bags.old bags.new }
     {
         bags.shift(self.row[0], self.row[goal.position], goal.column, x);
@@ -66,11 +66,11 @@ impl Way {
     // Moves along the way as many bags as each lane has that it takes them from.
     pub fn bring_least(&self, bags: &mut Bags, goal: Goal)
         requires { (m : ℕ) × (n : ℕ) × Carries m n goal.position goal.column self.now bags.old }
-        ensures by_index { (d : ℕ) → Rooted (entry self.now.up) goal.position d
-            → BroughtLeast d goal.position goal.column self.now bags.old.q.now bags.new.q.now }
+        ensures brought { (d : ℕ) → Rooted (entry self.now.up) goal.position d
+            → BroughtLeast d goal.position goal.column self.now bags.old.by_lane.now bags.new.by_lane.now }
         ensures follow { Follow bags.old bags.new }
     {
-        let x = bags.q[self.least_on(bags.q, goal)];
+        let x = bags.by_lane[self.least_on(bags.by_lane, goal)];
         self.bring(bags, goal, x);
     }
 }

@@ -2,7 +2,8 @@
 use Rattle.std.specs.Prelude.{◌+◌, ◌-◌, ◌<◌, ◌≤◌, ◌≡◌, ◌++◌}
 use Rattle.prelude.specs.Words.{ℕ, arith, zero-add, dec_lt, ℕ_discrete, refl, ◌∙◌, by_cases, List, ℤ, pos, nat_abs, length}
 use Rattle.prelude.specs.Words.{get_or, set}
-use Rattle.prelude.specs.Words.{length-set, drop, replicate, length-append, length-replicate, get_or-append, get_or-replicate, get_or-set_same, get_or-set_other, eq-eqb, ne_eqb}
+use Rattle.prelude.specs.Words.{length-set, drop, replicate, length-append, length-replicate, get_or-append}
+use Rattle.prelude.specs.Words.{get_or-replicate, get_or-set_same, get_or-set_other, eq-eqb, ne_eqb}
 use Rattle.std.proofs.lemmas.List.{get_or-append_right}
 use Rattle.transport.specs.Lists.{at}
 use Rattle.transport.specs.Laws.ListLaws.{sum_to_bound, drop-replicate}
@@ -76,9 +77,16 @@ pub record Marked (weight : List ℤ) (k : ℕ) : Type 0 where
 
 pub marked-front : (k : ℕ) → k ≤ node_room → Marked (replicate k (pos 1) ++ drop k (replicate node_room (pos 0))) k
 marked-front k few = let long = length-replicate k (pos 1) in rw (drop-replicate (pos 0) k node_room) (record {
-  long = omega (arith, length-append (replicate k (pos 1)) (replicate (node_room - k) (pos 0)), long, length-replicate (node_room - k) (pos 0));
-  ones = λ i l. get_or-append (replicate k (pos 1)) (replicate (node_room - k) (pos 0)) (pos 0) i (omega arith) ∙ get_or-replicate k i (pos 1) (pos 0) l;
-  none = λ i l. get_or-append_right (replicate k (pos 1)) (replicate (node_room - k) (pos 0)) k i (pos 0) long l ∙ get_or-all (node_room - k) _ (pos 0);
+  long = omega (
+    arith,
+    length-append (replicate k (pos 1)) (replicate (node_room - k) (pos 0)),
+    long,
+    length-replicate (node_room - k) (pos 0),
+  );
+  ones = λ i l. get_or-append (replicate k (pos 1)) (replicate (node_room - k) (pos 0)) (pos 0) i (omega arith)
+      ∙ get_or-replicate k i (pos 1) (pos 0) l;
+  none = λ i l. get_or-append_right (replicate k (pos 1)) (replicate (node_room - k) (pos 0)) k i (pos 0) long l
+      ∙ get_or-all (node_room - k) _ (pos 0);
 })
 
 -- All m marks go to the last column.

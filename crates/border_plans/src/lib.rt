@@ -6,10 +6,11 @@ ghost use Rattle.transport.specs.Sheet.{sheet_of};
 ghost use Rattle.transport.specs.Calls.{lent_after, solve_call};
 ghost use Rattle.transport.specs.PlanText.{write_plan_call};
 ghost use Rattle.border.specs.Border.{solve_out_of, write_out_of};
+ghost use Rattle.border_plans.specs.Crossing.{solved_as};
 
 use border::{SolveOut, WriteOut};
 use border_sheets::write_out;
-use transport::SolveAnswer;
+use transport::{Refusal, SolveAnswer};
 
 pub fn solve_out(
     supply: &[u64],
@@ -26,18 +27,21 @@ pub fn solve_out(
         × (v.new ≡ lent_after (λ s. s.v) a v.old)
         × (plan.new ≡ lent_after (λ s. s.plan) a plan.old) }
 {
-    let answer = solve_call::solve(supply, demand, cost, u, v, plan);
+    solved_out(solve_call::solve(supply, demand, cost, u, v, plan))
+}
+
+// The answer of solve.
+fn solved_out(answer: Result<SolveAnswer, Refusal>) -> SolveOut
+    ensures { result ≡ solved_as answer }
+{
     match answer {
-        SolveAnswer::Solved {
-            cost: total,
-            rounds,
-        } => SolveOut {
+        Ok(SolveAnswer { cost, rounds }) => SolveOut {
             refusal: 0,
-            cost: total,
+            cost,
             rounds,
         },
-        SolveAnswer::Refused(number) => SolveOut {
-            refusal: number,
+        Err(refusal) => SolveOut {
+            refusal: refusal.number(),
             cost: 0,
             rounds: 0,
         },

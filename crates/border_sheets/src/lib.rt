@@ -6,26 +6,25 @@ ghost use Rattle.transport.specs.Sheet.{sheet_of};
 ghost use Rattle.transport.specs.Calls.{lent_after, start_call};
 ghost use Rattle.transport.specs.SheetText.{read_sheet_call, write_sheet_call};
 ghost use Rattle.border.specs.Border.{start_out_of, read_out_of, write_out_of};
-ghost use Rattle.border_sheets.specs.Crossing.{written};
+ghost use Rattle.border_sheets.specs.Crossing.{read_as, written};
 
 use border::{ReadOut, StartOut, WriteOut};
-use transport::{ReadAnswer, StartOutcome, WriteAnswer};
+use dealing::tableau::empty_tableau;
+use transport::{Counts, Refusal};
 
 pub fn start_out(supply: &[u64], demand: &[u64], cost: &[i64]) -> StartOut
     ensures { let S = sheet_of supply.now demand.now cost.now in
         result ≡ start_out_of (start_call S) }
 {
     let answer = start_call::start(supply, demand, cost);
-    let tableau = answer.tableau;
-    let outcome = answer.outcome;
-    match outcome {
-        StartOutcome::Started => StartOut {
+    match answer {
+        Ok(tableau) => StartOut {
             refusal: 0,
             tableau,
         },
-        StartOutcome::Refused(number) => StartOut {
-            refusal: number,
-            tableau,
+        Err(refusal) => StartOut {
+            refusal: refusal.number(),
+            tableau: empty_tableau(),
         },
     }
 }
@@ -37,37 +36,37 @@ pub fn read_out(text: &[u8], supply: &mut [u64], demand: &mut [u64], cost: &mut 
         × (demand.new ≡ lent_after (λ S. S.demand) a demand.old)
         × (cost.new ≡ lent_after (λ S. S.cost) a cost.old) }
 {
-    let answer = sheet_reader::read_sheet(text, supply, demand, cost);
+    counts_out(sheet_reader::read_sheet(text, supply, demand, cost))
+}
+
+// The answer of read sheet.
+fn counts_out(answer: Result<Counts, Refusal>) -> ReadOut
+    ensures { result ≡ read_as answer }
+{
     match answer {
-        ReadAnswer::Sheet { sources, sinks } => ReadOut {
+        Ok(Counts { sources, sinks }) => ReadOut {
             refusal: 0,
             sources,
             sinks,
             place: 0,
         },
-        ReadAnswer::NotSheetText(place) => ReadOut {
-            refusal: 9,
+        Err(refusal) => ReadOut {
+            refusal: refusal.number(),
             sources: 0,
             sinks: 0,
-            place,
-        },
-        ReadAnswer::Refused(number) => ReadOut {
-            refusal: number,
-            sources: 0,
-            sinks: 0,
-            place: 0,
+            place: refusal.place().unwrap_or(0),
         },
     }
 }
 
 // The answer of a writer, also of write plan.
-pub fn write_out(answer: WriteAnswer) -> WriteOut
+pub fn write_out(answer: Result<usize, Refusal>) -> WriteOut
     ensures { result ≡ written answer }
 {
     match answer {
-        WriteAnswer::Written(length) => WriteOut { refusal: 0, length },
-        WriteAnswer::Refused(number) => WriteOut {
-            refusal: number,
+        Ok(length) => WriteOut { refusal: 0, length },
+        Err(refusal) => WriteOut {
+            refusal: refusal.number(),
             length: 0,
         },
     }

@@ -1,6 +1,8 @@
--- The tableau that a lent list of cells is (`Tableau.lent_tableau_of`): how it is put together, and what the calls make of it.
+-- The tableau that a lent list of cells is (`Tableau.lent_tableau_of`): how it is put together, and
+-- what the calls make of it.
 use Rattle.std.specs.Prelude.{◌+◌, ◌-◌, ◌<◌, ◌≤◌, ◌≡◌, ◌&&◌, ◌++◌}
-use Rattle.prelude.specs.Words.{ℕ, arith, dec_lt, dec_le, min, drop, sub-zero, length-take, refl, sym, ap, ◌∙◌, by_cases, Bool, true, false, List}
+use Rattle.prelude.specs.Words.{ℕ, arith, dec_lt, dec_le, min, drop, sub-zero, length-take, refl, sym, ap, ◌∙◌}
+use Rattle.prelude.specs.Words.{by_cases, Bool, true, false, List}
 use Rattle.prelude.specs.Words.{eqb, length, take, length-map, take_all}
 use Rattle.prelude.specs.Words.{take-append_seam, ne_eqb, by_test, clash}
 use Rattle.transport.specs.Lists.{all, padded}

@@ -95,7 +95,8 @@ module _ {first second out held : List ℕ} {n : ℕ} (b : FirstWritten first se
   both-written after e = rw e (front-then first out held n b.ends b.holds second)
 
   -- So both stand there after a call that writes the second.
-  pub both : (k : ℕ) (after : List ℕ) → let rest = mid_of n (length held - n) held in (k ≡ length second) × (after ≡ front second rest)
+  pub both : (k : ℕ) (after : List ℕ) → let rest = mid_of n (length held - n) held in
+      (k ≡ length second) × (after ≡ front second rest)
       → (n + k ≡ length (first ++ second)) × (put_mid n (length held - n) held after ≡ front (first ++ second) out)
   both k after e = (both-length k e.0, both-written after e.1)
 

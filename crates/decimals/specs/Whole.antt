@@ -1,6 +1,7 @@
 -- Whole numbers of 64 bits: their magnitude, and the laws of their digits.
 use Rattle.std.specs.Prelude.{◌≡◌, ◌∷◌, ◌-◌, ◌^◌, ◌≤◌, ◌<◌, ◌-ℤ◌}
-use Rattle.prelude.specs.Words.{refl, sym, ap, ◌∙◌, true, false, true≢false, ℕ, suc, arith, T, ℤ, pos, negsuc, nat_abs, List, [], length, set}
+use Rattle.prelude.specs.Words.{refl, sym, ap, ◌∙◌, true, false, true≢false, ℕ, suc, arith, T, ℤ, pos, negsuc, nat_abs}
+use Rattle.prelude.specs.Words.{List, [], length, set}
 use Rattle.prelude.specs.Words.{lt_z, mag, non_neg, le-ltb, clash}
 use Rattle.std.specs.Int.{w64}
 use Rattle.std.proofs.Common.{to_z, of_z, SFits, to_z-of_z}
@@ -60,22 +61,22 @@ whole_positive (pos n) h = refl
 whole_positive (negsuc n) h = absurd (true≢false h)
 
 -- The same of a number as the code tests it, whose magnitude is n.
-module _ (z : ℤ) (n : ℕ) (fits : SFits w64 z) (is-n : n ≡ nat_abs (to_z w64 (of_z w64 z))) where
+module _ (z : ℤ) (n : ℕ) (fits : SFits w64 z) (is-n : n ≡ nat_abs z) where
   same : to_z w64 (of_z w64 z) ≡ z
   same = to_z-of_z fits
 
   pub text-negative : lt_z (to_z w64 (of_z w64 z)) (pos 0) ≡ true → whole_digits z ≡ 45 ∷ digits n
-  text-negative h = whole-negative z (rw same at h) ∙ ap (λ k. 45 ∷ digits k) (sym (rw same at is-n))
+  text-negative h = whole-negative z (rw same at h) ∙ ap (λ k. 45 ∷ digits k) (sym is-n)
 
   -- The minus is written first, and then the magnitude in what is left of the output.
-  pub minus-written : lt_z (to_z w64 (of_z w64 z)) (pos 0) ≡ true → (out : List ℕ) → length (whole_digits z) ≤ length out
-      → FirstWritten (45 ∷ []) (digits n) out (set out 0 45) 1
+  pub minus-written : lt_z (to_z w64 (of_z w64 z)) (pos 0) ≡ true → (out : List ℕ)
+      → length (whole_digits z) ≤ length out → FirstWritten (45 ∷ []) (digits n) out (set out 0 45) 1
   minus-written h out p =
       let room : length (45 ∷ digits n) ≤ length out = rw (text-negative h) at p in
       record { room = room; ends = refl; holds = front-first out 45 (omega arith) }
 
   pub text_positive : lt_z (to_z w64 (of_z w64 z)) (pos 0) ≡ false → whole_digits z ≡ digits n
-  text_positive h = whole_positive z (rw same at h) ∙ ap digits (sym (rw same at is-n))
+  text_positive h = whole_positive z (rw same at h) ∙ ap digits (sym is-n)
 
 -- A whole number of 64 bits has at most 20 bytes.
 pub whole-few : (z : ℤ) → mag z < 2 ^ 63 → length (whole_digits z) ≤ 20

@@ -3,6 +3,8 @@ use Rattle.std.specs.Prelude.{◌≡◌, ◌++◌, ◌+◌, ◌*◌, ◌-◌, �
 use Rattle.prelude.specs.Words.{refl, ap, Option, none, some, List, flat_map, Memᴰ, ℕ, suc, arith}
 use Rattle.prelude.specs.Words.{mul-le-mul_right, eq-eqb, ℤ, nat_abs, length, take, length-append, length-take}
 use Prim.Native.String.{String}
+use Rattle.transport.specs.declared.Refusal.{Refusal}
+use Rattle.transport.specs.Refusals.{number}
 use Rattle.transport.specs.Lists.{table, below, grid}
 use Rattle.transport.specs.Laws.ListLaws.{length-table, table-member, flat_map-member, keep-member}
 use Rattle.transport.specs.Limits.{max_side, max_amount, max_cells, max_text, max_plan_text, cost_above}
@@ -193,9 +195,9 @@ printed-length input = go (sheet_reader text) refl
     text : List ℕ
     text = take (suc max_text) input
 
-    of_sheet : (S : Sheet) → (o : Option ℕ) → refusal (sheet_tests S) ≡ o → length (sheet_shown S) ≤ max_plan_text
+    of_sheet : (S : Sheet) → (o : Option Refusal) → refusal (sheet_tests S) ≡ o → length (sheet_shown S) ≤ max_plan_text
     of_sheet S none e = rw (shown-plan S e) (plan-length S e)
-    of_sheet S (some k) e = rw (shown-refusal S k e) (omega (arith, refused-length k (check-number S k e).0))
+    of_sheet S (some r) e = rw (shown-refusal S r e) (omega (arith, refused-length (number r) (check-number S r e).0))
 
     go : (o : Reading Sheet) → sheet_reader text ≡ o → length (printed input) ≤ max_plan_text
     go (stuck rest) e =

@@ -12,18 +12,12 @@ ghost use Rattle.display.specs.Shown.{sheet_shown};
 
 use plan_text::write_plan;
 use sections::section;
-use sheet_reader::whole_text::{Counts, read_sections};
+use sheet_reader::whole_text::read_sections;
 use tokens::Stuck;
-use transport::{MAX_LANES, MAX_SIDE, MAX_TEXT, WriteAnswer};
+use transport::{Counts, MAX_LANES, MAX_SIDE, MAX_TEXT, Refusal};
 
 // How many bytes of an input are read: at most one more than the longest sheet text has.
 pub const MAX_READ: usize = MAX_TEXT + 1;
-
-fn bytes_read(len: usize) -> usize
-    ensures { result ≡ min len (suc max_text) }
-{
-    if len < MAX_READ { len } else { MAX_READ }
-}
 
 // The line of a refusal, its words and then a number, if the output has room for it; else nothing.
 fn show_refusal(words: &[u8], number: usize, out: &mut [u8]) -> usize
@@ -43,21 +37,17 @@ fn show_plan(supply: &[u64], demand: &[u64], cost: &[i64], out: &mut [u8]) -> us
         let text = fitting (length out.old) (sheet_shown S) in
         (result ≡ length text) × (out.new ≡ front text out.old) }
 {
-    let answer = write_plan(supply, demand, cost, out);
-    match answer {
-        WriteAnswer::Written(len) => len,
-        WriteAnswer::Refused(number) => {
-            // The plan text is longer than the output.
-            if number == 8 {
-                return 0;
-            }
-            show_refusal(b"refused ", number as usize, out)
-        }
+    match write_plan(supply, demand, cost, out) {
+        Ok(len) => len,
+        // The plan text is longer than the output.
+        Err(Refusal::TooShort) => 0,
+        Err(refusal) => show_refusal(b"refused ", refusal.number() as usize, out),
     }
 }
 
-// Shows, for what stands on the input, the plan text, `refused N`, or `refused 9 P` with the place P, and LF, and gives its length. If the output is too
-// short for it, the length is 0 and the output is as it was; MAX_PLAN_TEXT bytes are always enough.
+// Shows, for what stands on the input, the plan text, `refused N`, or `refused 9 P` with the place
+// P, and LF, and gives its length. If the output is too short for it, the length is 0 and the
+// output is as it was; MAX_PLAN_TEXT bytes are always enough.
 #[tactic(auto, unfolding(transport::specs::Limits::max_sources, transport::specs::Limits::max_sinks))]
 pub fn show(input: &[u8], out: &mut [u8]) -> usize
     ensures { let text = shown input.now (length out.old) in
@@ -66,7 +56,7 @@ pub fn show(input: &[u8], out: &mut [u8]) -> usize
     let mut supply = [0u64; MAX_SIDE];
     let mut demand = [0u64; MAX_SIDE];
     let mut cost = [0i64; MAX_LANES];
-    let end = bytes_read(input.len());
+    let end = input.len().min(MAX_READ);
     match read_sections(&input[..end], &mut supply, &mut demand, &mut cost) {
         Ok(Counts { sources, sinks }) => {
             let lanes = sources * sinks;

@@ -1,4 +1,4 @@
--- Where the rounds of an edit begin, laid out over the arrays.
+-- Where the rounds of an edit begin, laid out on the board.
 use Rattle.std.specs.Prelude.{◌≡◌, ◌≤◌}
 use Rattle.prelude.specs.Words.{ap, ◌∙◌, List, ℕ, arith, ℤ, pos, nat_abs, length, take, set}
 use Rattle.prelude.specs.Words.{get_or-set_same}
@@ -17,6 +17,7 @@ use Rattle.transport.specs.Laws.PartiesLaws.{left_at}
 use Rattle.transport.specs.Laws.RangeLaws.{abs_between}
 use Rattle.transport.specs.Laws.Sound.{sources-room, sinks-room}
 use Rattle.parties.specs.declared.Parties.{Parties}
+use Rattle.board.specs.declared.Board.{Board}
 use Rattle.numbering.specs.Numbers.{left_growing}
 use Rattle.cost_grid.specs.Costs.{Spread}
 use Rattle.loading.specs.Loading.{Admitted, admitted_respread}
@@ -25,9 +26,8 @@ use Rattle.edit_steps.specs.Edits.{begins-kept, begins_afresh}
 use Rattle.edit_steps.specs.Respread.{Respreadable}
 
 module _ {S : Sheet} {e : Edit} {supply demand : List ℕ} {cost : List ℤ} (w : EditOf S e supply demand cost)
-    (ok : Accepted (sheet_of supply demand cost)) {T : List Cell} {p : Parties} {rows cols : List ℕ}
-    {q g spread : List ℤ}
-    {leaf other tree : List ℕ} (a : Admitted S T p rows cols q g spread leaf other tree) where
+    (ok : Accepted (sheet_of supply demand cost)) {T : List Cell} {p : Parties} {b : Board}
+    {spread : List ℤ} (a : Admitted S T p b spread) where
   -- A new cost is within the limits, and can be put among the costs that are spread.
   module _ {c : ℤ} (is : e.change ≡ Change.Cost c) where
     new-small : nat_abs c ≤ max_cost
@@ -38,7 +38,7 @@ module _ {S : Sheet} {e : Edit} {supply demand : List ℕ} {cost : List ℤ} (w 
         ∙ get_or-set_same S.cost l c (pos 0) (lane-placed w) in
         rw (← here) (abs_between (ok.limits.cost_low l) (ok.limits.cost_high l))
 
-    pub respreadable : Respreadable S.cost (cafes S) (take p.rows rows) (take p.cafes cols) e.row e.col c
+    pub respreadable : Respreadable S.cost (cafes S) (take p.rows p.row_numbers) (take p.cafes p.column_numbers) e.row e.col c
     unfolding roasteries cafes rows_left_of extended
     respreadable =
         let limits = w.accepted.limits in
@@ -54,23 +54,19 @@ module _ {S : Sheet} {e : Edit} {supply demand : List ℕ} {cost : List ℤ} (w 
 
     -- The rounds go on from T.
     pub admitted_kept : {new : List ℤ}
-        → Spread (set S.cost (place (cafes S) e.row e.col) c) (cafes S) (take p.rows rows)
-        (take p.cafes cols) new
-        → Admitted (sheet_of supply demand cost) (beginning e.change (sheet_of supply demand cost) T) p rows cols
-        q g new
-        leaf other tree
+        → Spread (set S.cost (place (cafes S) e.row e.col) c) (cafes S) (take p.rows p.row_numbers)
+        (take p.cafes p.column_numbers) new
+        → Admitted (sheet_of supply demand cost) (beginning e.change (sheet_of supply demand cost) T) p b new
     unfolding cafes
     admitted_kept {new} respread =
-        let kept : Admitted (sheet_of supply demand S.cost) T p rows cols q g spread leaf other tree =
+        let kept : Admitted (sheet_of supply demand S.cost) T p b spread =
         rw (same-supply w is, same-demand w is) a in
-        let put : Spread cost (length demand) (take p.rows rows) (take p.cafes cols) new =
+        let put : Spread cost (length demand) (take p.rows p.row_numbers) (take p.cafes p.column_numbers) new =
         rw (new-cost w is, same-demand w is) respread in
         rw (begins-kept (sheet_of supply demand cost) T is) (admitted_respread ok kept put)
 
 -- New amounts begin with the start.
-pub admitted_afresh : (e : Edit) {s d : ℕ} {S : Sheet} (T : List Cell) {p : Parties} {rows cols : List ℕ}
-    {q g cost : List ℤ}
-    {leaf other tree : List ℕ} → e.change ≡ Change.Amounts s d
-    → Admitted S (start (problem_of S)) p rows cols q g cost leaf other tree
-    → Admitted S (beginning e.change S T) p rows cols q g cost leaf other tree
+pub admitted_afresh : (e : Edit) {s d : ℕ} {S : Sheet} (T : List Cell) {p : Parties} {b : Board} {cost : List ℤ}
+    → e.change ≡ Change.Amounts s d → Admitted S (start (problem_of S)) p b cost
+    → Admitted S (beginning e.change S T) p b cost
 admitted_afresh e {S = S} T is a = rw (begins_afresh S T is) a

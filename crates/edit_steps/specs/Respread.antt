@@ -3,7 +3,7 @@
 use Rattle.std.specs.Prelude.{◌≡◌, ◌&&◌, ◌+◌, ◌*◌, ◌≤◌, ◌<◌}
 use Rattle.prelude.specs.Words.{sym, ap, ◌∙◌, by_cases, true, eqb, eqb-true, List, ℕ}
 use Rattle.prelude.specs.Words.{arith, Dec-and, ℕ_discrete}
-use Rattle.prelude.specs.Words.{ℤ, pos, nat_abs, length, get_or, set, take, length-set, get_or-set_same, get_or-set_other}
+use Rattle.prelude.specs.Words.{ℤ, pos, nat_abs, length, get_or, set, take, length-set, length-take-le, get_or-set_same, get_or-set_other}
 use Rattle.transport.specs.Limits.{max_side, max_cost}
 use Rattle.transport.specs.Lists.{at, at_z}
 use Rattle.transport.specs.Problem.{place}
@@ -16,7 +16,7 @@ use Rattle.transport.specs.Laws.ListLaws.{and_left, and_right}
 use Rattle.transport.specs.Laws.ProblemLaws.{place_injective}
 use Rattle.transport.specs.Laws.PartiesLaws.{left-whole}
 use Rattle.parties.specs.declared.Parties.{Parties}
-use Rattle.parties.specs.Parties.{PartiesOf, cafes-lent}
+use Rattle.parties.specs.Parties.{PartiesOf}
 use Rattle.tree.specs.Layout.{stride, stride-is}
 use Rattle.numbering.specs.Numbers.{Growing, number_in, number_in-at, number_in-found}
 use Rattle.cost_grid.specs.Costs.{Spread}
@@ -106,7 +106,8 @@ module _ {cost : List ℤ} {cafes : ℕ} {rows cols : List ℕ} {row col : ℕ} 
       omega (arith, found, g.growing_cols.few))
 
   pub respread_found : {i j : ℕ} {x : ℤ} → (i < length rows) × (i ≡ number_in rows row)
-      → (j < length cols) × (j ≡ number_in cols col) → x ≡ c → Spread (set cost (place cafes row col) c) cafes rows cols (set out (j * stride + i) x)
+      → (j < length cols) × (j ≡ number_in cols col) → x ≡ c
+      → Spread (set cost (place cafes row col) c) cafes rows cols (set out (j * stride + i) x)
   respread_found {i} {j} (below_i, at_i) (below_j, at_j) is =
       let (_, is_row) = number_in-found rows row (λ e. omega (arith, at_i, e, g.growing_rows.few)) in
       let (_, is-col) = number_in-found cols col (λ e. omega (arith, at_j, e, g.growing_cols.few)) in
@@ -130,6 +131,11 @@ SpreadBefore S before out =
     → AllLeft (roasteries S) (cafes S) (length (left S.supply)) (length (left S.demand))
     → Spread S.cost (cafes S) (left S.supply) (left S.demand) out
 
+-- The cafés left are counted.
+pub cafes-left : {S : Sheet} {p : Parties} → PartiesOf S p → p.cafes ≡ length (left S.demand)
+cafes-left {p = p} h =
+    sym (length-take-le p.cafes p.column_numbers (omega (arith, p.in_room.1, p.in_room.2))) ∙ ap length h.cafe_numbers
+
 -- Lists of parties that are as long and have the same own numbers.
 spread-alike : {cost : List ℤ} {cafes : ℕ} {rows cols rows' cols' : List ℕ} {out : List ℤ}
     → length rows' ≡ length rows → length cols' ≡ length cols
@@ -145,19 +151,16 @@ spread-alike m n r k w = record {
 -- Where nobody is struck, each own number is the number, so that they are the same before and
 -- after.
 pub spread-before : {S : Sheet} {e : Edit} {supply demand : List ℕ} {cost : List ℤ} → EditOf S e supply demand cost
-    → {s d : ℕ} → e.change ≡ Change.Amounts s d → {p : Parties} {supplies demands rows cols : List ℕ} {out : List ℤ}
-    → PartiesOf S p supplies demands rows cols
-    → Spread S.cost (cafes S) (take p.rows rows) (take p.cafes cols) out
+    → {s d : ℕ} → e.change ≡ Change.Amounts s d → {p : Parties} {out : List ℤ} → PartiesOf S p
+    → Spread S.cost (cafes S) (take p.rows p.row_numbers) (take p.cafes p.column_numbers) out
     → SpreadBefore (sheet_of supply demand cost) p out
 unfolding roasteries cafes rows_left_of extended
 spread-before {S} {supply = supply} {demand} {cost} edits is {p} h w (m, n) (m', n') =
     let same-m = same-roasteries edits is in
     let same-n = same-cafes edits is in
-    let old : Spread S.cost (length S.demand) (left S.supply) (left S.demand) _ =
-    rw (h.row_numbers, h.cafe_numbers) at w in
+    let old : Spread S.cost (length S.demand) (left S.supply) (left S.demand) _ = rw (h.row_numbers, h.cafe_numbers) at w in
     let rows : length (left S.supply) ≡ length S.supply = omega (arith, h.row_count_of, m, same-m) in
-    let cols : length (left S.demand) ≡ length S.demand =
-    sym (cafes-lent h ∙ ap length h.cafe_numbers) ∙ n ∙ same-n in
+    let cols : length (left S.demand) ≡ length S.demand = sym (cafes-left h) ∙ n ∙ same-n in
     rw (same-costs edits is, same-n) (spread-alike
     (m' ∙ same-m ∙ sym rows) (n' ∙ same-n ∙ sym cols)
     (λ i l. left-whole supply m' i (omega arith) ∙ sym (left-whole S.supply rows i l))

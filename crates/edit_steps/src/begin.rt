@@ -1,5 +1,5 @@
-// Where the rounds of an edit begin, laid out over the arrays.
-ghost use Rattle.std.specs.Prelude.{◌≡◌, ◌&&◌, List, ℕ, ◌≤◌, eqb, ℤ, nat_abs, length, set};
+// Where the rounds of an edit begin, laid out on the board.
+ghost use Rattle.std.specs.Prelude.{◌≡◌, ◌&&◌, List, ℕ, ◌≤◌, eqb, ℤ, nat_abs, length, set, take};
 ghost use Rattle.transport.specs.Limits.{max_cost};
 ghost use Rattle.transport.specs.Problem.{place};
 ghost use Rattle.transport.specs.Parties.{problem_of};
@@ -14,14 +14,14 @@ ghost use Rattle.loading.specs.Loading.{Admitted};
 ghost use Rattle.edit_steps.specs.Edits.{EditOf, beginning};
 ghost use Rattle.edit_steps.specs.Respread.{Respreadable, AllLeft, SpreadBefore};
 
+use board::Board;
 use board::spread::lay_out;
 use cost_grid::spread_costs;
-use loading::Loading;
 use numbering::number_in;
 use parties::Parties;
 use solving::begin::deal_sheet;
 use transport::{Change, Edit, MAX_SIDE};
-use tree::{LANES, NODES, Price};
+use tree::{LANES, Price};
 
 // Puts the new cost of one lane among the costs that are spread by column. `rows` and `cols` have
 // the own numbers of the parties left; a struck party has no lane there.
@@ -49,13 +49,10 @@ fn respread_lane(
 }
 
 // Whether so many parties are left of m roasteries and n cafés that nobody is struck.
-fn all_left(rows: usize, cafes: usize, m: usize, n: usize) -> bool
-    ensures { result ≡ eqb rows m && eqb cafes n }
+fn all_left(parties: &Parties, m: usize, n: usize) -> bool
+    ensures { result ≡ eqb parties.now.rows m && eqb parties.now.cafes n }
 {
-    if rows != m {
-        return false;
-    }
-    cafes == n
+    parties.rows == m && parties.cafes == n
 }
 
 // Spreads the costs of m roasteries and n cafés for those left, where before other parties were
@@ -64,111 +61,84 @@ fn respread(
     cost: &[i64],
     m: usize,
     n: usize,
-    before: Parties,
-    rows: &[usize],
-    cols: &[usize],
+    before: &Parties,
+    parties: &Parties,
     spread: &mut [Price; LANES],
 )
-    requires { Spreadable cost.now n rows.now cols.now }
-    ensures { let Right = Spread cost.now n rows.now cols.now in
-        ((AllLeft m n before.rows before.cafes
-        → AllLeft m n (length rows.now) (length cols.now)
-        → Right spread.old)
+    requires { Spreadable cost.now n (take parties.now.rows parties.now.row_numbers)
+        (take parties.now.cafes parties.now.column_numbers) }
+    ensures { let p = parties.now in
+        let Right = Spread cost.now n (take p.rows p.row_numbers) (take p.cafes p.column_numbers) in
+        ((AllLeft m n before.now.rows before.now.cafes → AllLeft m n p.rows p.cafes → Right spread.old)
         → Right spread.new) }
 {
-    if all_left(before.rows, before.cafes, m, n) {
-        if all_left(rows.len(), cols.len(), m, n) {
-            return;
-        }
+    if all_left(before, m, n) && all_left(parties, m, n) {
+        return;
     }
-    spread_costs(cost, n, rows, cols, spread);
+    spread_costs(
+        cost,
+        n,
+        parties.row_numbers(),
+        parties.cafe_numbers(),
+        spread,
+    );
 }
 
-// Lays out the first tableau of a sheet that has new amounts, over the arrays of the sheet before.
-// Of that sheet these parties were left.
+// Lays out the first tableau of a sheet that has new amounts, on the board of the sheet before. Of
+// that sheet these parties were left.
 fn begin_afresh(
     supply: &[u64],
     demand: &[u64],
     cost: &[i64],
-    before: Parties,
-    q: &mut [i64; LANES],
-    e: &mut [i64; LANES],
+    before: &Parties,
+    board: &mut Board,
     spread: &mut [Price; LANES],
-    leaf: &mut [usize; NODES],
-    other: &mut [usize; NODES],
-    lane: &mut [usize; NODES],
-) -> Loading
+) -> Parties
     requires { Accepted (sheet_of supply.now demand.now cost.now) }
     ensures { let S = sheet_of supply.now demand.now cost.now in
-        (SpreadBefore S before spread.old
-        → Admitted S (start (problem_of S)) result.parties result.rows result.cols q.new e.new
-        spread.new leaf.new other.new lane.new) }
+        (SpreadBefore S before.now spread.old → Admitted S (start (problem_of S)) result board.new spread.new) }
 {
     let first = deal_sheet(supply, demand);
-    let begun = first.loading;
-    let rows = begun.rows;
-    let cols = begun.cols;
-    let m = begun.parties.rows;
-    let n = begun.parties.columns;
-    let served = begun.parties.cafes;
-    respread(
-        cost,
-        supply.len(),
-        demand.len(),
-        before,
-        &rows[..m],
-        &cols[..served],
-        spread,
-    );
-    *q = [0; LANES];
-    *e = [0; LANES];
-    *leaf = [0; NODES];
-    *other = [0; NODES];
-    *lane = [0; NODES];
-    let tableau = first.tableau;
-    lay_out(tableau, m, n, q, e, leaf, other, lane);
-    begun
+    let parties = first.parties;
+    respread(cost, supply.len(), demand.len(), before, &parties, spread);
+    board.amounts.q = [0; LANES];
+    board.amounts.e = [0; LANES];
+    lay_out(first.tableau, parties.rows, parties.columns, board);
+    parties
 }
 
-// Lays out the tableau on which the rounds of an edit begin. The lists are those of the edited
-// sheet, and the arrays hold the tableau of the sheet before. A new cost goes on from it, and new
-// amounts begin afresh.
+// Lays out the tableau on which the rounds of an edit begin: its parties. The lists are those of
+// the edited sheet, and the board holds the tableau of the sheet before, with these parties. A new
+// cost goes on from it, and new amounts begin afresh.
 pub fn begin_edit(
     supply: &[u64],
     demand: &[u64],
     cost: &[i64],
     edit: Edit,
-    loaded: Loading,
-    q: &mut [i64; LANES],
-    e: &mut [i64; LANES],
+    parties: Parties,
+    board: &mut Board,
     spread: &mut [Price; LANES],
-    leaf: &mut [usize; NODES],
-    other: &mut [usize; NODES],
-    lane: &mut [usize; NODES],
-) -> Loading
+) -> Parties
     requires accepted { Accepted (sheet_of supply.now demand.now cost.now) }
     requires edit_of { (S : Sheet) × (T : List Cell) × EditOf S edit supply.now demand.now cost.now
-        × Admitted S T loaded.parties loaded.rows loaded.cols q.old e.old spread.old leaf.old
-        other.old
-        lane.old }
+        × Admitted S T parties board.old spread.old }
     ensures { let S' = sheet_of supply.now demand.now cost.now in
         ((S : Sheet) (T : List Cell) → EditOf S edit supply.now demand.now cost.now
-        → Admitted S T loaded.parties loaded.rows loaded.cols q.old e.old
-        spread.old leaf.old other.old lane.old
-        → Admitted S' (beginning edit.change S' T) result.parties result.rows result.cols q.new e.new
-        spread.new leaf.new other.new lane.new) }
+        → Admitted S T parties board.old spread.old
+        → Admitted S' (beginning edit.change S' T) result board.new spread.new) }
 {
-    let change = edit.change;
-    let parties = loaded.parties;
-    if let Change::Cost(c) = change {
-        let rows = loaded.rows;
-        let cols = loaded.cols;
-        let m = parties.rows;
-        let served = parties.cafes;
-        respread_lane(edit.row, edit.col, c, &rows[..m], &cols[..served], spread);
-        return loaded;
+    match edit.change {
+        Change::Cost(c) => {
+            respread_lane(
+                edit.row,
+                edit.col,
+                c,
+                parties.row_numbers(),
+                parties.cafe_numbers(),
+                spread,
+            );
+            parties
+        }
+        Change::Amounts { .. } => begin_afresh(supply, demand, cost, &parties, board, spread),
     }
-    begin_afresh(
-        supply, demand, cost, parties, q, e, spread, leaf, other, lane,
-    )
 }

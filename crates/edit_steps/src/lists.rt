@@ -6,20 +6,14 @@ ghost use Rattle.transport.specs.Standing.{edited, max_counter};
 ghost use Rattle.sheet.specs.Check.{check_answer};
 ghost use Rattle.edit_steps.specs.Edits.{Editable, EditOf};
 
-use sheet::SheetCheck;
-use transport::{Change, Edit, MAX_COUNTER};
+use transport::{Change, Edit, MAX_COUNTER, Refusal};
 
 // Whether an edit names a roastery and a café of a sheet of m and n, and can be counted.
+#[tactic(auto, unfolding(transport::specs::Standing::max_counter))]
 pub fn may_edit(m: usize, n: usize, row: usize, col: usize, counter: u64) -> bool
     ensures { result ≡ ltb row m && ltb col n && not (eqb counter max_counter) }
 {
-    if row >= m {
-        return false;
-    }
-    if col >= n {
-        return false;
-    }
-    counter != MAX_COUNTER
+    row < m && col < n && counter != MAX_COUNTER
 }
 
 // Sets in the lists of a sheet what the edit says. Gives the edit that takes it back.
@@ -31,19 +25,13 @@ pub fn set_lists(e: Edit, supply: &mut [u64], demand: &mut [u64], cost: &mut [i6
         × (result.row ≡ e.row)
         × (result.col ≡ e.col) }
 {
-    let row = e.row;
-    let col = e.col;
-    let change = e.change;
-    match change {
+    let Edit { row, col, change } = e;
+    let before = match change {
         Change::Cost(c) => {
             let l = row * demand.len() + col;
             let old = cost[l];
             cost[l] = c;
-            Edit {
-                row,
-                col,
-                change: Change::Cost(old),
-            }
+            Change::Cost(old)
         }
         Change::Amounts {
             supply: s,
@@ -53,30 +41,30 @@ pub fn set_lists(e: Edit, supply: &mut [u64], demand: &mut [u64], cost: &mut [i6
             let old_demand = demand[col];
             supply[row] = s;
             demand[col] = d;
-            Edit {
-                row,
-                col,
-                change: Change::Amounts {
-                    supply: old_supply,
-                    demand: old_demand,
-                },
+            Change::Amounts {
+                supply: old_supply,
+                demand: old_demand,
             }
         }
+    };
+    Edit {
+        row,
+        col,
+        change: before,
     }
 }
 
 // The sheet check of an edited sheet. What the edit leaves alone has passed.
-pub fn check_edited(supply: &[u64], demand: &[u64], cost: &[i64], edit: Edit) -> SheetCheck
+pub fn check_edited(supply: &[u64], demand: &[u64], cost: &[i64], edit: Edit) -> Result<(), Refusal>
     requires { (S : Sheet) × EditOf S edit supply.now demand.now cost.now }
     ensures { let S = sheet_of supply.now demand.now cost.now in
         result ≡ check_answer (refusal (sheet_tests S)) }
 {
-    let change = edit.change;
-    if let Change::Cost(_) = change {
-        let new = edit.row * demand.len() + edit.col;
-        let end = new + 1;
-        return sheet::check_numbers(supply, demand, &cost[new..end]);
+    match edit.change {
+        Change::Cost(_) => {
+            let new = edit.row * demand.len() + edit.col;
+            sheet::check_numbers(supply, demand, &cost[new..new + 1])
+        }
+        Change::Amounts { .. } => sheet::check_numbers(supply, demand, &[]),
     }
-    let untested = 0;
-    sheet::check_numbers(supply, demand, &cost[..untested])
 }

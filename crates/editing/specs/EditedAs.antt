@@ -1,37 +1,34 @@
 -- An edit of a standing sheet, case by case: what it refuses and what it gives.
-use Rattle.std.specs.Prelude.{◌≡◌, ◌&&◌, ◌||◌, ◌+◌}
-use Rattle.prelude.specs.Words.{refl, sym, ap, subst, ◌∙◌, Bool, true, false, not, List, none, some}
-use Rattle.prelude.specs.Words.{by_option}
-use Rattle.prelude.specs.Words.{ℕ, arith, ltb, eqb, add-one, ℤ, length, some≢none}
+use Rattle.std.specs.Prelude.{Ok, Err, MatchResult, is_err, ◌≡◌, ◌&&◌, ◌||◌, ◌+◌}
+use Rattle.std.specs.declared.result.Result.{Result}
+use Rattle.std.proofs.lemmas.Result.{MatchResult-from_err}
+use Rattle.prelude.specs.Words.{refl, ap, subst, ◌∙◌, Bool, true, false, true≢false, not, List, some}
+use Rattle.prelude.specs.Words.{ℕ, ltb, eqb, add-one, ℤ, length}
 use Rattle.transport.specs.declared.Cell.{Cell}
 use Rattle.transport.specs.declared.Edit.{Edit}
-use Rattle.transport.specs.declared.SolveAnswer.{SolveAnswer}
-use Rattle.transport.specs.declared.SolveAnswer.TheVariants.{Solved, Refused}
-use Rattle.transport.specs.declared.Tableau.{Tableau}
+use Rattle.transport.specs.declared.Refusal.{Refusal}
 use Rattle.transport.specs.Sheet.{Sheet, roasteries, cafes, refusal}
-use Rattle.transport.specs.Calls.{refused_by, unless, inside, Solution, solution_from, solve_tests}
+use Rattle.transport.specs.Calls.{unless, inside, solution_from, solve_tests}
 use Rattle.transport.specs.Standing.{edited, Standing, Passes, standing_tests, max_counter, bad_edit, edit_tests, edit_from}
 use Rattle.transport.specs.Standing.{edit_call, carried_out}
-use Rattle.transport.specs.Answers.{solve_answer}
 use Rattle.transport.specs.Laws.SheetLaws.{refusal_yes, refusal_no, refusal-pass, refusal-stands}
-use Rattle.transport.specs.Laws.CallLaws.{unless-given, unless-refused}
+use Rattle.transport.specs.Laws.CallLaws.{unless-refused}
 use Rattle.solving.specs.Told.{Told, told-refused, told-by}
 use Rattle.edit_steps.specs.Edits.{beginning, may}
-use Rattle.editing.specs.SolvedAs.{SolvedAs}
+use Rattle.editing.specs.declared.solve.Edited.{Edited}
+use Rattle.editing.specs.SolvedAs.{SolvedAs, answer_of}
 
--- An edit of the standing sheet St: the answer, and what the lent lists then hold. S' and `last`
--- are the sheet and the tableau that then stand: those of St if the edit is refused, or else the
--- edited sheet, counted, and its finished tableau.
-pub record EditedAs (St : Standing) (e : Edit) (answer : SolveAnswer) (S' : Sheet) (last : Tableau) (u u' v v' : List ℤ)
-    (plan plan' : List ℕ) : Type 0 where
-  pub told : Told (edit_call St e (length u) (length v) (length plan)) answer u u' v v' plan plan'
-  pub kept : (k : ℕ) → refusal (edit_tests St e (length u) (length v) (length plan)) ≡ some k
-      → (S' ≡ St.sheet) × (last ≡ St.tableau)
-  pub stands : refusal (edit_tests St e (length u) (length v) (length plan)) ≡ none
-      → record { sheet = S'; tableau = last; counter = St.counter + 1 } ≡ carried_out St e
+-- An edit of the standing sheet St: the answer, and what the lent lists then hold. S' is the sheet
+-- that then stands: that of St if the edit is refused, or else the edited sheet, counted, with its
+-- finished tableau.
+pub record EditedAs (St : Standing) (e : Edit) (r : Result Edited Refusal) (S' : Sheet) (u u' v v' : List ℤ) (plan plan' : List ℕ) : Type 0 where
+  pub told : Told (edit_call St e (length u) (length v) (length plan)) (answer_of r) u u' v v' plan plan'
+  pub stands : MatchResult r
+      (λ done. record { sheet = S'; tableau = done.tableau; counter = St.counter + 1 } ≡ carried_out St e)
+      (λ k. S' ≡ St.sheet)
 
 -- Two lists of tests that refuse alike.
-unless-alike : {A : Type 0} (ts us : List (Bool × ℕ)) (x : A) → refusal ts ≡ refusal us → unless ts x ≡ unless us x
+unless-alike : {A : Type 0} (ts us : List (Bool × Refusal)) (x : A) → refusal ts ≡ refusal us → unless ts x ≡ unless us x
 unfolding unless
 unless-alike ts us x e = rw (e, unless)
 
@@ -43,25 +40,10 @@ not-and true false false = refl
 not-and false b true = refl
 not-and false b false = refl
 
--- An answer shows which of the two it is.
-module _ (tests : List (Bool × ℕ)) (x : Solution) where
-  answer-refused : (k : ℕ) → Refused k ≡ solve_answer (unless tests x) → refusal tests ≡ some k
-  unfolding solve_answer refused_by
-  answer-refused k e = by_option (refusal tests)
-      (λ n.
-      let clash = e ∙ ap solve_answer (unless-given tests x n) in
-      let z : ◌≡◌ {A = ℕ} 0 1 = cc in absurd (omega arith))
-      (λ j h.
-      let same = e ∙ ap solve_answer (unless-refused tests x j h) in
-      let z : k ≡ j = cc in h ∙ ap some (sym z))
-
-  pub answer-solved : {cost : ℤ} {rounds : ℕ} → Solved cost rounds ≡ solve_answer (unless tests x) → refusal tests ≡ none
-  unfolding solve_answer refused_by
-  answer-solved e = by_option (refusal tests)
-      (λ n. n)
-      (λ j h.
-      let clash = e ∙ ap solve_answer (unless-refused tests x j h) in
-      let z : ◌≡◌ {A = ℕ} 0 1 = cc in absurd (omega arith))
+-- What is no refusal is an edit that is made.
+made_of : (r : Result Edited Refusal) → is_err r ≡ false → (d : Edited) × (r ≡ Ok d)
+made_of (Ok d) e = (d, refl)
+made_of (Err k) e = absurd (true≢false e)
 
 module _ (St : Standing) (e : Edit) (u v : List ℤ) (plan : List ℕ) where
   abbrev S : Sheet
@@ -74,77 +56,59 @@ module _ (St : Standing) (e : Edit) (u v : List ℤ) (plan : List ℕ) where
   unfolding bad_edit
   bad_is = not-and (ltb e.row (roasteries S)) (ltb e.col (cafes S)) (eqb St.counter max_counter)
 
-  abbrev tests : List (Bool × ℕ)
+  abbrev tests : List (Bool × Refusal)
   tests = edit_tests St e (length u) (length v) (length plan)
 
-  edit_refused : {answer : SolveAnswer} {last : Tableau} (k : ℕ) → refusal tests ≡ some k
-      → (answer ≡ Refused k) × (last ≡ St.tableau)
-      → EditedAs St e answer S last u u v v plan plan
+  edit_refused : (k : Refusal) → refusal tests ≡ some k → EditedAs St e (Err k) S u u v v plan plan
   unfolding edit_call
-  edit_refused k r (is, same) = rw is (record {
+  edit_refused k r = record {
     told = told-refused (unless-refused tests (solution_from (edited S e) (edit_from St e)) k r);
-    kept = λ j h. (refl, same);
-    stands = λ n. absurd (some≢none (sym r ∙ n));
-  })
+    stands = refl;
+  }
 
   -- The first check ..
-  pub edit_early : {answer : SolveAnswer} {last : Tableau} (k : ℕ) → refusal (standing_tests St) ≡ some k
-      → (answer ≡ Refused k) × (last ≡ St.tableau) → EditedAs St e answer S last u u v v plan plan
+  pub edit_early : (k : Refusal) → refusal (standing_tests St) ≡ some k → EditedAs St e (Err k) S u u v v plan plan
   unfolding edit_tests
   edit_early k f = edit_refused k (refusal-stands (standing_tests St) _ k f)
 
   module _ (w : Passes St) where
-    -- .. then 12 ..
-    pub edit_unknown : {answer : SolveAnswer} {last : Tableau} → known ≡ false
-        → (answer ≡ Refused 12) × (last ≡ St.tableau) → EditedAs St e answer S last u u v v plan plan
+    -- .. then a bad edit ..
+    pub edit_unknown : known ≡ false → EditedAs St e (Err Refusal.BadEdit) S u u v v plan plan
     unfolding edit_tests bad_edit
-    edit_unknown f =
-        edit_refused 12 (refusal-pass (standing_tests St) _ w ∙ refusal_yes (bad_edit St e) _ (bad_is ∙ ap not f))
+    edit_unknown f = edit_refused Refusal.BadEdit
+        (refusal-pass (standing_tests St) _ w ∙ refusal_yes (bad_edit St e) _ (bad_is ∙ ap not f))
 
     -- .. and then it is as solve says of the edited sheet.
-    module _ (f : known ≡ true) {S' : Sheet} (same : S' ≡ edited S e) {answer : SolveAnswer} {last : Tableau}
-        {u' v' : List ℤ} {plan' : List ℕ}
-        (done : SolvedAs S' (beginning e.change S' (inside S St.tableau)) answer last u u' v v' plan plan') where
-      abbrev late : List (Bool × ℕ)
+    module _ (f : known ≡ true) {S' : Sheet} (same : S' ≡ edited S e) {r : Result Edited Refusal} {u' v' : List ℤ} {plan' : List ℕ}
+        (done : SolvedAs S' (beginning e.change S' (inside S St.tableau)) r u u' v v' plan plan') where
+      abbrev late : List (Bool × Refusal)
       late = solve_tests (edited S e) (length u) (length v) (length plan)
 
-      solved : SolvedAs (edited S e) (edit_from St e) answer last u u' v v' plan plan'
+      solved : SolvedAs (edited S e) (edit_from St e) r u u' v v' plan plan'
       unfolding edit_from beginning
       solved =
           let T : List Cell = inside S St.tableau in
-          subst (λ (R : Sheet). SolvedAs R (beginning e.change R T) answer last u u' v v' plan plan') same done
+          subst (λ (R : Sheet). SolvedAs R (beginning e.change R T) r u u' v v' plan plan') same done
 
       alike : refusal tests ≡ refusal late
       unfolding edit_tests
       alike = refusal-pass (standing_tests St) _ w ∙ refusal_no (bad_edit St e) late (bad_is ∙ ap not f)
 
-      told : Told (edit_call St e (length u) (length v) (length plan)) answer u u' v v' plan plan'
+      told : Told (edit_call St e (length u) (length v) (length plan)) (answer_of r) u u' v v' plan plan'
       unfolding edit_call
       told = told-by (unless-alike tests late _ alike) solved.told
 
-      -- A refusal leaves sheet and tableau as they were ..
-      pub edit_late : {k : ℕ} → answer ≡ Refused k → {answer' : SolveAnswer} {last' : Tableau} {S'' : Sheet} → S'' ≡ S
-          → (answer' ≡ Refused k) × (last' ≡ St.tableau)
-          → EditedAs St e answer' S'' last' u u' v v' plan plan'
-      unfolding edit_call
-      edit_late {k} is back (is', same') =
-          let r = answer-refused tests (solution_from (edited S e) (edit_from St e)) k (sym is ∙ told.answer) in
-          let a = edit_call St e (length u) (length v) (length plan) in
-          record {
-            told = subst (λ (r : SolveAnswer). Told a r u u' v v' plan plan') (is ∙ sym is') told;
-            kept = λ j h. (back, same');
-            stands = λ n. absurd (some≢none (sym r ∙ n));
-          }
+      -- A refusal leaves the sheet as it was ..
+      pub edit_late : is_err r ≡ true → {S'' : Sheet} → S'' ≡ S → EditedAs St e r S'' u u' v v' plan plan'
+      edit_late is back = record { told = told; stands = MatchResult-from_err r _ _ is (λ k. back) }
 
       -- .. and else it stands.
-      pub edit_solved : {cost : ℤ} {rounds : ℕ} → answer ≡ Solved cost rounds
-          → EditedAs St e answer S' last u u' v v' plan plan'
+      pub edit_solved : is_err r ≡ false → EditedAs St e r S' u u' v v' plan plan'
       unfolding edit_call carried_out
       edit_solved is =
-          let n = answer-solved tests (solution_from (edited S e) (edit_from St e)) (sym is ∙ told.answer) in
-          let tableau = solved.tableau (sym alike ∙ n) in
+          let (d, is_ok) = made_of r is in
+          let tableau = rw is_ok at solved.tableau in
           record {
             told = told;
-            kept = λ k h. absurd (some≢none (sym h ∙ n));
-            stands = λ n. λ i. record { sheet = same i; tableau = tableau i; counter = add-one St.counter i };
+            stands = rw is_ok (λ i. record { sheet = same i; tableau = tableau i; counter = add-one St.counter i });
           }

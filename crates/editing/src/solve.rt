@@ -1,43 +1,31 @@
 // An edited sheet, refused or solved.
-ghost use Rattle.std.specs.Prelude.{◌≡◌, List, ◌*◌, ◌≤◌, length};
+ghost use Rattle.std.specs.Prelude.{◌≡◌, Ok, List, ◌*◌, ◌≤◌, length};
 ghost use Rattle.transport.specs.Sheet.{Sheet, sheet_of};
 ghost use Rattle.transport.specs.Calls.{given, solution_from};
 ghost use Rattle.transport.specs.Standing.{last_tableau_of};
 ghost use Rattle.transport.specs.declared.Cell.{Cell};
-ghost use Rattle.transport.specs.declared.SolveAnswer.TheVariants.{Refused};
 ghost use Rattle.loading.specs.Loading.{Admitted};
 ghost use Rattle.solving.specs.Told.{Told};
 ghost use Rattle.edit_steps.specs.Edits.{EditOf, beginning};
 ghost use Rattle.editing.specs.SolvedAs.{SolvedAs};
 
-use dealing::tableau::empty_tableau;
+use board::Board;
 use edit_steps::begin::begin_edit;
 use edit_steps::lists::check_edited;
-use loading::Loading;
+use parties::Parties;
 use runs::run::finish;
-use sheet::SheetCheck;
 use solving::cost::plan_cost;
 use solving::room::missing_room;
 use solving::store::{last_tableau, store_solution};
-use transport::{Edit, SolveAnswer, Tableau};
+use transport::{Edit, Refusal, SolveAnswer, Tableau};
 use tree::{LANES, NODES, Price};
 
-// What came of an edit: what solve answers for the edited sheet, with the rounds made by the edit;
-// and the tableau that then stands.
+// What came of an edit that is made: what solve answers for the edited sheet, with the rounds made
+// by the edit; and the tableau that then stands.
 #[derive(Clone, Copy)]
 pub struct Edited {
     pub answer: SolveAnswer,
     pub tableau: Tableau,
-}
-
-// A refusal, with the tableau that stood before.
-pub(crate) fn refused(number: u8, kept: Tableau) -> Edited
-    ensures { (result.answer ≡ Refused number) × (result.tableau ≡ kept) }
-{
-    Edited {
-        answer: SolveAnswer::Refused(number),
-        tableau: kept,
-    }
 }
 
 // Solves a sheet from the tableau that is laid out. Prices and plan then stand in their lists.
@@ -45,47 +33,33 @@ fn solve_from(
     supply: &[u64],
     demand: &[u64],
     cost: &[i64],
-    begun: Loading,
-    q: &mut [i64; LANES],
-    e: &mut [i64; LANES],
+    parties: &Parties,
+    board: &mut Board,
     spread: &[Price; LANES],
-    leaf: &[usize; NODES],
-    other: &[usize; NODES],
-    lane: &mut [usize; NODES],
     u: &mut [i64],
     v: &mut [i64],
     plan: &mut [u64],
 ) -> Edited
     requires admitted { (T : List Cell)
-        × Admitted (sheet_of supply.now demand.now cost.now) T begun.parties begun.rows begun.cols
-        q.old e.old
-        spread.now leaf.now other.now lane.old }
+        × Admitted (sheet_of supply.now demand.now cost.now) T parties.now board.old spread.now }
     requires supply_in_bounds { (length supply.now ≤ length u.old)
         × (length demand.now ≤ length v.old)
         × (length supply.now * length demand.now ≤ length plan.old) }
     ensures { let S = sheet_of supply.now demand.now cost.now in
-        ((T : List Cell)
-        → Admitted S T begun.parties begun.rows begun.cols q.old e.old
-        spread.now
-        leaf.now other.now lane.old
-        → Told (given (solution_from S T)) result.answer u.old u.new v.old v.new
+        ((T : List Cell) → Admitted S T parties.now board.old spread.now
+        → Told (given (solution_from S T)) (Ok result.answer) u.old u.new v.old v.new
         plan.old plan.new
         × (result.tableau ≡ last_tableau_of S T)) }
 {
-    let m = begun.parties.rows;
-    let n = begun.parties.columns;
-    let mut price: [Price; NODES] = [0; NODES];
-    let rounds = finish(q, e, spread, leaf, other, lane, m, n, &mut price);
-    let tableau = last_tableau(begun, lane, q, e);
+    let mut price = [0; NODES];
+    let rounds = finish(board, spread, parties.rows, parties.columns, &mut price);
+    let tableau = last_tableau(parties, board);
     store_solution(
-        supply, demand, cost, begun, lane, q, spread, &price, u, v, plan,
+        supply, demand, cost, parties, board, spread, &price, u, v, plan,
     );
-    let total = plan_cost(plan, cost);
+    let cost = plan_cost(plan, cost);
     Edited {
-        answer: SolveAnswer::Solved {
-            cost: total,
-            rounds,
-        },
+        answer: SolveAnswer { cost, rounds },
         tableau,
     }
 }
@@ -96,39 +70,24 @@ pub(crate) fn carry_out(
     demand: &[u64],
     cost: &[i64],
     edit: Edit,
-    loaded: Loading,
-    q: &mut [i64; LANES],
-    e: &mut [i64; LANES],
+    parties: Parties,
+    board: &mut Board,
     spread: &mut [Price; LANES],
-    leaf: &mut [usize; NODES],
-    other: &mut [usize; NODES],
-    lane: &mut [usize; NODES],
     u: &mut [i64],
     v: &mut [i64],
     plan: &mut [u64],
-) -> Edited
+) -> Result<Edited, Refusal>
     requires { (S : Sheet) × (T : List Cell) × EditOf S edit supply.now demand.now cost.now
-        × Admitted S T loaded.parties loaded.rows loaded.cols q.old e.old spread.old leaf.old
-        other.old
-        lane.old }
+        × Admitted S T parties board.old spread.old }
     ensures { let S' = sheet_of supply.now demand.now cost.now in
         ((S : Sheet) (T : List Cell) → EditOf S edit supply.now demand.now cost.now
-        → Admitted S T loaded.parties loaded.rows loaded.cols q.old e.old
-        spread.old leaf.old other.old lane.old
-        → SolvedAs S' (beginning edit.change S' T) result.answer result.tableau u.old u.new
-        v.old v.new plan.old plan.new) }
+        → Admitted S T parties board.old spread.old
+        → SolvedAs S' (beginning edit.change S' T) result u.old u.new v.old v.new plan.old plan.new) }
 {
-    let check = check_edited(supply, demand, cost, edit);
-    if let SheetCheck::Refused(number) = check {
-        return refused(number, empty_tableau());
-    }
+    check_edited(supply, demand, cost, edit)?;
     if missing_room(u.len(), v.len(), plan.len(), supply.len(), demand.len()) > 0 {
-        return refused(8, empty_tableau());
+        return Err(Refusal::TooShort);
     }
-    let begun = begin_edit(
-        supply, demand, cost, edit, loaded, q, e, spread, leaf, other, lane,
-    );
-    solve_from(
-        supply, demand, cost, begun, q, e, spread, leaf, other, lane, u, v, plan,
-    )
+    let begun = begin_edit(supply, demand, cost, edit, parties, board, spread);
+    Ok(solve_from(supply, demand, cost, &begun, board, spread, u, v, plan))
 }

@@ -1,7 +1,8 @@
 -- Numbers read in lines of `width`, one after the other, as Lines has them: what the columns and rows of the specification read. Their reader is any.
 use Rattle.std.specs.Prelude.{◌≡◌, ◌∷◌, ◌++◌, ◌+◌, ◌*◌, ◌-◌, ◌≤◌, ◌<◌}
 use Rattle.prelude.specs.Words.{refl, sym, ap, ◌∙◌, Bool, true, false, List, [], flatten, append_assoc, append-nil, ℕ, zero, suc}
-use Rattle.prelude.specs.Words.{arith, suc-mul, suc-add, zero-add, zero-mul, add-one, length, take, drop, set, take-suc-set, take-append_seam}
+use Rattle.prelude.specs.Words.{arith, suc-mul, suc-add, zero-add, zero-mul, add-one, length, take, drop, set}
+use Rattle.prelude.specs.Words.{take-suc-set, take-append_seam}
 use Rattle.transport.specs.Text.{bytes}
 use Rattle.transport.specs.SheetText.{Reading, stuck, got, Reader, ◌>>=◌, ◌>>◌, pure, times, word, line, row}
 use Rattle.sections.specs.Lines.{ending, left_after_of, ending-last, ending-more, left-last, left-more, left_pos}

@@ -1,13 +1,15 @@
 -- The sheet reader by its sections: two lists, the costs and the end.
 use Rattle.std.specs.Prelude.{◌≡◌, ◌∷◌, ◌++◌, ◌*◌, ◌-◌, ◌≤◌}
-use Rattle.prelude.specs.Words.{refl, sym, ap, ◌∙◌, List, [], flatten, ℕ, zero, suc, arith, ℤ, length, length-take-le, take}
+use Rattle.prelude.specs.Words.{refl, sym, ap, ◌∙◌, List, [], flatten, ℕ, zero, suc, arith, ℤ, length}
+use Rattle.prelude.specs.Words.{length-take-le, take}
 use Rattle.transport.specs.Limits.{max_sources, max_sinks}
 use Rattle.transport.specs.Text.{bytes, digits, head_line}
 use Rattle.transport.specs.Sheet.{Sheet}
 use Rattle.transport.specs.SheetText.{Reading, stuck, got, Reader, ◌>>=◌, ◌>>◌, pure, times, word, end, number, whole, side, line, row, sheet_reader}
 use Rattle.decimals.specs.Front.{front, front-take}
 use Rattle.sections.specs.Lines.{ended, ending, ending-last, head-line}
-use Rattle.tokens.specs.Reading.{end_reading, end-stuck, line-end, bind-got, bind-stuck, bind-inside, bind-same, bind_assoc, then-got, then-stuck, then_same, then_assoc}
+use Rattle.tokens.specs.Reading.{end_reading, end-stuck, line-end, bind-got, bind-stuck, bind-inside, bind-same}
+use Rattle.tokens.specs.Reading.{bind_assoc, then-got, then-stuck, then_same, then_assoc}
 use Rattle.line_reader.specs.LinesRead.{read_lines_of, column_lines, rows_lines, flat}
 
 -- ---- a list after its head line

@@ -72,9 +72,9 @@ pub fn read_list(
     text: &[u8],
     at: usize,
     name: &[u8],
-    most: u64,
+    most: usize,
     list: &mut [u64],
-) -> Result<Token<u64>, Stuck>
+) -> Result<Token<usize>, Stuck>
     requires { (at ≤ length text.now) × (9 ≤ most) × (most ≤ length list.old) }
     ensures reads { list_reader name.now most (drop at text.now)
         ≡ reading_of text.now (λ v. take v list.new) result }
@@ -83,7 +83,7 @@ pub fn read_list(
 {
     let next = read_word(text, at, name)?;
     let count = read_end(text, read_side(text, next, most)?, 1)?;
-    let next = read_lines(text, count.next, 1, &mut list[..count.value as usize])?;
+    let next = read_lines(text, count.next, 1, &mut list[..count.value])?;
     Ok(Token {
         value: count.value,
         next,

@@ -14,13 +14,13 @@ use tokens::{Stuck, Token};
 const MAX_DIGITS: usize = 7;
 
 // The digit that comes next.
-fn read_digit(text: &[u8], at: usize) -> Result<u64, Stuck>
+fn read_digit(text: &[u8], at: usize) -> Result<u8, Stuck>
     ensures { MatchResult result
         (λ digit. NextDigit text.now at digit)
         (λ stop. (digit_next (drop at text.now) ≡ false) × (stop.0 ≡ at)) }
 {
     if digit_at(text, at) {
-        Ok((text[at] - b'0') as u64)
+        Ok(text[at] - b'0')
     } else {
         Err(Stuck(at))
     }
@@ -40,20 +40,22 @@ fn more_digits(text: &[u8], at: usize, first: u64, most: usize) -> Token<u64>
         let Ok(digit) = read_digit(text, next) else {
             break;
         };
-        value = value * 10 + digit;
+        value = value * 10 + digit as u64;
         next += 1;
     }
     Token { value, next }
 }
 
-// A number of one to seven digits, the first at least `low`, with no leading 0 except 0 itself.
+// A number of one to seven digits, the first at least `low`, with no leading 0 except 0 itself. It
+// is not inlined, so that the program has it once (docs/PERFORMANCE.md, "Memory").
+#[inline(never)]
 pub fn read_number(text: &[u8], at: usize, low: u64) -> Result<Token<u64>, Stuck>
     requires { at ≤ length text.now }
     ensures reads { number_from low (drop at text.now) ≡ reading_of text.now (λ v. v) result }
     ensures inside { place_of result ≤ length text.now }
     ensures small { IfOk result (λ number. number.value < 10 ^ max_digits) }
 {
-    let leading = read_digit(text, at)?;
+    let leading = read_digit(text, at)? as u64;
     if leading < low {
         return Err(Stuck(at));
     }
@@ -65,13 +67,13 @@ pub fn read_number(text: &[u8], at: usize, low: u64) -> Result<Token<u64>, Stuck
 }
 
 // A count of sources or sinks: 1 to `most`, which has two digits or is 9.
-pub fn read_side(text: &[u8], at: usize, most: u64) -> Result<Token<u64>, Stuck>
+pub fn read_side(text: &[u8], at: usize, most: usize) -> Result<Token<usize>, Stuck>
     requires { (at ≤ length text.now) × (9 ≤ most) }
     ensures reads { side most (drop at text.now) ≡ reading_of text.now (λ v. v) result }
     ensures inside { place_of result ≤ length text.now }
     ensures fits { ValueSide most result }
 {
-    let first = read_digit(text, at)?;
+    let first = read_digit(text, at)? as usize;
     if first == 0 {
         return Err(Stuck(at));
     }
@@ -79,7 +81,7 @@ pub fn read_side(text: &[u8], at: usize, most: u64) -> Result<Token<u64>, Stuck>
     let Ok(second) = read_digit(text, next) else {
         return Ok(Token { value: first, next });
     };
-    let both = first * 10 + second;
+    let both = first * 10 + second as usize;
     if both > most {
         return Ok(Token { value: first, next });
     }

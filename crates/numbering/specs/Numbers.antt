@@ -1,8 +1,10 @@
 -- The numbers of those left among themselves, their own numbers, and cells under the one and under the other.
 use Rattle.std.specs.Prelude.{◌≡◌, ◌++◌, ◌+◌, ◌-◌, ◌≤◌, ◌<◌}
 use Rattle.prelude.specs.Words.{refl, sym, ap, ◌∙◌, by_cases, true, false, List, [], map, append-nil, ℕ, zero, suc}
-use Rattle.prelude.specs.Words.{arith, dec_le, ℕ_discrete, add-one, eqb, length, min, take, drop, length-take, get_or, set, replicate, length-set, length-map, length-append}
-use Rattle.prelude.specs.Words.{length-replicate, get_or-append, drop_of_length-le, get_or-set_same, get_or-set_other, take_at}
+use Rattle.prelude.specs.Words.{arith, dec_le, ℕ_discrete, add-one, eqb, length, min, take, drop, length-take, get_or}
+use Rattle.prelude.specs.Words.{set, replicate, length-set, length-map, length-append}
+use Rattle.prelude.specs.Words.{length-replicate, get_or-append, drop_of_length-le, get_or-set_same, get_or-set_other}
+use Rattle.prelude.specs.Words.{take_at}
 use Rattle.prelude.specs.Words.{take_all, length-take-le, eq-eqb, ne_eqb}
 use Rattle.std.proofs.Math.Seq.{drop-append_seam}
 use Rattle.std.proofs.lemmas.List.{append_assoc, drop_more, map_more, set_at, take-map}
@@ -147,7 +149,8 @@ module _ {f : Cell → Cell} {t : Tableau} where
   changed-none = record { many = refl; cells = refl }
 
   -- One more is changed.
-  pub changed-one : {n : ℕ} {u : Tableau} {c : Cell} → ChangedTo f t n u → n < length t.cells → c ≡ f (get_or t.cells n no_cell)
+  pub changed-one : {n : ℕ} {u : Tableau} {c : Cell} → ChangedTo f t n u → n < length t.cells
+      → c ≡ f (get_or t.cells n no_cell)
       → ChangedTo f t (n + 1) (record { cells = set u.cells n c; count = u.count })
   changed-one {n} w l e =
       let front : List Cell = map f (take n t.cells) in
@@ -155,7 +158,13 @@ module _ {f : Cell → Cell} {t : Tableau} where
       record {
         many = w.many;
         cells =
-            rw (e, w.cells, drop_more t.cells n no_cell l, set_at front _ _ (f (get_or t.cells n no_cell)) n long, map_more f t.cells n no_cell l)
+            rw (
+              e,
+              w.cells,
+              drop_more t.cells n no_cell l,
+              set_at front _ _ (f (get_or t.cells n no_cell)) n long,
+              map_more f t.cells n no_cell l,
+            )
             (sym (append_assoc front _ _));
       }
 
@@ -175,7 +184,8 @@ module _ {rows cols : List ℕ} {T : List Cell} {t : Tableau} (is-t : t ≡ tabl
   unfolding tableau_of padded
   cell_at k l = rw is-t (get_or-append T (replicate (max_cells - length T) no_cell) no_cell k (rw is-t at l))
 
-  pub cell-within : (k : ℕ) → k < t.count → ((get_or t.cells k no_cell).row < length rows) × ((get_or t.cells k no_cell).col < length cols)
+  pub cell-within : (k : ℕ) → k < t.count
+      → ((get_or t.cells k no_cell).row < length rows) × ((get_or t.cells k no_cell).col < length cols)
   unfolding tableau_of
   cell-within k l = rw (cell_at k l) (w.row_in k (rw is-t at l), w.col_in_of k (rw is-t at l))
 
@@ -193,12 +203,14 @@ changed-tableau f T {t} {u} {n} w all is-t =
 -- ---- a tableau under the numbers of those left
 
 -- The cells of the array that are counted, be the count any: once these are changed, so are the tableau's.
-pub changed-cells : {f : Cell → Cell} {t u : Tableau} {n : ℕ} → ChangedTo f t n u → n ≡ min t.count (length t.cells) → cells_of u ≡ map f (cells_of t)
+pub changed-cells : {f : Cell → Cell} {t u : Tableau} {n : ℕ} → ChangedTo f t n u → n ≡ min t.count (length t.cells)
+    → cells_of u ≡ map f (cells_of t)
 unfolding cells_of
 changed-cells {f} {t} {u} {n} w all = rw (w.many, w.cells) (by_cases (dec_le t.count (length t.cells))
     (λ l.
     let same : n ≡ t.count = omega arith in
-    rw same (take_at (map f (take t.count t.cells)) _ t.count (length-map (take t.count t.cells) f ∙ length-take-le t.count t.cells l)))
+    rw same (take_at (map f (take t.count t.cells)) _ t.count
+    (length-map (take t.count t.cells) f ∙ length-take-le t.count t.cells l)))
     (λ l.
     let front : take n t.cells ≡ t.cells = take_all n t.cells (omega arith) in
     let rest : drop n t.cells ≡ [] = drop_of_length-le t.cells {i = n} (omega arith) in

@@ -20,6 +20,7 @@ pub(crate) fn least_slot(board: &Board, slots: u64) -> usize
     let mut at = mask::first_bit(slots);
     let mut least = board.amounts.pair_at(lane[at]);
     let mut bits = mask::rest(slots);
+    // A while: it goes over the bits of a mask, and counts no index.
     while bits != 0 {
         let t = mask::first_bit(bits);
         let x = board.amounts.pair_at(lane[t]);
@@ -43,6 +44,7 @@ pub(crate) fn carry(amounts: &mut Amounts, basis: &Basis, slots: u64, x: Pair)
         × Added x.e basis.now.lane slots 0 amounts.old.e amounts.new.e }
 {
     let mut bits = slots;
+    // A while: it goes over the bits of a mask, and counts no index.
     while bits != 0 {
         let l = basis.lane[mask::first_bit(bits)];
         let sum = amounts.pair_at(l) + x;

@@ -1,7 +1,8 @@
 -- The lanes that carry a bag: what the code writes and counts, place by place, is what the lanes' section of the plan text shows.
 use Rattle.std.specs.Prelude.{◌≡◌, ◌∷◌, ◌++◌, ◌+◌, ◌*◌, ◌/◌, ◌%◌, ◌≤◌, ◌<◌}
 use Rattle.prelude.specs.Words.{refl, sym, ap, ◌∙◌, by_cases, Bool, not, cond, List, [], flat_map, append-nil, ℕ, zero, suc}
-use Rattle.prelude.specs.Words.{arith, add-one, dec_le, div-add-mod', mod-lt, div-lt_iff_lt-mul, eqb, ltb, lt-ltb, length, take, take-suc, take_all, get_or, length-append, ne_eqb}
+use Rattle.prelude.specs.Words.{arith, add-one, dec_le, div-add-mod', mod-lt, div-lt_iff_lt-mul, eqb, ltb, lt-ltb}
+use Rattle.prelude.specs.Words.{length, take, take-suc, take_all, get_or, length-append, ne_eqb}
 use Rattle.std.specs.List.{count_by}
 use Rattle.std.proofs.lemmas.List.Sums.{sum_by_push}
 use Rattle.transport.specs.Lists.{at, keep, table}
@@ -86,7 +87,8 @@ counted zero = refl
 counted (suc b) = rw (lt-ltb 0 (suc b) (omega arith), ne_eqb (suc b) 0 (λ e. omega arith))
 
 -- The count of the first k places counts the bags that are there.
-count_take : (plan : List ℕ) (k : ℕ) → k ≤ length plan → used_count_of plan k ≡ count_by (λ bags. ltb 0 bags) (take k plan)
+count_take : (plan : List ℕ) (k : ℕ) → k ≤ length plan
+    → used_count_of plan k ≡ count_by (λ bags. ltb 0 bags) (take k plan)
 unfolding used_count_of at
 count_take plan zero p = refl
 count_take plan (suc k) p =

@@ -8,9 +8,8 @@ use Rattle.transport.specs.Text.{bytes, digits, whole_digits, head_line, number_
 use Rattle.transport.specs.Calls.{Solution, solution}
 use Rattle.transport.specs.PlanText.{whole_line, used, lane_line, plan_text}
 use Rattle.transport.specs.Laws.CallLaws.{Fills}
-use Rattle.std.proofs.lemmas.Grind.{common_steps}
-use Rattle.sections.specs.Lines.{ended, section_text, length_section, lines_from, section_of, head-line, number_lines, whole_lines}
-use Rattle.plan_lines.specs.Lanes.{used_text, used_count_of, used-whole, side-is}
+use Rattle.sections.specs.Lines.{ended, section_text, lines_from, section_of, head-line, number_lines, whole_lines}
+use Rattle.plan_lines.specs.Lanes.{used_text, used_count_of, used-whole}
 
 abbrev pub figures_text : Figures → List ℕ
 figures_text f = section_text whole_digits (bytes "total ") 1 1 (f.total ∷ []) ++ section_text digits (bytes "rounds ") 1 1 (f.rounds ∷ [])
@@ -35,11 +34,8 @@ pub sections_length : (f : Figures) (u v : List ℤ) (plan : List ℕ) → lengt
     length (section_text whole_digits (bytes "total ") 1 1 (f.total ∷ [])) + length (section_text digits (bytes "rounds ") 1 1 (f.rounds ∷ []))
     + length (price_section (bytes "roasteries ") u) + length (price_section (bytes "cafes ") v) + length (bytes "lanes " ++ ended digits f.used 10)
     + length (used_text (length v) plan (length plan))
-unfolding plan_sections_of figures_text prices_text lanes_text
+unfolding plan_sections_of
 sections_length f u v plan = simp length-append (omega arith)
-
--- What a proof of its length goes by.
-pub ruleset lengths = (common_steps, length_section, sections_length, side-is)
 
 -- ---- of a solution
 
@@ -63,7 +59,7 @@ prices_section name m zs e = rw (← e) (column_section whole_line whole_digits 
 -- The lanes that a plan uses.
 lanes_section : (m n : ℕ) (plan : List ℕ) → 1 ≤ n → length plan ≡ m * n →
     head_line "lanes" (length (used m n plan)) ++ flat_map (lane_line n plan) (used m n plan) ≡ lanes_text (used_count_of plan (length plan)) n plan
-unfolding lanes_text bytes
+unfolding bytes
 lanes_section m n plan p e = let whole = used-whole n plan m p e in rw (whole.0, whole.1, head-line)
 
 regroup : (a b c d e f g h i j : List ℕ) → a ++ b ++ c ++ d ++ e ++ f ++ g ++ h ++ i ++ j ≡ a ++ b ++ (c ++ d) ++ (e ++ f ++ (g ++ h) ++ (i ++ j))
@@ -71,7 +67,7 @@ regroup a b c d e f g h i j = simp append_assoc
 
 -- The plan text is the sections of the solution: its figures, its prices, and the lanes that its plan uses.
 pub plan_sections : (S : Sheet) → 1 ≤ cafes S → Fills S (solution S) → let a = solution S in plan_text S ≡ plan_sections_of (figures_for a) a.u a.v a.plan
-unfolding plan_text plan_sections_of figures_text prices_text bytes
+unfolding plan_text plan_sections_of bytes
 plan_sections S p fills = let a = solution S in let m = roasteries S in let n = cafes S in
     rw (
       regroup,

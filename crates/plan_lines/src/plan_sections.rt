@@ -68,8 +68,8 @@ impl PlanSections<'_> {
     #[tactic(auto, using(decimals::specs::Front::pieces))]
     fn write_after_figures(self, out: &mut [u8]) -> usize
         requires { (length self.plan.now ≤ max_side * max_side) × (1 ≤ length self.v.now)
-            × (length (prices_text self.u.now self.v.now ++ lanes_text self.figures.used (length self.v.now) self.plan.now)
-            ≤ length out.old) }
+            × (length (prices_text self.u.now self.v.now
+            ++ lanes_text self.figures.used (length self.v.now) self.plan.now) ≤ length out.old) }
         ensures { let shown = self.entry in
             let text = prices_text shown.u.now shown.v.now
             ++ lanes_text shown.figures.used (length shown.v.now) shown.plan.now in
@@ -93,7 +93,7 @@ impl PlanSections<'_> {
     }
 
     // Its length.
-    #[tactic(auto, using(crate::specs::Sections::lengths), unfolding(transport::specs::Text::bytes))]
+    #[tactic(auto, using(crate::specs::Lanes::next_texts))]
     pub fn text_len(self) -> usize
         requires { (length self.u.now ≤ max_side) × (length self.v.now ≤ max_side)
             × (length self.plan.now ≤ max_side * max_side) × (1 ≤ length self.v.now) }

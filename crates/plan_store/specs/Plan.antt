@@ -3,7 +3,8 @@ use Rattle.std.specs.Prelude.{◌≡◌, ◌+◌, ◌*◌, ◌/◌, ◌%◌, ◌
 use Rattle.prelude.specs.Words.{refl, ◌∙◌, by_cases, List, ℕ, arith, mod-lt, div-add-mod', dec_lt, ℤ}
 use Rattle.prelude.specs.Words.{pos, negsuc}
 use Rattle.prelude.specs.Words.{nat_abs, length, get_or, drop, ext_get_or}
-use Rattle.prelude.specs.Words.{get_or-drop, length-drop, take, replicate, length-replicate, get_or-replicate, length-append, length-take-le, get_or-append}
+use Rattle.prelude.specs.Words.{get_or-drop, length-drop, take, replicate, length-replicate, get_or-replicate}
+use Rattle.prelude.specs.Words.{length-append, length-take-le, get_or-append}
 use Rattle.std.proofs.lemmas.Slice.{drop-append-drop}
 use Rattle.integers.specs.Integer.{◌≈◌, ◌≼◌, nat}
 use Rattle.integers.specs.Bridge.{to_z}
@@ -80,7 +81,8 @@ emptied_front {size} {old} {front} room e =
     record {
       long = simp (length-append, length-drop) (omega arith);
       rest = drop-append-drop size old front size (omega arith) long;
-      clear = λ k h. get_or-append front (drop size old) 0 k (omega arith) ∙ rw (e, taken) (get_or-replicate size k 0 0 h);
+      clear = λ k h. get_or-append front (drop size old) 0 k (omega arith) ∙ rw (e, taken)
+          (get_or-replicate size k 0 0 h);
     }
 
 -- Numbers that grow are all different.

@@ -4,7 +4,7 @@ use Rattle.prelude.specs.Words.{refl, sym, ap, ◌∙◌, inl, inr, ⊎_elim, by
 use Rattle.prelude.specs.Words.{add-one, ℕ_discrete, eq-or-lt_of_le, ne_eqb, ℤ, lt_z, le_z, clash, by_test}
 use Rattle.std.proofs.lemmas.Int.{ints}
 use Rattle.std.specs.Int.Bits.{bit_and}
-use Rattle.std.specs.Prelude.{Option, MatchOption}
+use Rattle.std.specs.Prelude.{Option, Some, None, MatchOption, unwrap_or}
 use Rattle.integers.specs.Integer.{◌≼◌, ◌≺◌}
 use Rattle.integers.specs.Bridge.{to_z, eq-z, z-eq, z-add}
 use Rattle.integers.specs.Tests.{lt_yes, lt_no}
@@ -128,6 +128,10 @@ pub record FirstAt (f : ℕ → ℤ) (z : ℤ) (n p : ℕ) : Type 0 where
 abbrev pub FirstOf : (ℕ → ℤ) → ℤ → ℕ → Option ℕ → Type 0
 FirstOf f z n x = MatchOption x (FirstAt f z n n) (λ p. (p < n) × FirstAt f z n p)
 
+pub first_at : (f : ℕ → ℤ) (z : ℤ) (n : ℕ) (x : Option ℕ) → FirstOf f z n x → FirstAt f z n (unwrap_or x n)
+first_at f z n None a = a
+first_at f z n (Some p) a = a.1
+
 -- The search for it, which has come from a place to p: no place between has such a number.
 pub record Above (f : ℕ → ℤ) (z : ℤ) (n from p : ℕ) : Type 0 where
   pub within : p ≤ n + from
@@ -143,10 +147,12 @@ at-most a b e = grind (arith, ints)
 pub more : (a b : ℤ) → le_z a b ≡ false → lt_z b a ≡ true
 more a b e = grind (arith, ints)
 
-pub above_step : {f : ℕ → ℤ} {z : ℤ} {n from p : ℕ} → Above f z n from p → p < n → le_z (f p) z ≡ false → Above f z n from (p + 1)
+pub above_step : {f : ℕ → ℤ} {z : ℤ} {n from p : ℕ} → Above f z n from p → p < n → le_z (f p) z ≡ false
+    → Above f z n from (p + 1)
 above_step {f} {z} {p = p} w low e = record {
   within = omega arith;
-  above = λ k l r. by_cases (ℕ_discrete k p) (λ s. rw s (lt_yes z (f p) (more (f p) z e))) (λ d. w.above k l (omega arith));
+  above = λ k l r. by_cases (ℕ_discrete k p) (λ s. rw s (lt_yes z (f p) (more (f p) z e))) (λ d. w.above k l
+      (omega arith));
 }
 
 -- A search from the first place on ends there.
@@ -155,10 +161,23 @@ module _ {f : ℕ → ℤ} {z : ℤ} {n p : ℕ} (w : Above f z n 0 p) where
   first_above k l = w.above k (omega arith) l
 
   pub above_stop : p < n → le_z (f p) z ≡ true → (p < n) × FirstAt f z n p
-  above_stop l e = (l, record { within = omega arith; above = first_above; there = λ q. lt_no z (f p) (at-most (f p) z e) })
+  above_stop l e = (
+    l,
+    record {
+      within = omega arith;
+      above = first_above;
+      there = λ q. lt_no z (f p) (at-most
+          (f p) z e);
+    },
+  )
 
   pub above-end : n ≤ p → FirstAt f z n n
-  above-end e = record { within = omega arith; above = λ k l. first_above k (omega arith); there = λ q. absurd (omega arith) }
+  above-end e = record {
+    within = omega arith;
+    above = λ k l. first_above k (omega arith);
+    there = λ q. absurd
+        (omega arith);
+  }
 
 -- p is the first of the places below n where f is least, and z is that number.
 pub record FirstLow (f : ℕ → ℤ) (z : ℤ) (n p : ℕ) : Type 0 where

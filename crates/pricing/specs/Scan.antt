@@ -64,14 +64,21 @@ module _ {cost price slack : List ℤ} {m n : ℕ} (w : InRange cost price m n) 
   pub scanned_column : {row col : ℕ} → row < m → to_z (row_reduced slack price row) ≺ to_z (pos 0)
       → FirstAt (slack_at cost price m row) (get_or slack row (pos 0)) n col → col < n
   scanned_column {row} l q a = first-inside (slacks-low w s row (omega (arith, w.rows)))
-      (near (get_or slack row (pos 0)) (get_or price row (pos 0)) (w.prices row (omega (arith, w.rows))) q) (omega arith) a
+      (near (get_or slack row (pos 0)) (get_or price row (pos 0)) (w.prices row (omega (arith, w.rows))) q)
+      (omega arith) a
 
   module _ (best : ℤ) (e : best ≡ lowest (pos 0) (row_reduced slack price) m) where
     best-low : Low (pos 0) (row_reduced slack price) m best
     best-low = rw e (lowest-low (pos 0) (row_reduced slack price) m)
 
     pub scanned_no : lt_z best (pos 0) ≡ false → NoneNegative cost price m n
-    scanned_no h i j p q = no_lt (reduced_at cost price m i j) (pos 0) (omega (arith, lt_no best (pos 0) h, best-low.least i p, row-least i j p q))
+    scanned_no h i j p q = no_lt (reduced_at cost price m i j) (pos 0) (omega (
+      arith,
+      lt_no best
+          (pos 0) h,
+      best-low.least i p,
+      row-least i j p q,
+    ))
 
     -- A row is found, also for a number above the least.
     pub scanned_row : lt_z best (pos 0) ≡ true → {z : ℤ} {row : ℕ} → to_z best ≼ to_z z → FirstAt (row_reduced slack price) z m row → row < m
@@ -81,7 +88,8 @@ module _ {cost price slack : List ℤ} {m n : ℕ} (w : InRange cost price m n) 
       rows : FirstLow (row_reduced slack price) best m row
       rows = low_first best-low (lt_yes best (pos 0) h) a
 
-      pub scanned_yes : (col : ℕ) → FirstAt (slack_at cost price m row) (get_or slack row (pos 0)) n col → Found cost price m n row col best
+      pub scanned_yes : (col : ℕ) → FirstAt (slack_at cost price m row) (get_or slack row (pos 0)) n col
+          → Found cost price m n row col best
       scanned_yes col b = found
         where
           u : ℤ

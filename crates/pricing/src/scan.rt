@@ -163,7 +163,8 @@ pub struct PricedLane {
     pub reduced: Price,
 }
 
-// The entering lane: it has the least reduced cost, and is the first among equals; none where no reduced cost is negative.
+// The entering lane: it has the least reduced cost, and is the first among equals; none where no
+// reduced cost is negative.
 pub fn entering(
     cost: &[Price; LANES],
     price: &[Price; NODES],
@@ -179,7 +180,9 @@ pub fn entering(
     if reduced >= 0 {
         return None;
     }
-    let row = first_row(price, slack, m, reduced)?;
-    let col = first_column(cost, price, m, n, row, slack[row])?;
+    // There is such a row, and such a column in it. By `unwrap_or`: with `unwrap` or `?` each turn
+    // of a search has one to three instructions more.
+    let row = first_row(price, slack, m, reduced).unwrap_or(m);
+    let col = first_column(cost, price, m, n, row, slack[row]).unwrap_or(n);
     Some(PricedLane { row, col, reduced })
 }

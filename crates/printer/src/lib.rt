@@ -21,6 +21,7 @@ fn write_fitting<T: Decimal>(number: T, out: &mut [u8]) -> usize
     number.write_text(out)
 }
 
+// Two exports, since C calls each by a name of its own.
 #[unsafe(no_mangle)]
 pub extern "C" fn printer_whole(z: i64, out: &mut [u8]) -> usize
     ensures { let text = fitting (length out.old) (whole_digits z) in

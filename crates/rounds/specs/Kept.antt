@@ -1,7 +1,9 @@
 -- What a run keeps from round to round: the board of a tableau with its prices and the least slacks of its rows. What the scan finds on it, and one round.
 use Rattle.std.specs.Prelude.{◌+◌, ◌*◌, ◌^◌, ◌<◌, ◌≤◌, ◌≡◌, ◌+ℤ◌, ◌-ℤ◌, Option, Some, None, is_some}
-use Rattle.prelude.specs.Words.{ℕ, arith, dec_lt, refl, sym, ◌∙◌, by_cases, Bool, true, false, not, cond, true≢false, List, ℤ}
-use Rattle.prelude.specs.Words.{pos, negsuc, nat_abs, neg_ℤ, lt_z, non_neg, ltb, length, get_or, lt-ltb, le-ltb, by_test, clash}
+use Rattle.prelude.specs.Words.{ℕ, arith, dec_lt, refl, sym, ◌∙◌, by_cases, Bool, true, false, not, cond}
+use Rattle.prelude.specs.Words.{true≢false, List, ℤ}
+use Rattle.prelude.specs.Words.{pos, negsuc, nat_abs, neg_ℤ, lt_z, non_neg, ltb, length, get_or, lt-ltb, le-ltb}
+use Rattle.prelude.specs.Words.{by_test, clash}
 use Rattle.integers.specs.Integer.{◌≈◌, ◌⊕◌, ◌⊖◌, neg, nat}
 use Rattle.integers.specs.Bridge.{to_z, z-add, z-neg}
 use Rattle.integers.specs.Tests.{lt_yes}
@@ -154,11 +156,13 @@ module _ {P : Problem} {T : List Cell} {cost price : List ℤ} {m n : ℕ} (b : 
   pub scanned_none : NoneNegative cost price m n → is_finished_of P T ≡ true
   unfolding is_finished_of
   scanned_none h = all_lanes (λ l. non_neg (reduced_cost P T l)) (sources P) (sinks P)
-      (λ i j x y. not_negative (reduced_cost P T (lane i j)) (rw (← reduced-are i j (omega (arith, b.rows)) (omega (arith, b.columns)))
+      (λ i j x y. not_negative (reduced_cost P T (lane i j)) (rw (← reduced-are i j (omega (arith, b.rows)) (omega
+      (arith, b.columns)))
       (h i j (omega (arith, b.rows)) (omega (arith, b.columns)))))
 
   -- So the tableau is finished where the scan finds none.
-  pub scanned_done : (x : Option PricedLane) (finished : Bool) → Scanned cost price m n x → is_some x ≡ not finished → is_finished_of P T ≡ finished
+  pub scanned_done : (x : Option PricedLane) (finished : Bool) → Scanned cost price m n x → is_some x ≡ not finished
+      → is_finished_of P T ≡ finished
   scanned_done None true h e = scanned_none h
   scanned_done None false h e = absurd (true≢false (sym e))
   scanned_done (Some l) true w e = absurd (true≢false e)
@@ -196,7 +200,8 @@ module _ {P : Problem} {T : List Cell} {bags marks cost price slack : List ℤ} 
   pub advanced_stays : is_finished_of P T ≡ true → Advanced P T bags marks cost price slack sub path tree m n true
   advanced_stays f = record { done = f; kept = h }
 
-  module _ {row col : ℕ} {reduced : ℤ} (t : lt_z reduced (pos 0) ≡ true) (w : Found cost price m n row col reduced) where
+  module _ {row col : ℕ} {reduced : ℤ} (t : lt_z reduced (pos 0) ≡ true)
+      (w : Found cost price m n row col reduced) where
     unfinished : is_finished_of P T ≡ false
     unfinished = scanned_on kept-priced w t
 

@@ -12,7 +12,7 @@ use pricing::scan::entering;
 use rounds::round::{advance, begin};
 use tree::{LANES, NODES, Price};
 
-// How a run ended, and how many rounds it made.
+// How a run ended, and how many rounds it made. A struct and no enum: both ends have their rounds.
 #[derive(Clone, Copy)]
 pub struct Made {
     pub finished: bool,

@@ -34,7 +34,8 @@ fn decide(bags: &mut Bags, tight: TightLanes, target: Target, search: &mut Searc
     requires stage { (a : ℕ → Z) × (b : ℕ → Z)
         × Stage tight.m tight.n a b (target.row * tight.n + target.col) tight.rows.now bags.old }
     requires sought { SoughtIn tight.m tight.n target tight.rows.now bags.old }
-    ensures dead { let t = tight.entry in Dead t.m t.n target.row (suc target.col) t.rows.now bags.new.q.now result }
+    ensures dead { let t = tight.entry in
+        Dead t.m t.n target.row (suc target.col) t.rows.now bags.new.by_lane.now result }
     ensures reaches { let t = tight.entry in let lane = target.row * t.n + target.col in
         Reaches t.m t.n lane (suc lane) t.rows.now bags.old bags.new }
 {

@@ -7,7 +7,7 @@ use Rattle.transport.specs.Limits.{max_sources, max_sinks}
 use Rattle.transport.specs.Sheet.{Sheet as SheetRecord}
 use Rattle.transport.specs.SheetText.{Reading, stuck, got, sheet_reader}
 use Rattle.tokens.specs.declared.Stuck.{Stuck}
-pub use Rattle.sheet_reader.specs.declared.whole_text.Counts.{Counts}
+use Rattle.transport.specs.declared.Counts.{Counts}
 
 -- The sheet that the fronts of three lists are.
 abbrev front_sheet : List ℕ → List ℕ → List ℤ → ℕ → ℕ → SheetRecord

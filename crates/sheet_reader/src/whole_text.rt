@@ -6,14 +6,7 @@ ghost use Rattle.sheet_reader.specs.SheetAnswer.{sheet_read, ReadFits};
 
 use line_reader::{read_costs, read_list};
 use tokens::Stuck;
-use transport::{MAX_SINKS, MAX_SOURCES};
-
-// How many sources and sinks the sheet of a text has.
-#[derive(Clone, Copy)]
-pub struct Counts {
-    pub sources: usize,
-    pub sinks: usize,
-}
+use transport::{Counts, MAX_SINKS, MAX_SOURCES};
 
 // The whole text, into the fronts of three lists that are long enough for any sheet text.
 #[tactic(auto, unfolding(transport::specs::Limits::max_sources, transport::specs::Limits::max_sinks))]
@@ -29,10 +22,10 @@ pub fn read_sections(
     ensures reads { sheet_reader text.now ≡ sheet_read text.now supply.new demand.new cost.new result }
     ensures fits { ReadFits text.now result }
 {
-    let supplies = read_list(text, 0, b"supply ", MAX_SOURCES as u64, supply)?;
-    let demands = read_list(text, supplies.next, b"demand ", MAX_SINKS as u64, demand)?;
-    let sources = supplies.value as usize;
-    let sinks = demands.value as usize;
+    let supplies = read_list(text, 0, b"supply ", MAX_SOURCES, supply)?;
+    let demands = read_list(text, supplies.next, b"demand ", MAX_SINKS, demand)?;
+    let sources = supplies.value;
+    let sinks = demands.value;
     let next = read_costs(text, demands.next, sources, sinks, cost)?;
     if next < text.len() {
         return Err(Stuck(next));

@@ -11,8 +11,7 @@ ghost use Rattle.decimals.specs.Front.{front};
 ghost use Rattle.sheet_writer.specs.SheetSections.{demand_section, cost_section};
 
 use sections::section;
-use sheet::SheetCheck;
-use transport::WriteAnswer;
+use transport::Refusal;
 
 // The length of the text of an accepted sheet.
 #[tactic(auto, using(crate::specs::SheetSections::parts), unfolding(transport::specs::Text::bytes))]
@@ -54,18 +53,19 @@ fn write_text(supply: &[u64], demand: &[u64], cost: &[i64], out: &mut [u8]) -> u
 }
 
 // Write sheet: the length of the text, which then stands at the front of the output; or the refusal, and the output is as it was.
-pub fn write_sheet(supply: &[u64], demand: &[u64], cost: &[i64], out: &mut [u8]) -> WriteAnswer
+pub fn write_sheet(
+    supply: &[u64],
+    demand: &[u64],
+    cost: &[i64],
+    out: &mut [u8],
+) -> Result<usize, Refusal>
     ensures { let S = sheet_of supply.now demand.now cost.now in
         let a = write_sheet_call S (length out.old) in
         (result ≡ write_answer a) × (out.new ≡ lent_after (λ t. t) a out.old) }
 {
-    let check = sheet::check_sheet(supply, demand, cost);
-    if let SheetCheck::Refused(number) = check {
-        return WriteAnswer::Refused(number);
-    }
+    sheet::check_sheet(supply, demand, cost)?;
     if out.len() < text_len(supply, demand, cost) {
-        return WriteAnswer::Refused(8);
+        return Err(Refusal::TooShort);
     }
-    let len = write_text(supply, demand, cost, out);
-    WriteAnswer::Written(len)
+    Ok(write_text(supply, demand, cost, out))
 }

@@ -3,6 +3,11 @@
 
 pub mod bytes;
 
+ghost use Rattle.std.specs.Prelude.{◌≡◌};
+ghost use Rattle.transport.specs.declared.Refusal.{Refusal};
+
+use transport::Refusal;
+
 // A value that was read, with the place after it.
 #[derive(Clone, Copy)]
 pub struct Token<T> {
@@ -13,3 +18,12 @@ pub struct Token<T> {
 // The place before the first byte that cannot come there: what a reader answers that finds nothing.
 #[derive(Clone, Copy)]
 pub struct Stuck(pub usize);
+
+// A text that a reader is stuck in is no sheet text.
+impl From<Stuck> for Refusal {
+    ghost from_gives = { λ stop refusal. refusal ≡ Refusal.NotSheetText stop.0 };
+
+    fn from(stop: Stuck) -> Refusal {
+        Refusal::NotSheetText(stop.0)
+    }
+}

@@ -21,10 +21,6 @@ minus-size : (b : Bool) → bool_byte b ≡ cond b 1 0
 minus-size true = refl
 minus-size false = refl
 
-pub minus-few : (b : Bool) → bool_byte b ≤ 1
-minus-few true = omega arith
-minus-few false = omega arith
-
 pub minus-fits : (text : List ℕ) (at : ℕ) (b : Bool) → at ≤ length text → byte_next 45 (drop at text) ≡ b → at + bool_byte b ≤ length text
 minus-fits text at true p e = omega (arith, byte_inside text at 45 e)
 minus-fits text at false p e = omega arith
@@ -42,6 +38,7 @@ module _ (text : List ℕ) (at : ℕ) (b : Bool) (m : byte_next 45 (drop at text
   pub whole_stuck : (u : List ℕ) → number_from (bool_byte b) rest ≡ stuck u → whole (drop at text) ≡ stuck u
   whole_stuck u e = whole_is ∙ bind-stuck (number_from (bool_byte b)) rest u _ e
 
-  pub whole_got : (x : ℕ) (u : List ℕ) → number_from (bool_byte b) rest ≡ got x u → whole (drop at text) ≡ got (signed b x) u
+  pub whole_got : (x : ℕ) (u : List ℕ) → number_from (bool_byte b) rest ≡ got x u
+      → whole (drop at text) ≡ got (signed b x) u
   unfolding pure
   whole_got x u e = whole_is ∙ bind-got (number_from (bool_byte b)) rest u _ x e

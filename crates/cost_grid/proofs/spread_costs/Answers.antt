@@ -42,7 +42,12 @@ overflow_add-out c = omega (arith, c.own_number-col.ensures, inside (goal.at.ove
 
 pub offset_bounds-cost-first : goal.offset_bounds-cost-first
 unfolding at
-offset_bounds-cost-first c = omega (arith, c.own_number-col.ensures, inside (goal.at.offset_bounds-cost-first c).In-loop-j)
+offset_bounds-cost-first c = omega (
+  arith,
+  c.own_number-col.ensures,
+  inside
+      (goal.at.offset_bounds-cost-first c).In-loop-j,
+)
 
 pub bounds-cost-first : goal.bounds-cost-first
 unfolding at
@@ -62,7 +67,8 @@ loop-j-preserved c before p =
     let long : length c.loop-j.out ≡ lane_room = (c.loop-j.invariant _ c.loop-i.invariant).long in
     rw (c.own_number-col.ensures, read_back t, to_z-of_z {w = w32} (abs_fits w32 (cost_here t) (small t)))
     (grid-lane (c.loop-j.invariant before p) r.cols_few (omega arith) (omega (arith, r.rows_few_of, r.cols_few))
-    (λ h k u s. by_column-once h k c.loop-i.i c.loop-j.j (omega (arith, r.rows_few_of, r.cols_few)) (omega (arith, r.rows_few_of)) u))
+    (λ h k u s. by_column-once h k c.loop-i.i c.loop-j.j (omega (arith, r.rows_few_of, r.cols_few)) (omega
+    (arith, r.rows_few_of)) u))
 
 pub loop-i-preserved : goal.loop-i-preserved
 loop-i-preserved c = grid-row (c.loop-j.invariant _ c.loop-i.invariant) c.requires.cols_few (omega arith)

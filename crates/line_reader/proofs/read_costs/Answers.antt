@@ -50,4 +50,5 @@ returns-clause-reads c =
     let named = head_read c.args.m _ _ _ _ h.0 h.1 c.in_ok-next.ensures.reads in
     let size = length-take-le _ c.args.list.now c.requires.4 in
     cost_named c.args.m c.args.n _ _ c.requires.2 named ∙ (rw size at c.read_lines.ensures.reads)
-    ∙ ap (λ xs. read_to c.args.text.now xs c.read_lines.result) (sym (front_is _ c.read_lines.new.list _ (sym (c.read_lines.auto.list ∙ size))))
+    ∙ ap (λ xs. read_to c.args.text.now xs c.read_lines.result)
+    (sym (front_is _ c.read_lines.new.list _ (sym (c.read_lines.auto.list ∙ size))))

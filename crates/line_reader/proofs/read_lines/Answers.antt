@@ -20,12 +20,15 @@ pub loop-slot-preserved : goal.loop-slot-preserved
 loop-slot-preserved g c =
     let l = c.loop-slot.invariant in
     let e = c.in_ok-number.ensures in
+    let n = c.in_ok-number.number in
     record {
       long = simp length-set l.long;
-      so_far = read_more l.so_far (omega arith) _ _ _ (omega arith) e.reads e.inside c.left_after-left.ensures;
+      so_far =
+          read_more l.so_far (omega arith) n.value n.next _ (omega arith) e.reads e.inside c.left_after-left.ensures;
     }
 
 pub returns-clause-reads : goal.returns-clause-reads
 returns-clause-reads g c =
     let l = c.loop-slot in
-    read_done l.invariant.so_far (omega arith) ∙ ap (λ xs. got xs (drop l.next c.args.text.now)) (take_all _ l.slot-items (omega arith))
+    read_done l.invariant.so_far (omega arith)
+    ∙ ap (λ xs. got xs (drop l.next c.args.text.now)) (take_all _ l.slot-items (omega arith))

@@ -1,4 +1,5 @@
--- The numbers read so far stand in the list, and the others are to be read from the present place on.
+-- The numbers read so far stand in the list, and the others are to be read from the present place
+-- on.
 use Rattle.std.specs.Prelude.{◌≡◌}
 use Rattle.prelude.specs.Words.{length}
 use Rattle.line_reader.specs.LinesRead.{ReadSoFar}

@@ -10,8 +10,7 @@ returns-then-not-end_at-clause-reads g c = end_no _ _ _ (sym c.if-not-end_at.ens
 pub returns-clause-reads : goal.returns-clause-reads
 returns-clause-reads g c =
     let number = c.args.number in
-    end_yes _ _ _ (sym c.if-not-end_at.ensures)
-    ∙ ap (got number.value) (drop-next c.args.text.now number.next)
+    end_yes _ _ _ (sym c.if-not-end_at.ensures) ∙ ap (got number.value) (drop-next c.args.text.now number.next)
 
 pub returns-clause-inside : goal.returns-clause-inside
 returns-clause-inside g c = omega (arith, byte_inside _ c.args.number.next _ (sym c.if-not-end_at.ensures))

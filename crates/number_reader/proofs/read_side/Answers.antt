@@ -2,7 +2,8 @@
 -- stays within the limit.
 use Rattle.prelude.specs.Words.{◌∙◌, arith}
 use Rattle.transport.specs.Laws.SheetLaws.{true-within, within-high}
-use Rattle.tokens.specs.Reading.{handed_on, more-none, more_stop, more-step, more_over, side-stuck, side-zero, side-more}
+use Rattle.tokens.specs.Reading.{handed_on, more-none, more_stop, more-step, more_over}
+use Rattle.tokens.specs.Reading.{side-stuck, side-zero, side-more}
 use Rattle.number_reader.proofs.read_side.Goals as goal
 
 pub returns-in_err-first-clause-reads : goal.returns-in_err-first-clause-reads

@@ -6,7 +6,8 @@ use Rattle.numbering.specs.Numbers.{Growing, number_in, number_in-at, number_in-
 use Rattle.numbering.proofs.number_in.Goals as goal
 
 found : {own : List ℕ} (party : ℕ) → Growing own → (r : Option ℕ)
-    → MatchOption r ((k : ℕ) → k < length own → get_or own k 0 ≡ party → ⊥) (λ k. (k < length own) × (get_or own k 0 ≡ party))
+    → MatchOption r ((k : ℕ) → k < length own → get_or own k 0 ≡ party → ⊥)
+    (λ k. (k < length own) × (get_or own k 0 ≡ party))
     → MatchOption r (number_in own party ≡ max_side) (λ k. (k < length own) × (k ≡ number_in own party))
 unfolding at
 found {own} party g None none = number_in-none own party none

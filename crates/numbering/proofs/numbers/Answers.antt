@@ -23,4 +23,5 @@ unfolding at
 loop-k-preserved c = numbered_one _ c.loop-k.k _ c.loop-k.invariant (c.requires.inside c.loop-k.k (omega arith))
 
 pub returns : goal.returns
-returns c = let e : c.loop-k.k ≡ length c.args.own.now = omega arith in numbered_all _ _ c.requires (rw e at c.loop-k.invariant)
+returns c = let e : c.loop-k.k ≡ length c.args.own.now = omega arith in
+    numbered_all _ _ c.requires (rw e at c.loop-k.invariant)

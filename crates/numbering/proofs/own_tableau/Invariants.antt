@@ -1,4 +1,5 @@
--- The first k cells have own numbers, and the rest is as it was. There are no more than the array has.
+-- The first k cells have own numbers, and the rest is as it was. There are no more than the array
+-- has.
 use Rattle.std.specs.Prelude.{◌≤◌}
 use Rattle.numbering.specs.Numbers.{own_cell_of, ChangedTo}
 use Rattle.numbering.proofs.own_tableau.Given as goal

@@ -1,5 +1,6 @@
 use Rattle.std.specs.Prelude.{◌+◌, ◌*◌, ◌≤◌, ◌<◌, ◌≡◌}
-use Rattle.prelude.specs.Words.{arith, mul-le-mul, rules, pos, length, get_or, drop, length-append, length-drop, length-take-le}
+use Rattle.prelude.specs.Words.{arith, mul-le-mul, rules, pos, length, get_or, drop, length-append, length-drop}
+use Rattle.prelude.specs.Words.{length-take-le}
 use mir.Syntax.{w64}
 use mir.Val.{to_z, of_z}
 use Rattle.transport.specs.Lists.{at}
@@ -14,7 +15,12 @@ pub overflow_mul-first : goal.overflow_mul-first
 unfolding at
 overflow_mul-first c =
     let r = c.requires in
-    let low : at c.args.rows.now c.loop-i.i ≤ stride = omega (arith, r.rows_below c.loop-i.i (omega arith), r.sources_few) in
+    let low : at c.args.rows.now c.loop-i.i ≤ stride = omega (
+      arith,
+      r.rows_below c.loop-i.i
+          (omega arith),
+      r.sources_few,
+    ) in
     omega (arith, mul-le-mul low r.sinks_few)
 
 -- The place of row i and column j is one of them, and in the list.
@@ -40,11 +46,21 @@ inside c =
 
 pub overflow_add-plan-in-loop-j : goal.overflow_add-plan-in-loop-j
 unfolding at
-overflow_add-plan-in-loop-j c = omega (arith, c.own_number-col.ensures, inside (goal.at.overflow_add-plan-in-loop-j c).In-loop-j)
+overflow_add-plan-in-loop-j c = omega (
+  arith,
+  c.own_number-col.ensures,
+  inside
+      (goal.at.overflow_add-plan-in-loop-j c).In-loop-j,
+)
 
 pub offset_bounds-plan-first : goal.offset_bounds-plan-first
 unfolding at
-offset_bounds-plan-first c = omega (arith, c.own_number-col.ensures, inside (goal.at.offset_bounds-plan-first c).In-loop-j)
+offset_bounds-plan-first c = omega (
+  arith,
+  c.own_number-col.ensures,
+  inside
+      (goal.at.offset_bounds-plan-first c).In-loop-j,
+)
 
 pub bounds-plan-first : goal.bounds-plan-first
 unfolding at
@@ -64,4 +80,5 @@ pub loop-i-preserved : goal.loop-i-preserved
 loop-i-preserved c = grid-row (c.loop-j.invariant _ c.loop-i.invariant) c.requires.cols_few (omega arith)
 
 pub returns : goal.returns
-returns c = all_stored c.requires (omega arith) (emptied_front c.requires.room (c.fill.ensures.after (λ y e. e))) c.loop-i.invariant
+returns c = all_stored c.requires (omega arith) (emptied_front c.requires.room (c.fill.ensures.after
+    (λ y e. e))) c.loop-i.invariant

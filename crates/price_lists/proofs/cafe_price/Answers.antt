@@ -23,7 +23,8 @@ unfolding at at_z
 returns c =
     let a = c.args in
     let (m, costs, w) = c.requires in
-    back w64 c.least.result (search rules) ∙ c.least.ensures (row_slack a.cost.now a.cafes a.rows.now a.u.now a.j) (λ k z below e.
+    back w64 c.least.result (search rules)
+    ∙ c.least.ensures (row_slack a.cost.now a.cafes a.rows.now a.u.now a.j) (λ k z below e.
     let i = get_or a.rows.now k 0 in
     let price : ℤ = get_or a.u.now i (pos 0) in
     let is : z ≡ cost_in a.cost.now a.cafes i a.j -ℤ to_z w64 (of_z w64 price) = search rules in

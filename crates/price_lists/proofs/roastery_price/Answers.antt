@@ -19,7 +19,8 @@ pub returns : goal.returns
 unfolding at_z
 returns c =
     let a = c.args in
-    back w64 c.least.result (search rules) ∙ c.least.ensures (column_slack a.cost.now a.cafes a.v.now a.i) (λ j z below e.
+    back w64 c.least.result (search rules)
+    ∙ c.least.ensures (column_slack a.cost.now a.cafes a.v.now a.i) (λ j z below e.
     let price : ℤ = get_or a.v.now j (pos 0) in
     let is : z ≡ cost_in a.cost.now a.cafes a.i j -ℤ to_z w64 (of_z w64 price) = search rules in
     is ∙ rw (price_back price (c.requires.1.small j)))

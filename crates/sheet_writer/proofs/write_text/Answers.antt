@@ -15,4 +15,5 @@ pub returns : goal.returns
 unfolding bytes
 returns c =
     let room = rw (accepted-sections c.requires.0) at c.requires.1 in
-    rw (accepted-sections c.requires.0) (both (begun _ _ room c.write_section-at.ensures) _ _ c.write_after_supply.ensures)
+    rw (accepted-sections c.requires.0)
+    (both (begun _ _ room c.write_section-at.ensures) _ _ c.write_after_supply.ensures)

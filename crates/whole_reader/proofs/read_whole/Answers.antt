@@ -24,7 +24,8 @@ signed-value-requires c = omega (arith, c.in_ok-number.ensures.small)
 
 pub returns-clause-reads : goal.returns-clause-reads
 returns-clause-reads c =
-    let read = whole_got c.args.text.now c.args.at _ (sym c.byte_at-negative.ensures) _ _ c.in_ok-number.ensures.reads in
+    let minus = sym c.byte_at-negative.ensures in
+    let read = whole_got c.args.text.now c.args.at _ minus _ _ c.in_ok-number.ensures.reads in
     let value = back w64 c.signed-value.result (search rules) in
     ap (end_reading (ending c.args.left)) read
     ∙ (rw (value, c.signed-value.ensures) at c.read_end.ensures.reads)

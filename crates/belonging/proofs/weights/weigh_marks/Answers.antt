@@ -11,5 +11,6 @@ pub returns : goal.returns
 returns c =
     let m = c.args.m in
     let whole : to_z w64 m ≡ pos m = to_z_pos w64 {n = m} (omega arith) in
-    let ones = c.fill.ensures.after (λ y e. e) ∙ ap (λ k. replicate k (pos 1)) (length-take-le m (replicate node_room (pos 0)) (omega arith)) in
+    let ones = c.fill.ensures.after (λ y e. e)
+    ∙ ap (λ k. replicate k (pos 1)) (length-take-le m (replicate node_room (pos 0)) (omega arith)) in
     rw (whole, ones) (marks-put m c.args.n c.requires.0 c.requires.1 c.requires.2 (marked-front m (omega arith)))

@@ -10,7 +10,11 @@ use Rattle.board.proofs.fit.cell_fits.Goals as goal
 pub returns : goal.returns
 unfolding fits_at place above_zero nothing
 returns c = let a = c.args in
-    rw (lt-ltb a.c.row a.m (omega arith), lt-ltb a.c.col a.n (omega arith), le-leb a.least (a.c.row * a.n + a.c.col) (omega arith)) c.less.ensures
+    rw (
+      lt-ltb a.c.row a.m (omega arith),
+      lt-ltb a.c.col a.n (omega arith),
+      le-leb a.least (a.c.row * a.n + a.c.col) (omega arith),
+    ) c.less.ensures
 
 pub returns-then-m-c : goal.returns-then-m-c
 unfolding fits_at
@@ -23,4 +27,8 @@ returns-then-n-c c = let a = c.args in rw (lt-ltb a.c.row a.m (omega arith), le-
 pub returns-then-c-n : goal.returns-then-c-n
 unfolding fits_at place
 returns-then-c-n c = let a = c.args in
-    rw (lt-ltb a.c.row a.m (omega arith), lt-ltb a.c.col a.n (omega arith), lt-leb a.least (a.c.row * a.n + a.c.col) (omega arith))
+    rw (
+      lt-ltb a.c.row a.m (omega arith),
+      lt-ltb a.c.col a.n (omega arith),
+      lt-leb a.least (a.c.row * a.n + a.c.col) (omega arith),
+    )

@@ -11,4 +11,5 @@ row_lanes-count-requires c =
 
 pub loop-i-preserved : goal.loop-i-preserved
 loop-i-preserved c =
-    let r = c.row_lanes-count in lanes-more c.requires (omega arith) c.loop-i.invariant r.result r.new.lanes r.array_long r.ensures.0 r.ensures.1
+    let r = c.row_lanes-count in
+    lanes-more c.requires (omega arith) c.loop-i.invariant r.result r.new.lanes r.array_long r.ensures.0 r.ensures.1

@@ -11,9 +11,12 @@ use Rattle.dealing.specs.Filling.{filled, filled_none, filled-one, filled-all}
 use Rattle.dealing.proofs.corner.first_tableau.Goals as goal
 
 -- The cell where the rule stands is put after those before it.
-stored : {P : Problem} {at : Corner} {k : ℕ} {cells : List Cell} → Sound P → (k ≡ at.row + at.col) × DealtTo P at × (cells ≡ filled (start P) k)
+stored : {P : Problem} {at : Corner} {k : ℕ} {cells : List Cell} → Sound P
+    → (k ≡ at.row + at.col) × DealtTo P at × (cells ≡ filled (start P) k)
     → set cells k (cell_of at) ≡ filled (start P) (k + 1)
-stored {P} {at} ok (is, dealt, before) = rw (before, is) (filled-one (start P) (at.row + at.col) (cell_of at) (dealt_to-room P ok at dealt) (dealt_to-cell P ok at dealt))
+stored {P} {at} ok (is, dealt, before) =
+    rw (before, is) (filled-one (start P) (at.row + at.col) (cell_of at) (dealt_to-room P ok at dealt)
+    (dealt_to-cell P ok at dealt))
 
 pub loop-k-init : goal.loop-k-init
 loop-k-init c =
@@ -52,5 +55,8 @@ unfolding sources sinks
 returns c =
     let S = costless c.args.supply.now c.args.demand.now in
     let last : length c.args.supply.now + length c.args.demand.now - 1 - 1 ≡ c.loop-k.k = omega arith in
-    let all : c.loop-k.k + 1 ≡ length c.args.supply.now + length c.args.demand.now - 1 = omega (arith, c.requires.sources_low, c.requires.sinks_low) in
-    rw (last, c.put-2.ensures) (filled-all (start S) _ _ (sym (length-start S c.requires)) (stored c.requires c.loop-k.invariant ∙ ap (filled (start S)) all))
+    let all : c.loop-k.k + 1 ≡ length c.args.supply.now + length c.args.demand.now - 1 =
+    omega (arith, c.requires.sources_low, c.requires.sinks_low) in
+    rw (last, c.put-2.ensures)
+    (filled-all (start S) _ _ (sym (length-start S c.requires))
+    (stored c.requires c.loop-k.invariant ∙ ap (filled (start S)) all))

@@ -19,8 +19,18 @@ overflow_cast-result c = omega arith
 pub returns-then-j-demand : goal.returns-then-j-demand
 unfolding paired_demand_of at sources sinks
 returns-then-j-demand c S e f =
-    rw (e, f, eq-eqb c.args.j (length c.args.demand.now - 1) (omega arith), bags-whole c.requires.1, bags-whole c.requires.2)
+    rw (
+      e,
+      f,
+      eq-eqb c.args.j (length c.args.demand.now - 1) (omega arith),
+      bags-whole c.requires.1,
+      bags-whole c.requires.2,
+    )
 
 pub returns : goal.returns
 unfolding paired_demand_of at sinks
-returns c S e f = rw (e, ne_eqb c.args.j (length c.args.demand.now - 1) (λ l. c.if-j-demand.false (omega arith)), bags-whole c.requires.1)
+returns c S e f = rw (
+  e,
+  ne_eqb c.args.j (length c.args.demand.now - 1) (λ l. c.if-j-demand.false (omega arith)),
+  bags-whole c.requires.1,
+)

@@ -2,7 +2,8 @@ use Rattle.std.proofs.Common.{◌≡◌, ◌-◌, ◌/◌, ◌<◌, ◌≤◌, �
 use Rattle.transport.specs.Text.{digits}
 use Rattle.grammar.specs.Digits.{digits-some}
 use Rattle.decimals.specs.Front.{front}
-use Rattle.decimals.specs.Digits.{digits-left, digit-last, digits-before, fill_back, length-digits-small, length-digits-more}
+use Rattle.decimals.specs.Digits.{digits-left, digit-last, digits-before, fill_back}
+use Rattle.decimals.specs.Digits.{length-digits-small, length-digits-more}
 use Rattle.decimals.proofs.U64Decimal.write_text.Goals as goal
 
 -- While the rest has two digits or more, so many places are left.

@@ -17,7 +17,8 @@ returns-in_default-number_in c cost cafes g w = respread_no_column g w c.in_defa
 -- The cost is read back from its bits, the wide ones and the narrow ones.
 pub overflow_cast-spread : goal.overflow_cast-spread
 unfolding max_cost
-overflow_cast-spread c = let small : nat_abs c.args.c < 2 ^ 31 = omega arith in rw (back w64 c.args.c (search rules)) (abs_fits w32 c.args.c small)
+overflow_cast-spread c = let small : nat_abs c.args.c < 2 ^ 31 = omega arith in
+    rw (back w64 c.args.c (search rules)) (abs_fits w32 c.args.c small)
 
 pub returns : goal.returns
 unfolding max_cost

@@ -26,7 +26,8 @@ pub loop-k-preserved : goal.loop-k-preserved
 unfolding at max_side
 loop-k-preserved c =
     let k = c.loop-k.k in elim c.if-x-gt0.branch [
-      | then-x-gt0 w ↦ rw (w.left-is, w.own-is, w.count-is) (listed_yes _ k c.loop-k.invariant (omega arith) (omega arith))
+      | then-x-gt0 w ↦ rw (w.left-is, w.own-is, w.count-is)
+          (listed_yes _ k c.loop-k.invariant (omega arith) (omega arith))
       | else-x-gt0 w ↦ rw (w.left-is, w.own-is, w.count-is) (listed_no _ k c.loop-k.invariant (omega arith))
     ]
 

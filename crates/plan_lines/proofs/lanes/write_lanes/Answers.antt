@@ -12,5 +12,6 @@ loop-place-preserved c =
     let k = c.loop-place.place in
     let first = used_text n plan k in
     let next = lane_text n k (at plan k) in
-    let room : length (first ++ next) ≤ length c.args.out.now = simp length-append (omega (arith, text-room n plan k (omega arith))) in
+    let room : length (first ++ next) ≤ length c.args.out.now =
+    simp length-append (omega (arith, text-room n plan k (omega arith))) in
     rw text-next (both (begun first next room c.loop-place.invariant) _ _ c.write_lane-at.ensures)

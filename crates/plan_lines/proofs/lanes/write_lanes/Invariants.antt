@@ -5,4 +5,5 @@ use Rattle.plan_lines.specs.Lanes.{used_text}
 use Rattle.plan_lines.proofs.lanes.write_lanes.Given as goal
 
 abbrev pub invariant-loop-place : goal.invariant-loop-place
-invariant-loop-place l = let text = used_text l.n l.plan l.place in (l.at ≡ length text) × (l.out ≡ front text l.initial.out)
+invariant-loop-place l = let text = used_text l.n l.plan l.place in
+    (l.at ≡ length text) × (l.out ≡ front text l.initial.out)

@@ -10,7 +10,8 @@ use Rattle.pricing.specs.Slacks.{slack-room}
 use Rattle.pricing.proofs.scan.first_column.Goals as goal
 use Rattle.pricing.proofs.scan.first_column.Goals.{In-loop-col}
 
-room : (c : In-loop-col) → nat_abs (get_or c.args.cost.now (c.loop-col.col * stride + c.args.row) (pos 0)) + nat_abs (get_or c.args.price.now (c.args.m + c.loop-col.col) (pos 0)) < 2 ^ 31
+room : (c : In-loop-col) → nat_abs (get_or c.args.cost.now (c.loop-col.col * stride + c.args.row) (pos 0)) + nat_abs
+    (get_or c.args.price.now (c.args.m + c.loop-col.col) (pos 0)) < 2 ^ 31
 unfolding cost_above max_cost
 room c = omega (arith, slack-room c.requires.in_range c.args.row c.loop-col.col (omega arith))
 
@@ -22,10 +23,12 @@ own : (c : In-loop-col) →
     let a = c.args in
     let x = get_or a.cost.now (c.loop-col.col * stride + a.row) (pos 0) in
     let y = get_or a.price.now (a.m + c.loop-col.col) (pos 0) in
-    to_z w32 (of_z w32 (to_z w32 (of_z w32 x) -ℤ to_z w32 (of_z w32 y))) ≡ slack_at a.cost.now a.price.now a.m a.row c.loop-col.col
+    to_z w32 (of_z w32 (to_z w32 (of_z w32 x) -ℤ to_z w32 (of_z w32 y))) ≡
+    slack_at a.cost.now a.price.now a.m a.row c.loop-col.col
 own c =
     let a = c.args in
-    diff_back w32 (get_or a.cost.now (c.loop-col.col * stride + a.row) (pos 0)) (get_or a.price.now (a.m + c.loop-col.col) (pos 0)) (room c)
+    diff_back w32 (get_or a.cost.now (c.loop-col.col * stride + a.row) (pos 0)) (get_or a.price.now
+    (a.m + c.loop-col.col) (pos 0)) (room c)
 
 -- The number that is sought, as the code has it.
 sought : (c : In-loop-col) → to_z w32 (of_z w32 c.args.slack) ≡ c.args.slack
@@ -38,4 +41,5 @@ returns-then-cost-col c =
 
 pub loop-col-preserved : goal.loop-col-preserved
 loop-col-preserved c =
-    above_step c.loop-col.invariant (omega arith) (rw (own (goal.at.loop-col-preserved c).In-loop-col) at c.if-cost-col.false)
+    above_step c.loop-col.invariant (omega arith) (rw (own (goal.at.loop-col-preserved c).In-loop-col) at
+    c.if-cost-col.false)

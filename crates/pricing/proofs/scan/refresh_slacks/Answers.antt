@@ -1,4 +1,5 @@
--- Where the row is among the nodes that moved, the columns rose (`slacks_risen`); where it is not, they fell (`slacks_fallen`).
+-- Where the row is among the nodes that moved, the columns rose
+-- (`slacks_risen`); where it is not, they fell (`slacks_fallen`).
 use Rattle.std.specs.Prelude.{◌+◌, ◌^◌, ◌<◌, ◌≡◌, ◌-ℤ◌}
 use Rattle.prelude.specs.Words.{sym, ◌∙◌, arith, pos, nat_abs, neg_ℤ, +ℤ_idl}
 use mir.Syntax.{w32}
@@ -12,7 +13,8 @@ pub relax_slacks-requires : goal.relax_slacks-requires
 relax_slacks-requires c = (c.args.n, c.requires.in_range, moving-inside c.requires.stale.1)
 
 pub returns-then-has_bit : goal.returns-then-has_bit
-returns-then-has_bit c = slacks_risen c.requires.stale.1 (sym c.has_bit.ensures ∙ c.if-has_bit.true) c.relax_slacks.ensures
+returns-then-has_bit c = slacks_risen c.requires.stale.1 (sym c.has_bit.ensures ∙ c.if-has_bit.true)
+    c.relax_slacks.ensures
 
 -- The reduced cost can be taken off 0, and off a slack.
 less-room : (c : After-first_bits) → nat_abs (pos 0) + nat_abs c.args.reduced < 2 ^ 31
@@ -22,7 +24,8 @@ less : (c : After-first_bits) → let r = c.args.reduced in to_z w32 (of_z w32 (
 less c = let r = c.args.reduced in diff_back w32 (pos 0) r (less-room c) ∙ +ℤ_idl (neg_ℤ r)
 
 pub overflow_sub-reduced : goal.overflow_sub-reduced
-overflow_sub-reduced c = diff_in w32 (pos 0) c.args.reduced (less-room (goal.at.overflow_sub-reduced c).After-first_bits)
+overflow_sub-reduced c = diff_in w32 (pos 0) c.args.reduced (less-room
+    (goal.at.overflow_sub-reduced c).After-first_bits)
 
 pub raised-requires : goal.raised-requires
 raised-requires c i l =

@@ -11,7 +11,8 @@ use Rattle.pricing.specs.Slacks.{lowering, changing_step}
 use Rattle.pricing.proofs.scan.take_column.Goals as goal
 use Rattle.pricing.proofs.scan.take_column.Goals.{In-loop-i}
 
-room : (c : In-loop-i) → nat_abs (get_or c.args.cost.now (c.args.j * stride + c.loop-i.i) (pos 0)) + nat_abs c.args.v < 2 ^ 31
+room : (c : In-loop-i) → nat_abs (get_or c.args.cost.now (c.args.j * stride + c.loop-i.i)
+    (pos 0)) + nat_abs c.args.v < 2 ^ 31
 unfolding cost_above max_cost
 room c = omega (arith, c.requires.2 (c.args.j * stride + c.loop-i.i))
 

@@ -4,7 +4,8 @@ use Rattle.sections.proofs.section.numbers_len.Goals as goal
 
 pub loop-number-preserved : goal.loop-number-preserved
 loop-number-preserved g c =
-    let next = numbers-next g.T.Decimal.text c.args.numbers.now c.loop-number.number-index c.number-item.result (omega arith) in
+    let i = c.loop-number.number-index in
+    let next = numbers-next g.T.Decimal.text c.args.numbers.now i c.number-item.result (omega arith) in
     omega (arith, rw (← c.number-item.is) at next)
 
 pub returns : goal.returns

@@ -21,7 +21,8 @@ pub loop-number-preserved : goal.loop-number-preserved
 loop-number-preserved g c =
     let x = c.number-item.result in
     let put = c.write_ended-at.ensures in
-    lines_more c.loop-number.invariant x x _ (omega arith) c.number-item.is c.ending.ensures _ _ _ put.0 put.1 c.left_after-left.ensures
+    let left = c.left_after-left.ensures in
+    lines_more c.loop-number.invariant x x _ (omega arith) c.number-item.is c.ending.ensures _ _ _ put.0 put.1 left
 
 pub returns : goal.returns
 returns g c = lines_done c.loop-number.invariant (omega arith)

@@ -25,8 +25,8 @@ pub loop-goal-smaller : goal.loop-goal-smaller
 loop-goal-smaller c =
     let b = c.loop-goal.bags in
     let i = c.loop-goal.invariant in
-    let brought = c.bring_least.ensures in
-    turn-less b i.sought (c.in-Ok.ensures (bags_on b) i.sought) brought.follow brought.by_index
+    let moved = c.bring_least.ensures in
+    turn-less b i.sought (c.in-Ok.ensures (bags_on b) i.sought) moved.follow moved.brought
     (i.reaches.stage c.requires.stage.2)
 
 pub loop-goal-preserved : goal.loop-goal-preserved
@@ -34,10 +34,10 @@ loop-goal-preserved c =
     let b = c.loop-goal.bags in
     let i = c.loop-goal.invariant in
     let hit = c.in-Ok.ensures (bags_on b) i.sought in
-    let brought = c.bring_least.ensures in
+    let moved = c.bring_least.ensures in
     let before = i.reaches.stage c.requires.stage.2 in record {
-      sought = turn-sought b i.sought hit brought.follow brought.by_index before;
-      reaches = reaches-on i.reaches (turn-reaches b i.sought hit brought.follow brought.by_index before);
+      sought = turn-sought b i.sought hit moved.follow moved.brought before;
+      reaches = reaches-on i.reaches (turn-reaches b i.sought hit moved.follow moved.brought before);
     }
 
 -- No goal is left.

@@ -17,4 +17,4 @@ invariant-loop-goal l = let t = l.fn.tight in let lane = l.fn.target.row * t.n +
 
 abbrev pub decreases-loop-goal : goal.decreases-loop-goal
 decreases-loop-goal l =
-    let t = l.fn.target in max_bags - nat_abs (get_or l.bags.q.now (t.row * stride + t.col) (pos 0))
+    let t = l.fn.target in max_bags - nat_abs (get_or l.bags.by_lane.now (t.row * stride + t.col) (pos 0))

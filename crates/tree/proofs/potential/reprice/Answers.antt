@@ -22,7 +22,8 @@ small c = let a = c.args in
 same : (c : After-raise) → to_z w32 (of_z w32 c.toward-x.result) ≡ c.toward-x.result
 same c = back w32 c.toward-x.result (omega (arith, small c, mag_abs c.toward-x.result))
 
-minus : (c : After-raise) → to_z w32 (of_z w32 (pos 0 -ℤ to_z w32 (of_z w32 c.toward-x.result))) ≡ neg_ℤ c.toward-x.result
+minus : (c : After-raise) → to_z w32 (of_z w32 (pos 0 -ℤ to_z w32 (of_z w32 c.toward-x.result))) ≡
+    neg_ℤ c.toward-x.result
 minus c = diff_back w32 (pos 0) c.toward-x.result (omega (arith, small c)) ∙ +ℤ_idl (neg_ℤ c.toward-x.result)
 
 -- After the rows.
