@@ -1,6 +1,7 @@
 -- Round, case by case: the answers of the call.
 use Rattle.std.specs.Prelude.{◌≡◌, ◌++◌, Ok, Err}
-use Rattle.prelude.specs.Words.{arith, Bool, true, false, cond, none, some, List, ℕ, ℤ, pos, length-take, take, drop, replicate}
+use Rattle.prelude.specs.Words.{arith, Bool, true, false, cond, none, some, List, ℕ, ℤ, pos}
+use Rattle.prelude.specs.Words.{length-take, take, drop, replicate}
 use Rattle.transport.specs.declared.Refusal.{Refusal}
 use Rattle.transport.specs.declared.RoundAnswer.{RoundAnswer}
 use Rattle.transport.specs.declared.Cell.{Cell}
@@ -33,12 +34,14 @@ module _ (S : Sheet) (t : Tableau) where
   -- Else it gives the prices of a finished tableau, or the next tableau under own numbers.
   module _ (e : refusal (tableau_tests S t) ≡ none) where
     pub round-finished : is_finished_of (problem_of S) (inside S t) ≡ true
-        → Ok (round_shown (finished (roastery_prices S (inside S t)) (cafe_prices S (inside S t)))) ≡ round_answer (round_call S t)
+        → Ok (round_shown (finished (roastery_prices S (inside S t)) (cafe_prices S (inside S t))))
+        ≡ round_answer (round_call S t)
     unfolding round_answer result_of round_call round
     round-finished f = rw (unless-given (tableau_tests S t) (round S (inside S t)) e, f, round)
 
     pub round-moved : is_finished_of (problem_of S) (inside S t) ≡ false
-        → Ok (RoundAnswer.Moved (tableau_of (own (extended S) (next (problem_of S) (inside S t))))) ≡ round_answer (round_call S t)
+        → Ok (RoundAnswer.Moved (tableau_of (own (extended S) (next (problem_of S) (inside S t)))))
+        ≡ round_answer (round_call S t)
     unfolding round_answer round_shown result_of round_call round
     round-moved f = rw (unless-given (tableau_tests S t) (round S (inside S t)) e, f, round)
 

@@ -33,7 +33,8 @@ own_tableau-own-requires c =
     let board = r.board in (
       _,
       c.gather-next.ensures _ _ (_, _, board),
-      rw (c.row_numbers-rows.ensures, c.column_numbers-columns.ensures) (own-within w.accepted w.parties (board-belongs board)),
+      rw (c.row_numbers-rows.ensures, c.column_numbers-columns.ensures)
+          (own-within w.accepted w.parties (board-belongs board)),
     )
 
 pub returns : goal.returns
