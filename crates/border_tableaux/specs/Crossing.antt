@@ -10,7 +10,8 @@ use Rattle.transport.specs.Refusals.{number}
 use Rattle.transport.specs.Tableau.{no_tableau}
 use Rattle.transport.specs.Round.{Run}
 use Rattle.transport.specs.Calls.{Answer, refused, given, Round, finished, moved}
-use Rattle.transport.specs.Answers.{result_of, no_prices, round_shown, round_answer, run_outcome, run_shown, run_answer, settle_answer}
+use Rattle.transport.specs.Answers.{result_of, no_prices, round_shown, round_answer, run_outcome, run_shown}
+use Rattle.transport.specs.Answers.{run_answer, settle_answer}
 use Rattle.border.specs.Border.{round_out, run_out, number_of}
 use Rattle.border.specs.declared.RoundOut.{RoundOut}
 use Rattle.border.specs.declared.RunOut.{RunOut}

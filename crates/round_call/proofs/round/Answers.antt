@@ -3,7 +3,7 @@ use Rattle.std.proofs.lemmas.Result.{err_from_is_err_and}
 use Rattle.transport.specs.Sheet.{sheet_of}
 use Rattle.numbering.specs.Lent.{own-within, own-lent}
 use Rattle.board.specs.Drawing.{board-belongs}
-use Rattle.round_call.specs.Round.{round-refused, round-finished, round-moved, finished-priced}
+use Rattle.round_call.specs.Round.{round-refused, round-finished, round-moved, round-priced}
 use Rattle.round_call.proofs.round.Goals as goal
 
 pub returns-in_err-parties : goal.returns-in_err-parties
@@ -16,14 +16,14 @@ pub finished_round-requires : goal.finished_round-requires
 finished_round-requires c =
     let w = c.in_ok-parties.ensures.1 in
     let r = c.in-Some.ensures.rounded _ _ w.begun in
-    (_, finished-priced w.accepted w.parties r c.row_numbers-rows.ensures c.column_numbers-columns.ensures)
+    (_, round-priced w.accepted w.parties r c.row_numbers-rows.ensures c.column_numbers-columns.ensures)
 
 pub returns-in-Some : goal.returns-in-Some
 returns-in-Some c =
     let S = sheet_of c.args.supply.now c.args.demand.now c.args.cost.now in
     let w = c.in_ok-parties.ensures.1 in
     let r = c.in-Some.ensures.rounded _ _ w.begun in
-    let priced = finished-priced w.accepted w.parties r c.row_numbers-rows.ensures c.column_numbers-columns.ensures in
+    let priced = round-priced w.accepted w.parties r c.row_numbers-rows.ensures c.column_numbers-columns.ensures in
     rw (c.finished_round.ensures _ priced) (round-finished S c.args.t c.in_ok-parties.ensures.0 r.done)
 
 pub own_tableau-own-requires : goal.own_tableau-own-requires
@@ -33,7 +33,8 @@ own_tableau-own-requires c =
     let board = r.board in (
       _,
       c.gather-next.ensures _ _ (_, _, board),
-      rw (c.row_numbers-rows.ensures, c.column_numbers-columns.ensures) (own-within w.accepted w.parties (board-belongs board)),
+      rw (c.row_numbers-rows.ensures, c.column_numbers-columns.ensures)
+          (own-within w.accepted w.parties (board-belongs board)),
     )
 
 pub returns : goal.returns
