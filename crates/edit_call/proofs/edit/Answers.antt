@@ -22,7 +22,8 @@ returns-then-m-gt-MAX_SOURCES c = let a = c.args in elim c.then-m-gt-MAX_SOURCES
 ]
 
 -- The arrays have room for the sheet.
-rooms : (k : KeptSheet) → (length k.supply ≡ 32) × (length k.demand ≡ 32) × (length k.cost ≡ 1024) → k.m ≤ 32 → k.n ≤ 32
+rooms : (k : KeptSheet) → (length k.supply ≡ 32) × (length k.demand ≡ 32) × (length k.cost ≡ 1024)
+    → k.m ≤ 32 → k.n ≤ 32
     → (k.m ≤ length k.supply) × (k.n ≤ length k.demand) × (k.m * k.n ≤ length k.cost)
 unfolding max_sources max_sinks
 rooms k (s, d, c) m n = (omega arith, omega arith, omega (arith, lanes-room k.m k.n m n))
@@ -49,7 +50,8 @@ returns-in-Ok c =
     let demand = kept.demand ∙ length-take-le _ _ n in
     let cost = kept.cost ∙ length-take-le _ _ lanes in
     says-done a.s a.e a.u.now a.v.now a.plan.now (rw c.in-Ok.is at w) _
-    (kept-written k l.supply l.demand l.cost supply demand cost) (spare-written k l.supply l.demand l.cost supply demand cost)
+    (kept-written k l.supply l.demand l.cost supply demand cost)
+    (spare-written k l.supply l.demand l.cost supply demand cost)
     (back w64 c.in-Ok.done.answer.cost (search rules))
 
 pub returns-in-Err : goal.returns-in-Err
