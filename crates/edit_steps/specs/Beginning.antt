@@ -38,7 +38,8 @@ module _ {S : Sheet} {e : Edit} {supply demand : List ℕ} {cost : List ℤ} (w 
         ∙ get_or-set_same S.cost l c (pos 0) (lane-placed w) in
         rw (← here) (abs_between (ok.limits.cost_low l) (ok.limits.cost_high l))
 
-    pub respreadable : Respreadable S.cost (cafes S) (take p.rows p.row_numbers) (take p.cafes p.column_numbers) e.row e.col c
+    pub respreadable : Respreadable S.cost (cafes S) (take p.rows p.row_numbers) (take p.cafes p.column_numbers)
+        e.row e.col c
     unfolding roasteries cafes rows_left_of extended
     respreadable =
         let limits = w.accepted.limits in

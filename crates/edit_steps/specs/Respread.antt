@@ -3,7 +3,8 @@
 use Rattle.std.specs.Prelude.{◌≡◌, ◌&&◌, ◌+◌, ◌*◌, ◌≤◌, ◌<◌}
 use Rattle.prelude.specs.Words.{sym, ap, ◌∙◌, by_cases, true, eqb, eqb-true, List, ℕ}
 use Rattle.prelude.specs.Words.{arith, Dec-and, ℕ_discrete}
-use Rattle.prelude.specs.Words.{ℤ, pos, nat_abs, length, get_or, set, take, length-set, length-take-le, get_or-set_same, get_or-set_other}
+use Rattle.prelude.specs.Words.{ℤ, pos, nat_abs, length, get_or, set, take, length-set, length-take-le}
+use Rattle.prelude.specs.Words.{get_or-set_same, get_or-set_other}
 use Rattle.transport.specs.Limits.{max_side, max_cost}
 use Rattle.transport.specs.Lists.{at, at_z}
 use Rattle.transport.specs.Problem.{place}
@@ -158,7 +159,8 @@ unfolding roasteries cafes rows_left_of extended
 spread-before {S} {supply = supply} {demand} {cost} edits is {p} h w (m, n) (m', n') =
     let same-m = same-roasteries edits is in
     let same-n = same-cafes edits is in
-    let old : Spread S.cost (length S.demand) (left S.supply) (left S.demand) _ = rw (h.row_numbers, h.cafe_numbers) at w in
+    let old : Spread S.cost (length S.demand) (left S.supply) (left S.demand) _ =
+    rw (h.row_numbers, h.cafe_numbers) at w in
     let rows : length (left S.supply) ≡ length S.supply = omega (arith, h.row_count_of, m, same-m) in
     let cols : length (left S.demand) ≡ length S.demand = sym (cafes-left h) ∙ n ∙ same-n in
     rw (same-costs edits is, same-n) (spread-alike

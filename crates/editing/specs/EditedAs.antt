@@ -9,8 +9,8 @@ use Rattle.transport.specs.declared.Edit.{Edit}
 use Rattle.transport.specs.declared.Refusal.{Refusal}
 use Rattle.transport.specs.Sheet.{Sheet, roasteries, cafes, refusal}
 use Rattle.transport.specs.Calls.{unless, inside, solution_from, solve_tests}
-use Rattle.transport.specs.Standing.{edited, Standing, Passes, standing_tests, max_counter, bad_edit, edit_tests, edit_from}
-use Rattle.transport.specs.Standing.{edit_call, carried_out}
+use Rattle.transport.specs.Standing.{edited, Standing, Passes, standing_tests, max_counter, bad_edit, edit_tests}
+use Rattle.transport.specs.Standing.{edit_from, edit_call, carried_out}
 use Rattle.transport.specs.Laws.SheetLaws.{refusal_yes, refusal_no, refusal-pass, refusal-stands}
 use Rattle.transport.specs.Laws.CallLaws.{unless-refused}
 use Rattle.solving.specs.Told.{Told, told-refused, told-by}
@@ -21,7 +21,8 @@ use Rattle.editing.specs.SolvedAs.{SolvedAs, answer_of}
 -- An edit of the standing sheet St: the answer, and what the lent lists then hold. S' is the sheet
 -- that then stands: that of St if the edit is refused, or else the edited sheet, counted, with its
 -- finished tableau.
-pub record EditedAs (St : Standing) (e : Edit) (r : Result Edited Refusal) (S' : Sheet) (u u' v v' : List ℤ) (plan plan' : List ℕ) : Type 0 where
+pub record EditedAs (St : Standing) (e : Edit) (r : Result Edited Refusal) (S' : Sheet) (u u' v v' : List ℤ)
+    (plan plan' : List ℕ) : Type 0 where
   pub told : Told (edit_call St e (length u) (length v) (length plan)) (answer_of r) u u' v v' plan plan'
   pub stands : MatchResult r
       (λ done. record { sheet = S'; tableau = done.tableau; counter = St.counter + 1 } ≡ carried_out St e)
@@ -79,7 +80,8 @@ module _ (St : Standing) (e : Edit) (u v : List ℤ) (plan : List ℕ) where
         (refusal-pass (standing_tests St) _ w ∙ refusal_yes (bad_edit St e) _ (bad_is ∙ ap not f))
 
     -- .. and then it is as solve says of the edited sheet.
-    module _ (f : known ≡ true) {S' : Sheet} (same : S' ≡ edited S e) {r : Result Edited Refusal} {u' v' : List ℤ} {plan' : List ℕ}
+    module _ (f : known ≡ true) {S' : Sheet} (same : S' ≡ edited S e) {r : Result Edited Refusal} {u' v' : List ℤ}
+        {plan' : List ℕ}
         (done : SolvedAs S' (beginning e.change S' (inside S St.tableau)) r u u' v v' plan plan') where
       abbrev late : List (Bool × Refusal)
       late = solve_tests (edited S e) (length u) (length v) (length plan)

@@ -19,8 +19,10 @@ answer_of (Err k) = Err k
 
 -- The edited sheet S is solved from T on, or refused as solve refuses it: the answer, what the lent
 -- lists then hold, and the last tableau.
-pub record SolvedAs (S : Sheet) (T : List Cell) (r : Result Edited Refusal) (u u' v v' : List ℤ) (plan plan' : List ℕ) : Type 0 where
-  pub told : Told (unless (solve_tests S (length u) (length v) (length plan)) (solution_from S T)) (answer_of r) u u' v v' plan plan'
+pub record SolvedAs (S : Sheet) (T : List Cell) (r : Result Edited Refusal) (u u' v v' : List ℤ)
+    (plan plan' : List ℕ) : Type 0 where
+  pub told : Told (unless (solve_tests S (length u) (length v) (length plan)) (solution_from S T)) (answer_of r)
+      u u' v v' plan plan'
   pub tableau : IfOk r (λ done. done.tableau ≡ last_tableau_of S T)
 
 pub sheet-refused : (S : Sheet) (T : List Cell) (k : Refusal) (u v : List ℤ) (plan : List ℕ)

@@ -1,4 +1,5 @@
--- The first tableau is dealt, the costs lie by column for its parties, and it is laid out on a board with no amounts.
+-- The first tableau is dealt, the costs lie by column for its parties, and it is laid out on a
+-- board with no amounts.
 use Rattle.prelude.specs.Words.{sym, ◌∙◌}
 use Rattle.transport.specs.Sheet.{roasteries, cafes}
 use Rattle.transport.specs.Extended.{extended}
@@ -18,7 +19,8 @@ respread-requires c =
     rw (h.row_numbers, h.cafe_numbers) (spreadable c.requires)
 
 pub lay_out-requires-clause-count_le_cell_room : goal.lay_out-requires-clause-count_le_cell_room
-lay_out-requires-clause-count_le_cell_room c = first_fits c.requires (c.deal_sheet-first.ensures c.args.cost.now c.requires)
+lay_out-requires-clause-count_le_cell_room c =
+    first_fits c.requires (c.deal_sheet-first.ensures c.args.cost.now c.requires)
 
 pub returns : goal.returns
 unfolding roasteries cafes rows_left_of extended

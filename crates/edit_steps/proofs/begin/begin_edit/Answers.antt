@@ -21,9 +21,11 @@ returns-in-Cost c = λ S T w a.
     let is = c.in-Cost.is ∙ ap Change.Cost (sym (back w64 c.in-Cost.c (search rules))) in
     let rows = c.row_numbers.ensures in
     let cols = c.cafe_numbers.ensures in
-    let put = c.respread_lane.ensures S.cost (cafes S) (rw (rows, cols) (respreadable w ok a is)) (rw (rows, cols) a.spread) in
+    let put = c.respread_lane.ensures S.cost (cafes S) (rw (rows, cols) (respreadable w ok a is))
+    (rw (rows, cols) a.spread) in
     admitted_kept w ok a is (rw (rows, cols) at put)
 
 pub returns-in-Amounts : goal.returns-in-Amounts
 returns-in-Amounts c = λ S T w a.
-    admitted_afresh c.args.edit T c.in-Amounts.is (c.begin_afresh.ensures (spread-before w c.in-Amounts.is a.parties a.spread))
+    let before = spread-before w c.in-Amounts.is a.parties a.spread in
+    admitted_afresh c.args.edit T c.in-Amounts.is (c.begin_afresh.ensures before)

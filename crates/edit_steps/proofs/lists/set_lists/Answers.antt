@@ -17,7 +17,7 @@ returns-in-Cost c =
     let a = c.args in
     let S : Sheet = sheet_of a.supply.now a.demand.now a.cost.now in
     let l : ℕ = a.e.row * length a.demand.now + a.e.col in
-    let inside = place-below (length a.supply.now) (length a.demand.now) a.e.row a.e.col c.requires.row c.requires.col in
+    let inside = place-below _ (length a.demand.now) a.e.row a.e.col c.requires.row c.requires.col in
     let below : l < length a.cost.now = omega (arith, inside, c.requires.lanes) in
     let sets : ℤ → Edit = λ x. record { row = a.e.row; col = a.e.col; change = Change.Cost x } in
     let new = ap (λ x. sheet_of a.supply.now a.demand.now (set a.cost.now l x)) (back w64 c.in-Cost.c (search rules)) in

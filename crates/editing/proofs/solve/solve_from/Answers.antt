@@ -1,5 +1,5 @@
--- The rounds come to the finished tableau, which is given under own numbers; its prices and the settled plan are written,
--- and the cost is that of the plan.
+-- The rounds come to the finished tableau, which is given under own numbers; its prices and the
+-- settled plan are written, and the cost is that of the plan.
 use Rattle.prelude.specs.Words.{◌∙◌, rules}
 use mir.Syntax.{w64}
 use Rattle.transport.specs.Laws.RangeLaws.{back}
