@@ -53,7 +53,8 @@ module _ (S : Sheet) where
   unfolding refusal sheet_tests bad_sides roasteries
   refused-sources m = rw m
 
-  pub refused-sinks : within 1 max_sources (length S.supply) ≡ true → within 1 max_sinks (length S.demand) ≡ false → refusal (sheet_tests S) ≡ some Refusal.Sides
+  pub refused-sinks : within 1 max_sources (length S.supply) ≡ true → within 1 max_sinks (length S.demand) ≡ false
+      → refusal (sheet_tests S) ≡ some Refusal.Sides
   unfolding refusal sheet_tests bad_sides roasteries cafes
   refused-sinks m n = rw (m, n)
 

@@ -1,5 +1,6 @@
--- The declared answers of the calls: which one stands for the answer of a definition (`..Answer`), and what one says in its terms, given what the lent lists then
--- hold (`..Says`). A call answers by a `Result`. Fields without a meaning hold zeros.
+-- The declared answers of the calls: which one stands for the answer of a definition (`.._answer`),
+-- and what one says in its terms, given what the lent lists then hold (`.._says`). A call answers by a
+-- `Result`. Fields without a meaning hold zeros.
 use Rattle.std.specs.Prelude.{true, false, List, [], ℕ, ◌*◌, ℤ, pos, length, take, Ok, Err, ⊤}
 use Rattle.std.specs.declared.result.Result.{Result}
 use Rattle.std.proofs.Math.Option.{none, some}

@@ -12,9 +12,11 @@ gather-last-requires c = let j = c.requires.5.judged in (_, _, (j.sub, j.path, j
 pub own_tableau-requires : goal.own_tableau-requires
 own_tableau-requires c =
     let f = c.requires.5 in
-    let j = f.judged in
-    (_, c.gather-last.ensures _ _ (j.sub, j.path, j.board),
-    rw (c.row_numbers.ensures, c.column_numbers.ensures) (own-within f.accepted f.parties (board-belongs j.board)))
+    let j = f.judged in (
+      _,
+      c.gather-last.ensures _ _ (j.sub, j.path, j.board),
+      rw (c.row_numbers.ensures, c.column_numbers.ensures) (own-within f.accepted f.parties (board-belongs j.board)),
+    )
 
 pub returns : goal.returns
 returns c = λ S T made cost price f.
