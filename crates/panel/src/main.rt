@@ -1,36 +1,29 @@
 // The panel: reads a sheet text from standard input, and prints its plan text or why it is refused.
 #![tactic(auto)]
 
-ghost use Rattle.std.specs.Prelude.{◌≡◌, ◌≤◌, length};
+ghost use Rattle.std.specs.Prelude.{◌≡◌, ◌≤◌, length, IfOk};
 ghost use Rattle.transport.specs.Limits.{max_plan_text};
 ghost use Rattle.transport.specs.PlanText.{printed};
 ghost use Rattle.decimals.specs.Front.{front};
-ghost use Rattle.panel.specs.Input.{inside};
 
 use display::MAX_READ;
-use std::io::{Read, Stdin, Write};
+use std::io::{self, Read, Stdin, Write};
 use transport::MAX_PLAN_TEXT;
 
-// What came of reading: the count of bytes at the front of the buffer, or an error.
-#[derive(Clone, Copy)]
-enum Input {
-    Read(usize),
-    Failed,
-}
-
-// Reads standard input until it ends or the buffer is full, whatever the pieces in which it comes.
-fn read_input(mut stdin: Stdin, buffer: &mut [u8]) -> Input
-    ensures { inside result (length buffer.new) }
+// Reads standard input until it ends or the buffer is full, whatever the pieces in which it comes:
+// the count of bytes at the front of the buffer.
+fn read_input(mut stdin: Stdin, buffer: &mut [u8]) -> io::Result<usize>
+    ensures { IfOk result (λ count. count ≤ length buffer.new) }
 {
-    let mut at: usize = 0;
+    let mut at = 0;
+    // A while: the reader says how far each turn goes.
     while at < buffer.len() {
-        match stdin.read(&mut buffer[at..]) {
-            Err(_) => return Input::Failed,
-            Ok(0) => return Input::Read(at),
-            Ok(got) => at += got,
+        match stdin.read(&mut buffer[at..])? {
+            0 => break,
+            got => at += got,
         }
     }
-    Input::Read(at)
+    Ok(at)
 }
 
 // All that is printed for an input: the output has room for it, whatever the input.
@@ -50,8 +43,7 @@ fn complain(rt: &HostRuntime, message: &[u8]) {
 fn main(rt: HostRuntime) {
     let mut input = [0u8; MAX_READ];
     let mut out = [0u8; MAX_PLAN_TEXT];
-    let read = read_input(rt.stdin(), &mut input);
-    let Input::Read(count) = read else {
+    let Ok(count) = read_input(rt.stdin(), &mut input) else {
         complain(&rt, b"panel: cannot read standard input\n");
         return;
     };

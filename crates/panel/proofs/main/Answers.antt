@@ -11,7 +11,7 @@ answer-len-requires c = omega arith
 
 pub slice_bounds-out-end : goal.slice_bounds-out-end
 unfolding max_plan_text
-slice_bounds-out-end c = omega (arith, c.answer-len.ensures.0, printed-length (take c.in-Read.count c.read_input-read.new.buffer))
+slice_bounds-out-end c = omega (arith, c.answer-len.ensures.0, printed-length (take c.in-Ok.count c.read_input.new.buffer))
 
 pub slice_bounds-write_all-end : goal.slice_bounds-write_all-end
 slice_bounds-write_all-end c = sym (length-take-le _ _ (slice_bounds-out-end c.before))
