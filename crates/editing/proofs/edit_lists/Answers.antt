@@ -6,7 +6,7 @@ use Rattle.transport.specs.declared.Edit.{Edit}
 use Rattle.transport.specs.Limits.{max_sources, max_sinks}
 use Rattle.transport.specs.Sheet.{Sheet, sheet_of, roasteries, cafes}
 use Rattle.transport.specs.Statements.{Accepted}
-use Rattle.transport.specs.Standing.{edited, Standing, standing_tests}
+use Rattle.transport.specs.Standing.{edited, standing_tests}
 use Rattle.edit_steps.specs.Edits.{Editable, editable_again, EditOf, may, may_names}
 use Rattle.editing.specs.EditedAs.{edit_early, edit_unknown, edit_late, edit_solved}
 use Rattle.editing.proofs.edit_lists.Goals as goal
@@ -59,7 +59,8 @@ set_lists-requires c =
     let (same, back, row, col) = c.set_lists-back.ensures in
     let kept = c.set_lists-back.auto in
     let known = sym c.may_edit.ensures ∙ c.if-not-may_edit.false in
-    editable_again (editable c.in_ok-parties.ensures.1.accepted c.args.edit _ known) row col kept.supply kept.demand kept.cost
+    let before = editable c.in_ok-parties.ensures.1.accepted c.args.edit _ known in
+    editable_again before row col kept.supply kept.demand kept.cost
 
 pub returns-then-is_err : goal.returns-then-is_err
 unfolding roasteries cafes standing_tests

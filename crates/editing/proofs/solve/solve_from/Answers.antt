@@ -25,6 +25,6 @@ plan_cost-cost-requires c =
 
 pub returns : goal.returns
 returns c = λ T w.
-    let f = sheet-finished w (c.finish-rounds.ensures.ran _ _ w.begun) in
     let total = back w64 c.plan_cost-cost.result (search rules) ∙ c.plan_cost-cost.ensures in
+    let f = sheet-finished w (c.finish-rounds.ensures.ran _ _ w.begun) in
     (told_stored (c.store_solution.ensures _ _ f) w.accepted total, c.last_tableau-tableau.ensures _ _ _ _ _ f)
