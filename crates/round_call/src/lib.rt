@@ -55,8 +55,15 @@ pub fn round(
     let parties = load_sheet(supply, demand, cost, t, &mut board, &mut spread)?;
     let rows = parties.row_numbers();
     let columns = parties.column_numbers();
-    let finished = make_round(&mut board, &spread, parties.rows, parties.columns);
-    if let Some(price) = finished {
+    let mut price = [0; NODES];
+    let finished = make_round(
+        &mut board,
+        &spread,
+        parties.rows,
+        parties.columns,
+        &mut price,
+    );
+    if finished {
         return Ok(finished_round(supply, demand, cost, rows, columns, &price));
     }
     let next = gather(&board, parties.rows, parties.columns);

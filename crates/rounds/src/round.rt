@@ -96,21 +96,20 @@ pub fn advance(
     false
 }
 
-// One round on a tableau of m sources and n sinks: its prices if it is finished, and the board then
-// holds it still. Else the board then holds the next one.
+// One round on a tableau of m sources and n sinks: whether it is finished. The board then holds it, or
+// the next one if it is not, and `price` has the prices of the one that the board holds.
 pub fn make_round(
     board: &mut Board,
     cost: &[Price; LANES],
     m: usize,
     n: usize,
-) -> Option<[Price; NODES]>
+    price: &mut [Price; NODES],
+) -> bool
     requires { (P : Problem) × (T : List Cell) × BegunOn P T board.old cost.now m n }
     ensures rounded { (P : Problem) (T : List Cell) → BegunOn P T board.old cost.now m n
-        → MatchOption result ((price : List ℤ) × RoundedOn P T board.new price m n false)
-        (λ price. RoundedOn P T board.new price m n true) }
+        → RoundedOn P T board.new price.new m n result }
     ensures same_ends { SameEnds board.old.basis board.new.basis }
 {
-    let mut price = [0; NODES];
-    let mut slack = begin(&mut board.basis, cost, m, n, &mut price);
-    advance(board, cost, &mut price, &mut slack, m, n).then_some(price)
+    let mut slack = begin(&mut board.basis, cost, m, n, price);
+    advance(board, cost, price, &mut slack, m, n)
 }

@@ -1,5 +1,5 @@
 // The settled plan from the board of a finished tableau.
-ghost use Rattle.std.specs.Prelude.{true, List, ℤ};
+ghost use Rattle.std.specs.Prelude.{◌≡◌, true, List};
 ghost use Rattle.transport.specs.Problem.{Problem};
 ghost use Rattle.transport.specs.declared.Cell.{Cell};
 ghost use Rattle.cost_grid.specs.Costs.{Costed};
@@ -23,8 +23,9 @@ pub fn settle_board(
     n: usize,
 )
     requires { (P : Problem) × (T : List Cell) × JudgedOn P T board.old price.now m n true × Costed P cost.now }
-    ensures { (P : Problem) (T : List Cell) → JudgedOn P T board.old price.now m n true → Costed P cost.now
+    ensures settled { (P : Problem) (T : List Cell) → JudgedOn P T board.old price.now m n true → Costed P cost.now
         → SettledBags P m n board.new.amounts.q }
+    ensures only_bags { (board.new.basis ≡ board.old.basis) × (board.new.amounts.e ≡ board.old.amounts.e) }
 {
     let mut adj = [0; NODES];
     draw(&board.basis, m, m + n - 1, &mut adj);

@@ -8,11 +8,12 @@ use Rattle.std.proofs.Common.{lt_of_lt_of_le}
 use Rattle.std.specs.Result.{IsErrAnd}
 use Rattle.std.proofs.lemmas.Result.{err_from_is_err_and}
 use Rattle.transport.specs.Lists.{within}
+use Rattle.transport.specs.Laws.ListLaws.{and_right}
 use Rattle.transport.specs.Limits.{max_digits}
 use Rattle.transport.specs.Text.{bytes, kind_of}
 use Rattle.transport.specs.SheetText.{Reading, stuck, got, Reader, ◌>>=◌, ◌>>◌, pure, byte_that, word, is_digit, digit_value_of, more_digits_of}
 use Rattle.transport.specs.SheetText.{number_from, side, line}
-use Rattle.transport.specs.Laws.SheetLaws.{within-true, true-within, within_low}
+use Rattle.transport.specs.Laws.SheetLaws.{within-true, true-within, within_low, within-high}
 use Rattle.transport.specs.declared.ByteKind.{ByteKind}
 use Rattle.transport.specs.declared.ByteKind.TheVariants.{Digit, Space, LineEnd, Letter, Other}
 use Rattle.grammar.specs.Closing.{closed_by}
@@ -424,3 +425,58 @@ module _ (most : ℕ) where
         rw value (side-is _
         ∙ bind-got (byte_that (starts_by (within 1 most))) (drop at text) (drop (at + 1) text) after_side (get_or text at 0)
         (starts_yes (within 1 most) d.here first))
+
+-- ---- a side that was read is within its limits
+
+module _ (test : ℕ → Bool) where
+  starts_got : (t : List ℕ) (b : ℕ) (rest : List ℕ) → byte_that (starts_by test) t ≡ got b rest → starts_by test b ≡ true
+  starts_got [] b rest e = let s = byte-none (starts_by test) in let z : ◌≡◌ {A = ℕ} 0 1 = cc in absurd (omega arith)
+  starts_got (c ∷ t) b rest e = by_test (starts_by test c)
+      (λ h. let s = byte_yes (starts_by test) c t h in let z : c ≡ b = cc in rw z at h)
+      (λ h. let s = byte_no (starts_by test) c t h in let z : ◌≡◌ {A = ℕ} 0 1 = cc in absurd (omega arith))
+
+-- What more digits make of a number passes the test that it passed.
+more-passes : (test : ℕ → Bool) (k x : ℕ) (t : List ℕ) (m : ℕ) (rest : List ℕ) → test x ≡ true → more_digits_of test k x t ≡ got m rest → test m ≡ true
+unfolding more_digits_of
+more-passes test zero x t m rest p e = let z : x ≡ m = cc in rw z at p
+more-passes test (suc k) x [] m rest p e = let z : x ≡ m = cc in rw z at p
+more-passes test (suc k) x (b ∷ t) m rest p e = by_test (is_digit b && test (x * 10 + digit_value_of b))
+    (λ h.
+    let s : more_digits_of test (suc k) x (b ∷ t) ≡ more_digits_of test k (x * 10 + digit_value_of b) t = rw (more_digits_of, h) in
+    more-passes test k (x * 10 + digit_value_of b) t m rest (and_right (is_digit b) (test (x * 10 + digit_value_of b)) h) (sym s ∙ e))
+    (λ h.
+    let s : more_digits_of test (suc k) x (b ∷ t) ≡ got x (b ∷ t) = rw (more_digits_of, h) in let z : x ≡ m = cc in rw z at p)
+
+side-within : (most m : ℕ) (rest t : List ℕ) → side most t ≡ got m rest → within 1 most m ≡ true
+side-within most m rest t e =
+    let a = bind-inside (byte_that (starts_by (within 1 most))) t (after_side most) m rest (sym (side-is most t) ∙ e) in
+    let first = and_right (is_digit a.0) (within 1 most (a.0 - 48)) (starts_got (within 1 most) t a.0 a.1 a.2) in
+    more-passes (within 1 most) 1 (a.0 - 48) a.1 m rest first a.3
+
+-- The value is the number's, whatever ends it.
+end-value : (m : ℕ) (rest : List ℕ) (end : ℕ) (r : Reading ℕ) → end_reading end r ≡ got m rest → (u : List ℕ) × (r ≡ got m u)
+unfolding end_reading
+end-value m rest end (stuck u) e = let z : ◌≡◌ {A = ℕ} 0 1 = cc in absurd (omega arith)
+end-value m rest end (got x u) e = by_test (byte_next end u)
+    (λ h. let s : end_reading end (got x u) ≡ got x (drop 1 u) = end_yes end x u h in let z : x ≡ m = cc in (u, rw z))
+    (λ h. let s : end_reading end (got x u) ≡ stuck u = end_no end x u h in let z : ◌≡◌ {A = ℕ} 0 1 = cc in absurd (omega arith))
+
+pub line-side-within : (most m : ℕ) (rest t : List ℕ) → line (side most) t ≡ got m rest → within 1 most m ≡ true
+line-side-within most m rest t e =
+    let v = end-value m rest 10 (side most t) (sym (line-end (side most) t) ∙ e) in
+    side-within most m v.0 t v.1
+
+-- ---- kinds of bytes
+
+module _ (b : ℕ) where
+  pub kind_digit : 48 ≤ b → b ≤ 57 → kind_of b ≡ Digit
+  unfolding kind_of
+  kind_digit p q = rw (kind_of, true-within 48 57 b p q)
+
+  pub kind_letter : 97 ≤ b → b ≤ 122 → kind_of b ≡ Letter
+  unfolding kind_of
+  kind_letter p q = rw (kind_of, within-high 48 57 b (omega arith), ne_eqb b 32 (λ e. omega arith), ne_eqb b 10 (λ e. omega arith), true-within 97 122 b p q)
+
+  pub kind_other : within 48 57 b ≡ false → (b ≡ 32 → ⊥) → (b ≡ 10 → ⊥) → within 97 122 b ≡ false → kind_of b ≡ Other
+  unfolding kind_of
+  kind_other d s e l = rw (kind_of, d, ne_eqb b 32 s, ne_eqb b 10 e, l)

@@ -15,21 +15,21 @@ returns-in_err-parties c =
 pub finished_round-requires : goal.finished_round-requires
 finished_round-requires c =
     let w = c.in_ok-parties.ensures.1 in
-    let r = c.in-Some.ensures.rounded _ _ w.begun in
+    let r = rw c.if-finished.true at (c.make_round-finished.ensures.rounded _ _ w.begun) in
     (_, round-priced w.accepted w.parties r c.row_numbers-rows.ensures c.column_numbers-columns.ensures)
 
-pub returns-in-Some : goal.returns-in-Some
-returns-in-Some c =
+pub returns-then-finished : goal.returns-then-finished
+returns-then-finished c =
     let S = sheet_of c.args.supply.now c.args.demand.now c.args.cost.now in
     let w = c.in_ok-parties.ensures.1 in
-    let r = c.in-Some.ensures.rounded _ _ w.begun in
+    let r = rw c.if-finished.true at (c.make_round-finished.ensures.rounded _ _ w.begun) in
     let priced = round-priced w.accepted w.parties r c.row_numbers-rows.ensures c.column_numbers-columns.ensures in
     rw (c.finished_round.ensures _ priced) (round-finished S c.args.t c.in_ok-parties.ensures.0 r.done)
 
 pub own_tableau-own-requires : goal.own_tableau-own-requires
 own_tableau-own-requires c =
     let w = c.in_ok-parties.ensures.1 in
-    let r = (c.in_default.ensures.rounded _ _ w.begun).1 in
+    let r = rw c.if-finished.false at (c.make_round-finished.ensures.rounded _ _ w.begun) in
     let board = r.board in (
       _,
       c.gather-next.ensures _ _ (_, _, board),
@@ -41,7 +41,7 @@ pub returns : goal.returns
 returns c =
     let S = sheet_of c.args.supply.now c.args.demand.now c.args.cost.now in
     let w = c.in_ok-parties.ensures.1 in
-    let r = (c.in_default.ensures.rounded _ _ w.begun).1 in
+    let r = rw c.if-finished.false at (c.make_round-finished.ensures.rounded _ _ w.begun) in
     let own = c.own_tableau-own.ensures _ (c.gather-next.ensures _ _ (_, _, r.board)) in
     rw (own, c.row_numbers-rows.ensures, c.column_numbers-columns.ensures, own-lent w.accepted w.parties)
     (round-moved S c.args.t c.in_ok-parties.ensures.0 r.done)

@@ -68,7 +68,7 @@ unfolding roasteries cafes
 store_plan-requires c =
     let (passed, w) = c.in_ok-parties.ensures in
     let judged = rw c.if-not-is_finished.false at (c.is_finished.ensures.judged _ _ _ _ w.begun) in
-    let bags = c.settle_board.ensures _ _ judged w.begun.costs in
+    let bags = c.settle_board.ensures.settled _ _ judged w.begun.costs in
     rw (c.row_numbers.ensures, c.cafe_numbers.ensures, w.parties.row_numbers, w.parties.cafe_numbers)
     (settled-storable w.accepted bags (omega arith))
 
@@ -79,7 +79,7 @@ returns c =
     let room = length c.args.plan.now in
     let (passed, w) = c.in_ok-parties.ensures in
     let judged = rw c.if-not-is_finished.false at (c.is_finished.ensures.judged _ _ _ _ w.begun) in
-    let bags = c.settle_board.ensures _ _ judged w.begun.costs in
+    let bags = c.settle_board.ensures.settled _ _ judged w.begun.costs in
     let stored = rw (c.row_numbers.ensures, c.cafe_numbers.ensures, w.parties.row_numbers, w.parties.cafe_numbers) at c.store_plan.ensures in
     settle-given S c.args.t room c.args.plan.now w.accepted (none-refuses S c.args.t room passed judged.done (omega arith))
     (stored_settled w.accepted bags (omega arith) stored)

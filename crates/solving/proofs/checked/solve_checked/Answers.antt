@@ -16,4 +16,4 @@ store_solution-requires-clause-finished c =
 pub returns : goal.returns
 returns c =
     let w = c.begin_sheet-parties.ensures in
-    c.store_solution.ensures _ _ (sheet-finished w (c.finish-rounds.ensures.ran _ _ w.begun))
+    c.store_solution.ensures.stored _ _ (sheet-finished w (c.finish-rounds.ensures.ran _ _ w.begun))

@@ -28,8 +28,8 @@ settle_lanes-requires c =
     let (P, T, j, costs) = c.requires in
     (supplies P, demands P, finished_settleable (judged-finished j costs c.draw.ensures) c.tight_lanes.ensures)
 
-pub returns : goal.returns
-returns c = λ P T j costs.
+pub returns-clause-settled : goal.returns-clause-settled
+returns-clause-settled c = λ P T j costs.
     let f = judged-finished j costs c.draw.ensures in
     let tight = c.tight_lanes.ensures in
     settled-bags f tight c.settle_lanes.new.q (c.settle_lanes.ensures (supplies P) (demands P) (finished_settleable f tight))
