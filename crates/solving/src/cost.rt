@@ -9,10 +9,8 @@ pub fn plan_cost(plan: &[u64], cost: &[i64]) -> i64
     ensures { result ≡ sum_z (length cost.now) (λ l. pos (at plan.now l) *ℤ at_z cost.now l) }
 {
     let mut sum: i64 = 0;
-    let mut l: usize = 0;
-    while l < cost.len() {
+    for l in 0..cost.len() {
         sum += plan[l] as i64 * cost[l];
-        l += 1;
     }
     sum
 }
