@@ -32,7 +32,9 @@ pub fn cells_fit(t: Tableau, m: usize, n: usize) -> bool
     ensures { result ≡ cells_fit_of m n (cells_of t) }
 {
     let mut least = 0;
-    for &c in &t.cells[..t.count] {
+    // By their numbers: over a part that is lent the tableau would be copied for the loop.
+    for k in 0..t.count {
+        let c = t.cells[k];
         if !cell_fits(c, m, n, least) {
             return false;
         }

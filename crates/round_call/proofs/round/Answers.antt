@@ -15,7 +15,7 @@ returns-in_err-parties c =
 pub finished_round-requires : goal.finished_round-requires
 finished_round-requires c =
     let w = c.in_ok-parties.ensures.1 in
-    let r = rw c.if-finished.true at (c.make_round-finished.ensures.rounded _ _ w.begun) in
+    let r = c.make_round-finished.ensures.rounded _ _ w.begun in
     (_, round-priced w.accepted w.parties r c.row_numbers-rows.ensures c.column_numbers-columns.ensures)
 
 pub returns-then-finished : goal.returns-then-finished
@@ -29,8 +29,7 @@ returns-then-finished c =
 pub own_tableau-own-requires : goal.own_tableau-own-requires
 own_tableau-own-requires c =
     let w = c.in_ok-parties.ensures.1 in
-    let r = rw c.if-finished.false at (c.make_round-finished.ensures.rounded _ _ w.begun) in
-    let board = r.board in (
+    let board = (c.make_round-finished.ensures.rounded _ _ w.begun).board in (
       _,
       c.gather-next.ensures _ _ (_, _, board),
       rw (c.row_numbers-rows.ensures, c.column_numbers-columns.ensures)
