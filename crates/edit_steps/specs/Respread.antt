@@ -17,7 +17,7 @@ use Rattle.transport.specs.Laws.ListLaws.{and_left, and_right}
 use Rattle.transport.specs.Laws.ProblemLaws.{place_injective}
 use Rattle.transport.specs.Laws.PartiesLaws.{left-whole}
 use Rattle.parties.specs.declared.Parties.{Parties}
-use Rattle.parties.specs.Parties.{PartiesOf}
+use Rattle.parties.specs.Parties.{NumbersOf}
 use Rattle.tree.specs.Layout.{stride, stride-is}
 use Rattle.numbering.specs.Numbers.{Growing, number_in, number_in-at, number_in-found}
 use Rattle.cost_grid.specs.Costs.{Spread}
@@ -133,7 +133,7 @@ SpreadBefore S before out =
     → Spread S.cost (cafes S) (left S.supply) (left S.demand) out
 
 -- The cafés left are counted.
-pub cafes-left : {S : Sheet} {p : Parties} → PartiesOf S p → p.cafes ≡ length (left S.demand)
+pub cafes-left : {S : Sheet} {p : Parties} → NumbersOf S p → p.cafes ≡ length (left S.demand)
 cafes-left {p = p} h =
     sym (length-take-le p.cafes p.column_numbers (omega (arith, p.in_room.1, p.in_room.2))) ∙ ap length h.cafe_numbers
 
@@ -152,7 +152,7 @@ spread-alike m n r k w = record {
 -- Where nobody is struck, each own number is the number, so that they are the same before and
 -- after.
 pub spread-before : {S : Sheet} {e : Edit} {supply demand : List ℕ} {cost : List ℤ} → EditOf S e supply demand cost
-    → {s d : ℕ} → e.change ≡ Change.Amounts s d → {p : Parties} {out : List ℤ} → PartiesOf S p
+    → {s d : ℕ} → e.change ≡ Change.Amounts s d → {p : Parties} {out : List ℤ} → NumbersOf S p
     → Spread S.cost (cafes S) (take p.rows p.row_numbers) (take p.cafes p.column_numbers) out
     → SpreadBefore (sheet_of supply demand cost) p out
 unfolding roasteries cafes rows_left_of extended

@@ -19,7 +19,7 @@ use Rattle.transport.specs.Laws.CallLaws.{unless-given, unless-refused}
 use Rattle.transport.specs.Answers.{prices, result_of, round_shown, round_answer}
 use Rattle.transport.specs.Statements.{Accepted}
 use Rattle.parties.specs.declared.Parties.{Parties}
-use Rattle.parties.specs.Parties.{PartiesOf}
+use Rattle.parties.specs.Parties.{NumbersOf}
 use Rattle.dealing.specs.Filling.{padded_fill}
 use Rattle.price_lists.specs.Prices.{NodesPriced}
 use Rattle.rounds.specs.Begun.{Rounded}
@@ -79,7 +79,7 @@ round-prices S T f g =
 
 -- After a round: what the prices are of, under the own numbers that a call lends; the same tableau
 -- if it is finished.
-pub round-priced : {S : Sheet} → Accepted S → {p : Parties} → PartiesOf S p
+pub round-priced : {S : Sheet} → Accepted S → {p : Parties} → NumbersOf S p
     → {T : List Cell} {q e price : List ℤ} {tree : List ℕ} {done : Bool}
     → Rounded (problem_of S) T q e price tree p.rows p.columns done
     → {rows columns : List ℕ} → rows ≡ take p.rows p.row_numbers → columns ≡ take p.columns p.column_numbers
