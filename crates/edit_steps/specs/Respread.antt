@@ -114,6 +114,15 @@ module _ {cost : List ℤ} {cafes : ℕ} {rows cols : List ℕ} {row col : ℕ} 
       let (_, is-col) = number_in-found cols col (λ e. omega (arith, at_j, e, g.growing_cols.few)) in
       rw is (respread_lane_of g w i j below_i below_j (ap (at rows) at_i ∙ is_row) (ap (at cols) at_j ∙ is-col))
 
+  -- The same, told by what is not found.
+  pub respread_numbered : {i j : ℕ} {x : ℤ} → i ≡ number_in rows row → j ≡ number_in cols col → x ≡ c
+      → ¬ (i ≡ max_side) → ¬ (j ≡ max_side)
+      → Spread (set cost (place cafes row col) c) cafes rows cols (set out (j * stride + i) x)
+  respread_numbered at_i at_j is r k =
+      let (i, is_row) = number_in-found rows row (λ e. r (at_i ∙ e)) in
+      let (j, is-col) = number_in-found cols col (λ e. k (at_j ∙ e)) in
+      rw (at_i, at_j, is) (respread_lane_of g w (number_in rows row) (number_in cols col) i j is_row is-col)
+
 -- ---- for other parties
 
 -- So many parties are left of m roasteries and n cafés that nobody is struck.
