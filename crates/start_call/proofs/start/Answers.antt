@@ -58,4 +58,6 @@ returns c =
     let passed = accepted-none _ (sym c.check_sheet.ensures ∙ c.in_ok-check_sheet.was) in
     let h = c.number_parties-parties.ensures S.cost in
     let first = first-is h c.supplies.ensures c.demands.ensures c.first_tableau-first.ensures in
-    rw (c.own_tableau-own.ensures _ first, c.row_numbers.ensures, c.column_numbers.ensures, own-lent (accepted S passed) (parties-numbers h)) (start-given S passed)
+    let numbers = own-lent (accepted S passed) (parties-numbers h) in
+    rw (c.own_tableau-own.ensures _ first, c.row_numbers.ensures, c.column_numbers.ensures, numbers)
+    (start-given S passed)
