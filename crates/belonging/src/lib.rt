@@ -52,7 +52,7 @@ pub fn load(supply: &[u64], demand: &[u64], t: Tableau, board: &mut Board) -> bo
     if t.count != size {
         return false;
     }
-    if !fit::cells_fit(t, m, n) {
+    if !fit::cells_fit(&t, m, n) {
         return false;
     }
     if spread::lay_out(t, m, n, board) != size {

@@ -27,14 +27,12 @@ fn cell_fits(c: Cell, m: usize, n: usize, least: usize) -> bool
 }
 
 // Whether every cell of the tableau is one of `m` rows and `n` columns, they stand in sheet order, and every pair is above (0, 0).
-pub fn cells_fit(t: Tableau, m: usize, n: usize) -> bool
-    requires { (t.count ≤ cell_room) × (m ≤ stride) × (n ≤ stride) }
-    ensures { result ≡ cells_fit_of m n (cells_of t) }
+pub fn cells_fit(t: &Tableau, m: usize, n: usize) -> bool
+    requires { (t.now.count ≤ cell_room) × (m ≤ stride) × (n ≤ stride) }
+    ensures { result ≡ cells_fit_of m n (cells_of t.now) }
 {
     let mut least = 0;
-    // By their numbers: over a part that is lent the tableau would be copied for the loop.
-    for k in 0..t.count {
-        let c = t.cells[k];
+    for &c in &t.cells[..t.count] {
         if !cell_fits(c, m, n, least) {
             return false;
         }
