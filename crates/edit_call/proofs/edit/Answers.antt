@@ -39,8 +39,8 @@ overflow_add-result c =
     let counter : a.s.counter < 2 ^ 64 = search rules in
     omega (arith, counter, counts a.s a.e a.u.now a.v.now a.plan.now (rw c.in-Ok.is at w))
 
-pub returns-in-Ok : goal.returns-in-Ok
-returns-in-Ok c =
+pub returns : goal.returns
+returns c =
     let a = c.args in
     let k = a.s.sheet in
     let (m, n, lanes) = rooms k (search rules, search rules, search rules) (omega arith) (omega arith) in
