@@ -1,6 +1,6 @@
 -- The own numbers of a sheet's parties left, as a call lends them: in their order, and those that a tableau of these gets.
 use Rattle.std.specs.Prelude.{◌≡◌, ◌≤◌}
-use Rattle.prelude.specs.Words.{List, map, ℕ, arith, length, take}
+use Rattle.prelude.specs.Words.{List, map, arith, length, take}
 use Rattle.transport.specs.Limits.{max_side}
 use Rattle.transport.specs.Sheet.{Sheet, roasteries}
 use Rattle.transport.specs.Extended.{extended}

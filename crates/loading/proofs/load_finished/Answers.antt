@@ -1,5 +1,5 @@
 -- What load_sheet refuses is refused; else the tableau is finished, or refused for it.
-use Rattle.prelude.specs.Words.{sym, ◌∙◌}
+use Rattle.prelude.specs.Words.{◌∙◌}
 use Rattle.std.proofs.lemmas.Result.{err_from_is_err_and}
 use Rattle.transport.specs.Sheet.{sheet_of}
 use Rattle.loading.specs.Loading.{early_refused, unfinished-refused, finished-passes}

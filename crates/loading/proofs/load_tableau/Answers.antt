@@ -1,6 +1,6 @@
 -- Among those left the caller's tableau belongs exactly if it belongs to the sheet under own numbers.
 use Rattle.std.specs.Prelude.{◌≡◌}
-use Rattle.prelude.specs.Words.{sym, ◌∙◌, ap, map, List, ℕ, take, Bool, true, false}
+use Rattle.prelude.specs.Words.{sym, ◌∙◌, map, List, ℕ, take, Bool, true}
 use Rattle.transport.specs.Sheet.{Sheet, cafes, sheet_of}
 use Rattle.transport.specs.Extended.{extended}
 use Rattle.transport.specs.Parties.{rows_left_of, columns_left, problem_of}

@@ -1,15 +1,12 @@
 -- Each way out is a case of the call.
-use Rattle.std.specs.Prelude.{◌≤◌, ◌≡◌}
-use Rattle.prelude.specs.Words.{arith, ℕ, mul-le-mul_left, ◌∙◌, Bool, true, subst, length}
+use Rattle.std.specs.Prelude.{◌≤◌}
+use Rattle.prelude.specs.Words.{arith, ℕ, mul-le-mul_left, ◌∙◌, length}
 use Rattle.std.proofs.lemmas.Result.{err_from_is_err_and}
 use Rattle.transport.specs.Limits.{max_side}
-use Rattle.transport.specs.Sheet.{Sheet, roasteries, cafes, sheet_of}
-use Rattle.transport.specs.Parties.{problem_of}
+use Rattle.transport.specs.Sheet.{roasteries, cafes, sheet_of}
 use Rattle.transport.specs.Laws.Sound.{sources-room, sinks-room}
-use Rattle.transport.specs.Calls.{inside}
 use Rattle.transport.specs.declared.Refusal.{Refusal}
-use Rattle.rounds.specs.Begun.{begun-sides, Judged}
-use Rattle.loading.specs.Loading.{Admitted}
+use Rattle.rounds.specs.Begun.{begun-sides}
 use Rattle.solving.specs.Settled.{settled-storable, stored_settled}
 use Rattle.settle_call.specs.Settle.{front-refuses, unfinished-refuses, short-refuses, none-refuses, settle-refused, settle-given}
 use Rattle.settle_call.proofs.settle.Goals as goal
