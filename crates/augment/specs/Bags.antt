@@ -181,6 +181,9 @@ pub record RowBags (q : List ℤ) (basic i left cols : ℕ) : Type 0 where
   pub part : (j : ℕ) → has left j ≡ true → has basic j ≡ true
   pub each : (j : ℕ) → has cols j ≡ not (has left j) && (has basic j && carries q i j)
 
+pub row-none : (q : List ℤ) (basic i : ℕ) → RowBags q basic i basic 0
+row-none q basic i = record { part = λ j h. h; each = λ j. has-zero j ∙ by_test (has basic j) (λ e. rw e) (λ e. rw e) }
+
 module _ {q : List ℤ} {basic i left cols : ℕ} (w : RowBags q basic i left cols) where
   pub row_more : {j : ℕ} (cols' : ℕ) → Least left j → ((k : ℕ) → has cols' k ≡ cond (eqb k j) (carries q i j) (has cols k))
       → RowBags q basic i (bit_and left (left - 1)) cols'

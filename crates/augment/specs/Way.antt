@@ -8,7 +8,7 @@ use Rattle.integers.specs.Tests.{lt_yes, lt_no}
 use Rattle.network.specs.Circuit.{spot, moved, moved_more}
 use Rattle.network.specs.Search.{above, above-next, Rooted, rooted, way_row, way_col}
 use Rattle.transport.specs.Limits.{max_bags, max_side, max_amount}
-use Rattle.tree.specs.Layout.{stride, lane_room}
+use Rattle.tree.specs.Layout.{stride, node_room, lane_room}
 use Rattle.augment.specs.Bags.{lane_bags, entry, MaskedBags, Follow, follow-both, BagsShifted}
 use Rattle.augment.specs.declared.bags.Bags.{Bags}
 use Rattle.augment.specs.declared.way.Way.{Way}
@@ -179,6 +179,9 @@ module _ {m n s j : ℕ} {way : Way} {b : Bags} (v : Carries m n s j way b)
 
     falls : entry way.up at < at
     falls = v.walkable.below at some few-steps
+
+    pub bringing_inside : (at < node_room) × (entry way.up at < node_room)
+    bringing_inside = omega (arith, few-steps, v.walkable.small, falls)
 
     abbrev from : ℕ
     from = entry way.row at

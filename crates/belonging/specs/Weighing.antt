@@ -75,6 +75,19 @@ pub record Marked (weight : List ℤ) (k : ℕ) : Type 0 where
   pub ones : (i : ℕ) → i < k → get_or weight i (pos 0) ≡ pos 1
   pub none : (i : ℕ) → k ≤ i → get_or weight i (pos 0) ≡ pos 0
 
+pub marked-none : (weight : List ℤ) → length weight ≡ node_room → ((j : ℕ) → get_or weight j (pos 0) ≡ pos 0)
+    → Marked weight 0
+marked-none weight l z = record { long = l; ones = λ i p. absurd (omega arith); none = λ i p. z i }
+
+pub marked_more : {weight : List ℤ} {k : ℕ} → k < node_room → Marked weight k → Marked (set weight k (pos 1)) (k + 1)
+marked_more {weight} {k} p h = record {
+  long = length-set weight _ _ ∙ h.long;
+  ones = λ i q. by_cases (ℕ_discrete i k)
+      (λ e. rw e (get_or-set_same weight k (pos 1) (pos 0) (omega (arith, h.long))))
+      (λ e. get_or-set_other weight k i (pos 1) (pos 0) e ∙ h.ones i (omega arith));
+  none = λ i q. get_or-set_other weight k i (pos 1) (pos 0) (omega arith) ∙ h.none i (omega arith);
+}
+
 pub marked-front : (k : ℕ) → k ≤ node_room → Marked (replicate k (pos 1) ++ drop k (replicate node_room (pos 0))) k
 marked-front k few = let long = length-replicate k (pos 1) in rw (drop-replicate (pos 0) k node_room) (record {
   long = omega (

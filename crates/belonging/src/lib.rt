@@ -10,6 +10,7 @@ ghost use Rattle.transport.specs.Tableau.{cells_of};
 ghost use Rattle.transport.specs.Belonging.{balanced, belongs};
 ghost use Rattle.transport.specs.declared.Cell.{Cell};
 ghost use Rattle.transport.specs.Laws.ProblemLaws.{problem};
+ghost use Rattle.tree.specs.Basis.{SameCuts};
 ghost use Rattle.board.specs.OnBoard.{LoadedOn};
 ghost use Rattle.board.specs.Held.{Empty};
 ghost use Rattle.belonging.specs.Spread.{BalancingOn};
@@ -42,6 +43,7 @@ pub fn load(supply: &[u64], demand: &[u64], t: Tableau, board: &mut Board) -> bo
     requires empty { Empty board.old.amounts.q board.old.amounts.e }
     ensures value { (cost : List ℤ) → result ≡ belongs (problem supply.now demand.now cost) t }
     ensures loaded { result ≡ true → LoadedOn (length supply.now) (length demand.now) (cells_of t) board.new }
+    ensures same_cuts { SameCuts board.old.basis board.new.basis }
 {
     let m = supply.len();
     let n = demand.len();
@@ -50,7 +52,7 @@ pub fn load(supply: &[u64], demand: &[u64], t: Tableau, board: &mut Board) -> bo
     if t.count != size {
         return false;
     }
-    if !fit::cells_fit(t, m, n) {
+    if !fit::cells_fit(&t, m, n) {
         return false;
     }
     if spread::lay_out(t, m, n, board) != size {

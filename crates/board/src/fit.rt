@@ -27,9 +27,9 @@ fn cell_fits(c: Cell, m: usize, n: usize, least: usize) -> bool
 }
 
 // Whether every cell of the tableau is one of `m` rows and `n` columns, they stand in sheet order, and every pair is above (0, 0).
-pub fn cells_fit(t: Tableau, m: usize, n: usize) -> bool
-    requires { (t.count ≤ cell_room) × (m ≤ stride) × (n ≤ stride) }
-    ensures { result ≡ cells_fit_of m n (cells_of t) }
+pub fn cells_fit(t: &Tableau, m: usize, n: usize) -> bool
+    requires { (t.now.count ≤ cell_room) × (m ≤ stride) × (n ≤ stride) }
+    ensures { result ≡ cells_fit_of m n (cells_of t.now) }
 {
     let mut least = 0;
     for &c in &t.cells[..t.count] {

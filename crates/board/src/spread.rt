@@ -3,7 +3,7 @@ ghost use Rattle.std.specs.Prelude.{◌≡◌, ℕ, ◌+◌, ◌*◌, ◌<◌, �
 ghost use Rattle.transport.specs.Tableau.{cells_of, basis_for};
 ghost use Rattle.tableaux.specs.View.{Inside, Distinct};
 ghost use Rattle.tree.specs.Layout.{stride, node_room};
-ghost use Rattle.tree.specs.Basis.{struck_off};
+ghost use Rattle.tree.specs.Basis.{struck_off, SameCuts};
 ghost use Rattle.tree.specs.Strip.{Stripped};
 ghost use Rattle.board.specs.Arrays.{Sides, Amounts as AmountsOf};
 ghost use Rattle.board.specs.Cells.{cell_room};
@@ -57,6 +57,7 @@ pub fn lay_out(t: Tableau, m: usize, n: usize, board: &mut Board) -> usize
     ensures amounts { AmountsOf m n (cells_of t) board.new.amounts.q board.new.amounts.e }
     ensures long { length board.new.basis.lane ≡ node_room }
     ensures stripped { Stripped m n (basis_for (cells_of t)) (struck_off board.new.basis result) result }
+    ensures same_cuts { SameCuts board.old.basis board.new.basis }
 {
     let mut adj = [0; NODES];
     spread(t, m, &mut adj, &mut board.amounts);

@@ -90,6 +90,7 @@ bought S r u v plan uAfter vAfter planAfter answered u_held v_held plan_held =
     (record {
       solved = λ w l enough room wanting. gives-best S a plan ((d w l).0 enough room wanting);
       refuses = λ w l. refuses_exactly S a (d w l);
+      numbers = (refl, refl, refl);
       unchanged = leaves_all a u v plan;
       rest = leaves-rest S a u v plan (solve-fills S (length u) (length v) (length plan));
     })

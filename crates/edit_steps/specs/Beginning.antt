@@ -17,6 +17,7 @@ use Rattle.transport.specs.Laws.PartiesLaws.{left_at}
 use Rattle.transport.specs.Laws.RangeLaws.{abs_between}
 use Rattle.transport.specs.Laws.Sound.{sources-room, sinks-room}
 use Rattle.parties.specs.declared.Parties.{Parties}
+use Rattle.parties.specs.Parties.{PartiesOf, parties-amounts}
 use Rattle.board.specs.declared.Board.{Board}
 use Rattle.numbering.specs.Numbers.{left_growing}
 use Rattle.cost_grid.specs.Costs.{Spread}
@@ -65,6 +66,13 @@ module _ {S : Sheet} {e : Edit} {supply demand : List ℕ} {cost : List ℤ} (w 
         let put : Spread cost (length demand) (take p.rows p.row_numbers) (take p.cafes p.column_numbers) new =
         rw (new-cost w is, same-demand w is) respread in
         rw (begins-kept (sheet_of supply demand cost) T is) (admitted_respread ok kept put)
+
+-- The parties stay those of the sheet, with their amounts.
+pub parties_kept : {S : Sheet} {e : Edit} {supply demand : List ℕ} {cost : List ℤ} → EditOf S e supply demand cost
+    → {c : ℤ} → e.change ≡ Change.Cost c → {p : Parties} → PartiesOf S p → PartiesOf (sheet_of supply demand cost) p
+parties_kept {S} {supply = supply} {demand} w is {p} h =
+    let kept : PartiesOf (sheet_of supply demand S.cost) p = rw (same-supply w is, same-demand w is) h in
+    parties-amounts kept
 
 -- New amounts begin with the start.
 pub admitted_afresh : (e : Edit) {s d : ℕ} {S : Sheet} (T : List Cell) {p : Parties} {b : Board} {cost : List ℤ}

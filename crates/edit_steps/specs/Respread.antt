@@ -17,7 +17,7 @@ use Rattle.transport.specs.Laws.ListLaws.{and_left, and_right}
 use Rattle.transport.specs.Laws.ProblemLaws.{place_injective}
 use Rattle.transport.specs.Laws.PartiesLaws.{left-whole}
 use Rattle.parties.specs.declared.Parties.{Parties}
-use Rattle.parties.specs.Parties.{PartiesOf}
+use Rattle.parties.specs.Parties.{NumbersOf}
 use Rattle.tree.specs.Layout.{stride, stride-is}
 use Rattle.numbering.specs.Numbers.{Growing, number_in, number_in-at, number_in-found}
 use Rattle.cost_grid.specs.Costs.{Spread}
@@ -114,6 +114,15 @@ module _ {cost : List ℤ} {cafes : ℕ} {rows cols : List ℕ} {row col : ℕ} 
       let (_, is-col) = number_in-found cols col (λ e. omega (arith, at_j, e, g.growing_cols.few)) in
       rw is (respread_lane_of g w i j below_i below_j (ap (at rows) at_i ∙ is_row) (ap (at cols) at_j ∙ is-col))
 
+  -- The same, told by what is not found.
+  pub respread_numbered : {i j : ℕ} {x : ℤ} → i ≡ number_in rows row → j ≡ number_in cols col → x ≡ c
+      → ¬ (i ≡ max_side) → ¬ (j ≡ max_side)
+      → Spread (set cost (place cafes row col) c) cafes rows cols (set out (j * stride + i) x)
+  respread_numbered at_i at_j is r k =
+      let (i, is_row) = number_in-found rows row (λ e. r (at_i ∙ e)) in
+      let (j, is-col) = number_in-found cols col (λ e. k (at_j ∙ e)) in
+      rw (at_i, at_j, is) (respread_lane_of g w (number_in rows row) (number_in cols col) i j is_row is-col)
+
 -- ---- for other parties
 
 -- So many parties are left of m roasteries and n cafés that nobody is struck.
@@ -133,7 +142,7 @@ SpreadBefore S before out =
     → Spread S.cost (cafes S) (left S.supply) (left S.demand) out
 
 -- The cafés left are counted.
-pub cafes-left : {S : Sheet} {p : Parties} → PartiesOf S p → p.cafes ≡ length (left S.demand)
+pub cafes-left : {S : Sheet} {p : Parties} → NumbersOf S p → p.cafes ≡ length (left S.demand)
 cafes-left {p = p} h =
     sym (length-take-le p.cafes p.column_numbers (omega (arith, p.in_room.1, p.in_room.2))) ∙ ap length h.cafe_numbers
 
@@ -152,7 +161,7 @@ spread-alike m n r k w = record {
 -- Where nobody is struck, each own number is the number, so that they are the same before and
 -- after.
 pub spread-before : {S : Sheet} {e : Edit} {supply demand : List ℕ} {cost : List ℤ} → EditOf S e supply demand cost
-    → {s d : ℕ} → e.change ≡ Change.Amounts s d → {p : Parties} {out : List ℤ} → PartiesOf S p
+    → {s d : ℕ} → e.change ≡ Change.Amounts s d → {p : Parties} {out : List ℤ} → NumbersOf S p
     → Spread S.cost (cafes S) (take p.rows p.row_numbers) (take p.cafes p.column_numbers) out
     → SpreadBefore (sheet_of supply demand cost) p out
 unfolding roasteries cafes rows_left_of extended

@@ -7,7 +7,9 @@ ghost use Rattle.transport.specs.Sheet.{Sheet, sheet_of};
 ghost use Rattle.transport.specs.Tableau.{start};
 ghost use Rattle.transport.specs.Statements.{Accepted};
 ghost use Rattle.transport.specs.declared.Cell.{Cell};
+ghost use Rattle.parties.specs.Parties.{PartiesOf};
 ghost use Rattle.tree.specs.Layout.{lane_room};
+ghost use Rattle.tree.specs.Basis.{SameCuts};
 ghost use Rattle.numbering.specs.Numbers.{Growing};
 ghost use Rattle.cost_grid.specs.Costs.{Spreadable, Spread};
 ghost use Rattle.loading.specs.Loading.{Admitted};
@@ -95,8 +97,10 @@ fn begin_afresh(
     spread: &mut [Price; LANES],
 ) -> Parties
     requires { Accepted (sheet_of supply.now demand.now cost.now) }
-    ensures { let S = sheet_of supply.now demand.now cost.now in
+    ensures admitted { let S = sheet_of supply.now demand.now cost.now in
         (SpreadBefore S before.now spread.old → Admitted S (start (problem_of S)) result board.new spread.new) }
+    ensures parties { PartiesOf (sheet_of supply.now demand.now cost.now) result }
+    ensures same_cuts { SameCuts board.old.basis board.new.basis }
 {
     let first = deal_sheet(supply, demand);
     let parties = first.parties;
@@ -122,10 +126,13 @@ pub fn begin_edit(
     requires accepted { Accepted (sheet_of supply.now demand.now cost.now) }
     requires edit_of { (S : Sheet) × (T : List Cell) × EditOf S edit supply.now demand.now cost.now
         × Admitted S T parties board.old spread.old }
-    ensures { let S' = sheet_of supply.now demand.now cost.now in
+    ensures admitted { let S' = sheet_of supply.now demand.now cost.now in
         ((S : Sheet) (T : List Cell) → EditOf S edit supply.now demand.now cost.now
         → Admitted S T parties board.old spread.old
         → Admitted S' (beginning edit.change S' T) result board.new spread.new) }
+    ensures parties { (S : Sheet) → EditOf S edit supply.now demand.now cost.now → PartiesOf S parties
+        → PartiesOf (sheet_of supply.now demand.now cost.now) result }
+    ensures same_cuts { SameCuts board.old.basis board.new.basis }
 {
     match edit.change {
         Change::Cost(c) => {

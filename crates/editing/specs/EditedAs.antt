@@ -2,13 +2,15 @@
 use Rattle.std.specs.Prelude.{Ok, Err, MatchResult, is_err, ◌≡◌, ◌&&◌, ◌||◌, ◌+◌}
 use Rattle.std.specs.declared.result.Result.{Result}
 use Rattle.std.proofs.lemmas.Result.{MatchResult-from_err}
-use Rattle.prelude.specs.Words.{refl, ap, subst, ◌∙◌, Bool, true, false, true≢false, not, List, some}
-use Rattle.prelude.specs.Words.{ℕ, ltb, eqb, add-one, ℤ, length}
+use Rattle.prelude.specs.Words.{refl, ap, subst, ◌∙◌, Bool, true, false, true≢false, not, List, none, some, by_option}
+use Rattle.prelude.specs.Words.{ℕ, arith, ltb, eqb, add-one, ℤ, length}
 use Rattle.transport.specs.declared.Cell.{Cell}
 use Rattle.transport.specs.declared.Edit.{Edit}
 use Rattle.transport.specs.declared.Refusal.{Refusal}
+use Rattle.transport.specs.declared.SolveAnswer.{SolveAnswer}
 use Rattle.transport.specs.Sheet.{Sheet, roasteries, cafes, refusal}
-use Rattle.transport.specs.Calls.{unless, inside, solution_from, solve_tests}
+use Rattle.transport.specs.Calls.{unless, inside, Solution, solution_from, solve_tests}
+use Rattle.transport.specs.Answers.{result_of, solve_answer}
 use Rattle.transport.specs.Standing.{edited, Standing, Passes, standing_tests, max_counter, bad_edit, edit_tests}
 use Rattle.transport.specs.Standing.{edit_from, edit_call, carried_out}
 use Rattle.transport.specs.Laws.SheetLaws.{refusal_yes, refusal_no, refusal-pass, refusal-stands}
@@ -40,6 +42,16 @@ not-and true false true = refl
 not-and true false false = refl
 not-and false b true = refl
 not-and false b false = refl
+
+-- What is answered as solved, no test refuses.
+pub answer-solved : (tests : List (Bool × Refusal)) (x : Solution) {y : SolveAnswer}
+    → Ok y ≡ solve_answer (unless tests x) → refusal tests ≡ none
+unfolding solve_answer result_of
+answer-solved tests x e = by_option (refusal tests)
+    (λ n. n)
+    (λ j h.
+    let clash = e ∙ ap solve_answer (unless-refused tests x j h) in
+    let z : ◌≡◌ {A = ℕ} 0 1 = cc in absurd (omega arith))
 
 -- What is no refusal is an edit that is made.
 made_of : (r : Result Edited Refusal) → is_err r ≡ false → (d : Edited) × (r ≡ Ok d)

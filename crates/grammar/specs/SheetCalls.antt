@@ -1,7 +1,7 @@
 -- Read sheet and write sheet: when they succeed, that they undo each other, and what refusal 9 says.
-use Rattle.std.specs.Prelude.{is_none, ◌≡◌, ◌↔◌, ◌||◌, ◌*◌, ◌-◌, ◌≤◌}
+use Rattle.std.specs.Prelude.{is_none, ◌≡◌, ◌↔◌, ◌||◌, ◌⊎◌, ◌*◌, ◌-◌, ◌≤◌}
 use Rattle.prelude.specs.Words.{refl, sym, ◌∙◌, ap, Bool, true, false, List, [], none, some, ℕ, suc, arith, mul-le-mul, dec_le, length}
-use Rattle.prelude.specs.Words.{take, take_all, by_cases, some≢none}
+use Rattle.prelude.specs.Words.{take, take_all, by_cases, inl, inr, ⊎_elim, true≢false}
 use Rattle.transport.specs.Limits.{max_sources, max_sinks, max_text}
 use Rattle.transport.specs.declared.Refusal.{Refusal}
 use Rattle.transport.specs.Refusals.{place_of}
@@ -12,6 +12,7 @@ use Rattle.transport.specs.SheetText.{stuck, got, sheet_text, sheet_reader, writ
 use Rattle.transport.specs.Laws.SheetLaws.{accepted, passes, refusal-other}
 use Rattle.transport.specs.Statements.{Accepted, SheetTextOf, Place, Undo}
 use Rattle.transport.specs.Laws.CallLaws.{refusal-last, unless-given_iff, unless_refusal, room_iff, rooms_iff, refused≢given}
+use Rattle.transport.specs.Laws.CallLaws.{unless-refused, Placeless, by_reasons, refusal-placeless}
 use Rattle.grammar.specs.Numbers.{within_iff}
 use Rattle.grammar.specs.Exact.{stuck≢got, by_reading}
 use Rattle.grammar.specs.Place.{reader_iff, place, place_unique, place-cut}
@@ -61,26 +62,51 @@ module _ (tests : Sheet → List (Bool × Refusal)) (text : List ℕ) where
     λ h. read_text S h.0 ∙ (unless-given_iff (tests S) S S).1 (h.1, refl),
   )
 
-  -- Reading gives refusal 9 exactly on a text that is no sheet text, and with it the place (`Statements.Place`).
-  -- The tests refuse no sheet for its text.
-  pub nine_iff : ((S : Sheet) (p : ℕ) → refusal (tests S) ≡ some (Refusal.NotSheetText p) → ⊥) → (p : ℕ)
-      → (read_with tests text ≡ refused (Refusal.NotSheetText p)) ↔ ((S : Sheet) → SheetTextOf S text → ⊥) × Place text p
-  nine_iff other p = (
+  -- A text that no sheet has is refused by 9 with its place (`Statements.Place`), whatever is
+  -- tested ..
+  pub nine_from : (p : ℕ) → ((S : Sheet) → SheetTextOf S text → ⊥) × Place text p
+      → read_with tests text ≡ refused (Refusal.NotSheetText p)
+  nine_from p (none_is, h) = by_reading (sheet_reader text)
+      (λ rest e. rw (← place_unique text _ p (place text rest e) h) (read_stuck rest e))
+      (λ R rest e. absurd (none_is R ((reader_iff text R rest).0 e).1))
+
+  -- .. and no text besides, unless it is the text of a sheet that a test refuses so.
+  pub nine_or : (p : ℕ)
+      → (read_with tests text ≡ refused (Refusal.NotSheetText p))
+      ↔ (((S : Sheet) → SheetTextOf S text → ⊥) × Place text p)
+      ⊎ ((S : Sheet) × SheetTextOf S text × (refusal (tests S) ≡ some (Refusal.NotSheetText p)))
+  nine_or p = (
     λ f. by_reading (sheet_reader text)
         (λ rest e.
         let same : length text - length rest ≡ p = cc (read_stuck rest e, f) in
-        (λ S h. stuck≢got (sym e ∙ (reader_iff text S []).1 (refl, h)), rw same at (place text rest e)))
-        (λ R rest e. absurd (other R p (unless_refusal (tests R) R _ (sym (read_got R rest e) ∙ f)))),
-    λ (none_is, h). by_reading (sheet_reader text)
-        (λ rest e. rw (← place_unique text _ p (place text rest e) h) (read_stuck rest e))
-        (λ R rest e. absurd (none_is R ((reader_iff text R rest).0 e).1)),
+        inl (λ S h. stuck≢got (sym e ∙ (reader_iff text S []).1 (refl, h)), rw same at (place text rest e)))
+        (λ R rest e.
+        inr (R, ((reader_iff text R rest).0 e).1, unless_refusal (tests R) R _ (sym (read_got R rest e) ∙ f))),
+    λ h. ⊎_elim (nine_from p) (λ (S, h, e). read_text S h ∙ unless-refused (tests S) S _ e) h,
   )
+
+  -- Where the tests refuse no sheet so, 9 comes exactly on a text that is no sheet text.
+  pub nine_unless : ((S : Sheet) (p : ℕ) → refusal (tests S) ≡ some (Refusal.NotSheetText p) → ⊥) → (p : ℕ)
+      → (read_with tests text ≡ refused (Refusal.NotSheetText p))
+      ↔ ((S : Sheet) → SheetTextOf S text → ⊥) × Place text p
+  nine_unless other p = (
+    λ f. ⊎_elim (λ h. h) (λ (S, h, e). absurd (other S p e)) ((nine_or p).0 f),
+    nine_from p,
+  )
+
+-- Reading gives refusal 9 exactly on a text that is no sheet text, and with it the place. The
+-- refusals of the tests have none.
+pub nine_iff : (tests : Sheet → List (Bool × Placeless)) (text : List ℕ) (p : ℕ)
+    → (read_with (λ S. by_reasons (tests S)) text ≡ refused (Refusal.NotSheetText p))
+    ↔ ((S : Sheet) → SheetTextOf S text → ⊥) × Place text p
+nine_iff tests text = nine_unless (λ S. by_reasons (tests S)) text (λ S p e.
+    true≢false (ap is_none (sym (refusal-placeless (tests S) (Refusal.NotSheetText p) e))))
 
 -- Of read sheet, and of what the program reads.
 pub read_nine : (text : List ℕ) (a b c p : ℕ)
     → (read_sheet_call text a b c ≡ refused (Refusal.NotSheetText p)) ↔ ((S : Sheet) → SheetTextOf S text → ⊥) × Place text p
 unfolding read_sheet_call read_tests number_tests all bad_amount bad_cost lacking crowded idle
-read_nine text a b c = nine_iff (read_tests a b c) text (λ S. refusal-other (read_tests a b c S) (others S))
+read_nine text a b c = nine_unless (read_tests a b c) text (λ S. refusal-other (read_tests a b c S) (others S))
   where
     others : (S : Sheet) → all (λ t. is_none (place_of t.1)) (read_tests a b c S) ≡ true
     others S = refl
@@ -88,7 +114,7 @@ read_nine text a b c = nine_iff (read_tests a b c) text (λ S. refusal-other (re
 pub shown_nine : (text : List ℕ) (p : ℕ)
     → (read_with number_tests text ≡ refused (Refusal.NotSheetText p)) ↔ ((S : Sheet) → SheetTextOf S text → ⊥) × Place text p
 unfolding number_tests all bad_amount bad_cost lacking crowded idle
-shown_nine text = nine_iff number_tests text (λ S. refusal-other (number_tests S) (others S))
+shown_nine text = nine_unless number_tests text (λ S. refusal-other (number_tests S) (others S))
   where
     others : (S : Sheet) → all (λ t. is_none (place_of t.1)) (number_tests S) ≡ true
     others S = refl

@@ -17,6 +17,11 @@ use Rattle.line_reader.specs.LinesRead.{read_lines_of, column_lines, rows_lines,
 unfoldable pub list_reader : List ℕ → ℕ → Reader (List ℕ)
 list_reader name most = word name >> (line (side most) >>= λ m. times m (line number))
 
+-- A line of a side is the side, and then the byte that ends the last number of a line.
+pub side_line : (most : ℕ) (u : List ℕ) {r s : Reading ℕ} → side most u ≡ r → end_reading (ending 1) r ≡ s
+    → line (side most) u ≡ s
+side_line most u e h = line-end (side most) u ∙ ap (end_reading 10) e ∙ (rw ending-last at h)
+
 module _ (name : List ℕ) (most : ℕ) (t : List ℕ) where
   pub list_unnamed : (u : List ℕ) → word name t ≡ stuck u → list_reader name most t ≡ stuck u
   unfolding list_reader
@@ -27,25 +32,27 @@ module _ (name : List ℕ) (most : ℕ) (t : List ℕ) where
     unfolding list_reader
     list_named = then-got (word name) t u _ tt w
 
-    list_then_stuck : (v : List ℕ) → line (side most) u ≡ stuck v → list_reader name most t ≡ stuck v
-    list_then_stuck v e = list_named ∙ bind-stuck (line (side most)) u v _ e
+    pub list_uncounted : (v : List ℕ) → line (side most) u ≡ stuck v → list_reader name most t ≡ stuck v
+    list_uncounted v e = list_named ∙ bind-stuck (line (side most)) u v _ e
 
-    -- The count is no side, or it does not end as a line does.
-    pub list_uncounted : (v : List ℕ) → side most u ≡ stuck v → list_reader name most t ≡ stuck v
-    list_uncounted v e = list_then_stuck v (line-end (side most) u ∙ ap (end_reading 10) e ∙ end-stuck 10 v)
+    pub list_counted : (m : ℕ) (v : List ℕ) → line (side most) u ≡ got m v
+        → list_reader name most t ≡ read_lines_of number 1 1 m v
+    list_counted m v e = list_named ∙ bind-got (line (side most)) u v _ m e ∙ column_lines number m v
+
+    -- The same by the side that comes first: there is none, or it does not end as a line does.
+    pub list_unsided : (v : List ℕ) → side most u ≡ stuck v → list_reader name most t ≡ stuck v
+    list_unsided v e = list_uncounted v (side_line most u e (end-stuck (ending 1) v))
 
     module _ (k : ℕ) (v rest : List ℕ) (e : side most u ≡ got k v) where
       pub list_unended : end_reading (ending 1) (got k v) ≡ stuck rest → list_reader name most t ≡ stuck rest
-      list_unended h = list_then_stuck rest (line-end (side most) u ∙ ap (end_reading 10) e ∙ (rw ending-last at h))
+      list_unended h = list_uncounted rest (side_line most u e h)
 
       -- The lines go into the front of a list that has room for them.
-      pub list_counted : (m : ℕ) (list : List ℕ) → end_reading (ending 1) (got k v) ≡ got m rest → m ≤ length list
+      pub list_sided : (m : ℕ) (list : List ℕ) → end_reading (ending 1) (got k v) ≡ got m rest → m ≤ length list
           → list_reader name most t ≡ read_lines_of number 1 1 (length (take m list)) rest
-      list_counted m list h room =
-          let counted : line (side most) u ≡ got m rest =
-          line-end (side most) u ∙ ap (end_reading 10) e ∙ (rw ending-last at h) in
+      list_sided m list h room =
           let size = length-take-le m list room in
-          list_named ∙ bind-got (line (side most)) u rest _ m counted ∙ (rw size (column_lines number m rest))
+          list_counted m rest (side_line most u e h) ∙ (rw size)
 
 -- ---- the costs after their head line
 
@@ -115,6 +122,15 @@ module _ (m n : ℕ) (t u : List ℕ) where
 pub demands-stuck : (m : ℕ) (t u : List ℕ) → list_reader (bytes "demand ") max_sinks t ≡ stuck u → after_supply m t ≡ stuck u
 unfolding after_supply
 demands-stuck m t u e = bind-stuck (list_reader (bytes "demand ") max_sinks) t u _ e
+
+-- The demands were read: n of them, from a list that has room.
+module _ (m : ℕ) (u v : List ℕ) (n : ℕ) (ys : List ℕ) (room : n ≤ length ys)
+    (demanded : list_reader (bytes "demand ") max_sinks u ≡ got (take n ys) v) where
+  pub after-demanded : after_supply m u ≡ (after_demand m n >>= λ cost. pure (take n ys, cost)) v
+  unfolding after_supply
+  after-demanded =
+      let size = length-take-le n ys room in
+      bind-got (list_reader (bytes "demand ") max_sinks) u v _ (take n ys) demanded ∙ (rw size)
 
 -- ---- the sheet
 
@@ -186,7 +202,7 @@ sheet-stuck t u e = sheet-then t ∙ bind-stuck (list_reader (bytes "supply ") m
 -- The supplies were read: m of them, from a list that has room.
 module _ (t u : List ℕ) (m : ℕ) (xs : List ℕ) (some : m ≤ length xs)
     (supplied : list_reader (bytes "supply ") max_sources t ≡ got (take m xs) u) where
-  sheet-supplied : sheet_reader t ≡ (after_supply m >>= sheet_with (take m xs)) u
+  pub sheet-supplied : sheet_reader t ≡ (after_supply m >>= sheet_with (take m xs)) u
   sheet-supplied =
       let size = length-take-le m xs some in
       sheet-then t ∙ bind-got (list_reader (bytes "supply ") max_sources) t u _ (take m xs) supplied ∙ (rw size)
@@ -198,16 +214,10 @@ module _ (t u : List ℕ) (m : ℕ) (xs : List ℕ) (some : m ≤ length xs)
   -- The demands were read too.
   module _ (v : List ℕ) (n : ℕ) (ys : List ℕ) (room : n ≤ length ys)
       (demanded : list_reader (bytes "demand ") max_sinks u ≡ got (take n ys) v) where
-    after-demanded : after_supply m u ≡ (after_demand m n >>= λ cost. pure (take n ys, cost)) v
-    unfolding after_supply
-    after-demanded =
-        let size = length-take-le n ys room in
-        bind-got (list_reader (bytes "demand ") max_sinks) u v _ (take n ys) demanded ∙ (rw size)
-
     pub sheet-unended : (rest : List ℕ) → after_demand m n v ≡ stuck rest → sheet_reader t ≡ stuck rest
     sheet-unended rest e =
         sheet-supplied
-        ∙ bind-stuck (after_supply m) u rest _ (after-demanded ∙ bind-stuck (after_demand m n) v rest _ e)
+        ∙ bind-stuck (after_supply m) u rest _ (after-demanded m u v n ys room demanded ∙ bind-stuck (after_demand m n) v rest _ e)
 
     pub sheet-ended : (cost : List ℤ) (rest : List ℕ) → after_demand m n v ≡ got cost rest
         → sheet_reader t ≡ got (record { supply = take m xs; demand = take n ys; cost = cost }) rest
@@ -215,4 +225,4 @@ module _ (t u : List ℕ) (m : ℕ) (xs : List ℕ) (some : m ≤ length xs)
     sheet-ended cost rest e =
         sheet-supplied
         ∙ bind-got (after_supply m) u rest _ (take n ys, cost)
-        (after-demanded ∙ bind-got (after_demand m n) v rest _ cost e)
+        (after-demanded m u v n ys room demanded ∙ bind-got (after_demand m n) v rest _ cost e)

@@ -31,7 +31,7 @@ impl Listed for u64 {
     ghost reader = { number };
 
     fn read(text: &[u8], at: usize, left: usize) -> Result<Token<u64>, Stuck> {
-        read_end(text, read_number(text, at, 0)?, left)
+        read_end(text, read_number(text, at, 0), left)
     }
 }
 
@@ -82,7 +82,7 @@ pub fn read_list(
     ensures fits { ValueSide most result }
 {
     let next = read_word(text, at, name)?;
-    let count = read_end(text, read_side(text, next, most)?, 1)?;
+    let count = read_end(text, read_side(text, next, most), 1)?;
     let next = read_lines(text, count.next, 1, &mut list[..count.value])?;
     Ok(Token {
         value: count.value,

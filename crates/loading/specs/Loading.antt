@@ -23,7 +23,7 @@ use Rattle.transport.specs.declared.Cell.{Cell}
 use Rattle.transport.specs.declared.Tableau.{Tableau}
 use Rattle.parties.specs.declared.Parties.{Parties}
 use Rattle.tableaux.specs.Belonging.{belongs-amounts}
-use Rattle.parties.specs.Parties.{PartiesOf, supplies-lent, demands-lent, parties-amounts}
+use Rattle.parties.specs.Parties.{PartiesOf, NumbersOf, supplies-lent, demands-lent, numbers-amounts}
 use Rattle.board.specs.declared.Board.{Board}
 use Rattle.board.specs.OnBoard.{LoadedOn}
 use Rattle.cost_grid.specs.Costs.{Spread, spread_costed}
@@ -68,17 +68,18 @@ module _ (S : Sheet) (t : Tableau) where
 
 -- ---- what is loaded
 
--- What rounds begin with: the parties left are numbered, and a tableau T of these is laid out on the
--- board with the costs of their lanes.
+-- What rounds begin with: the parties left have their own numbers, and a tableau T of these is laid
+-- out on the board with the costs of their lanes. Their amounts are no longer looked at.
 pub record Admitted (S : Sheet) (T : List Cell) (p : Parties) (b : Board) (cost : List ℤ) : Type 0 where
   pub accepted : Accepted S
-  pub parties : PartiesOf S p
+  pub parties : NumbersOf S p
   pub spread : Spread S.cost (cafes S) (take p.rows p.row_numbers) (take p.cafes p.column_numbers) cost
   pub begun : BegunOn (problem_of S) T b cost p.rows p.columns
 
--- Either the tests refuse, or rounds can begin with T.
+-- Either the tests refuse, or rounds can begin with T, and the amounts of the parties are there too.
 abbrev pub LoadedBy : Sheet → List (Bool × Refusal) → List Cell → Board → List ℤ → Result Parties Refusal → Type 0
-LoadedBy S tests T b cost r = MatchResult r (λ p. (refusal tests ≡ none) × Admitted S T p b cost) (λ k. refusal tests ≡ some k)
+LoadedBy S tests T b cost r =
+    MatchResult r (λ p. (refusal tests ≡ none) × Admitted S T p b cost × PartiesOf S p) (λ k. refusal tests ≡ some k)
 
 module _ {S : Sheet} (ok : Accepted S) {p : Parties} (h : PartiesOf S p) where
   -- The tableau t, which is `inner` among those left, belongs, and the costs of their lanes are spread.
@@ -111,7 +112,7 @@ admitted_respread {supply} {demand} {old} {new} ok {T} w spread =
     let S : Sheet = sheet_of supply demand old in
     let S' : Sheet = sheet_of supply demand new in
     let b = w.begun in
-    let parties = parties-amounts w.parties in
+    let parties = numbers-amounts w.parties in
     record {
       accepted = ok;
       parties = parties;

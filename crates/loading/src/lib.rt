@@ -5,6 +5,7 @@
 ghost use Rattle.transport.specs.Sheet.{sheet_of};
 ghost use Rattle.transport.specs.Calls.{tableau_tests, inside, finished_tests};
 ghost use Rattle.transport.specs.Statements.{Accepted};
+ghost use Rattle.tree.specs.Basis.{SameCuts};
 ghost use Rattle.board.specs.Held.{Empty};
 ghost use Rattle.loading.specs.Loading.{LoadedBy};
 
@@ -29,8 +30,9 @@ fn load_tableau(
 ) -> Result<Parties, Refusal>
     requires accepted { Accepted (sheet_of supply.now demand.now cost.now) }
     requires empty { Empty board.old.amounts.q board.old.amounts.e }
-    ensures { let S = sheet_of supply.now demand.now cost.now in
+    ensures loaded { let S = sheet_of supply.now demand.now cost.now in
         LoadedBy S (tableau_tests S t) (inside S t) board.new spread.new result }
+    ensures same_cuts { SameCuts board.old.basis board.new.basis }
 {
     let parties = number_parties(supply, demand);
     let t = renumber(t, parties.row_numbers(), parties.column_numbers());
@@ -57,8 +59,9 @@ pub fn load_sheet(
     spread: &mut [Price; LANES],
 ) -> Result<Parties, Refusal>
     requires { Empty board.old.amounts.q board.old.amounts.e }
-    ensures { let S = sheet_of supply.now demand.now cost.now in
+    ensures loaded { let S = sheet_of supply.now demand.now cost.now in
         LoadedBy S (tableau_tests S t) (inside S t) board.new spread.new result }
+    ensures same_cuts { SameCuts board.old.basis board.new.basis }
 {
     sheet::check_sheet(supply, demand, cost)?;
     load_tableau(supply, demand, cost, t, board, spread)
@@ -74,8 +77,9 @@ pub fn load_finished(
     spread: &mut [Price; LANES],
 ) -> Result<Parties, Refusal>
     requires { Empty board.old.amounts.q board.old.amounts.e }
-    ensures { let S = sheet_of supply.now demand.now cost.now in
+    ensures loaded { let S = sheet_of supply.now demand.now cost.now in
         LoadedBy S (finished_tests S t) (inside S t) board.new spread.new result }
+    ensures same_cuts { SameCuts board.old.basis board.new.basis }
 {
     let parties = load_sheet(supply, demand, cost, t, board, spread)?;
     if !test_finished(&board.basis, spread, parties.rows, parties.columns) {

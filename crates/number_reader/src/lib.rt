@@ -91,14 +91,23 @@ pub fn read_side(text: &[u8], at: usize, most: usize) -> Result<Token<usize>, St
     })
 }
 
-// The end of a number that was read: the number, with the place after the byte that ends it.
-pub fn read_end<T: Copy>(text: &[u8], number: Token<T>, left: usize) -> Result<Token<T>, Stuck>
-    requires { number.next ≤ length text.now }
-    ensures reads { end_reading (ending left) (got number.value (drop number.next text.now))
+// The end of a number that was read: the number, with the place after the byte that ends it. Where
+// none was read, the answer stays.
+pub fn read_end<T: Copy>(
+    text: &[u8],
+    number: Result<Token<T>, Stuck>,
+    left: usize,
+) -> Result<Token<T>, Stuck>
+    requires { place_of number ≤ length text.now }
+    ensures reads { end_reading (ending left) (reading_of text.now (λ v. v) number)
         ≡ reading_of text.now (λ v. v) result }
     ensures inside { place_of result ≤ length text.now }
-    ensures same { IfOk result (λ ended. ended.value ≡ number.value) }
+    ensures same { IfOk number (λ token. IfOk result (λ ended. ended.value ≡ token.value)) }
 {
+    let number = match number {
+        Ok(number) => number,
+        Err(stop) => return Err(stop),
+    };
     if !end_at(text, number.next, left) {
         return Err(Stuck(number.next));
     }

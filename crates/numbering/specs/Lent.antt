@@ -1,6 +1,6 @@
 -- The own numbers of a sheet's parties left, as a call lends them: in their order, and those that a tableau of these gets.
 use Rattle.std.specs.Prelude.{◌≡◌, ◌≤◌}
-use Rattle.prelude.specs.Words.{List, map, ℕ, arith, length, take}
+use Rattle.prelude.specs.Words.{List, map, arith, length, take}
 use Rattle.transport.specs.Limits.{max_side}
 use Rattle.transport.specs.Sheet.{Sheet, roasteries}
 use Rattle.transport.specs.Extended.{extended}
@@ -11,7 +11,7 @@ use Rattle.transport.specs.Laws.Sound.{sources-room}
 use Rattle.transport.proofs.Sound.{wanted_room}
 use Rattle.transport.specs.declared.Cell.{Cell}
 use Rattle.parties.specs.declared.Parties.{Parties}
-use Rattle.parties.specs.Parties.{PartiesOf}
+use Rattle.parties.specs.Parties.{NumbersOf}
 use Rattle.numbering.specs.Numbers.{Growing, left_growing, own_cell_of, Within}
 use Rattle.numbering.specs.Belonging.{belongs-within}
 
@@ -20,7 +20,7 @@ pub sides-room : {S : Sheet} → Accepted S → (length (extended S).supply ≤ 
 unfolding extended roasteries
 sides-room ok = (omega (arith, ok.limits.roasteries_high, sources-room), wanted_room ok)
 
-module _ {S : Sheet} (ok : Accepted S) {p : Parties} (h : PartiesOf S p) where
+module _ {S : Sheet} (ok : Accepted S) {p : Parties} (h : NumbersOf S p) where
   pub rows_growing : Growing (take p.rows p.row_numbers)
   unfolding rows_left_of
   rows_growing = rw h.row_numbers (left_growing (extended S).supply (sides-room ok).0)

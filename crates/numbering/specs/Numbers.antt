@@ -1,17 +1,18 @@
 -- The numbers of those left among themselves, their own numbers, and cells under the one and under the other.
 use Rattle.std.specs.Prelude.{◌≡◌, ◌++◌, ◌+◌, ◌-◌, ◌≤◌, ◌<◌}
-use Rattle.prelude.specs.Words.{refl, sym, ap, ◌∙◌, by_cases, true, false, List, [], map, append-nil, ℕ, zero, suc}
-use Rattle.prelude.specs.Words.{arith, dec_le, ℕ_discrete, add-one, eqb, length, min, take, drop, length-take, get_or}
+use Rattle.prelude.specs.Words.{refl, sym, ap, ◌∙◌, by_cases, true, false, cond, List, [], map, append-nil, ℕ, zero, suc}
+use Rattle.prelude.specs.Words.{arith, dec_lt, dec_le, ℕ_discrete, add-one, eqb, ltb, length, min, take, drop, length-take, get_or}
 use Rattle.prelude.specs.Words.{set, replicate, length-set, length-map, length-append}
 use Rattle.prelude.specs.Words.{length-replicate, get_or-append, drop_of_length-le, get_or-set_same, get_or-set_other}
-use Rattle.prelude.specs.Words.{take_at}
+use Rattle.prelude.specs.Words.{take_at, get_or-drop, get_or-eq_default, lt-ltb, le-ltb}
 use Rattle.prelude.specs.Words.{take_all, length-take-le, eq-eqb, ne_eqb}
 use Rattle.std.proofs.Math.Seq.{drop-append_seam}
 use Rattle.std.proofs.lemmas.List.{append_assoc, drop_more, map_more, set_at, take-map}
 use Rattle.transport.specs.Limits.{max_side, max_cells}
-use Rattle.transport.specs.Lists.{at, padded}
+use Rattle.transport.specs.Lists.{at, table, padded}
 use Rattle.transport.specs.Parties.{left}
 use Rattle.transport.specs.Tableau.{no_cell, cells_of, tableau_of}
+use Rattle.transport.specs.Laws.ListLaws.{get_or-append-at, map-table, table_cong, table-get_or}
 use Rattle.transport.specs.Laws.PartiesLaws.{left_at, length-left, left-grows}
 use Rattle.transport.specs.declared.Cell.{Cell}
 use Rattle.transport.specs.declared.Tableau.{Tableau}
@@ -148,11 +149,31 @@ module _ {f : Cell → Cell} {t : Tableau} where
   pub changed-none : ChangedTo f t 0 t
   changed-none = record { many = refl; cells = refl }
 
-  -- One more is changed.
-  pub changed-one : {n : ℕ} {u : Tableau} {c : Cell} → ChangedTo f t n u → n < length t.cells
+  -- The next cell is still what it was ..
+  changed-next : {n : ℕ} {u : Tableau} → ChangedTo f t n u → get_or u.cells n no_cell ≡ get_or t.cells n no_cell
+  changed-next {n} {u} w =
+      let front : List Cell = map f (take n t.cells) in
+      let here : n + 0 ≡ n = omega arith in
+      by_cases (dec_le n (length t.cells))
+      (λ l.
+      let long : length front ≡ n = length-map (take n t.cells) f ∙ length-take-le n t.cells l in
+      ap (λ (cells : List Cell). get_or cells n no_cell) w.cells
+      ∙ ap (λ (k : ℕ). get_or (front ++ drop n t.cells) k no_cell) (sym here)
+      ∙ get_or-append-at front (drop n t.cells) n 0 no_cell long
+      ∙ get_or-drop n t.cells 0 no_cell
+      ∙ ap (λ (k : ℕ). get_or t.cells k no_cell) here)
+      (λ l.
+      let cells : u.cells ≡ map f t.cells =
+      w.cells ∙ rw (take_all n t.cells (omega arith), drop_of_length-le t.cells {i = n} (omega arith)) (append-nil (map f t.cells)) in
+      ap (λ (cells : List Cell). get_or cells n no_cell) cells
+      ∙ get_or-eq_default (map f t.cells) no_cell {n = n} (omega (arith, length-map t.cells f))
+      ∙ sym (get_or-eq_default t.cells no_cell {n = n} (omega arith)))
+
+  -- .. and is changed, by what it was ..
+  pub changed-more : {n : ℕ} {u : Tableau} {c : Cell} → ChangedTo f t n u → n < length t.cells
       → c ≡ f (get_or t.cells n no_cell)
       → ChangedTo f t (n + 1) (record { cells = set u.cells n c; count = u.count })
-  changed-one {n} w l e =
+  changed-more {n} w l e =
       let front : List Cell = map f (take n t.cells) in
       let long : length front ≡ n = omega (arith, length-map (take n t.cells) f, length-take n t.cells) in
       record {
@@ -167,6 +188,20 @@ module _ {f : Cell → Cell} {t : Tableau} where
             )
             (sym (append_assoc front _ _));
       }
+
+  -- .. or by what it still is.
+  pub changed-one : {n : ℕ} {u : Tableau} → ChangedTo f t n u → n < length t.cells
+      → (c : Cell) → c ≡ f (get_or u.cells n no_cell)
+      → ChangedTo f t (n + 1) (record { cells = set u.cells n c; count = u.count })
+  changed-one w l c e = changed-more w l (e ∙ ap f (changed-next w))
+
+-- The first cells of a list are all changed.
+all-front : (f : Cell → Cell) (T rest : List Cell)
+    → table (length T) (λ k. f (get_or (T ++ rest) k no_cell)) ++ drop (length T) (T ++ rest) ≡ map f T ++ rest
+all-front f T rest = rw (drop-append_seam T rest) (ap (λ (front : List Cell). front ++ rest) (
+    table_cong (length T) (λ k. f (get_or (T ++ rest) k no_cell)) (λ k. f (get_or T k no_cell)) (λ k l. ap f (get_or-append T rest no_cell k l))
+    ∙ sym (map-table f (length T) (λ k. get_or T k no_cell))
+    ∙ ap (map f) (table-get_or T no_cell)))
 
 -- ---- a tableau under own numbers
 
@@ -184,10 +219,14 @@ module _ {rows cols : List ℕ} {T : List Cell} {t : Tableau} (is-t : t ≡ tabl
   unfolding tableau_of padded
   cell_at k l = rw is-t (get_or-append T (replicate (max_cells - length T) no_cell) no_cell k (rw is-t at l))
 
-  pub cell-within : (k : ℕ) → k < t.count
+  pub cell_inside : (k : ℕ) → k < t.count
       → ((get_or t.cells k no_cell).row < length rows) × ((get_or t.cells k no_cell).col < length cols)
   unfolding tableau_of
-  cell-within k l = rw (cell_at k l) (w.row_in k (rw is-t at l), w.col_in_of k (rw is-t at l))
+  cell_inside k l = rw (cell_at k l) (w.row_in k (rw is-t at l), w.col_in_of k (rw is-t at l))
+
+  pub cell-within : {f : Cell → Cell} {k : ℕ} {u : Tableau} → ChangedTo f t k u → k < t.count
+      → ((get_or u.cells k no_cell).row < length rows) × ((get_or u.cells k no_cell).col < length cols)
+  cell-within {k} h l = rw (changed-next h) (cell_inside k l)
 
 -- All cells changed, it is the tableau of the changed ones.
 pub changed-tableau : (f : Cell → Cell) (T : List Cell) {t u : Tableau} {n : ℕ} → ChangedTo f t n u → n ≡ t.count → t ≡ tableau_of T → u ≡ tableau_of (map f T)
@@ -201,6 +240,12 @@ changed-tableau f T {t} {u} {n} w all is-t =
     λ i. record { cells = cells i; count = count i }
 
 -- ---- a tableau under the numbers of those left
+
+-- No more cells are counted than the array has.
+pub counted-most : (count n : ℕ) → n ≡ cond (ltb count max_cells) count max_cells → n ≤ max_cells
+counted-most count n e = by_cases (dec_lt count max_cells)
+    (λ l. let same : n ≡ count = e ∙ rw (lt-ltb count max_cells l) in omega arith)
+    (λ l. let same : n ≡ max_cells = e ∙ rw (le-ltb count max_cells (omega arith)) in omega arith)
 
 -- The cells of the array that are counted, be the count any: once these are changed, so are the tableau's.
 pub changed-cells : {f : Cell → Cell} {t u : Tableau} {n : ℕ} → ChangedTo f t n u → n ≡ min t.count (length t.cells)

@@ -27,8 +27,9 @@ pub fn own_tableau(t: Tableau, rows: &[usize], cols: &[usize]) -> Tableau
     ensures { (T : List Cell) → t ≡ tableau_of T → result ≡ tableau_of (map (own_cell_of rows.now cols.now) T) }
 {
     let mut own = t;
-    for k in 0..t.count {
-        own.cells[k] = own_cell(t.cells[k], rows, cols);
+    for k in 0..own.count {
+        let c = own.cells[k];
+        own.cells[k] = own_cell(c, rows, cols);
     }
     own
 }
@@ -83,8 +84,9 @@ pub fn renumber(t: Tableau, rows: &[usize], cols: &[usize]) -> Tableau
     let col_number = numbers(cols);
     let mut inner = t;
     // The count may be any: it may say more cells than there are.
-    for k in 0..t.count.min(MAX_CELLS) {
-        inner.cells[k] = cell_among(t.cells[k], &row_number, &col_number);
+    for k in 0..inner.count.min(MAX_CELLS) {
+        let c = inner.cells[k];
+        inner.cells[k] = cell_among(c, &row_number, &col_number);
     }
     inner
 }

@@ -116,7 +116,24 @@ pub record PartiesOf (S : Sheet) (p : Parties) : Type 0 where
   pub column_numbers : take p.columns p.column_numbers ≡ columns_left (extended S)
   pub cafe_numbers : take p.cafes p.column_numbers ≡ left S.demand
 
+-- Without their amounts: how many there are, and their own numbers.
+pub record NumbersOf (S : Sheet) (p : Parties) : Type 0 where
+  pub row_count_of : p.rows ≡ length (rows_left_of (extended S))
+  pub column_count_of : p.columns ≡ length (columns_left (extended S))
+  pub row_numbers : take p.rows p.row_numbers ≡ rows_left_of (extended S)
+  pub column_numbers : take p.columns p.column_numbers ≡ columns_left (extended S)
+  pub cafe_numbers : take p.cafes p.column_numbers ≡ left S.demand
+
 module _ {S : Sheet} {p : Parties} (h : PartiesOf S p) where
+  pub parties-numbers : NumbersOf S p
+  parties-numbers = record {
+    row_count_of = h.row_count_of;
+    column_count_of = h.column_count_of;
+    row_numbers = h.row_numbers;
+    column_numbers = h.column_numbers;
+    cafe_numbers = h.cafe_numbers;
+  }
+
   -- The amounts are those of the problem behind the sheet ..
   pub parties-problem : problem (take p.rows p.supplies) (take p.columns p.demands) (problem_of S).cost ≡ problem_of S
   parties-problem = rw (h.supplies, h.demands)
@@ -139,6 +156,17 @@ parties-amounts h = record {
   demands_room = h.demands_room;
   supplies = h.supplies;
   demands = h.demands;
+  row_numbers = h.row_numbers;
+  column_numbers = h.column_numbers;
+  cafe_numbers = h.cafe_numbers;
+}
+
+pub numbers-amounts : {supply demand : List ℕ} {cost other : List ℤ} {p : Parties}
+    → NumbersOf (sheet_of supply demand cost) p → NumbersOf (sheet_of supply demand other) p
+unfolding extended wanted surplus rows_left_of columns_left
+numbers-amounts h = record {
+  row_count_of = h.row_count_of;
+  column_count_of = h.column_count_of;
   row_numbers = h.row_numbers;
   column_numbers = h.column_numbers;
   cafe_numbers = h.cafe_numbers;

@@ -1,8 +1,9 @@
 -- The bags in the arrays as a plan in sheet order.
 use Rattle.std.specs.Prelude.{◌≡◌, ◌+◌, ◌*◌, ◌/◌, ◌%◌, ◌<◌, ◌≤◌, ◌++◌}
-use Rattle.prelude.specs.Words.{refl, ◌∙◌, by_cases, List, ℕ, arith, mod-lt, div-add-mod', dec_lt, ℤ}
+use Rattle.prelude.specs.Words.{refl, ◌∙◌, by_cases, List, ℕ, arith, mod-lt, div-add-mod', dec_lt, ℕ_discrete, ℤ}
 use Rattle.prelude.specs.Words.{pos, negsuc}
-use Rattle.prelude.specs.Words.{nat_abs, length, get_or, drop, ext_get_or}
+use Rattle.prelude.specs.Words.{nat_abs, length, get_or, set, drop, ext_get_or}
+use Rattle.prelude.specs.Words.{length-set, get_or-set_same, get_or-set_other, drop-set-lt}
 use Rattle.prelude.specs.Words.{get_or-drop, length-drop, take, replicate, length-replicate, get_or-replicate}
 use Rattle.prelude.specs.Words.{length-append, length-take-le, get_or-append}
 use Rattle.std.proofs.lemmas.Slice.{drop-append-drop}
@@ -71,7 +72,21 @@ pub record Emptied (size l : ℕ) (old new : List ℕ) : Type 0 where
   pub rest : drop size new ≡ drop size old
   pub clear : (k : ℕ) → k < l → at new k ≡ 0
 
--- The places before it are filled with nothing.
+pub emptied_none : (size : ℕ) (old : List ℕ) → Emptied size 0 old old
+emptied_none size old = record { long = refl; rest = refl; clear = λ k h. absurd (omega arith) }
+
+pub emptied_one : {size l : ℕ} {old new : List ℕ} → Emptied size l old new → l < size → size ≤ length old
+    → Emptied size (l + 1) old (set new l 0)
+unfolding at
+emptied_one {size} {l} {old} {new} c h room = record {
+  long = simp length-set c.long;
+  rest = drop-set-lt size new l 0 h ∙ c.rest;
+  clear = λ k b. by_cases (ℕ_discrete k l)
+      (λ e. rw e (get_or-set_same new l 0 0 (omega (arith, c.long))))
+      (λ d. get_or-set_other new l k 0 0 d ∙ c.clear k (omega arith));
+}
+
+-- All of them at once: filled with nothing.
 pub emptied_front : {size : ℕ} {old front : List ℕ} → size ≤ length old → front ≡ replicate (length (take size old)) 0
     → Emptied size size old (front ++ drop size old)
 unfolding at

@@ -2,15 +2,17 @@
 use Rattle.std.specs.Prelude.{◌+◌, ◌*◌, ◌^◌, ◌<◌, ◌≤◌, ◌≡◌, ◌+ℤ◌, ◌-ℤ◌, Option, Some, None, is_some}
 use Rattle.prelude.specs.Words.{ℕ, arith, dec_lt, refl, sym, ◌∙◌, by_cases, Bool, true, false, not, cond}
 use Rattle.prelude.specs.Words.{true≢false, List, ℤ}
-use Rattle.prelude.specs.Words.{pos, negsuc, nat_abs, neg_ℤ, lt_z, non_neg, ltb, length, get_or, lt-ltb, le-ltb}
+use Rattle.prelude.specs.Words.{pos, negsuc, nat_abs, neg_ℤ, lt_z, le_z, non_neg, mag, ltb, length, get_or, lt-ltb, le-ltb, le-leb}
 use Rattle.prelude.specs.Words.{by_test, clash}
+use Rattle.std.specs.Int.{w32}
+use mir.Val as bits
 use Rattle.integers.specs.Integer.{◌≈◌, ◌⊕◌, ◌⊖◌, neg, nat}
 use Rattle.integers.specs.Bridge.{to_z, z-add, z-neg}
 use Rattle.integers.specs.Tests.{lt_yes}
 use Rattle.transport.specs.Limits.{max_cost, cost_above}
 use Rattle.transport.specs.Laws.ListLaws.{by_key, first_least_unique}
 use Rattle.transport.specs.Laws.AmountLaws.{lt_z_weak}
-use Rattle.transport.specs.Laws.RangeLaws.{abs_diff}
+use Rattle.transport.specs.Laws.RangeLaws.{abs_diff, back}
 use Rattle.transport.specs.Problem.{Problem, sources, sinks, Lane, lanes, place}
 use Rattle.transport.specs.Laws.ProblemLaws.{lane, Placed, lane_placed, place-below, length-lanes, get_or-lanes, all_lanes, all-lanes-at}
 use Rattle.transport.specs.Tableau.{lane_of, no_cell}
@@ -71,6 +73,14 @@ not_negative (negsuc k) e = absurd (true≢false e)
 negative : (z : ℤ) → lt_z z (pos 0) ≡ true → non_neg z ≡ false
 negative (pos k) e = absurd (omega (arith, lt_yes (pos k) (pos 0) e))
 negative (negsuc k) e = refl
+
+-- What a test of the sign says of a number that is read from a struct.
+pub sign-is : (z : ℤ) → mag z < 2 ^ 31 → le_z (pos 0) (bits.to_z w32 (bits.of_z w32 z)) ≡ not (lt_z z (pos 0))
+sign-is z p = rw (back w32 z p) (go z)
+  where
+    go : (z : ℤ) → le_z (pos 0) z ≡ not (lt_z z (pos 0))
+    go (pos k) = rw (le-leb 0 k (omega arith), le-ltb k 0 (omega arith))
+    go (negsuc k) = refl
 
 -- ---- ranges
 

@@ -1,6 +1,6 @@
 -- Read sheet: a sheet that was read and is stored, and the call case by case.
-use Rattle.std.specs.Prelude.{Ok, Err, ◌↔◌, ◌≡◌, ◌*◌, ◌-◌, ◌≤◌, ◌||◌}
-use Rattle.prelude.specs.Words.{refl, List, ℕ, arith, Bool, false, none, some}
+use Rattle.std.specs.Prelude.{Ok, Err, ◌↔◌, ◌≡◌, ◌*◌, ◌-◌, ◌≤◌, ◌&&◌, ◌||◌}
+use Rattle.prelude.specs.Words.{refl, List, ℕ, arith, Bool, true, false, and-eq-true_iff, none, some}
 use Rattle.prelude.specs.Words.{ℤ, length, drop, length-drop, by_test}
 use Rattle.std.specs.declared.result.Result.{Result}
 use Rattle.transport.specs.declared.Counts.{Counts}
@@ -11,6 +11,14 @@ use Rattle.transport.specs.Answers.{result_of, counts_of, read_answer}
 use Rattle.transport.specs.SheetText.{stuck, got, sheet_reader, read_with, read_tests, read_sheet_call}
 use Rattle.transport.specs.Laws.CallLaws.{unless-before, unless-last, unless-none, rooms_iff}
 use Rattle.decimals.specs.Front.{front}
+
+-- ---- rooms
+
+pub all_fit : (a b c : Bool) → a && b && c ≡ true → (a ≡ true) × (b ≡ true) × (c ≡ true)
+all_fit a b c e =
+    let h = (and-eq-true_iff (a && b) c).0 e in
+    let k = (and-eq-true_iff a b).0 h.0 in
+    (k.0, k.1, h.1)
 
 -- ---- a sheet that was read
 

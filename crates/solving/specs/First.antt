@@ -17,7 +17,7 @@ use Rattle.tableaux.specs.Starting.{start-belongs}
 use Rattle.tableaux.specs.Belonging.{belongs_iff, distinct_of, spans_of}
 use Rattle.demands.specs.Says.{cells_for}
 use Rattle.parties.specs.declared.Parties.{Parties}
-use Rattle.parties.specs.Parties.{PartiesOf}
+use Rattle.parties.specs.Parties.{PartiesOf, parties-numbers}
 use Rattle.tree.specs.Layout.{stride-is, node_room}
 use Rattle.tree.specs.Basis.{struck_off}
 use Rattle.tree.specs.Strip.{Stripped}
@@ -102,4 +102,4 @@ module _ {S : Sheet} (accepted : Accepted S) {p : Parties} {t : Tableau} (w : De
           struck = subst StruckBy all struck;
         };
       } in
-      record { accepted = accepted; parties = h; spread = spread; begun = rw (row_count, column-count) begun }
+      record { accepted = accepted; parties = parties-numbers h; spread = spread; begun = rw (row_count, column-count) begun }

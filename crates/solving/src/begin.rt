@@ -4,6 +4,8 @@ ghost use Rattle.transport.specs.Sheet.{sheet_of};
 ghost use Rattle.transport.specs.Parties.{problem_of};
 ghost use Rattle.transport.specs.Tableau.{start};
 ghost use Rattle.transport.specs.Statements.{Accepted};
+ghost use Rattle.parties.specs.Parties.{PartiesOf};
+ghost use Rattle.tree.specs.Basis.{SameCuts};
 ghost use Rattle.board.specs.Held.{Empty};
 ghost use Rattle.loading.specs.Loading.{Admitted};
 ghost use Rattle.solving.specs.First.{Dealt};
@@ -46,8 +48,10 @@ pub fn begin_sheet(
 ) -> Parties
     requires accepted { Accepted (sheet_of supply.now demand.now cost.now) }
     requires empty { Empty board.old.amounts.q board.old.amounts.e }
-    ensures { let S = sheet_of supply.now demand.now cost.now in
+    ensures admitted { let S = sheet_of supply.now demand.now cost.now in
         Admitted S (start (problem_of S)) result board.new spread.new }
+    ensures parties { PartiesOf (sheet_of supply.now demand.now cost.now) result }
+    ensures same_cuts { SameCuts board.old.basis board.new.basis }
 {
     let first = deal_sheet(supply, demand);
     let parties = first.parties;

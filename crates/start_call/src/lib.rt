@@ -19,5 +19,6 @@ pub fn start(supply: &[u64], demand: &[u64], cost: &[i64]) -> Result<Tableau, Re
     sheet::check_sheet(supply, demand, cost)?;
     let parties = number_parties(supply, demand);
     let first = first_tableau(parties.supplies(), parties.demands());
-    Ok(own_tableau(first, parties.row_numbers(), parties.column_numbers()))
+    let own = own_tableau(first, parties.row_numbers(), parties.column_numbers());
+    Ok(own)
 }

@@ -1,7 +1,7 @@
 -- The samples of paper 01, P1 to P9, its text samples and its worked text, those of paper 02, One to Five, and a sample for each trap that these leave open,
 -- as one theorem over the definitions.
 mod Open
-use Rattle.std.specs.Prelude.{◌≡◌, refl, true, false, List, [], ◌∷◌, ◌++◌, map, ℕ, ◌-◌, ℤ, pos, negsuc, neg_ℤ, replicate}
+use Rattle.std.specs.Prelude.{◌≡◌, refl, true, false, List, [], ◌∷◌, ◌++◌, map, ℕ, ◌-◌, ℤ, pos, negsuc, neg_ℤ, replicate, Some, None}
 use Rattle.std.proofs.Math.Option.{some}
 use Prim.Native.String.{String}
 use Rattle.transport.specs.Problem.{Problem, Lane, lane_cost}
@@ -11,7 +11,7 @@ use Rattle.transport.specs.Tableau.{Cell, tableau_of, start}
 use Rattle.transport.specs.Potential.{reduced_cost}
 use Rattle.transport.specs.Round.{entering, next}
 use Rattle.transport.specs.Plan.{plan_cost_of}
-use Rattle.transport.specs.Refusals.{Refusal}
+use Rattle.transport.specs.Refusals.{Refusal, number, place_of}
 use Rattle.transport.specs.Calls.{Answer, refused, given, unless, start_call, finished, moved, round_call, run_call, settle_call, solve_call}
 use Rattle.transport.specs.Standing.{Edit, edited, Standing, set_up_call, standing_tests, max_counter, edit_call, carried_out, stands_after, kept_sheet}
 use Rattle.transport.specs.Standing.{spare, struct_of, standing_of}
@@ -187,10 +187,20 @@ set_cost i j c = record { row = i - 1; col = j - 1; change = Change.Cost c }
 abbrev set_amounts : ℕ → ℕ → ℕ → ℕ → Edit
 set_amounts i j s d = record { row = i - 1; col = j - 1; change = Change.Amounts s d }
 
+-- The refusals in the order of their numbers, the ninth at place 7.
+abbrev refusals : List Refusal
+refusals =
+    Refusal.Sides ∷ Refusal.CostCount ∷ Refusal.Amount ∷ Refusal.Cost
+    ∷ Refusal.Lacking ∷ Refusal.NotBelonging ∷ Refusal.Unfinished ∷ Refusal.TooShort
+    ∷ Refusal.NotSheetText 7 ∷ Refusal.Crowded ∷ Refusal.Idle ∷ Refusal.BadEdit ∷ []
+
 abbrev samples : List Sample
 samples =
+    -- the numbers by which all know the refusals, and the place that comes with 9 alone
+    (map number refusals is 1 ∷ 2 ∷ 3 ∷ 4 ∷ 5 ∷ 6 ∷ 7 ∷ 8 ∷ 9 ∷ 10 ∷ 11 ∷ 12 ∷ [])
+    ∷ (map place_of refusals is replicate 8 None ++ (Some 7 ∷ replicate 3 None))
     -- P1
-    (start_call sheet1 is given start1)
+    ∷ (start_call sheet1 is given start1)
     ∷ (entering (extended sheet1) start1 is lane 1 2)
     ∷ (reduced_cost (extended sheet1) start1 (lane 1 2) is negsuc 6)
     ∷ (round_call sheet1 (tableau_of start1) is given (moved next1))
@@ -366,4 +376,4 @@ samples =
 
 pub samples-hold : Hold samples
 unfolding opened
-samples-hold = (refl, (refl, (refl, (refl, (refl, (refl, (refl, (refl, (refl, (refl, (refl, (refl, (refl, (refl, (refl, (refl, (refl, (refl, (refl, (refl, (refl, (refl, (refl, (refl, (refl, (refl, (refl, (refl, (refl, (refl, (refl, (refl, (refl, (refl, (refl, (refl, (refl, (refl, (refl, (refl, (refl, (refl, (refl, (refl, (refl, (refl, (refl, (refl, (refl, (refl, (refl, (refl, (refl, (refl, (refl, (refl, (refl, (refl, (refl, (refl, (refl, (refl, (refl, (refl, (refl, (refl, (refl, (refl, (refl, (refl, (refl, (refl, (refl, (refl, (refl, (refl, (refl, (refl, (refl, (refl, (refl, (refl, (refl, (refl, (refl, (refl, (refl, (refl, (refl, (refl, (refl, (refl, (refl, (refl, (refl, (refl, (refl, (refl, (refl, (refl, (refl, (refl, (refl, (refl, (refl, (refl, (refl, (refl, (refl, (refl, (refl, (refl, (refl, (refl, (refl, (refl, (refl, (refl, (refl, (refl, (refl, (refl, (refl, (refl, (refl, (refl, (refl, (refl, (refl, (refl, (refl, (refl, (refl, (refl, (refl, (refl, (refl, (refl, (refl, (refl, tt))))))))))))))))))))))))))))))))))))))))))))))))))))))))))))))))))))))))))))))))))))))))))))))))))))))))))))))))))))))))))))))))))))))))))))
+samples-hold = (refl, (refl, (refl, (refl, (refl, (refl, (refl, (refl, (refl, (refl, (refl, (refl, (refl, (refl, (refl, (refl, (refl, (refl, (refl, (refl, (refl, (refl, (refl, (refl, (refl, (refl, (refl, (refl, (refl, (refl, (refl, (refl, (refl, (refl, (refl, (refl, (refl, (refl, (refl, (refl, (refl, (refl, (refl, (refl, (refl, (refl, (refl, (refl, (refl, (refl, (refl, (refl, (refl, (refl, (refl, (refl, (refl, (refl, (refl, (refl, (refl, (refl, (refl, (refl, (refl, (refl, (refl, (refl, (refl, (refl, (refl, (refl, (refl, (refl, (refl, (refl, (refl, (refl, (refl, (refl, (refl, (refl, (refl, (refl, (refl, (refl, (refl, (refl, (refl, (refl, (refl, (refl, (refl, (refl, (refl, (refl, (refl, (refl, (refl, (refl, (refl, (refl, (refl, (refl, (refl, (refl, (refl, (refl, (refl, (refl, (refl, (refl, (refl, (refl, (refl, (refl, (refl, (refl, (refl, (refl, (refl, (refl, (refl, (refl, (refl, (refl, (refl, (refl, (refl, (refl, (refl, (refl, (refl, (refl, (refl, (refl, (refl, (refl, (refl, (refl, (refl, (refl, tt))))))))))))))))))))))))))))))))))))))))))))))))))))))))))))))))))))))))))))))))))))))))))))))))))))))))))))))))))))))))))))))))))))))))))))))

@@ -33,7 +33,7 @@ use Rattle.std.specs.Prelude.{◌*ℤ◌, ◌≤ℤ◌, length, take, drop, get_
 use Rattle.std.specs.declared.result.Result.{Result}
 use mathlib.Core.List.{List, [], ◌∷◌, map, Memᴰ}
 use Rattle.transport.specs.declared.SolveAnswer.{SolveAnswer}
-use Rattle.transport.specs.Refusals.{Refusal}
+use Rattle.transport.specs.Refusals.{Refusal, number}
 use Rattle.transport.specs.Lists.{sum_to, at, at_z, total, within}
 use Rattle.transport.specs.Limits.{max_sources, max_sinks, max_side, max_amount, max_cost, max_digits}
 use Rattle.transport.specs.Problem.{Problem, sources, sinks, Lane, place, lane_cost}
@@ -329,6 +329,7 @@ pub record Bought (S : Sheet) (r : Result SolveAnswer Refusal) (u v : List ℤ) 
   pub refuses : WithinLimits S → LongEnough S (length u) (length v) (length plan)
       → (k : Refusal)
       → (r ≡ Err k) ↔ ((k ≡ Refusal.Lacking) × Lacking S) ⊎ ((k ≡ Refusal.Crowded) × Crowded S) ⊎ ((k ≡ Refusal.Idle) × Idle S × ¬ Crowded S)
+  pub numbers : (number Refusal.Lacking ≡ 5) × (number Refusal.Crowded ≡ 10) × (number Refusal.Idle ≡ 11)
   -- Demand 1: a refusal alters no byte of lent memory.
   pub unchanged : (k : Refusal) → r ≡ Err k → (uAfter ≡ u) × (vAfter ≡ v) × (planAfter ≡ plan)
   -- Paper 01: on success a lent list changes only in the places that the result fills.

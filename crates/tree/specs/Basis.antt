@@ -20,3 +20,7 @@ SameStrikes b c = (c.leaf ≡ b.leaf) × (c.other ≡ b.other) × (c.lane ≡ b.
 
 abbrev pub SameEnds : Basis → Basis → Type 0
 SameEnds b c = (c.leaf ≡ b.leaf) × (c.other ≡ b.other)
+
+-- Between the two no cut has changed: no path, and no side of a lane.
+abbrev pub SameCuts : Basis → Basis → Type 0
+SameCuts b c = (c.path ≡ b.path) × (c.sub ≡ b.sub)

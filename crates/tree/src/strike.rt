@@ -3,7 +3,7 @@
 ghost use Rattle.std.specs.Prelude.{◌≡◌, cond, List, ◌+◌, ◌<◌, ◌≤◌, length};
 ghost use Rattle.transport.specs.Problem.{Lane};
 ghost use Rattle.tree.specs.Layout.{stride, node_room};
-ghost use Rattle.tree.specs.Basis.{struck_off};
+ghost use Rattle.tree.specs.Basis.{struck_off, SameCuts};
 ghost use Rattle.tree.specs.Links.{Links, Masks, other_end_of, own_bit_of, lane_to_of, joins};
 ghost use Rattle.tree.specs.Queue.{Queue};
 ghost use Rattle.tree.specs.Strip.{Stripped};
@@ -70,6 +70,7 @@ impl Basis {
             (length b.leaf ≡ node_room) × (length b.other ≡ node_room) × (length b.lane ≡ node_room) }
         ensures stripped { (B : List Lane) → Masks m n B adj.now
             → Stripped m n B (struck_off self.new result) result }
+        ensures same_cuts { SameCuts self.old self.new }
     {
         let mut live = *adj;
         let mut tail = first_leaves(adj, &mut self.leaf, m, n);

@@ -31,5 +31,5 @@ pub fn read_whole(text: &[u8], at: usize, left: usize) -> Result<Token<i64>, Stu
     let number = read_number(text, first, least)?;
     let value = signed(negative, number.value);
     let next = number.next;
-    read_end(text, Token { value, next }, left)
+    read_end(text, Ok(Token { value, next }), left)
 }

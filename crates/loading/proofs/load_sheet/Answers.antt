@@ -7,8 +7,8 @@ use Rattle.sheet.specs.Check.{accepted-none, refused-some}
 use Rattle.loading.specs.Loading.{sheet-refused}
 use Rattle.loading.proofs.load_sheet.Goals as goal
 
-pub returns-in_err-check_sheet : goal.returns-in_err-check_sheet
-returns-in_err-check_sheet c =
+pub returns-in_err-check_sheet-clause-loaded : goal.returns-in_err-check_sheet-clause-loaded
+returns-in_err-check_sheet-clause-loaded c =
     let p = err_from_is_err_and c.from_residual.result c.from_residual.ensures.1 in
     let S = sheet_of c.args.supply.now c.args.demand.now c.args.cost.now in
     let refuses = refused-some _ _ (sym c.check_sheet.ensures ∙ c.in_err-check_sheet.was) in

@@ -1,6 +1,6 @@
 -- Among those left the caller's tableau belongs exactly if it belongs to the sheet under own numbers.
 use Rattle.std.specs.Prelude.{◌≡◌}
-use Rattle.prelude.specs.Words.{sym, ◌∙◌, ap, map, List, ℕ, take, Bool, true, false}
+use Rattle.prelude.specs.Words.{sym, ◌∙◌, map, List, ℕ, take, Bool, true}
 use Rattle.transport.specs.Sheet.{Sheet, cafes, sheet_of}
 use Rattle.transport.specs.Extended.{extended}
 use Rattle.transport.specs.Parties.{rows_left_of, columns_left, problem_of}
@@ -13,7 +13,7 @@ use Rattle.transport.specs.Laws.ProblemLaws.{problem}
 use Rattle.transport.proofs.Sound.{sound}
 use Rattle.transport.specs.declared.Tableau.{Tableau}
 use Rattle.parties.specs.declared.Parties.{Parties}
-use Rattle.parties.specs.Parties.{PartiesOf, parties-problem}
+use Rattle.parties.specs.Parties.{PartiesOf, parties-problem, parties-numbers}
 use Rattle.numbering.specs.Numbers.{cell_among_of}
 use Rattle.numbering.specs.Belonging.{belongs-renumbered, inside-renumbered}
 use Rattle.numbering.specs.Lent.{sides-room, rows_growing, columns_growing}
@@ -26,8 +26,8 @@ number_parties-parties-requires c = (_, c.requires.accepted)
 
 pub renumber-t-requires : goal.renumber-t-requires
 renumber-t-requires c =
-    let h = c.number_parties-parties.ensures c.args.cost.now in
-    rw (c.row_numbers.ensures, c.column_numbers.ensures) (rows_growing c.requires.accepted h, columns_growing c.requires.accepted h)
+    let n = parties-numbers (c.number_parties-parties.ensures c.args.cost.now) in
+    rw (c.row_numbers.ensures, c.column_numbers.ensures) (rows_growing c.requires.accepted n, columns_growing c.requires.accepted n)
 
 pub load-requires : goal.load-requires
 load-requires c =
@@ -60,8 +60,8 @@ told : {S : Sheet} {p : Parties} (h : PartiesOf S p) (inner : Tableau) {supplies
     → b ≡ belongs (problem supplies demands (problem_of S).cost) inner → b ≡ belongs (problem_of S) inner
 told h inner s d e = rw (s, d, parties-problem h) at e
 
-pub returns-then-not-load : goal.returns-then-not-load
-returns-then-not-load c =
+pub returns-then-not-load-clause-loaded : goal.returns-then-not-load-clause-loaded
+returns-then-not-load-clause-loaded c =
     let S = sheet_of c.args.supply.now c.args.demand.now c.args.cost.now in
     let ok = c.requires.accepted in
     let h = c.number_parties-parties.ensures c.args.cost.now in
@@ -76,9 +76,9 @@ spread_costs-requires c =
     let h = c.number_parties-parties.ensures c.args.cost.now in
     rw (c.row_numbers-2.ensures, c.cafe_numbers.ensures, h.row_numbers, h.cafe_numbers) (spreadable c.requires.accepted)
 
-pub returns : goal.returns
+pub returns-clause-loaded : goal.returns-clause-loaded
 unfolding cafes
-returns c =
+returns-clause-loaded c =
     let S = sheet_of c.args.supply.now c.args.demand.now c.args.cost.now in
     let ok = c.requires.accepted in
     let h = c.number_parties-parties.ensures c.args.cost.now in
@@ -93,8 +93,9 @@ returns c =
       none-refused S c.args.t ok (sym (verdict ∙ same) ∙ belonged),
       record {
         accepted = ok;
-        parties = h;
+        parties = parties-numbers h;
         spread = spread;
         begun = begun-loaded ok h c.args.t inner c.load.new.board spread (sym verdict ∙ belonged) inside loaded;
       },
+      h,
     )

@@ -7,7 +7,7 @@ use Rattle.numbering.proofs.renumber.Goals as goal
 pub loop-k-preserved : goal.loop-k-preserved
 unfolding no_cell nothing
 loop-k-preserved c =
-    changed-one c.loop-k.invariant (omega arith)
+    changed-one c.loop-k.invariant (omega arith) _
     (c.cell_among.ensures _ _ c.numbers-row_number.ensures c.numbers-col_number.ensures)
 
 pub returns : goal.returns

@@ -6,14 +6,14 @@ pub begin_sheet-parties-requires : goal.begin_sheet-parties-requires
 begin_sheet-parties-requires c = record { accepted = c.requires; empty = c.new-board.ensures.empty }
 
 pub finish-requires : goal.finish-requires
-finish-requires c = (_, _, c.begin_sheet-parties.ensures.begun)
+finish-requires c = (_, _, c.begin_sheet-parties.ensures.admitted.begun)
 
 pub last_tableau-requires : goal.last_tableau-requires
 last_tableau-requires c =
-    let w = c.begin_sheet-parties.ensures in
+    let w = c.begin_sheet-parties.ensures.admitted in
     (_, _, _, _, _, sheet-finished w (c.finish.ensures.ran _ _ w.begun))
 
 pub returns : goal.returns
 returns c =
-    let w = c.begin_sheet-parties.ensures in
+    let w = c.begin_sheet-parties.ensures.admitted in
     c.last_tableau.ensures _ _ _ _ _ (sheet-finished w (c.finish.ensures.ran _ _ w.begun))

@@ -10,7 +10,7 @@ use Rattle.transport.specs.declared.Tableau.{Tableau}
 use Rattle.transport.specs.Laws.SheetLaws.{accepted}
 use Rattle.tableaux.specs.Starting.{start-belongs}
 use Rattle.sheet.specs.Check.{accepted-none, refused-some}
-use Rattle.parties.specs.Parties.{PartiesOf}
+use Rattle.parties.specs.Parties.{PartiesOf, parties-numbers}
 use Rattle.parties.specs.declared.Parties.{Parties}
 use Rattle.dealing.specs.Corner.{costless, sound-costless, sound-turned, start-costless}
 use Rattle.numbering.specs.Lent.{own-within, own-lent}
@@ -43,12 +43,12 @@ first-is : {S : Sheet} {p : Parties} {supplies demands : List ℕ} {t : Tableau}
     → t ≡ tableau_of (start (costless supplies demands)) → t ≡ tableau_of (start (problem_of S))
 first-is {S} h s d e = e ∙ rw (s, d, h.supplies, h.demands, start-costless (problem_of S))
 
-pub own_tableau-requires : goal.own_tableau-requires
-own_tableau-requires c =
+pub own_tableau-own-requires : goal.own_tableau-own-requires
+own_tableau-own-requires c =
     let S = sheet_of c.args.supply.now c.args.demand.now c.args.cost.now in
     let ok = accepted S (accepted-none _ (sym c.check_sheet.ensures ∙ c.in_ok-check_sheet.was)) in
     let h = c.number_parties-parties.ensures S.cost in
-    let within = own-within ok h (start-belongs (problem_of S) (sound ok)) in
+    let within = own-within ok (parties-numbers h) (start-belongs (problem_of S) (sound ok)) in
     (_, first-is h c.supplies.ensures c.demands.ensures c.first_tableau-first.ensures, rw (c.row_numbers.ensures, c.column_numbers.ensures) within)
 
 -- .. and gets their own numbers.
@@ -58,4 +58,6 @@ returns c =
     let passed = accepted-none _ (sym c.check_sheet.ensures ∙ c.in_ok-check_sheet.was) in
     let h = c.number_parties-parties.ensures S.cost in
     let first = first-is h c.supplies.ensures c.demands.ensures c.first_tableau-first.ensures in
-    rw (c.own_tableau.ensures _ first, c.row_numbers.ensures, c.column_numbers.ensures, own-lent (accepted S passed) h) (start-given S passed)
+    let numbers = own-lent (accepted S passed) (parties-numbers h) in
+    rw (c.own_tableau-own.ensures _ first, c.row_numbers.ensures, c.column_numbers.ensures, numbers)
+    (start-given S passed)

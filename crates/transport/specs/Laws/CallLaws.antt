@@ -1,8 +1,8 @@
 -- Laws of Calls: the value or the first refusal, what a lent list then holds, and rooms.
-use Rattle.std.specs.Prelude.{◌≡◌, ◌↔◌, ◌||◌, ◌∷◌, ◌++◌, ◌*◌, ◌≤◌, ◌<◌}
+use Rattle.std.specs.Prelude.{None, ◌≡◌, ◌↔◌, ◌||◌, ◌∷◌, ◌++◌, ◌*◌, ◌≤◌, ◌<◌}
 use Rattle.prelude.specs.Words.{refl, sym, ◌∙◌, ap, Bool, true, false, true≢false, List, [], none, some, ℕ, arith}
-use Rattle.prelude.specs.Words.{ltb-false, lt-ltb, le-ltb, length, drop, by_option, some≢none}
-use Rattle.transport.specs.Refusals.{Refusal}
+use Rattle.prelude.specs.Words.{ltb-false, lt-ltb, le-ltb, length, drop, by_test, by_option, some≢none}
+use Rattle.transport.specs.Refusals.{Refusal, place_of}
 use Rattle.transport.specs.Sheet.{Sheet, roasteries, cafes, refusal}
 use Rattle.transport.specs.Laws.SheetLaws.{refusal_yes, refusal_no, refusal-clear, refusal-pass, refusal-stands}
 use Rattle.transport.specs.Calls.{refused, given, unless, lent_after, too_short, Solution}
@@ -34,6 +34,34 @@ module _ {A : Type 0} (tests : List (Bool × Refusal)) (x : A) where
   pub unless_refusal : (r : Refusal) → unless tests x ≡ refused r → refusal tests ≡ some r
   unless_refusal r f = by_option (refusal tests) (λ e. absurd (refused≢given (sym f ∙ unless-given e))) (λ k e.
       let same : k ≡ r = cc (unless-refused k e, f) in e ∙ ap some same)
+
+-- ---- tests whose refusals have no place
+
+-- A refusal that comes with no place.
+pub record Placeless : Type 0 where
+  pub reason : Refusal
+  pub no_place : place_of reason ≡ None
+
+-- The tests by their refusals alone.
+unfoldable pub by_reasons : List (Bool × Placeless) → List (Bool × Refusal)
+by_reasons [] = []
+by_reasons (t ∷ ts) = (t.0, t.1.reason) ∷ by_reasons ts
+
+-- What such a test refuses by has no place ..
+pub refusal-placeless : (ts : List (Bool × Placeless)) (r : Refusal) → refusal (by_reasons ts) ≡ some r
+    → place_of r ≡ None
+unfolding refusal by_reasons
+refusal-placeless [] r e = absurd (some≢none (sym e))
+refusal-placeless (t ∷ ts) r e = by_test t.0
+    (λ y.
+    let same : t.1.reason ≡ r = cc (refusal_yes (t.0, t.1.reason) (by_reasons ts) y, e) in
+    sym (ap place_of same) ∙ t.1.no_place)
+    (λ n. refusal-placeless ts r (sym (refusal_no (t.0, t.1.reason) (by_reasons ts) n) ∙ e))
+
+-- .. and so what they refuse a value by.
+module _ {A : Type 0} (tests : List (Bool × Placeless)) (x : A) where
+  pub unless_placeless : (r : Refusal) → unless (by_reasons tests) x ≡ refused r → place_of r ≡ None
+  unless_placeless r f = refusal-placeless tests r (unless_refusal (by_reasons tests) x r f)
 
 -- ---- one test more at the end
 

@@ -18,13 +18,13 @@ small m n least d (p, q) e =
 
 pub loop-c-init : goal.loop-c-init
 unfolding cells_of
-loop-c-init c = sym (fits_all c.args.m c.args.n (cells_of c.args.t))
+loop-c-init c = sym (fits_all c.args.m c.args.n (cells_of c.args.t.now))
 
 pub returns-then-not-cell_fits : goal.returns-then-not-cell_fits
 unfolding no_cell nothing
 returns-then-not-cell_fits c =
     let a = c.args in
-    let cells : List Cell = take a.t.count a.t.cells in
+    let cells : List Cell = take a.t.now.count a.t.now.cells in
     sym (c.loop-c.invariant
     ∙ ap (fits_from a.m a.n c.loop-c.least) (drop_more cells c.loop-c.c-index no_cell (omega arith))
     ∙ fits_from_no a.m a.n c.loop-c.least _ _ (sym c.if-not-cell_fits.ensures))
@@ -45,13 +45,13 @@ pub loop-c-preserved : goal.loop-c-preserved
 unfolding no_cell nothing place
 loop-c-preserved c =
     let a = c.args in
-    let cells : List Cell = take a.t.count a.t.cells in
+    let cells : List Cell = take a.t.now.count a.t.now.cells in
     c.loop-c.invariant ∙ ap (fits_from a.m a.n c.loop-c.least) (drop_more cells c.loop-c.c-index no_cell (omega arith))
     ∙ fits_from_yes a.m a.n c.loop-c.least _ _ (sym c.if-not-cell_fits.ensures)
 
 pub returns : goal.returns
 returns c =
     let a = c.args in
-    let none : drop c.loop-c.c-index (take a.t.count a.t.cells) ≡ [] =
+    let none : drop c.loop-c.c-index (take a.t.now.count a.t.now.cells) ≡ [] =
     drop_of_length-le _ {i = c.loop-c.c-index} (omega arith) in
     sym (c.loop-c.invariant ∙ rw none (fits_from-nil a.m a.n c.loop-c.least))

@@ -4,7 +4,7 @@ use mir.Syntax.{w64}
 use Rattle.transport.specs.Sheet.{cafes}
 use Rattle.transport.specs.declared.Change.TheVariants as Change
 use Rattle.transport.specs.Laws.RangeLaws.{back}
-use Rattle.edit_steps.specs.Beginning.{respreadable, admitted_kept, admitted_afresh}
+use Rattle.edit_steps.specs.Beginning.{respreadable, admitted_kept, parties_kept, admitted_afresh}
 use Rattle.edit_steps.specs.Respread.{spread-before}
 use Rattle.edit_steps.proofs.begin.begin_edit.Goals as goal
 
@@ -15,8 +15,8 @@ respread_lane-requires c =
     let g = respreadable w c.requires.accepted a is in
     rw (c.row_numbers.ensures, c.cafe_numbers.ensures) (g.growing_rows, g.growing_cols, a.spread.long, g.small)
 
-pub returns-in-Cost : goal.returns-in-Cost
-returns-in-Cost c = λ S T w a.
+pub returns-in-Cost-clause-admitted : goal.returns-in-Cost-clause-admitted
+returns-in-Cost-clause-admitted c = λ S T w a.
     let ok = c.requires.accepted in
     let is = c.in-Cost.is ∙ ap Change.Cost (sym (back w64 c.in-Cost.c (search rules))) in
     let rows = c.row_numbers.ensures in
@@ -25,7 +25,11 @@ returns-in-Cost c = λ S T w a.
     (rw (rows, cols) a.spread) in
     admitted_kept w ok a is (rw (rows, cols) at put)
 
-pub returns-in-Amounts : goal.returns-in-Amounts
-returns-in-Amounts c = λ S T w a.
+pub returns-in-Cost-clause-parties : goal.returns-in-Cost-clause-parties
+returns-in-Cost-clause-parties c = λ S w h.
+    parties_kept w (c.in-Cost.is ∙ ap Change.Cost (sym (back w64 c.in-Cost.c (search rules)))) h
+
+pub returns-in-Amounts-clause-admitted : goal.returns-in-Amounts-clause-admitted
+returns-in-Amounts-clause-admitted c = λ S T w a.
     let before = spread-before w c.in-Amounts.is a.parties a.spread in
-    admitted_afresh c.args.edit T c.in-Amounts.is (c.begin_afresh.ensures before)
+    admitted_afresh c.args.edit T c.in-Amounts.is (c.begin_afresh.ensures.admitted before)

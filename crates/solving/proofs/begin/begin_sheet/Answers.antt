@@ -18,10 +18,13 @@ lay_out-requires c =
     let ok = c.requires.accepted in
     record { count_le_cell_room = first_fits ok (c.deal_sheet-first.ensures c.args.cost.now ok); empty = c.requires.empty }
 
-pub returns : goal.returns
+pub returns-clause-admitted : goal.returns-clause-admitted
 unfolding cafes
-returns c =
+returns-clause-admitted c =
     let ok = c.requires.accepted in
     let spread = rw (c.row_numbers.ensures, c.cafe_numbers.ensures) at c.spread_costs.ensures in
     let laid = c.lay_out.ensures in
     first_admitted ok (c.deal_sheet-first.ensures c.args.cost.now ok) spread laid.amounts laid.long laid.stripped
+
+pub returns-clause-parties : goal.returns-clause-parties
+returns-clause-parties c = (c.deal_sheet-first.ensures c.args.cost.now c.requires.accepted).parties
