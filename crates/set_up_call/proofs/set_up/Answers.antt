@@ -19,7 +19,7 @@ pub returns-in-Err : goal.returns-in-Err
 returns-in-Err c =
     let S = sheet_of c.args.supply.now c.args.demand.now c.args.cost.now in
     let refuses = refused-some _ _ (sym c.check_sheet.ensures ∙ c.in-Err.is) in
-    rw c.number.ensures (set-up-refused S refuses c.no_standing.ensures)
+    rw c.number-number.ensures (set-up-refused S refuses c.no_standing.ensures)
 
 pub keep_sheet-requires : goal.keep_sheet-requires
 keep_sheet-requires c = accepted _ (passed c.args.supply.now c.args.demand.now c.args.cost.now c.check_sheet.ensures c.in_default.not-Err)
