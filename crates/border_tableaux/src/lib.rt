@@ -73,6 +73,9 @@ pub fn settle_from(supply: &[u64], demand: &[u64], cost: &[i64], t: Tableau, pla
 {
     match settle_call::settle(supply, demand, cost, t, plan) {
         Ok(()) => 0,
-        Err(refusal) => refusal.number(),
+        Err(refusal) => {
+            let number = refusal.number();
+            number
+        }
     }
 }

@@ -7,4 +7,4 @@ pub returns-in-Ok : goal.returns-in-Ok
 returns-in-Ok c = let e = c.in-Ok.ensures in (ap settled_as e.0 ∙ settled_is _, e.1)
 
 pub returns-in-Err : goal.returns-in-Err
-returns-in-Err c = let e = c.in-Err.ensures in rw c.number.ensures (ap settled_as e.0 ∙ settled_is _, e.1)
+returns-in-Err c = let e = c.in-Err.ensures in (c.number-number.ensures ∙ ap settled_as e.0 ∙ settled_is _, e.1)

@@ -29,9 +29,9 @@ rooms : (k : KeptSheet) → (length k.supply ≡ 32) × (length k.demand ≡ 32)
 unfolding max_sources max_sinks
 rooms k (s, d, c) m n = (omega arith, omega arith, omega (arith, lanes-room k.m k.n m n))
 
-pub overflow_add-result : goal.overflow_add-result
+pub overflow_add-counter : goal.overflow_add-counter
 unfolding max_counter
-overflow_add-result c =
+overflow_add-counter c =
     let a = c.args in
     let k = a.s.sheet in
     let (m, n, lanes) = rooms k (search rules, search rules, search rules) (omega arith) (omega arith) in
