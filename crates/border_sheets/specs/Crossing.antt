@@ -1,22 +1,46 @@
 -- The answers of start, read sheet and the two writers cross the border as Border says.
-use Rattle.std.specs.Prelude.{◌≡◌, Ok, Err, Some, None}
+use Rattle.std.specs.Prelude.{◌≡◌, Ok, Err, Some, None, is_none}
 use Rattle.std.specs.declared.result.Result.{Result}
 use Rattle.std.specs.declared.option.Option.{Option}
 use Rattle.std.specs.Option.{unwrap_or}
-use Rattle.prelude.specs.Words.{refl, List, ℕ}
+use Rattle.prelude.specs.Words.{refl, Bool, true, some, List, ℕ}
 use Rattle.transport.specs.declared.Refusal.{Refusal}
 use Rattle.transport.specs.Refusals.{number, place_of}
 use Rattle.transport.specs.declared.Counts.{Counts}
 use Rattle.transport.specs.declared.Tableau.{Tableau}
 use Rattle.transport.specs.declared.Cell.{Cell}
-use Rattle.transport.specs.Sheet.{Sheet}
+use Rattle.transport.specs.Lists.{all}
+use Rattle.transport.specs.Sheet.{Sheet, refusal}
 use Rattle.transport.specs.Tableau.{no_tableau}
-use Rattle.transport.specs.Calls.{Answer, refused, given}
+use Rattle.transport.specs.Calls.{Answer, refused, given, unless}
+use Rattle.transport.specs.Laws.SheetLaws.{refusal-other}
+use Rattle.transport.specs.Laws.CallLaws.{unless_refusal}
 use Rattle.transport.specs.Answers.{result_of, counts_of, start_answer, read_answer, write_answer}
 use Rattle.border.specs.declared.StartOut.{StartOut}
 use Rattle.border.specs.declared.ReadOut.{ReadOut}
 use Rattle.border.specs.declared.WriteOut.{WriteOut}
 use Rattle.border.specs.Border.{start_out_of, read_out_of, write_out_of}
+
+-- Where no test refuses by the place of a text, no refusal has one: of tests as they stand, where
+-- `CallLaws.unless_placeless` has it of tests that are made so.
+module _ {A : Type 0} (tests : List (Bool × Refusal)) (x : A)
+    (other : all (λ t. is_none (place_of t.1)) tests ≡ true) where
+  placeless : (r : Refusal) → refusal tests ≡ some r → place_of r ≡ None
+  placeless Refusal.Sides e = refl
+  placeless Refusal.CostCount e = refl
+  placeless Refusal.Amount e = refl
+  placeless Refusal.Cost e = refl
+  placeless Refusal.Lacking e = refl
+  placeless Refusal.NotBelonging e = refl
+  placeless Refusal.Unfinished e = refl
+  placeless Refusal.TooShort e = refl
+  placeless (Refusal.NotSheetText p) e = absurd (refusal-other tests other p e)
+  placeless Refusal.Crowded e = refl
+  placeless Refusal.Idle e = refl
+  placeless Refusal.BadEdit e = refl
+
+  pub unless_placeless : (r : Refusal) → unless tests x ≡ refused r → place_of r ≡ None
+  unless_placeless r f = placeless r (unless_refusal tests x r f)
 
 abbrev pub started : Result Tableau Refusal → StartOut
 started (Ok t) = record { refusal = 0; tableau = t }
